@@ -1,0 +1,19 @@
+# make demo      runs each command on the example files, from unproved sources, within about two minutes
+# make test      the whole gate: every proof from nothing, every test, every must-fail edit, then the script checks
+# make install   proves and builds the program, and installs it as $(PREFIX)/bin/hsplan
+
+PREFIX ?= /usr/local
+
+.PHONY: demo test install
+
+demo:
+	@tools/demo.py
+
+test:
+	rt ci
+	tools/check_growth.py
+	tools/check_program.py
+
+install:
+	cd crates/hsplan && rt run < stdin
+	install -D -m 755 crates/hsplan/out/hsplan "$(PREFIX)/bin/hsplan"

@@ -1,0 +1,64 @@
+// How long the largest certificate takes.
+
+use crate::failure::Failure;
+use crate::watch::Watch;
+use hsp_cert::{Certificate, UseLine, read_cert, write_cert};
+use std::alloc::{AllocError, Global};
+use std::rt::Clock;
+use std::time::CpuClock;
+
+// The greatest price.
+const MOST_PRICE: u64 = 1_000_000_000_000;
+
+// A use of each of 32 sites by each of 8,192 rows.
+fn all_uses(alloc: Global) -> Result<Vec<UseLine>, AllocError> {
+    let mut uses = Vec::new(alloc);
+    for pair in 0..262_144u32 {
+        let (row, site) = (pair / 32, pair % 32);
+        let count = 1_000_000;
+        uses.push(UseLine { row, site, count })?;
+    }
+    Ok(uses)
+}
+
+// The certificate with the longest text.
+fn largest(alloc: Global) -> Result<Certificate, Failure> {
+    let made = Certificate::best_with_hosts(
+        10_000_000_000_000_000,
+        all_uses(alloc)?,
+        vec![in alloc; MOST_PRICE; 8_192]?,
+        vec![in alloc; MOST_PRICE; 1_024]?,
+        vec![in alloc; MOST_PRICE; 1_024]?,
+    );
+    match made {
+        Some(certificate) => Ok(certificate),
+        None => Err(Failure::Numbers),
+    }
+}
+
+// How many uses a certificate has.
+fn use_count(certificate: &Certificate) -> usize {
+    match certificate.as_best() {
+        Some(plan) => plan.uses().len(),
+        None => 0,
+    }
+}
+
+/// Writes and reads the certificate with the longest text, and prints the times of both.
+pub fn measure_certificate<R: AllocGlobal + Clock + CpuClock + Print>(
+    rt: &R,
+) -> Result<(), Failure> {
+    let alloc = rt.alloc();
+    let certificate = largest(alloc)?;
+    let writing = Watch::start(rt)?;
+    let text = write_cert(alloc, &certificate)?;
+    let written = writing.times(rt)?;
+    let reading = Watch::start(rt)?;
+    let again = read_cert(alloc, &text)?;
+    let read = reading.times(rt)?;
+    let (uses, octets) = (use_count(&again), text.len());
+    println!(rt;
+        "certificate of {uses} uses: {octets} octets written in {written}, read in {read}"
+    )?;
+    Ok(())
+}

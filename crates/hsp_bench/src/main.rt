@@ -1,0 +1,59 @@
+// The program that measures how long instances, certificates and plans at the limits take.
+#![tactic(auto)]
+
+mod certificates;
+mod failure;
+mod inputs;
+mod instances;
+mod plans;
+mod random;
+mod size;
+mod tables;
+mod watch;
+mod words;
+
+use certificates::measure_certificate;
+use failure::Failure;
+use instances::measure_instance;
+use plans::{measure_plan, measure_plans};
+use std::env;
+use std::rt::{Clock, Env};
+use std::time::CpuClock;
+use words::{Measurement, measurement_in};
+
+const USAGE: &str =
+    "hsp_bench: name what to measure: instance, certificate, plans, or plan ROWS PERCENT MOST";
+
+// The words behind the program's name.
+fn arguments<R: Env + AllocGlobal>(rt: &R) -> Result<Vec<String>, Failure> {
+    let mut words = Vec::new(rt.alloc());
+    for word in env::args(rt)?.skip(1) {
+        words.push(word)?;
+    }
+    Ok(words)
+}
+
+fn measure<R: AllocGlobal + Clock + CpuClock + Print>(
+    rt: &R,
+    measurement: &Measurement,
+) -> Result<(), Failure> {
+    match measurement {
+        Measurement::Instance => measure_instance(rt),
+        Measurement::Certificate => measure_certificate(rt),
+        Measurement::Plan(size) => measure_plan(rt, size),
+        Measurement::Plans => measure_plans(rt),
+    }
+}
+
+fn run<R: AllocGlobal + Clock + CpuClock + Env + Print>(rt: &R) -> Result<(), Failure> {
+    let words = arguments(rt)?;
+    match measurement_in(&words) {
+        Some(measurement) => measure(rt, &measurement),
+        None if words.is_empty() => Ok(rt.println(USAGE)?),
+        None => Err(Failure::Usage),
+    }
+}
+
+fn main(rt: HostRuntime) -> Result<(), Failure> {
+    run(&rt)
+}

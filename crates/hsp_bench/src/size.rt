@@ -1,0 +1,17 @@
+/// What an instance is made of.
+#[derive(Clone, Copy)]
+pub struct Size {
+    /// How many rows it has.
+    pub rows: u32,
+    /// The capacity of all servers, in hundredths of the demand of all rows.
+    pub percent: u32,
+    /// The greatest cost that an arc may have.
+    pub most: u32,
+}
+
+/// The limits of an instance, with capacity to spare.
+pub const LARGEST: Size = Size {
+    rows: 8_192,
+    percent: 200,
+    most: 1_000_000,
+};

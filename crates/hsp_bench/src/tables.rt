@@ -1,0 +1,43 @@
+// The instance of texts.
+
+use crate::failure::Failure;
+use crate::inputs::Texts;
+use hsp_instance::{Instance, build};
+use hsp_record::{ValueList, decode_values};
+use hsp_tables::{
+    Capacities, Costs, Demand, Settings, read_capacity, read_costs, read_demand, read_settings,
+};
+use std::alloc::Global;
+
+/// What the texts of the five inputs spell.
+#[derive(Drop)]
+pub struct Tables<'a> {
+    settings: Settings,
+    values: ValueList<'a>,
+    demand: Demand,
+    costs: Costs,
+    capacity: Capacities,
+}
+
+/// Reads the texts.
+pub fn read_texts<'a>(alloc: Global, texts: &'a Texts) -> Result<Tables<'a>, Failure> {
+    Ok(Tables {
+        settings: read_settings(alloc, texts.settings.as_bytes())?,
+        values: decode_values(alloc, &texts.values)?,
+        demand: read_demand(alloc, texts.demand.as_bytes())?,
+        costs: read_costs(alloc, texts.costs.as_bytes())?,
+        capacity: read_capacity(alloc, texts.capacity.as_bytes())?,
+    })
+}
+
+/// Builds the instance of what was read.
+pub fn build_instance(alloc: Global, tables: &Tables<'_>) -> Result<Instance, Failure> {
+    Ok(build(
+        alloc,
+        &tables.settings,
+        Some(&tables.values),
+        &tables.demand,
+        &tables.costs,
+        &tables.capacity,
+    )?)
+}

@@ -1,0 +1,10 @@
+pub mod AppendedLines
+pub mod SpacedText
+pub mod LineCuts
+pub mod ReadItems
+pub mod GrammarSteps
+pub mod WholeRuns
+pub mod Standing
+pub mod LinesRead
+pub mod ReadSoFar
+pub mod OneAnswer

@@ -1,0 +1,159 @@
+-- The text as far as it was read.
+use Rattle.std.proofs.Common.{◌≡◌, ◌<◌, ◌≤◌, ◌^◌, ◌+◌, ℕ, true, List, [], ◌∷◌, ◌++◌, length, map, Option, Some, None, refl, sym, ap, ◌∙◌, arith, append_assoc}
+use Rattle.std.specs.Prelude.{◌&&◌, nat_le, decimal}
+use Rattle.std.specs.List.{AllByRecursion, list_all}
+use Rattle.std.proofs.lemmas.Bool.{and_parts}
+use Rattle.std.proofs.lemmas.Bool.Decides.{nat_tests}
+use Rattle.hsp_cert.specs.declared.use_line.UseLine.{UseLine}
+use Rattle.hsp_cert.specs.declared.item.Word.{Word}
+use Rattle.hsp_cert.specs.declared.item.Word.TheVariants as word
+use Rattle.hsp_cert.specs.declared.item.Item.{Item}
+use Rattle.hsp_cert.specs.declared.item.Item.TheVariants as item
+use Rattle.hsp_cert.specs.Certificate.{Claim, is_use, is_row, is_price, IsCertificate}
+use Rattle.hsp_cert.specs.Certificate.Claim.{best, short}
+use Rattle.hsp_cert.specs.Text.{line_of, use_items, price_items, row_items, body_items, items_of, lines_of, version_of}
+use Rattle.hsp_cert.specs.Lexing.{item_in}
+use Rattle.hsp_cert.specs.Drafts.{Drafted}
+use Rattle.hsp_cert.specs.Steps.{step, step_line, start}
+use Rattle.hsp_cert.specs.Reading.{LinesStand}
+use Rattle.hsp_cert.specs.Words.{spelled}
+use Rattle.hsp_cert.proofs.LineCuts.{Unbroken}
+use Rattle.hsp_cert.proofs.ReadItems.{Printed, word_printed, decimal_printed, Fits, reads_back}
+use Rattle.hsp_cert.proofs.WholeRuns.{run, run-append, run_so_far, run_whole, first_step, ended}
+use Rattle.hsp_cert.proofs.Standing.{draft_stands}
+
+abbrev pub ReadsBack : Item → Type 0
+ReadsBack i = item_in (line_of i) ≡ Some i
+
+abbrev pub some_item : Item → Option Item
+some_item i = Some i
+
+pub item_is : (i j : Item) → some_item i ≡ Some j → i ≡ j
+item_is i j h = cc
+
+-- ---- the lines of a certificate say its items
+
+pub all_append : {A : Type 0} (P : A → Type 0) (xs ys : List A) → AllByRecursion P xs → AllByRecursion P ys → AllByRecursion P (xs ++ ys)
+all_append P [] ys h k = k
+all_append P (x ∷ xs) ys h k = (h.0, all_append P xs ys h.1 k)
+
+le_of : (a b : ℕ) → nat_le a b ≡ true → a ≤ b
+le_of a b h = grind (arith, nat_tests)
+
+uses_fit : (us : List UseLine) → list_all is_use us ≡ true → AllByRecursion Fits (use_items us)
+uses_fit [] h = tt
+uses_fit (u ∷ us) h =
+    let a = and_parts (is_use u) (list_all is_use us) h in
+    let b = and_parts (nat_le u.row 8191 && nat_le u.site 31) (nat_le 1 u.count && nat_le u.count 1000000) a.0 in
+    let one = and_parts (nat_le u.row 8191) (nat_le u.site 31) b.0 in
+    let row = le_of u.row 8191 one.0 in
+    let site = le_of u.site 31 one.1 in
+    let count = le_of u.count 1000000 (and_parts (nat_le 1 u.count) (nat_le u.count 1000000) b.1).1 in
+    ((omega arith, omega arith, omega arith), uses_fit us a.1)
+
+prices_fit : (w : Word) (n : ℕ) (ps : List ℕ) → n + length ps ≤ 8192 → list_all is_price ps ≡ true → AllByRecursion Fits (price_items w n ps)
+prices_fit w n [] le h = tt
+prices_fit w n (p ∷ ps) le h =
+    let a = and_parts (is_price p) (list_all is_price ps) h in
+    let price = le_of p 1000000000000 a.0 in
+    ((omega arith, omega arith), prices_fit w (n + 1) ps (omega arith) a.1)
+
+rows_fit : (rs : List ℕ) → list_all is_row rs ≡ true → AllByRecursion Fits (row_items rs)
+rows_fit [] h = tt
+rows_fit (r ∷ rs) h =
+    let a = and_parts (is_row r) (list_all is_row rs) h in
+    let row = le_of r 8191 a.0 in
+    (omega arith, rows_fit rs a.1)
+
+version_small : (ps : List ℕ) → version_of ps < 2 ^ 64
+version_small [] = omega arith
+version_small (p ∷ ps) = omega arith
+
+claim_fits : (claim : Claim) → IsCertificate claim → AllByRecursion Fits (items_of claim)
+claim_fits (best b) h =
+    let cost = h.cost in
+    let end : List Item = item.Alone word.End ∷ [] in
+    let rows = price_items word.Row 0 b.row_prices in
+    let servers = price_items word.Server 0 b.server_prices in
+    let hosts = price_items word.Host 0 b.host_prices in
+    let rows_do = prices_fit word.Row 0 b.row_prices (omega (arith, h.row_count)) h.row_prices in
+    let servers_do = prices_fit word.Server 0 b.server_prices (omega (arith, h.server_count)) h.server_prices in
+    let hosts_do = prices_fit word.Host 0 b.host_prices (omega (arith, h.host_count)) h.host_prices in
+    let body = all_append Fits (use_items b.uses) (rows ++ (servers ++ hosts)) (uses_fit b.uses h.uses) (all_append Fits rows (servers ++ hosts) rows_do (all_append Fits servers hosts servers_do hosts_do)) in
+    (version_small b.host_prices, (tt, (omega arith, all_append Fits (body_items b) end body (tt, tt))))
+claim_fits (short s) h =
+    let demand = h.demand in
+    let capacity = h.capacity in
+    let end : List Item = item.Alone word.End ∷ [] in
+    (omega arith, (tt, (omega arith, (omega arith, all_append Fits (row_items s.rows) end (rows_fit s.rows h.rows) (tt, tt)))))
+
+read_back : (is : List Item) → AllByRecursion Fits is → AllByRecursion ReadsBack is
+read_back [] h = tt
+read_back (i ∷ is) h = (reads_back i h.0, read_back is h.1)
+
+pub claim_back : (claim : Claim) → IsCertificate claim → AllByRecursion ReadsBack (items_of claim)
+claim_back claim h = read_back (items_of claim) (claim_fits claim h)
+
+-- ---- no line of a certificate holds an LF
+
+unbroken : (xs : List ℕ) → Printed xs → Unbroken xs
+unbroken [] h = tt
+unbroken (x ∷ xs) h = let le = h.0 in ((λ e. omega arith), unbroken xs h.1)
+
+spaced : (xs ys : List ℕ) → Printed xs → Unbroken ys → Unbroken (xs ++ 32 ∷ ys)
+spaced xs ys h k = all_append (λ x. x ≡ 10 → ⊥) xs (32 ∷ ys) (unbroken xs h) ((λ e. omega (arith, e)), k)
+
+number_unbroken : (n : ℕ) → n < 2 ^ 64 → Unbroken (decimal n)
+number_unbroken n h = unbroken (decimal n) (decimal_printed n h)
+
+line_unbroken : (i : Item) → Fits i → Unbroken (line_of i)
+line_unbroken (item.Alone w) h = unbroken (spelled w) (word_printed w)
+line_unbroken (item.One w a) h = spaced (spelled w) (decimal a) (word_printed w) (number_unbroken a h)
+line_unbroken (item.Two w a b) h = spaced (spelled w) (decimal a ++ 32 ∷ decimal b) (word_printed w) (spaced (decimal a) (decimal b) (decimal_printed a h.0) (number_unbroken b h.1))
+line_unbroken (item.Three w a b c) h =
+    spaced (spelled w) (decimal a ++ 32 ∷ (decimal b ++ 32 ∷ decimal c)) (word_printed w)
+    (spaced (decimal a) (decimal b ++ 32 ∷ decimal c) (decimal_printed a h.0) (spaced (decimal b) (decimal c) (decimal_printed b h.1) (number_unbroken c h.2)))
+
+lines_unbroken : (is : List Item) → AllByRecursion Fits is → AllByRecursion Unbroken (map line_of is)
+lines_unbroken [] h = tt
+lines_unbroken (i ∷ is) h = (line_unbroken i h.0, lines_unbroken is h.1)
+
+pub claim_unbroken : (claim : Claim) → IsCertificate claim → AllByRecursion Unbroken (lines_of claim)
+claim_unbroken claim h = lines_unbroken (items_of claim) (claim_fits claim h)
+
+-- ---- lines that stand and lines that do not
+
+-- the items up to a line of a certificate are those that were read
+pub up_to : (xs is : List Item) (line : List ℕ) (more : List (List ℕ)) → AllByRecursion ReadsBack xs → AllByRecursion ReadsBack is → map line_of xs ≡ map line_of is ++ (line ∷ more) →
+    (i : Item) × (zs : List Item) × (xs ≡ is ++ (i ∷ zs)) × (line_of i ≡ line) × ReadsBack i
+up_to [] [] line more hx hi e = absurd cc
+up_to [] (y ∷ is) line more hx hi e = absurd cc
+up_to (x ∷ xs) [] line more hx hi e = let at : line_of x ≡ line = cc in (x, xs, refl, at, hx.0)
+up_to (x ∷ xs) (y ∷ is) line more hx hi e =
+    let at : line_of x ≡ line_of y = cc in
+    let tails : map line_of xs ≡ map line_of is ++ (line ∷ more) = cc in
+    let same = item_is x y (sym hx.0 ∙ ap item_in at ∙ hi.0) in
+    let r = up_to xs is line more hx.1 hi.1 tails in
+    (r.0, r.1, ap (λ (j : Item). j ∷ xs) same ∙ ap (λ (l : List Item). y ∷ l) r.2, r.3, r.4)
+
+pub map-lines : (xs ys : List Item) → map line_of (xs ++ ys) ≡ map line_of xs ++ map line_of ys
+map-lines [] ys = refl
+map-lines (x ∷ xs) ys = ap (λ (l : List (List ℕ)). line_of x ∷ l) (map-lines xs ys)
+
+-- a line that is not taken can't stand
+pub untaken : (is : List Item) (d : Drafted) (line : List ℕ) → AllByRecursion ReadsBack is → run (Some start) is ≡ Some d → step_line d line ≡ None → LinesStand (map line_of is ++ line ∷ []) → ⊥
+untaken is d line back made none st =
+    let u = up_to (items_of st.0) is line st.2 (claim_back st.0 st.1) back (st.3 ∙ append_assoc (map line_of is) (line ∷ []) st.2) in
+    let whole : run (Some start) (is ++ (u.0 ∷ u.1)) ≡ Some (ended st.0) = ap (run (Some start)) (sym u.2) ∙ run_whole st.0 st.1 in
+    let goes : run (Some d) (u.0 ∷ u.1) ≡ Some (ended st.0) = ap (λ (o : Option Drafted). run o (u.0 ∷ u.1)) (sym made) ∙ sym (run-append (Some start) is (u.0 ∷ u.1)) ∙ whole in
+    let f = first_step (step d u.0) u.1 (ended st.0) goes in
+    let says : item_in line ≡ Some u.0 = ap item_in (sym u.3) ∙ u.4 in
+    let one : step d u.0 ≡ None = rw says at none in
+    absurd cc
+
+-- the lines that were read stand
+pub read_stand : (is : List Item) (d : Drafted) → run (Some start) is ≡ Some d → LinesStand (map line_of is)
+read_stand is d made =
+    let v = run_so_far is d made in
+    let s = draft_stands d v.0 in
+    (s.0, s.1, map line_of s.2, ap (map line_of) (s.3 ∙ ap (λ (l : List Item). l ++ s.2) v.1) ∙ map-lines is s.2)

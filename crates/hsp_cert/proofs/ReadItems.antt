@@ -1,0 +1,178 @@
+-- Lines and the items that they say.
+use Rattle.std.proofs.Common.{◌≡◌, ◌<◌, ◌≤◌, ◌^◌, ◌%◌, ◌+◌, ℕ, Bool, true, false, List, [], ◌∷◌, ◌++◌, Option, Some, None, decimal, refl, sym, ap, ◌∙◌, arith, inl, inr, ◌⊎◌, Ok, Err}
+use Rattle.std.specs.Prelude.{if◌then◌else◌, nat_le}
+use Rattle.std.specs.Str.{bytes_eq}
+use Rattle.std.specs.Str.Parse.{digits_value}
+use Rattle.std.specs.List.{AllByRecursion, list_all}
+use Rattle.std.specs.Cmp.Lexicographic.{same_text}
+use Rattle.std.proofs.lemmas.Fmt.{decimal_by_steps}
+use Rattle.std.proofs.lemmas.Bool.{and_parts}
+use Rattle.std.proofs.lemmas.Bool.Decides.{nat_tests}
+use Rattle.hsp_text.specs.declared.whole.WholeFault.TheVariants.{NotWhole, TooLarge}
+use Rattle.hsp_text.specs.Whole.{is_whole}
+use Rattle.hsp_text.proofs.Numerals.{digits_spell_their_number}
+use Rattle.hsp_cert.specs.declared.item.Word.{Word}
+use Rattle.hsp_cert.specs.declared.item.Word.TheVariants as word
+use Rattle.hsp_cert.specs.declared.item.Item.{Item}
+use Rattle.hsp_cert.specs.declared.item.Item.TheVariants as item
+use Rattle.hsp_cert.specs.Words.{spelled}
+use Rattle.hsp_cert.specs.Text.{line_of}
+use Rattle.hsp_cert.specs.Lexing.{cut, words, word_among, word_in, number_read, number_in, after_word, after_first, after_second, after_third, item_in}
+use Rattle.hsp_cert.proofs.SpacedText.{NoSpace, cut_spaced, cut_whole, rejoined, cut_rejoined}
+
+-- ---- what a line that is read spells
+
+chosen : (b : Bool) (v w : Word) (r : Option Word) → (if b then Some v else r) ≡ Some w → ((b ≡ true) × (v ≡ w)) ⊎ (r ≡ Some w)
+chosen true v w r h = inl (refl, cc)
+chosen false v w r h = inr h
+
+word_named : (ws : List Word) (o : List ℕ) (w : Word) → word_among ws o ≡ Some w → o ≡ spelled w
+word_named [] o w h = absurd cc
+word_named (v ∷ ws) o w h = elim (chosen (bytes_eq o (spelled v)) v w (word_among ws o) h) [
+  | inl (told, same) ↦ same_text o (spelled v) (sym told) ∙ ap spelled same
+  | inr later ↦ word_named ws o w later
+]
+
+read_parts : (w l : Bool) (v n : ℕ) → number_read (if w then (if l then Ok v else Err TooLarge) else Err NotWhole) ≡ Some n → (w ≡ true) × (l ≡ true) × (v ≡ n)
+read_parts true true v n h = (refl, refl, cc)
+read_parts true false v n h = absurd cc
+read_parts false l v n h = absurd cc
+
+below : (n : ℕ) → nat_le n 18446744073709551615 ≡ true → n < 2 ^ 64
+below n h = let le : n ≤ 18446744073709551615 = grind (arith, nat_tests) in omega arith
+
+fits_64 : (n : ℕ) → n < 2 ^ 64 → nat_le n 18446744073709551615 ≡ true
+fits_64 n h = let le : n ≤ 18446744073709551615 = omega arith in grind (arith, nat_tests)
+
+number_named : (o : List ℕ) (n : ℕ) → number_in o ≡ Some n → o ≡ decimal n
+number_named o n h =
+    let p = read_parts (is_whole o) (nat_le (digits_value 10 o) 18446744073709551615) (digits_value 10 o) n h in
+    let small : n < 2 ^ 64 = omega (arith, below (digits_value 10 o) p.1, p.2) in
+    (digits_spell_their_number n o small).0 (p.0, p.2)
+
+third_says : (w : Word) (a b : ℕ) (x : List ℕ) (o : Option ℕ) (i : Item) → ((n : ℕ) → o ≡ Some n → x ≡ decimal n) → after_third w a b o ≡ Some i →
+    spelled w ++ 32 ∷ (decimal a ++ 32 ∷ (decimal b ++ 32 ∷ x)) ≡ line_of i
+third_says w a b x None i named h = absurd cc
+third_says w a b x (Some c) i named h =
+    let same : item.Three w a b c ≡ i = cc in
+    ap (λ (t : List ℕ). spelled w ++ 32 ∷ (decimal a ++ 32 ∷ (decimal b ++ 32 ∷ t))) (named c refl) ∙ ap line_of same
+
+second_says : (w : Word) (a : ℕ) (x : List ℕ) (o : Option ℕ) (r : Option (List ℕ)) (i : Item) → ((n : ℕ) → o ≡ Some n → x ≡ decimal n) → after_second w a o r ≡ Some i →
+    spelled w ++ 32 ∷ (decimal a ++ 32 ∷ rejoined x r) ≡ line_of i
+second_says w a x None r i named h = absurd cc
+second_says w a x (Some b) None i named h =
+    let same : item.Two w a b ≡ i = cc in
+    ap (λ (t : List ℕ). spelled w ++ 32 ∷ (decimal a ++ 32 ∷ t)) (named b refl) ∙ ap line_of same
+second_says w a x (Some b) (Some rest) i named h =
+    ap (λ (t : List ℕ). spelled w ++ 32 ∷ (decimal a ++ 32 ∷ (t ++ 32 ∷ rest))) (named b refl) ∙ third_says w a b rest (number_in rest) i (number_named rest) h
+
+first_says : (w : Word) (x : List ℕ) (o : Option ℕ) (r : Option (List ℕ)) (i : Item) → ((n : ℕ) → o ≡ Some n → x ≡ decimal n) → after_first w o r ≡ Some i →
+    spelled w ++ 32 ∷ rejoined x r ≡ line_of i
+first_says w x None r i named h = absurd cc
+first_says w x (Some a) None i named h =
+    let same : item.One w a ≡ i = cc in
+    ap (λ (t : List ℕ). spelled w ++ 32 ∷ t) (named a refl) ∙ ap line_of same
+first_says w x (Some a) (Some rest) i named h =
+    ap (λ (t : List ℕ). spelled w ++ 32 ∷ (t ++ 32 ∷ rest)) (named a refl) ∙ ap (λ (t : List ℕ). spelled w ++ 32 ∷ (decimal a ++ 32 ∷ t)) (cut_rejoined rest)
+    ∙ second_says w a (cut rest).0 (number_in (cut rest).0) (cut rest).1 i (number_named (cut rest).0) h
+
+word_says : (x : List ℕ) (o : Option Word) (r : Option (List ℕ)) (i : Item) → ((w : Word) → o ≡ Some w → x ≡ spelled w) → after_word o r ≡ Some i → rejoined x r ≡ line_of i
+word_says x None r i named h = absurd cc
+word_says x (Some w) None i named h = let same : item.Alone w ≡ i = cc in named w refl ∙ ap line_of same
+word_says x (Some w) (Some rest) i named h =
+    ap (λ (t : List ℕ). t ++ 32 ∷ rest) (named w refl) ∙ ap (λ (t : List ℕ). spelled w ++ 32 ∷ t) (cut_rejoined rest)
+    ∙ first_says w (cut rest).0 (number_in (cut rest).0) (cut rest).1 i (number_named (cut rest).0) h
+
+-- the item that is read of a line is spelled by it
+pub item_spelled : (line : List ℕ) (i : Item) → item_in line ≡ Some i → line ≡ line_of i
+item_spelled line i h = cut_rejoined line ∙ word_says (cut line).0 (word_in (cut line).0) (cut line).1 i (word_named words (cut line).0) h
+
+-- ---- what is read of a line that is spelled
+
+-- each octet is at least that of the digit 0, as those of letters and digits are
+abbrev pub Printed : List ℕ → Type 0
+Printed xs = AllByRecursion (λ x. 48 ≤ x) xs
+
+printed : (xs : List ℕ) → list_all (nat_le 48) xs ≡ true → Printed xs
+printed [] h = tt
+printed (x ∷ xs) h =
+    let p = and_parts (nat_le 48 x) (list_all (nat_le 48) xs) h in
+    let le : 48 ≤ x = let t = p.0 in grind (arith, nat_tests) in
+    (le, printed xs p.1)
+
+pub word_printed : (w : Word) → Printed (spelled w)
+word_printed word.Version = printed (spelled word.Version) refl
+word_printed word.Plan = printed (spelled word.Plan) refl
+word_printed word.Shortage = printed (spelled word.Shortage) refl
+word_printed word.Cost = printed (spelled word.Cost) refl
+word_printed word.Use = printed (spelled word.Use) refl
+word_printed word.Row = printed (spelled word.Row) refl
+word_printed word.Server = printed (spelled word.Server) refl
+word_printed word.Host = printed (spelled word.Host) refl
+word_printed word.Demand = printed (spelled word.Demand) refl
+word_printed word.Capacity = printed (spelled word.Capacity) refl
+word_printed word.End = printed (spelled word.End) refl
+
+printed_push : (xs : List ℕ) (x : ℕ) → Printed xs → 48 ≤ x → Printed (xs ++ x ∷ [])
+printed_push [] x h le = (le, tt)
+printed_push (y ∷ xs) x h le = (h.0, printed_push xs x h.1 le)
+
+pub decimal_printed : (n : ℕ) → n < 2 ^ 64 → Printed (decimal n)
+decimal_printed n h = decimal_by_steps (λ _ ds. Printed ds) (λ k lt. (omega arith, tt)) (λ k ds le g. printed_push ds (48 + k % 10) g (omega arith)) n h
+
+spaceless : (xs : List ℕ) → Printed xs → NoSpace xs
+spaceless [] h = tt
+spaceless (x ∷ xs) h = let le = h.0 in ((λ e. omega arith), spaceless xs h.1)
+
+word_spaceless : (w : Word) → NoSpace (spelled w)
+word_spaceless w = spaceless (spelled w) (word_printed w)
+
+decimal_spaceless : (n : ℕ) → n < 2 ^ 64 → NoSpace (decimal n)
+decimal_spaceless n h = spaceless (decimal n) (decimal_printed n h)
+
+word_back : (w : Word) → word_in (spelled w) ≡ Some w
+word_back word.Version = refl
+word_back word.Plan = refl
+word_back word.Shortage = refl
+word_back word.Cost = refl
+word_back word.Use = refl
+word_back word.Row = refl
+word_back word.Server = refl
+word_back word.Host = refl
+word_back word.Demand = refl
+word_back word.Capacity = refl
+word_back word.End = refl
+
+number_back : (n : ℕ) → n < 2 ^ 64 → number_in (decimal n) ≡ Some n
+number_back n h = let s = (digits_spell_their_number n (decimal n) h).1 refl in rw (s.0, s.1, fits_64 n h) refl
+
+-- every number is one of 64 bits
+abbrev pub Fits : Item → Type 0
+Fits (item.Alone w) = Unit {0}
+Fits (item.One w a) = a < 2 ^ 64
+Fits (item.Two w a b) = (a < 2 ^ 64) × (b < 2 ^ 64)
+Fits (item.Three w a b c) = (a < 2 ^ 64) × (b < 2 ^ 64) × (c < 2 ^ 64)
+
+-- the line of an item says that item
+pub reads_back : (i : Item) → Fits i → item_in (line_of i) ≡ Some i
+reads_back (item.Alone w) h = rw (cut_whole (spelled w) (word_spaceless w), word_back w) refl
+reads_back (item.One w a) h = rw (cut_spaced (spelled w) (decimal a) (word_spaceless w), word_back w, cut_whole (decimal a) (decimal_spaceless a h), number_back a h) refl
+reads_back (item.Two w a b) h =
+    rw (
+      cut_spaced (spelled w) (decimal a ++ 32 ∷ decimal b) (word_spaceless w),
+      word_back w,
+      cut_spaced (decimal a) (decimal b) (decimal_spaceless a h.0),
+      number_back a h.0,
+      cut_whole (decimal b) (decimal_spaceless b h.1),
+      number_back b h.1,
+    ) refl
+reads_back (item.Three w a b c) h =
+    rw (
+      cut_spaced (spelled w) (decimal a ++ 32 ∷ (decimal b ++ 32 ∷ decimal c)) (word_spaceless w),
+      word_back w,
+      cut_spaced (decimal a) (decimal b ++ 32 ∷ decimal c) (decimal_spaceless a h.0),
+      number_back a h.0,
+      cut_spaced (decimal b) (decimal c) (decimal_spaceless b h.1),
+      number_back b h.1,
+      number_back c h.2,
+    ) refl

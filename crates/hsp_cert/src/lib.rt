@@ -1,0 +1,23 @@
+// Certificates: what a plan, or that there is none, is shown by, and its text.
+#![tactic(auto)]
+
+mod certificate;
+mod draft;
+mod fault;
+mod item;
+pub mod laws;
+mod lexing;
+mod ranges;
+mod reading;
+mod stage;
+mod use_line;
+mod writing;
+
+pub use certificate::{BestRef, Certificate, ShortRef};
+pub use fault::CertFault;
+pub use reading::read_cert;
+pub use use_line::UseLine;
+pub use writing::write_cert;
+
+#[cfg(test)]
+mod tests;

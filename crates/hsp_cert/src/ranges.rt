@@ -1,0 +1,123 @@
+// The orders and ranges of a certificate's numbers.
+
+ghost use Rattle.std.specs.Prelude.{◌≡◌, ◌≤◌, ◌&&◌, length, nat_le, nat_lt, Option};
+ghost use Rattle.std.specs.List.{list_all};
+ghost use Rattle.hsp_cert.specs.Certificate.{is_use, is_price, is_row, is_before, goes_on_from, ascends};
+
+use crate::use_line::UseLine;
+
+/// The largest cost, demand or capacity.
+pub(crate) const MOST_AMOUNT: u64 = 10_000_000_000_000_000;
+
+const MOST_PRICE: u64 = 1_000_000_000_000;
+
+pub(crate) const LAST_ROW: u32 = 8_191;
+
+pub(crate) const LAST_SITE: u32 = 31;
+
+const MOST_COUNT: u64 = 1_000_000;
+
+pub(crate) const MOST_ROWS: usize = 8_192;
+
+pub(crate) const MOST_SERVERS: usize = 1_024;
+
+pub(crate) const MOST_HOSTS: usize = 1_024;
+
+pub(crate) fn is_use(one: UseLine) -> bool
+    ensures { result ≡ is_use one }
+{
+    one.row <= LAST_ROW && one.site <= LAST_SITE && 1 <= one.count && one.count <= MOST_COUNT
+}
+
+pub(crate) fn is_price(price: u64) -> bool
+    ensures { result ≡ is_price price }
+{
+    price <= MOST_PRICE
+}
+
+pub(crate) fn is_row(row: u32) -> bool
+    ensures { result ≡ is_row row }
+{
+    row <= LAST_ROW
+}
+
+// In order of the rows, and of the sites within a row.
+pub(crate) fn is_after(last: Option<UseLine>, next: UseLine) -> bool
+    ensures { result ≡ goes_on_from is_before last next }
+{
+    match last {
+        None => true,
+        Some(last) => last.row < next.row || (last.row == next.row && last.site < next.site),
+    }
+}
+
+pub(crate) fn is_row_after(last: Option<u32>, next: u32) -> bool
+    ensures { result ≡ goes_on_from nat_lt last next }
+{
+    match last {
+        None => true,
+        Some(last) => last < next,
+    }
+}
+
+pub(crate) fn are_uses(uses: &[UseLine]) -> bool
+    ensures { result ≡ list_all is_use uses.now }
+{
+    for one in uses {
+        if !is_use(*one) {
+            return false;
+        }
+    }
+    true
+}
+
+pub(crate) fn are_ascending(uses: &[UseLine]) -> bool
+    ensures { result ≡ ascends is_before uses.now }
+{
+    let mut last = None;
+    for next in uses {
+        if !is_after(last, *next) {
+            return false;
+        }
+        last = Some(*next);
+    }
+    true
+}
+
+pub(crate) fn are_rows(rows: &[u32]) -> bool
+    ensures { result ≡ list_all is_row rows.now }
+{
+    for row in rows {
+        if !is_row(*row) {
+            return false;
+        }
+    }
+    true
+}
+
+pub(crate) fn are_rows_ascending(rows: &[u32]) -> bool
+    ensures { result ≡ ascends nat_lt rows.now }
+{
+    let mut last = None;
+    for next in rows {
+        if !is_row_after(last, *next) {
+            return false;
+        }
+        last = Some(*next);
+    }
+    true
+}
+
+pub(crate) fn are_prices(prices: &[u64], most: usize) -> bool
+    ensures { result ≡ (nat_le (length prices.now) most && list_all is_price prices.now) }
+{
+    if prices.len() > most {
+        return false;
+    }
+    for price in prices {
+        if !is_price(*price) {
+            return false;
+        }
+    }
+    true
+}

@@ -1,0 +1,61 @@
+// Reading a certificate from its text, line by line.
+
+ghost use Rattle.std.specs.Prelude.{IfOk, Result};
+ghost use Rattle.hsp_cert.specs.declared.fault.CertFault.{CertFault};
+ghost use Rattle.hsp_cert.specs.Certificate.{Claim};
+ghost use Rattle.hsp_cert.specs.Drafts.{Took};
+ghost use Rattle.hsp_cert.specs.Steps.{step_line};
+ghost use Rattle.hsp_cert.specs.Reading.{Means, Agrees};
+
+use crate::certificate::Certificate;
+use crate::draft::{Draft, take};
+use crate::fault::CertFault;
+use crate::lexing::item_of;
+use hsp_text::next_line;
+use std::alloc::{AllocError, Global};
+
+// Adds a line to the draft, where it can stand.
+fn add_line(draft: &mut Draft, line: &[u8]) -> Result<bool, AllocError>
+    ensures { IfOk result (λ added. Took (step_line draft.old line.now) added draft.new) }
+{
+    match item_of(line) {
+        None => Ok(false),
+        Some(item) => take(draft, item),
+    }
+}
+
+fn read_lines(alloc: Global, text: &[u8]) -> Result<Certificate, CertFault>
+    ensures { Means text.now result }
+{
+    let mut draft = Draft::new(alloc);
+    let mut rest = text;
+    let mut lines: u64 = 0;
+    'lines: while !draft.has_ended() {
+        let Some((line, after)) = next_line(rest) else {
+            return Err(CertFault::Ended);
+        };
+        lines += 1;
+        let Ok(added) = add_line(&mut draft, line) else {
+            return Err(CertFault::OutOfMemory);
+        };
+        if !added {
+            return Err(CertFault::BadLine { line: lines });
+        }
+        rest = after;
+    }
+    if !rest.is_empty() {
+        return Err(CertFault::AfterEnd { line: lines + 1 });
+    }
+    Ok(draft.finished())
+}
+
+/// The certificate whose text it is, in room for what the certificate holds. A text of none has one fault: the first line that
+/// can't stand in its place, an end before the line `END` and its LF, or something after them.
+pub fn read_cert(alloc: Global, text: &[u8]) -> Result<Certificate, CertFault>
+    // What is answered is true of the text,
+    ensures means { Means text.now result }
+    // and whatever is true of it is answered, unless memory runs out.
+    ensures only { (other : Result Claim CertFault) → Means text.now other → Agrees result other }
+{
+    read_lines(alloc, text)
+}

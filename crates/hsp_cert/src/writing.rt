@@ -1,0 +1,143 @@
+// Writing the text of a certificate.
+
+ghost use Rattle.std.specs.Prelude.{◌≡◌, ◌++◌, ◌∷◌, [], map, decimal, IfOk, OnOk};
+ghost use Rattle.hsp_cert.specs.Text.{line_of, unlines, use_items, price_items, row_items, body_items, version_of, text_of};
+ghost use Rattle.hsp_cert.specs.Certificate.Claim.{best, short};
+
+use crate::certificate::{Certificate, PricedPlan, ShortSet, Shown};
+use crate::item::{Item, Word, spelled};
+use crate::use_line::UseLine;
+use hsp_text::push_whole;
+use std::alloc::{AllocError, Global};
+
+// Appends a space and a number.
+fn put_number(out: &mut Vec<u8>, number: u64) -> Result<(), AllocError>
+    ensures { OnOk result (out.new.items ≡ out.old.items ++ 32 ∷ decimal number) }
+{
+    out.push(b' ')?;
+    push_whole(out, number)
+}
+
+// Appends what an item says.
+fn put_item(out: &mut Vec<u8>, item: Item) -> Result<(), AllocError>
+    ensures { OnOk result (out.new.items ≡ out.old.items ++ line_of item) }
+{
+    match item {
+        Item::Alone(word) => out.extend_from_slice(spelled(word)),
+        Item::One(word, first) => {
+            out.extend_from_slice(spelled(word))?;
+            put_number(out, first)
+        }
+        Item::Two(word, first, second) => {
+            out.extend_from_slice(spelled(word))?;
+            put_number(out, first)?;
+            put_number(out, second)
+        }
+        Item::Three(word, first, second, third) => {
+            out.extend_from_slice(spelled(word))?;
+            put_number(out, first)?;
+            put_number(out, second)?;
+            put_number(out, third)
+        }
+    }
+}
+
+// Appends a line and its LF.
+fn put_line(out: &mut Vec<u8>, item: Item) -> Result<(), AllocError>
+    ensures { OnOk result (out.new.items ≡ out.old.items ++ (line_of item ++ 10 ∷ [])) }
+{
+    put_item(out, item)?;
+    out.push(b'\n')?;
+    Ok(())
+}
+
+fn put_uses(out: &mut Vec<u8>, uses: &[UseLine]) -> Result<(), AllocError>
+    ensures { OnOk result (out.new.items ≡ out.old.items ++ unlines (map line_of (use_items uses.now))) }
+{
+    for one in uses {
+        put_line(
+            out,
+            Item::Three(
+                Word::Use,
+                u64::from(one.row),
+                u64::from(one.site),
+                one.count,
+            ),
+        )?;
+    }
+    Ok(())
+}
+
+fn put_prices(out: &mut Vec<u8>, word: Word, prices: &[u64]) -> Result<(), AllocError>
+    ensures { OnOk result (out.new.items ≡ out.old.items ++ unlines (map line_of (price_items word 0 prices.now))) }
+{
+    for (number, price) in prices.iter().enumerate() {
+        put_line(out, Item::Two(word, number as u64, *price))?;
+    }
+    Ok(())
+}
+
+fn put_rows(out: &mut Vec<u8>, rows: &[u32]) -> Result<(), AllocError>
+    ensures { OnOk result (out.new.items ≡ out.old.items ++ unlines (map line_of (row_items rows.now))) }
+{
+    for row in rows {
+        put_line(out, Item::One(Word::Row, u64::from(*row)))?;
+    }
+    Ok(())
+}
+
+/// The version of a text, by its host prices.
+pub(crate) fn version_of(host_prices: &[u64]) -> u64
+    ensures { result ≡ version_of host_prices.now }
+{
+    match host_prices {
+        [] => 1,
+        [_, ..] => 2,
+    }
+}
+
+// Appends the lines between the cost and the end.
+fn put_body(out: &mut Vec<u8>, plan: &PricedPlan) -> Result<(), AllocError>
+    ensures { OnOk result (out.new.items ≡ out.old.items ++ unlines (map line_of (body_items plan.now))) }
+{
+    put_uses(out, &plan.uses)?;
+    put_prices(out, Word::Row, &plan.row_prices)?;
+    put_prices(out, Word::Server, &plan.server_prices)?;
+    put_prices(out, Word::Host, &plan.host_prices)?;
+    Ok(())
+}
+
+fn put_plan(out: &mut Vec<u8>, plan: &PricedPlan) -> Result<(), AllocError>
+    ensures { OnOk result (out.new.items ≡ out.old.items ++ text_of (best plan.now)) }
+{
+    put_line(out, Item::One(Word::Version, version_of(&plan.host_prices)))?;
+    put_line(out, Item::Alone(Word::Plan))?;
+    put_line(out, Item::One(Word::Cost, plan.cost))?;
+    put_body(out, plan)?;
+    put_line(out, Item::Alone(Word::End))?;
+    Ok(())
+}
+
+fn put_shortage(out: &mut Vec<u8>, set: &ShortSet) -> Result<(), AllocError>
+    ensures { OnOk result (out.new.items ≡ out.old.items ++ text_of (short set.now)) }
+{
+    put_line(out, Item::One(Word::Version, 1))?;
+    put_line(out, Item::Alone(Word::Shortage))?;
+    put_line(out, Item::One(Word::Demand, set.demand))?;
+    put_line(out, Item::One(Word::Capacity, set.capacity))?;
+    put_rows(out, &set.rows)?;
+    put_line(out, Item::Alone(Word::End))?;
+    Ok(())
+}
+
+/// The text of a certificate.
+pub fn write_cert(alloc: Global, certificate: &Certificate) -> Result<Vec<u8>, AllocError>
+    ensures { IfOk result (λ text. text.items ≡ text_of certificate.now) }
+{
+    let mut out = Vec::new(alloc);
+    match &certificate.shown {
+        Shown::Plan(plan) => put_plan(&mut out, plan)?,
+        Shown::Shortage(set) => put_shortage(&mut out, set)?,
+    }
+    Ok(out)
+}

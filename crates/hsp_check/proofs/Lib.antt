@@ -1,0 +1,14 @@
+pub mod Summing
+pub mod Duality
+pub mod Adding
+pub mod UsesLaid
+pub mod Shortages
+pub mod Reading
+pub mod RowLists
+pub mod LaidSums
+pub mod PlanMet
+pub mod UsesTold
+pub mod Ranges
+pub mod PlanSummed
+pub mod InstanceNetwork
+pub mod Validity

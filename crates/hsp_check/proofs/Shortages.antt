@@ -1,0 +1,62 @@
+-- What a set of rows asks for, and what it can reach.
+use Rattle.std.proofs.Common.{◌≡◌, ℕ, ◌+◌, ◌<◌, ◌==◌, ap, ap₂, refl, List, [], ◌∷◌, length, slice_index, sym, slice_index_or, All, is_none, min, if◌then◌else◌, Bool, ◌∙◌}
+use Rattle.std.specs.Prelude.{◌&&◌, ◌||◌, map}
+use Rattle.std.specs.List.{list_any}
+use Rattle.std.proofs.Math.Path.{fun_ext}
+use Rattle.std.proofs.lemmas.List.Elements.{All-head, All-tail}
+use Rattle.hsp_check.specs.declared.arc.NetworkArc.{NetworkArc}
+use Rattle.hsp_check.specs.declared.sums.LaidArc.{LaidArc}
+use Rattle.hsp_check.specs.declared.lists.NetworkLists.{NetworkLists}
+use Rattle.hsp_check.specs.Sums.{sum_below}
+use Rattle.hsp_check.specs.Network.{Network}
+use Rattle.hsp_check.specs.Plan.{is_on, on_host}
+use Rattle.hsp_check.specs.Short.{capacity_of, demand_of, room_of}
+use Rattle.hsp_check.specs.Laid.{flag_at, home_in}
+use Rattle.hsp_check.specs.Reach.{network_in}
+use Rattle.hsp_check.proofs.Summing.{sum_below_same}
+use Rattle.hsp_check.proofs.LaidSums.{on_arcs}
+
+-- a test of the arcs alone
+any_of_arcs : (test : NetworkArc → Bool) (laid : List LaidArc) → list_any test (map (λ l. l.arc) laid) ≡ list_any (λ l. test l.arc) laid
+any_of_arcs test [] = refl
+any_of_arcs test (one ∷ laid) = ap (λ b. test one.arc || b) (any_of_arcs test laid)
+
+module _ (lists : NetworkLists) (rows : ℕ → Bool) (rooms hosted : List ℕ)
+    (many : length lists.capacities.now ≡ length lists.homes.now)
+    (given : (j : ℕ) → j < length lists.capacities.now → slice_index rooms j ≡ (if list_any (λ l. rows l.arc.row && l.arc.server == j) lists.laid.now then slice_index lists.capacities.now j else 0)) where
+  each : (j : ℕ) → j < length lists.capacities.now → slice_index rooms j ≡ room_of (network_in lists) rows j
+  each j l = given j l ∙ ap (λ b. if b then slice_index lists.capacities.now j else 0) (sym (any_of_arcs (λ a. rows a.row && a.server == j) lists.laid.now))
+
+  -- what the rooms of servers add up to
+  pub capacity_sum : ((h : ℕ) → h < length lists.limits.now → slice_index hosted h ≡ sum_below (length lists.homes.now) (λ j. if is_on (home_in lists.homes.now j) h then slice_index rooms j else 0)) →
+      sum_below (length lists.homes.now) (λ j. if is_none (home_in lists.homes.now j) then slice_index rooms j else 0)
+      + sum_below (length lists.limits.now) (λ h. min (slice_index lists.limits.now h) (slice_index hosted h))
+      ≡ capacity_of (network_in lists) rows
+  capacity_sum hosts = rw (← many) (ap₂ (λ a b. a + b)
+      (sum_below_same (length lists.capacities.now) _ _ (λ j l. ap (λ r. if is_none (home_in lists.homes.now j) then r else 0) (each j l)))
+      (sum_below_same (length lists.limits.now) _ _ (λ h l. ap (λ s. min (slice_index lists.limits.now h) s) (hosts h l ∙ rw (← many) (sum_below_same (length lists.capacities.now) _ _ (λ j m. ap (λ r. if is_on (home_in lists.homes.now j) h then r else 0) (each j m)))))))
+
+-- tests that agree on the elements find the same
+any_same : {A : Type 0} (p q : A → Bool) (xs : List A) → All (λ x. p x ≡ q x) xs → list_any p xs ≡ list_any q xs
+any_same p q [] same = refl
+any_same p q (x ∷ xs) same = ap₂ (λ a b. a || b) (All-head (λ y. p y ≡ q y) x xs same) (any_same p q xs (All-tail (λ y. p y ≡ q y) x xs same))
+
+-- sets that agree on the rows of the arcs reach the same
+pub same_capacity : (n : Network) (f g : ℕ → Bool) → All (λ a. f a.row ≡ g a.row) n.arcs → capacity_of n f ≡ capacity_of n g
+same_capacity n f g same =
+    let rooms : room_of n f ≡ room_of n g = fun_ext (λ j. ap (λ b. if b then slice_index n.capacities j else 0)
+    (any_same (λ a. f a.row && a.server == j) (λ a. g a.row && a.server == j) n.arcs (λ k d l. ap (λ b. b && (slice_index_or n.arcs k d).server == j) (same k d l)))) in
+    ap (λ (r : ℕ → ℕ).
+    sum_below (length n.capacities) (λ j. if is_none (n.home j) then r j else 0)
+    + sum_below (length n.limits) (λ h. min (slice_index n.limits h) (on_host n r h))) rooms
+
+-- what the flagged rows can reach is what the chosen ones can
+pub chosen_capacity : (lists : NetworkLists) (flags : List Bool) (chosen : ℕ → Bool) → ((i : ℕ) → i < length lists.demands.now → flag_at flags i ≡ chosen i) →
+    capacity_of (network_in lists) (flag_at flags) ≡ capacity_of (network_in lists) chosen
+chosen_capacity lists flags chosen same =
+    same_capacity (network_in lists) (flag_at flags) chosen ((on_arcs (λ a. flag_at flags a.row ≡ chosen a.row) lists.laid.now).0 (λ k d l. same (slice_index_or lists.laid.now k d).arc.row (lists.rows_in k d l)))
+
+-- and so is what they ask for
+pub chosen_demand : (lists : NetworkLists) (flags : List Bool) (chosen : ℕ → Bool) → ((i : ℕ) → i < length lists.demands.now → flag_at flags i ≡ chosen i) →
+    sum_below (length lists.demands.now) (λ i. if flag_at flags i then slice_index lists.demands.now i else 0) ≡ demand_of (network_in lists) chosen
+chosen_demand lists flags chosen same = sum_below_same (length lists.demands.now) _ _ (λ i l. ap (λ b. if b then slice_index lists.demands.now i else 0) (same i l))

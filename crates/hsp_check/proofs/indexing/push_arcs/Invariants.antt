@@ -1,0 +1,6 @@
+use Rattle.std.proofs.Common.{◌≡◌, ◌++◌, take, map}
+use Rattle.hsp_check.specs.Index.{bare_arc}
+use Rattle.hsp_check.proofs.indexing.push_arcs.Given as goal
+
+abbrev pub invariant-loop-arc : goal.invariant-loop-arc
+invariant-loop-arc l = l.laid.items ≡ l.initial.laid.items ++ map (bare_arc l.row) (take l.arc-index l.arcs)

@@ -1,0 +1,26 @@
+-- The network that an instance asks about.
+use Rattle.std.specs.Prelude.{ℕ, ◌+◌, List, [], ◌∷◌, ◌++◌, map}
+use Rattle.hsp_instance.specs.Instance.{Instance}
+use Rattle.hsp_instance.specs.declared.arc.Arc.{Arc}
+use Rattle.hsp_check.specs.declared.arc.NetworkArc.{NetworkArc}
+use Rattle.hsp_check.specs.Network.{Network}
+use Rattle.hsp_check.specs.Laid.{home_in}
+
+-- an arc of the instance, with its row
+abbrev pub arc_of : ℕ → Arc → NetworkArc
+arc_of i a = record { row = i; site = a.site; server = a.server; cost = a.cost }
+
+-- the arcs of the rows from row i on, one row after another
+abbrev pub arcs_from : ℕ → List (List Arc) → List NetworkArc
+arcs_from i [] = []
+arcs_from i (arcs ∷ rest) = map (arc_of i) arcs ++ arcs_from (i + 1) rest
+
+-- each row asks for its count, each server takes its capacity, and the servers on each host no more than its limit
+abbrev pub network_of : Instance → Network
+network_of it = record {
+  demands = map (λ r. r.count) it.rows;
+  capacities = map (λ s. s.capacity) it.servers;
+  limits = map (λ h. h.limit) it.hosts;
+  home = home_in (map (λ s. s.host) it.servers);
+  arcs = arcs_from 0 it.arcs;
+}

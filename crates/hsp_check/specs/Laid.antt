@@ -1,0 +1,25 @@
+-- Arcs with what a plan gives them.
+use Rattle.std.specs.Prelude.{◌≡◌, ℕ, Bool, false, List, map, All, Option, None, slice_index_or}
+use Rattle.hsp_check.specs.declared.arc.NetworkArc.{NetworkArc}
+use Rattle.hsp_check.specs.declared.sums.LaidArc.{LaidArc}
+use Rattle.hsp_check.specs.declared.sums.End.{End}
+use Rattle.hsp_check.specs.declared.sums.End.TheVariants as end
+use Rattle.hsp_check.specs.Plan.{Plan, planned}
+
+-- the row of an arc, or its server
+abbrev pub end_of : End → NetworkArc → ℕ
+end_of end.Row a = a.row
+end_of end.Server a = a.server
+
+-- the host that a server stands on, in a list of the servers' hosts
+abbrev pub home_in : List (Option ℕ) → ℕ → Option ℕ
+home_in homes j = slice_index_or homes j None
+
+-- the arcs, each with what the plan gives it
+pub record IsLaid (arcs : List NetworkArc) (x : Plan) (laid : List LaidArc) : Type 0 where
+  pub arcs_are : map (λ l. l.arc) laid ≡ arcs
+  pub flows_are : All (λ l. l.flow ≡ planned x l.arc) laid
+
+-- whether a row, a server or a host is among those that the flags name
+abbrev pub flag_at : List Bool → ℕ → Bool
+flag_at flags k = slice_index_or flags k false

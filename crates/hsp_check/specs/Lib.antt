@@ -1,0 +1,15 @@
+pub mod Sums
+pub mod Network
+pub mod Plan
+pub mod Prices
+pub mod Short
+pub mod Claims
+pub mod Laid
+pub mod Listed
+pub mod Index
+pub mod Uses
+pub mod Reach
+pub mod Instance
+pub mod Verdict
+pub mod Valid
+pub mod Judged

@@ -1,0 +1,26 @@
+-- A transportation problem (Ahuja, Magnanti and Orlin, Network Flows, section 1.2): rows ask for queries, an arc leads from a row to
+-- its server at a site, servers take no more than their capacities, and the servers on one host together no more than its limit.
+use Rattle.std.specs.Prelude.{◌≡◌, ℕ, ◌<◌, ◌==◌, ◌&&◌, Bool, List, length, All, Option, Some}
+use Rattle.std.specs.List.{list_any}
+use Rattle.hsp_check.specs.declared.arc.NetworkArc.{NetworkArc}
+
+pub record Network : Type 0 where
+  -- what each row asks for
+  pub demands : List ℕ
+  -- what each server can take
+  pub capacities : List ℕ
+  -- what the servers on each host can take together
+  pub limits : List ℕ
+  -- the host that a server stands on, if it stands on one
+  pub home : ℕ → Option ℕ
+  pub arcs : List NetworkArc
+
+-- each arc's row and server, and each server's host, are there
+pub record IsNetwork (n : Network) : Type 0 where
+  pub rows : All (λ a. a.row < length n.demands) n.arcs
+  pub servers : All (λ a. a.server < length n.capacities) n.arcs
+  pub homes : (j h : ℕ) → j < length n.capacities → n.home j ≡ Some h → h < length n.limits
+
+-- whether the row may use the site
+abbrev pub is_allowed : Network → ℕ → ℕ → Bool
+is_allowed n i s = list_any (λ a. a.row == i && a.site == s) n.arcs

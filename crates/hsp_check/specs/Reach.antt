@@ -1,0 +1,27 @@
+-- The networks that lists hold.
+use Rattle.std.specs.Prelude.{List, map}
+use Rattle.hsp_check.specs.declared.lists.NetworkLists.{NetworkLists}
+use Rattle.hsp_check.specs.declared.numbers.NetworkNumbers.{NetworkNumbers}
+use Rattle.hsp_check.specs.declared.sums.LaidArc.{LaidArc}
+use Rattle.hsp_check.specs.Network.{Network}
+use Rattle.hsp_check.specs.Laid.{home_in}
+
+-- the network that the lists are
+abbrev pub network_in : NetworkLists → Network
+network_in lists = record {
+  demands = lists.demands.now;
+  capacities = lists.capacities.now;
+  limits = lists.limits.now;
+  home = home_in lists.homes.now;
+  arcs = map (λ l. l.arc) lists.laid.now;
+}
+
+-- the network of numbers and arcs
+abbrev pub network_with : NetworkNumbers → List LaidArc → Network
+network_with numbers laid = record {
+  demands = numbers.demands.items;
+  capacities = numbers.capacities.items;
+  limits = numbers.limits.items;
+  home = home_in numbers.homes.items;
+  arcs = map (λ l. l.arc) laid;
+}

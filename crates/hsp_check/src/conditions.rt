@@ -1,0 +1,43 @@
+// The conditions of a plan and its prices, each tested by itself.
+
+ghost use Rattle.std.specs.Prelude.{◌≡◌, ℕ, ◌<◌, ◌≤◌, ◌↔◌, length, slice_index, IsTrue};
+
+/// Whether each number is its sum.
+pub(crate) fn are_met(demands: &[u64], sums: &[u128]) -> bool
+    requires { length sums.now ≡ length demands.now }
+    ensures { IsTrue result ↔ ((i : ℕ) → i < length demands.now → slice_index sums.now i ≡ slice_index demands.now i) }
+{
+    for row in 0..demands.len() {
+        if sums[row] != u128::from(demands[row]) {
+            return false;
+        }
+    }
+    true
+}
+
+/// Whether each sum is within its bound.
+pub(crate) fn are_within(bounds: &[u64], sums: &[u128]) -> bool
+    requires { length sums.now ≡ length bounds.now }
+    ensures { IsTrue result ↔ ((j : ℕ) → j < length bounds.now → slice_index sums.now j ≤ slice_index bounds.now j) }
+{
+    for place in 0..bounds.len() {
+        if sums[place] > u128::from(bounds[place]) {
+            return false;
+        }
+    }
+    true
+}
+
+/// Whether each price is 0 where the sum is below its bound.
+pub(crate) fn idle_are_free(bounds: &[u64], sums: &[u128], prices: &[u64]) -> bool
+    requires sums { length sums.now ≡ length bounds.now }
+    requires prices { length prices.now ≡ length bounds.now }
+    ensures { IsTrue result ↔ ((j : ℕ) → j < length bounds.now → slice_index sums.now j < slice_index bounds.now j → slice_index prices.now j ≡ 0) }
+{
+    for place in 0..bounds.len() {
+        if sums[place] < u128::from(bounds[place]) && prices[place] != 0 {
+            return false;
+        }
+    }
+    true
+}

@@ -1,0 +1,49 @@
+// The arcs of an instance, row by row.
+
+ghost use Rattle.std.specs.Prelude.{◌≡◌, ◌≤◌, ◌++◌, ◌*◌, IfOk, OnOk, length, map};
+ghost use Rattle.hsp_instance.specs.Instance.{IsInstance};
+ghost use Rattle.hsp_check.specs.Index.{IsIndexed, bare_arc};
+
+use crate::arc::NetworkArc;
+use crate::sums::LaidArc;
+use hsp_instance::{Arc, Instance};
+use std::alloc::{AllocError, Global};
+
+/// The arcs of a network, none of them used, and where those of each row begin.
+#[derive(Drop)]
+pub(crate) struct IndexedArcs {
+    pub(crate) laid: Vec<LaidArc>,
+    pub(crate) starts: Vec<usize>,
+}
+
+// Appends the arcs of a row.
+fn push_arcs(laid: &mut Vec<LaidArc>, row: u32, arcs: &[Arc]) -> Result<(), AllocError>
+    ensures { OnOk result (laid.new.items ≡ laid.old.items ++ map (bare_arc row) arcs.now) }
+{
+    for arc in arcs {
+        let arc = NetworkArc {
+            row,
+            site: arc.site,
+            server: arc.server,
+            cost: arc.cost,
+        };
+        laid.push(LaidArc { arc, flow: 0 })?;
+    }
+    Ok(())
+}
+
+/// The arcs of all rows in turn.
+pub(crate) fn arcs_of(alloc: Global, instance: &Instance) -> Result<IndexedArcs, AllocError>
+    ensures arcs { IfOk result (λ arcs. IsIndexed instance.now.arcs arcs.laid.items arcs.starts.items) }
+    // The instance is within its limits.
+    ensures within { IfOk result (λ _. IsInstance instance.now) }
+{
+    let mut laid = Vec::new(alloc);
+    let mut starts = Vec::new(alloc);
+    starts.push(0)?;
+    for row in 0..instance.rows() {
+        push_arcs(&mut laid, row, instance.arcs(row))?;
+        starts.push(laid.len())?;
+    }
+    Ok(IndexedArcs { laid, starts })
+}

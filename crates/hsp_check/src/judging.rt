@@ -1,0 +1,106 @@
+// The verdict on a plan that is laid on a network.
+
+ghost use Rattle.std.specs.Prelude.{◌≡◌, ℕ, ◌<◌, ◌↔◌, length, All, IsTrue};
+ghost use Rattle.hsp_cert.specs.Certificate.Claim.{best};
+ghost use Rattle.hsp_check.specs.declared.verdict.Reason.TheVariants.{NoSuchUse, RowSum, Load, Cost, ArcPrice, UsedArcPrice, IdlePrice};
+ghost use Rattle.hsp_check.specs.Plan.{planned};
+ghost use Rattle.hsp_check.specs.Uses.{table};
+ghost use Rattle.hsp_check.specs.Reach.{network_in};
+ghost use Rattle.hsp_check.specs.Judged.{AreSums, claim_of};
+
+use crate::conditions::{are_met, are_within, idle_are_free};
+use crate::lists::NetworkLists;
+use crate::prices::PriceLists;
+use crate::sums::total_of;
+use crate::verdict::{Reason, Verdict};
+use hsp_cert::UseLine;
+
+/// A plan that is laid on a network: its cost, its uses and its prices, and what goes to each row, each server and each host.
+#[derive(Clone, Copy, Debug)]
+pub(crate) struct LaidPlan<'a, 's> {
+    pub(crate) lists: NetworkLists<'a>,
+    pub(crate) prices: PriceLists<'a>,
+    pub(crate) cost: u64,
+    pub(crate) uses: &'a [UseLine],
+    pub(crate) rows: &'s [u128],
+    pub(crate) servers: &'s [u128],
+    pub(crate) hosts: &'s [u128],
+    ghost homes: { prices.homes.now ≡ lists.homes.now },
+    ghost rows_many: { length prices.rows.now ≡ length lists.demands.now },
+    ghost hosts_many: { length prices.hosts.now ≡ length lists.limits.now },
+    ghost laid: { All (λ l. l.flow ≡ planned (table uses.now) l.arc) lists.laid.now },
+    ghost sums: { AreSums (network_in lists) (table uses.now) rows.now servers.now hosts.now },
+}
+
+impl<'a, 's> LaidPlan<'a, 's> {
+    ghost use Rattle.hsp_check.specs.Verdict.{IsVerdict, PlanMeets};
+
+    // Whether each row gets what it asks for.
+    fn meets_rows(self) -> bool
+        ensures { IsTrue result ↔ PlanMeets (network_in self.entry.lists) (claim_of self.entry.cost self.entry.uses.now self.entry.prices) RowSum }
+    {
+        are_met(self.lists.demands, self.rows)
+    }
+
+    // Whether no server and no host takes more than it can.
+    fn meets_loads(self) -> bool
+        ensures { IsTrue result ↔ PlanMeets (network_in self.entry.lists) (claim_of self.entry.cost self.entry.uses.now self.entry.prices) Load }
+    {
+        are_within(self.lists.capacities, self.servers) && are_within(self.lists.limits, self.hosts)
+    }
+
+    // Whether the cost is the plan's.
+    fn meets_cost(self) -> bool
+        ensures { IsTrue result ↔ PlanMeets (network_in self.entry.lists) (claim_of self.entry.cost self.entry.uses.now self.entry.prices) Cost }
+    {
+        u128::from(self.cost) == total_of(self.lists.laid)
+    }
+
+    // Whether no row pays more than an arc's cost and prices.
+    fn meets_arc_prices(self) -> bool
+        ensures { IsTrue result ↔ PlanMeets (network_in self.entry.lists) (claim_of self.entry.cost self.entry.uses.now self.entry.prices) ArcPrice }
+    {
+        self.prices.are_low(self.lists.laid)
+    }
+
+    // Whether each row pays just that where it uses the arc.
+    fn meets_used_prices(self) -> bool
+        ensures { IsTrue result ↔ PlanMeets (network_in self.entry.lists) (claim_of self.entry.cost self.entry.uses.now self.entry.prices) UsedArcPrice }
+    {
+        self.prices.are_tight(self.lists.laid)
+    }
+
+    // Whether the servers and the hosts with room left are free.
+    fn meets_idle_prices(self) -> bool
+        ensures { IsTrue result ↔ PlanMeets (network_in self.entry.lists) (claim_of self.entry.cost self.entry.uses.now self.entry.prices) IdlePrice }
+    {
+        idle_are_free(self.lists.capacities, self.servers, self.prices.servers)
+            && idle_are_free(self.lists.limits, self.hosts, self.prices.hosts)
+    }
+
+    /// The verdict on a plan whose uses go where they may.
+    pub(crate) fn verdict(self) -> Verdict
+        requires { PlanMeets (network_in self.lists) (claim_of self.cost self.uses.now self.prices) NoSuchUse }
+        ensures { IsVerdict (network_in self.entry.lists) (best (claim_of self.entry.cost self.entry.uses.now self.entry.prices)) result }
+    {
+        if !self.meets_rows() {
+            return Verdict::No(Reason::RowSum);
+        }
+        if !self.meets_loads() {
+            return Verdict::No(Reason::Load);
+        }
+        if !self.meets_cost() {
+            return Verdict::No(Reason::Cost);
+        }
+        if !self.meets_arc_prices() {
+            return Verdict::No(Reason::ArcPrice);
+        }
+        if !self.meets_used_prices() {
+            return Verdict::No(Reason::UsedArcPrice);
+        }
+        if !self.meets_idle_prices() {
+            return Verdict::No(Reason::IdlePrice);
+        }
+        Verdict::Yes
+    }
+}

@@ -1,0 +1,14 @@
+// Laws of the definitions.
+
+ghost use Rattle.hsp_check.specs.Claims.{PricesShowBest, ShortShowsNone};
+
+/// A feasible plan with prices is best, and the prices add up to its total: weak duality with complementary slackness
+/// (Network Flows, sections 9.4 and 16.4).
+pub fn prices_show_best()
+    ensures { PricesShowBest }
+{}
+
+/// Where a set of rows asks for more than all that it can reach takes, no plan is feasible.
+pub fn short_shows_none()
+    ensures { ShortShowsNone }
+{}

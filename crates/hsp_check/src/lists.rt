@@ -1,0 +1,26 @@
+// A network as lists.
+
+ghost use Rattle.std.specs.Prelude.{◌≡◌, ℕ, ◌<◌, ◌≤◌, ◌^◌, length, All, Some};
+ghost use Rattle.hsp_check.specs.Laid.{home_in};
+
+use crate::sums::LaidArc;
+
+/// A network as lists: what each row asks for, what each server and each host can take, the host that each server stands on, and
+/// the arcs.
+#[derive(Clone, Copy, Debug)]
+pub(crate) struct NetworkLists<'a> {
+    pub(crate) demands: &'a [u64],
+    pub(crate) capacities: &'a [u64],
+    pub(crate) limits: &'a [u64],
+    pub(crate) homes: &'a [Option<u32>],
+    pub(crate) laid: &'a [LaidArc],
+    ghost servers_many: { length capacities.now ≡ length homes.now },
+    ghost few_rows: { length demands.now < 2 ^ 16 },
+    ghost few_servers: { length homes.now < 2 ^ 16 },
+    ghost few_hosts: { length limits.now < 2 ^ 16 },
+    ghost homes_in: { (j h : ℕ) → j < length homes.now → home_in homes.now j ≡ Some h → h < length limits.now },
+    ghost rows_in: { All (λ l. l.arc.row < length demands.now) laid.now },
+    ghost servers_in: { All (λ l. l.arc.server < length homes.now) laid.now },
+    ghost cheap: { All (λ l. l.arc.cost ≤ 1000000) laid.now },
+    ghost few_arcs: { length laid.now < 2 ^ 32 },
+}

@@ -1,0 +1,77 @@
+// The prices of a certificate, against the arcs.
+
+ghost use Rattle.std.specs.Prelude.{◌≡◌, ℕ, ◌+◌, ◌<◌, ◌≤◌, ◌↔◌, length, slice_index, All, IsTrue, Some};
+ghost use Rattle.hsp_check.specs.Laid.{home_in};
+
+use crate::arc::NetworkArc;
+use crate::sums::LaidArc;
+
+/// The prices of the rows, of the servers and of the hosts, and the host that each server stands on.
+#[derive(Clone, Copy, Debug)]
+pub(crate) struct PriceLists<'a> {
+    pub(crate) rows: &'a [u64],
+    pub(crate) servers: &'a [u64],
+    pub(crate) hosts: &'a [u64],
+    pub(crate) homes: &'a [Option<u32>],
+    ghost servers_many: { length servers.now ≡ length homes.now },
+    ghost homes_in: { (j h : ℕ) → j < length homes.now → home_in homes.now j ≡ Some h → h < length hosts.now },
+    ghost servers_low: { All (λ v. v ≤ 1000000000000) servers.now },
+    ghost hosts_low: { All (λ v. v ≤ 1000000000000) hosts.now },
+}
+
+impl<'a> PriceLists<'a> {
+    ghost use Rattle.hsp_check.specs.Listed.{listed_at};
+
+    // What a query to the server pays beside an arc's cost.
+    fn at(self, server: usize) -> u64
+        requires { server < length self.homes.now }
+        ensures price { result ≡ listed_at self.entry server }
+        ensures low { result ≤ 2000000000000 }
+    {
+        match self.homes[server] {
+            None => self.servers[server],
+            Some(host) => self.servers[server] + self.hosts[host as usize],
+        }
+    }
+
+    // What a query over the arc pays.
+    fn paid(self, arc: NetworkArc) -> u64
+        requires server { arc.server < length self.homes.now }
+        requires cheap { arc.cost ≤ 1000000 }
+        ensures { result ≡ arc.cost + listed_at self.entry arc.server }
+    {
+        arc.cost + self.at(arc.server as usize)
+    }
+
+    /// Whether no row's price is above what an arc of it pays.
+    pub(crate) fn are_low(self, laid: &[LaidArc]) -> bool
+        requires rows { All (λ l. l.arc.row < length self.rows.now) laid.now }
+        requires servers { All (λ l. l.arc.server < length self.homes.now) laid.now }
+        requires cheap { All (λ l. l.arc.cost ≤ 1000000) laid.now }
+        ensures { IsTrue result ↔ All (λ l. slice_index self.entry.rows.now l.arc.row ≤ l.arc.cost + listed_at self.entry l.arc.server) laid.now }
+    {
+        for place in 0..laid.len() {
+            let arc = laid[place].arc;
+            if self.rows[arc.row as usize] > self.paid(arc) {
+                return false;
+            }
+        }
+        true
+    }
+
+    /// Whether each row's price is what an arc pays that it uses.
+    pub(crate) fn are_tight(self, laid: &[LaidArc]) -> bool
+        requires rows { All (λ l. l.arc.row < length self.rows.now) laid.now }
+        requires servers { All (λ l. l.arc.server < length self.homes.now) laid.now }
+        requires cheap { All (λ l. l.arc.cost ≤ 1000000) laid.now }
+        ensures { IsTrue result ↔ All (λ l. 0 < l.flow → slice_index self.entry.rows.now l.arc.row ≡ l.arc.cost + listed_at self.entry l.arc.server) laid.now }
+    {
+        for place in 0..laid.len() {
+            let one = laid[place];
+            if one.flow > 0 && self.rows[one.arc.row as usize] != self.paid(one.arc) {
+                return false;
+            }
+        }
+        true
+    }
+}

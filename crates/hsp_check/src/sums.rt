@@ -1,0 +1,129 @@
+// The sums of a plan over its arcs, its servers and its hosts.
+
+ghost use Rattle.std.specs.Prelude.{◌≡◌, ℕ, ◌+◌, ◌*◌, ◌<◌, ◌≤◌, ◌==◌, ◌^◌, length, slice_index, slice_get, sum_by, option_and_then, All, IfOk, Some, vec_len, if◌then◌else◌};
+ghost use Rattle.hsp_check.specs.Sums.{sum_below};
+ghost use Rattle.hsp_check.specs.Plan.{is_on};
+ghost use Rattle.hsp_check.specs.Laid.{end_of, home_in};
+
+use crate::arc::NetworkArc;
+use std::alloc::{AllocError, Global};
+
+/// An arc with what a plan gives it.
+#[derive(Clone, Copy, Debug)]
+pub(crate) struct LaidArc {
+    pub(crate) arc: NetworkArc,
+    pub(crate) flow: u64,
+}
+
+/// The row of an arc, or its server.
+#[derive(Clone, Copy, Debug)]
+pub(crate) enum End {
+    Row,
+    Server,
+}
+
+fn end_of(end: End, arc: NetworkArc) -> u32
+    ensures { result ≡ end_of end arc }
+{
+    match end {
+        End::Row => arc.row,
+        End::Server => arc.server,
+    }
+}
+
+fn flow_of(one: LaidArc) -> u128
+    ensures flow { result ≡ one.flow }
+    ensures fits { result < 2 ^ 64 }
+{
+    u128::from(one.flow)
+}
+
+// What the flow of the arc costs.
+fn cost_of(one: LaidArc) -> u128
+    requires { one.arc.cost ≤ 1000000 }
+    ensures cost { result ≡ one.arc.cost * one.flow }
+    ensures fits { result ≤ 2 ^ 84 }
+{
+    u128::from(one.arc.cost) * u128::from(one.flow)
+}
+
+// Adds what goes through each row, or each server, to sums that are 0.
+fn add_each(sums: &mut [u128], end: End, laid: &[LaidArc])
+    requires few { length laid.now < 2 ^ 32 }
+    requires ends { All (λ l. end_of end l.arc < length sums.old) laid.now }
+    requires zero { (v : ℕ) → v < length sums.old → slice_index sums.old v ≡ 0 }
+    ensures sums { (v : ℕ) → v < length sums.old → slice_index sums.new v ≡ sum_by (λ l. if end_of end l.arc == v then l.flow else 0) laid.now }
+    ensures small { (v : ℕ) → v < length sums.old → slice_index sums.new v < 2 ^ 100 }
+{
+    for place in 0..laid.len() {
+        let one = laid[place];
+        let end = end_of(end, one.arc) as usize;
+        sums[end] += flow_of(one);
+    }
+}
+
+/// What goes through each row, or each server, below `count`.
+pub(crate) fn add_up(
+    alloc: Global,
+    end: End,
+    laid: &[LaidArc],
+    count: usize,
+) -> Result<Vec<u128>, AllocError>
+    requires few { length laid.now < 2 ^ 32 }
+    requires ends { All (λ l. end_of end l.arc < count) laid.now }
+    ensures len { IfOk result (λ sums. vec_len sums ≡ count) }
+    ensures sums { IfOk result (λ sums. (v : ℕ) → v < count → slice_index sums.items v ≡ sum_by (λ l. if end_of end l.arc == v then l.flow else 0) laid.now) }
+    ensures small { IfOk result (λ sums. (v : ℕ) → v < count → slice_index sums.items v < 2 ^ 100) }
+{
+    let mut sums = vec![in alloc; 0u128; count]?;
+    add_each(&mut sums, end, laid);
+    Ok(sums)
+}
+
+// Adds numbers of servers to the sums of their hosts, which are 0.
+fn add_each_host(sums: &mut [u128], homes: &[Option<u32>], numbers: &[u128])
+    requires many { length numbers.now ≡ length homes.now }
+    requires few { length homes.now < 2 ^ 16 }
+    requires small { (j : ℕ) → j < length numbers.now → slice_index numbers.now j < 2 ^ 100 }
+    requires homes { (j h : ℕ) → j < length homes.now → home_in homes.now j ≡ Some h → h < length sums.old }
+    requires zero { (h : ℕ) → h < length sums.old → slice_index sums.old h ≡ 0 }
+    ensures { (h : ℕ) → h < length sums.old → slice_index sums.new h ≡ sum_below (length homes.now) (λ j. if is_on (home_in homes.now j) h then slice_index numbers.now j else 0) }
+{
+    for server in 0..homes.len() {
+        if let Some(host) = homes[server] {
+            sums[host as usize] += numbers[server];
+        }
+    }
+}
+
+/// Numbers of servers, added up for each host below `count`.
+pub(crate) fn add_hosts(
+    alloc: Global,
+    homes: &[Option<u32>],
+    numbers: &[u128],
+    count: usize,
+) -> Result<Vec<u128>, AllocError>
+    requires many { length numbers.now ≡ length homes.now }
+    requires few { length homes.now < 2 ^ 16 }
+    requires small { (j : ℕ) → j < length numbers.now → slice_index numbers.now j < 2 ^ 100 }
+    requires homes { (j h : ℕ) → j < length homes.now → home_in homes.now j ≡ Some h → h < count }
+    ensures len { IfOk result (λ sums. vec_len sums ≡ count) }
+    ensures sums { IfOk result (λ sums. (h : ℕ) → h < count → slice_index sums.items h ≡ sum_below (length homes.now) (λ j. if is_on (home_in homes.now j) h then slice_index numbers.now j else 0)) }
+{
+    let mut sums = vec![in alloc; 0u128; count]?;
+    add_each_host(&mut sums, homes, numbers);
+    Ok(sums)
+}
+
+/// What the plan costs.
+pub(crate) fn total_of(laid: &[LaidArc]) -> u128
+    requires few { length laid.now < 2 ^ 32 }
+    requires cheap { All (λ l. l.arc.cost ≤ 1000000) laid.now }
+    ensures { result ≡ sum_by (λ l. l.arc.cost * l.flow) laid.now }
+{
+    let mut sum: u128 = 0;
+    for place in 0..laid.len() {
+        sum += cost_of(laid[place]);
+    }
+    sum
+}

@@ -1,0 +1,50 @@
+-- The commands of the program, as clap's builder describes them.
+use Rattle.std.specs.Prelude.{codes, Some, Bool, true}
+use Rattle.clap.specs.Words.{App, Rule, Text, new_app, new_rule, with_rule, with_subcommand}
+use Rattle.clap.specs.declared.builder.command.Command.{Command}
+use Rattle.clap.specs.declared.builder.command.Command.TheViews.{out-Command}
+
+-- an option by its long name, and one that has to be there
+abbrev pub option_rule : Text → Rule
+option_rule name = record (new_rule name) { long = Some name }
+
+abbrev pub needed : Rule → Rule
+needed rule = record rule { required = true }
+
+-- a command with one option more, with one that it needs, or with one word by its place that it needs
+abbrev pub with_option : App → Text → App
+with_option app name = with_rule app (option_rule name)
+
+abbrev pub with_needed : App → Text → App
+with_needed app name = with_rule app (needed (option_rule name))
+
+abbrev pub with_word : App → Text → App
+with_word app name = with_rule app (needed (new_rule name))
+
+abbrev pub with_inputs : App → App
+with_inputs app =
+    with_needed (with_needed (with_needed (with_option (with_needed app (codes "settings")) (codes "values")) (codes "demand")) (codes "costs")) (codes "capacity")
+
+abbrev pub locate_app : App
+locate_app =
+    with_word (with_option (with_option (with_option (with_option (new_app (codes "locate")) (codes "option")) (codes "servers")) (codes "settings")) (codes "values")) (codes "handle")
+
+abbrev pub site_app : App
+site_app = with_word (with_option (new_app (codes "site")) (codes "index")) (codes "file")
+
+abbrev pub plan_app : App
+plan_app = with_inputs (new_app (codes "plan"))
+
+abbrev pub check_app : App
+check_app = with_needed (with_inputs (new_app (codes "check"))) (codes "plan")
+
+-- the words don't begin with the program's name
+abbrev pub unnamed : App → App
+unnamed app = record app { top = record app.top { no_binary_name = true } }
+
+abbrev pub hsplan_app : App
+hsplan_app =
+    with_subcommand (with_subcommand (with_subcommand (with_subcommand (unnamed (new_app (codes "hsplan"))) locate_app.top) site_app.top) plan_app.top) check_app.top
+
+abbrev pub has_globals_of : Command → Bool
+has_globals_of c = (out-Command c).has_globals

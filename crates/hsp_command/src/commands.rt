@@ -1,0 +1,138 @@
+// The commands of the program, built for clap.
+
+ghost use Rattle.std.specs.Prelude.{◌≡◌, IfOk, false};
+ghost use Rattle.clap.specs.Words.{app_of, rule_of, with_rule, with_subcommand};
+ghost use Rattle.hsp_command.specs.Commands.{check_app, has_globals_of, hsplan_app, locate_app, needed, option_rule, plan_app, site_app, with_inputs, with_needed, with_option, with_word};
+
+use clap::{Arg, Command};
+use std::alloc::{AllocError, Global};
+
+// An option by its long name.
+fn option_arg<'a>(alloc: Global, name: &'a str) -> Arg<'a>
+    ensures rule { rule_of result ≡ option_rule name.now }
+    ensures local { result.global ≡ false }
+{
+    Arg::new(alloc, name).long(name)
+}
+
+// An argument that has to be there.
+fn needed_arg<'a>(arg: Arg<'a>) -> Arg<'a>
+    ensures rule { rule_of result ≡ needed (rule_of arg.entry) }
+    ensures local { result.global ≡ arg.entry.global }
+{
+    arg.required(true)
+}
+
+// The command with one argument more.
+fn with_arg<'a>(command: Command<'a>, arg: Arg<'a>) -> Result<Command<'a>, AllocError>
+    requires command { has_globals_of command ≡ false }
+    requires arg { arg.global ≡ false }
+    ensures app { IfOk result (λ c. app_of c ≡ with_rule (app_of command.entry) (rule_of arg.entry)) }
+    ensures local { IfOk result (λ c. has_globals_of c ≡ false) }
+{
+    command.arg(arg)
+}
+
+fn with_option<'a>(
+    alloc: Global,
+    command: Command<'a>,
+    name: &'a str,
+) -> Result<Command<'a>, AllocError>
+    requires { has_globals_of command ≡ false }
+    ensures app { IfOk result (λ c. app_of c ≡ with_option (app_of command.entry) name.now) }
+    ensures local { IfOk result (λ c. has_globals_of c ≡ false) }
+{
+    with_arg(command, option_arg(alloc, name))
+}
+
+fn with_needed<'a>(
+    alloc: Global,
+    command: Command<'a>,
+    name: &'a str,
+) -> Result<Command<'a>, AllocError>
+    requires { has_globals_of command ≡ false }
+    ensures app { IfOk result (λ c. app_of c ≡ with_needed (app_of command.entry) name.now) }
+    ensures local { IfOk result (λ c. has_globals_of c ≡ false) }
+{
+    with_arg(command, needed_arg(option_arg(alloc, name)))
+}
+
+fn with_word<'a>(
+    alloc: Global,
+    command: Command<'a>,
+    name: &'a str,
+) -> Result<Command<'a>, AllocError>
+    requires { has_globals_of command ≡ false }
+    ensures app { IfOk result (λ c. app_of c ≡ with_word (app_of command.entry) name.now) }
+    ensures local { IfOk result (λ c. has_globals_of c ≡ false) }
+{
+    with_arg(command, needed_arg(Arg::new(alloc, name)))
+}
+
+fn with_inputs<'a>(alloc: Global, command: Command<'a>) -> Result<Command<'a>, AllocError>
+    requires { has_globals_of command ≡ false }
+    ensures app { IfOk result (λ c. app_of c ≡ with_inputs (app_of command.entry)) }
+    ensures local { IfOk result (λ c. has_globals_of c ≡ false) }
+{
+    let command = with_needed(alloc, command, "settings")?;
+    let command = with_option(alloc, command, "values")?;
+    let command = with_needed(alloc, command, "demand")?;
+    let command = with_needed(alloc, command, "costs")?;
+    with_needed(alloc, command, "capacity")
+}
+
+fn locate_command<'a>(alloc: Global) -> Result<Command<'a>, AllocError>
+    ensures app { IfOk result (λ c. app_of c ≡ locate_app) }
+    ensures local { IfOk result (λ c. has_globals_of c ≡ false) }
+{
+    let command = with_option(alloc, Command::new(alloc, "locate"), "option")?;
+    let command = with_option(alloc, command, "servers")?;
+    let command = with_option(alloc, command, "settings")?;
+    let command = with_option(alloc, command, "values")?;
+    with_word(alloc, command, "handle")
+}
+
+fn site_command<'a>(alloc: Global) -> Result<Command<'a>, AllocError>
+    ensures app { IfOk result (λ c. app_of c ≡ site_app) }
+    ensures local { IfOk result (λ c. has_globals_of c ≡ false) }
+{
+    let command = with_option(alloc, Command::new(alloc, "site"), "index")?;
+    with_word(alloc, command, "file")
+}
+
+fn plan_command<'a>(alloc: Global) -> Result<Command<'a>, AllocError>
+    ensures app { IfOk result (λ c. app_of c ≡ plan_app) }
+    ensures local { IfOk result (λ c. has_globals_of c ≡ false) }
+{
+    with_inputs(alloc, Command::new(alloc, "plan"))
+}
+
+fn check_command<'a>(alloc: Global) -> Result<Command<'a>, AllocError>
+    ensures app { IfOk result (λ c. app_of c ≡ check_app) }
+    ensures local { IfOk result (λ c. has_globals_of c ≡ false) }
+{
+    let command = with_inputs(alloc, Command::new(alloc, "check"))?;
+    with_needed(alloc, command, "plan")
+}
+
+// The command with one subcommand more.
+fn with_subcommand<'a>(
+    command: Command<'a>,
+    subcommand: Command<'a>,
+) -> Result<Command<'a>, AllocError>
+    requires { has_globals_of subcommand ≡ false }
+    ensures { IfOk result (λ c. app_of c ≡ with_subcommand (app_of command.entry) (app_of subcommand.entry).top) }
+{
+    command.subcommand(subcommand)
+}
+
+/// All commands of the program, for words that don't begin with its name.
+pub(crate) fn hsplan_command<'a>(alloc: Global) -> Result<Command<'a>, AllocError>
+    ensures { IfOk result (λ c. app_of c ≡ hsplan_app) }
+{
+    let command = Command::new(alloc, "hsplan").no_binary_name(true);
+    let command = with_subcommand(command, locate_command(alloc)?)?;
+    let command = with_subcommand(command, site_command(alloc)?)?;
+    let command = with_subcommand(command, plan_command(alloc)?)?;
+    with_subcommand(command, check_command(alloc)?)
+}

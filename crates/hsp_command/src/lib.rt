@@ -1,0 +1,16 @@
+// The command line of the program: words, and the orders that they give.
+#![tactic(auto)]
+
+mod commands;
+mod fault;
+mod order;
+mod reading;
+mod words;
+
+pub use fault::CommandFault;
+pub use order::{InputFiles, Order, Word};
+pub use reading::read_command;
+pub use words::split_words;
+
+#[cfg(test)]
+mod tests;

@@ -1,0 +1,122 @@
+// The order that words give.
+
+ghost use Rattle.std.specs.Prelude.{◌≡◌, IfOk, Some, codes, map, string_bytes};
+ghost use Rattle.clap.specs.Words.{found_of, rows_of, first_of, subcommand_of};
+ghost use Rattle.hsp_command.specs.Commands.{hsplan_app};
+ghost use Rattle.hsp_command.specs.Orders.{HasInputs, IsOrderIn, IsOrderOf};
+
+use crate::commands::hsplan_command;
+use crate::fault::CommandFault;
+use crate::order::{InputFiles, Order, Word};
+use clap::error::ErrorKind;
+use clap::{ArgMatches, Error};
+use std::alloc::{AllocError, Global};
+
+// The value of this name, where it was given.
+fn word_of(alloc: Global, matches: &ArgMatches<'_>, name: &str) -> Result<Option<Word>, AllocError>
+    ensures { IfOk result (λ word. word ≡ first_of name.now (rows_of (found_of matches.now))) }
+{
+    match matches.get_str(name) {
+        Some(text) => Ok(Some(Word::new(String::from_str(alloc, text)?))),
+        None => Ok(None),
+    }
+}
+
+// A value that has to be there.
+fn needed_of(alloc: Global, matches: &ArgMatches<'_>, name: &str) -> Result<Word, CommandFault>
+    ensures { IfOk result (λ word. first_of name.now (rows_of (found_of matches.now)) ≡ Some word) }
+{
+    match word_of(alloc, matches, name)? {
+        Some(word) => Ok(word),
+        None => Err(CommandFault::Usage),
+    }
+}
+
+fn inputs_of(alloc: Global, matches: &ArgMatches<'_>) -> Result<InputFiles, CommandFault>
+    ensures { IfOk result (λ inputs. HasInputs (rows_of (found_of matches.now)) inputs) }
+{
+    let settings = needed_of(alloc, matches, "settings")?;
+    let values = word_of(alloc, matches, "values")?;
+    let demand = needed_of(alloc, matches, "demand")?;
+    let costs = needed_of(alloc, matches, "costs")?;
+    let capacity = needed_of(alloc, matches, "capacity")?;
+    Ok(InputFiles {
+        settings,
+        values,
+        demand,
+        costs,
+        capacity,
+    })
+}
+
+// One of the two forms of `locate`, and neither a mixture nor a part.
+fn locate_of(alloc: Global, matches: &ArgMatches<'_>) -> Result<Order, CommandFault>
+    ensures { IfOk result (λ order. IsOrderIn order (codes "locate") (rows_of (found_of matches.now))) }
+{
+    let option = word_of(alloc, matches, "option")?;
+    let servers = word_of(alloc, matches, "servers")?;
+    let settings = word_of(alloc, matches, "settings")?;
+    let values = word_of(alloc, matches, "values")?;
+    let handle = needed_of(alloc, matches, "handle")?;
+    match (option, servers, settings, values) {
+        (Some(option), Some(servers), None, None) => Ok(Order::LocatePlace {
+            option,
+            servers,
+            handle,
+        }),
+        (None, None, Some(settings), values) => Ok(Order::LocateSites {
+            settings,
+            values,
+            handle,
+        }),
+        _ => Err(CommandFault::Usage),
+    }
+}
+
+// The order of a subcommand with its values.
+fn order_of(alloc: Global, name: &str, matches: &ArgMatches<'_>) -> Result<Order, CommandFault>
+    ensures { IfOk result (λ order. IsOrderIn order name.now (rows_of (found_of matches.now))) }
+{
+    match name {
+        "locate" => locate_of(alloc, matches),
+        "site" => {
+            let index = word_of(alloc, matches, "index")?;
+            let file = needed_of(alloc, matches, "file")?;
+            Ok(Order::Site { index, file })
+        }
+        "plan" => {
+            let inputs = inputs_of(alloc, matches)?;
+            Ok(Order::Plan { inputs })
+        }
+        "check" => {
+            let inputs = inputs_of(alloc, matches)?;
+            let plan = needed_of(alloc, matches, "plan")?;
+            Ok(Order::Check { inputs, plan })
+        }
+        _ => Err(CommandFault::Usage),
+    }
+}
+
+fn fault_of(error: &Error) -> CommandFault {
+    if error.kind() == ErrorKind::OutOfMemory {
+        CommandFault::OutOfMemory
+    } else {
+        CommandFault::Usage
+    }
+}
+
+/// The order that the words give, the first of them being the command. What clap's parser refuses is `Usage`, a request for
+/// help too.
+pub fn read_command(alloc: Global, words: &[String]) -> Result<Order, CommandFault>
+    ensures { IfOk result (λ order. IsOrderOf order (subcommand_of hsplan_app (map string_bytes words.now))) }
+{
+    let command = hsplan_command(alloc)?;
+    let mut matches = match command.try_get_matches_from(words) {
+        Ok(matches) => matches,
+        Err(error) => return Err(fault_of(&error)),
+    };
+    match matches.remove_subcommand() {
+        Some((name, found)) => order_of(alloc, name, &found),
+        None => Err(CommandFault::Usage),
+    }
+}

@@ -1,0 +1,191 @@
+use super::*;
+use std::alloc::Global;
+use std::process::Abort;
+use std::test::Fail;
+
+// The words of a line, or None where memory ran out.
+fn words_of(alloc: Global, line: &[u8]) -> Option<Vec<String>> {
+    split_words(alloc, line).ok()?
+}
+
+// What the words of a line are read as: the values one after the other, with bars between.
+fn shown(alloc: Global, order: &Order) -> Option<String> {
+    match order {
+        Order::LocatePlace {
+            option,
+            servers,
+            handle,
+        } => {
+            let (option, servers, handle) = (option.as_str(), servers.as_str(), handle.as_str());
+            format!(in alloc; "place|{option}|{servers}|{handle}").ok()
+        }
+        Order::LocateSites {
+            settings,
+            values,
+            handle,
+        } => {
+            let (settings, handle) = (settings.as_str(), handle.as_str());
+            let values = match values {
+                Some(values) => values.as_str(),
+                None => "none",
+            };
+            format!(in alloc; "sites|{settings}|{values}|{handle}").ok()
+        }
+        Order::Site { index, file } => {
+            let file = file.as_str();
+            let index = match index {
+                Some(index) => index.as_str(),
+                None => "none",
+            };
+            format!(in alloc; "site|{index}|{file}").ok()
+        }
+        Order::Plan { inputs } => shown_inputs(alloc, "plan", inputs, ""),
+        Order::Check { inputs, plan } => shown_inputs(alloc, "check", inputs, plan.as_str()),
+    }
+}
+
+fn shown_inputs(alloc: Global, name: &str, inputs: &InputFiles, plan: &str) -> Option<String> {
+    let (settings, demand) = (inputs.settings.as_str(), inputs.demand.as_str());
+    let (costs, capacity) = (inputs.costs.as_str(), inputs.capacity.as_str());
+    let values = match &inputs.values {
+        Some(values) => values.as_str(),
+        None => "none",
+    };
+    format!(in alloc; "{name}|{settings}|{values}|{demand}|{costs}|{capacity}|{plan}").ok()
+}
+
+// The words of the line give the order, unless memory runs out.
+fn gives(rt: &impl Abort, alloc: Global, line: &[u8], wanted: &str) {
+    let Some(words) = words_of(alloc, line) else {
+        return;
+    };
+    match read_command(alloc, words.as_slice()) {
+        Ok(order) => {
+            if let Some(text) = shown(alloc, &order) {
+                assert_eq!(rt; text.as_str(), wanted);
+            }
+        }
+        Err(fault) => assert_eq!(rt; fault, CommandFault::OutOfMemory),
+    }
+}
+
+// The words of the line are no order, unless memory runs out.
+fn refused(rt: &impl Abort, alloc: Global, line: &[u8]) {
+    let Some(words) = words_of(alloc, line) else {
+        return;
+    };
+    match read_command(alloc, words.as_slice()) {
+        Ok(_) => assert!(rt; false, "an order was read"),
+        Err(fault) => assert!(rt;
+            fault == CommandFault::Usage || fault == CommandFault::OutOfMemory
+        ),
+    }
+}
+
+#[test]
+fn words_stand_between_spaces(rt: HostRuntime) -> Result<(), Fail> {
+    let Ok(found) = split_words(rt.alloc(), b"a  b") else {
+        return Ok(());
+    };
+    let words = found.ok_or("no text")?;
+    assert_eq!(rt; words.len(), 2);
+    assert_eq!(rt; words[0].as_str(), "a");
+    assert_eq!(rt; words[1].as_str(), "b");
+    Ok(())
+}
+
+#[test]
+fn octets_that_are_no_text_are_no_words(rt: HostRuntime) {
+    if let Ok(found) = split_words(rt.alloc(), b"a \xff") {
+        assert!(rt; found.is_none());
+    }
+}
+
+#[test]
+fn places_are_ordered(rt: HostRuntime) {
+    gives(
+        &rt,
+        rt.alloc(),
+        b"locate --option local --servers 2 10/3",
+        "place|local|2|10/3",
+    );
+}
+
+#[test]
+fn a_word_behind_two_dashes_is_no_option(rt: HostRuntime) {
+    gives(
+        &rt,
+        rt.alloc(),
+        b"locate --servers=-1 --option= -- -x/1",
+        "place||-1|-x/1",
+    );
+}
+
+#[test]
+fn sites_are_ordered(rt: HostRuntime) {
+    gives(
+        &rt,
+        rt.alloc(),
+        b"locate --settings s 10/3",
+        "sites|s|none|10/3",
+    );
+}
+
+#[test]
+fn sites_with_values_are_ordered(rt: HostRuntime) {
+    gives(
+        &rt,
+        rt.alloc(),
+        b"locate 10/3 --values v --settings s",
+        "sites|s|v|10/3",
+    );
+}
+
+#[test]
+fn a_record_is_ordered(rt: HostRuntime) {
+    gives(&rt, rt.alloc(), b"site f", "site|none|f");
+    gives(&rt, rt.alloc(), b"site --index 1 f", "site|1|f");
+}
+
+#[test]
+fn a_plan_is_ordered(rt: HostRuntime) {
+    gives(
+        &rt,
+        rt.alloc(),
+        b"plan --settings s --demand d --costs c --capacity k",
+        "plan|s|none|d|c|k|",
+    );
+}
+
+#[test]
+fn a_check_is_ordered(rt: HostRuntime) {
+    gives(
+        &rt,
+        rt.alloc(),
+        b"check --settings s --values v --demand d --costs c --capacity k --plan p",
+        "check|s|v|d|c|k|p",
+    );
+}
+
+#[test]
+fn other_words_are_no_order(rt: HostRuntime) {
+    let lines: [&[u8]; 14] = [
+        b"",
+        b"locate",
+        b"plan",
+        b"help",
+        b"--help",
+        b"locate --help",
+        b"locate --option local 10/3",
+        b"locate --option local --servers 2",
+        b"locate --option local --servers 2 10/3 10/4",
+        b"locate --option local --option na --servers 2 10/3",
+        b"locate --option local --servers -1 10/3",
+        b"locate --option local --servers 2 --settings s 10/3",
+        b"locate --values v 10/3",
+        b"check --settings s --demand d --costs c --capacity k",
+    ];
+    for line in lines {
+        refused(&rt, rt.alloc(), line);
+    }
+}

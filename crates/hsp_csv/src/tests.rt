@@ -1,0 +1,114 @@
+use super::*;
+use csv::ByteRecord;
+use std::alloc::{AllocError, Global};
+use std::io;
+use std::io::{ErrorKind, Read};
+use std::test::Fail;
+
+/// Gives at most one octet a call, and fails once `good` of them were given.
+#[derive(Drop)]
+struct OneByOne<'a> {
+    text: &'a [u8],
+    good: usize,
+}
+
+impl<'a> Read for OneByOne<'a> {
+    fn read(&mut self, buf: &mut [u8]) -> io::Result<usize> {
+        if self.good == 0 {
+            return Err(io::Error::from(ErrorKind::Other));
+        }
+        self.good -= 1;
+        match (self.text, buf) {
+            ([octet, rest @ ..], [place, ..]) => {
+                *place = *octet;
+                self.text = rest;
+                Ok(1)
+            }
+            _ => Ok(0),
+        }
+    }
+}
+
+// Writes a record as its fields, each in brackets, and an LF.
+fn write_record(out: &mut Vec<u8>, record: &ByteRecord) -> Result<(), AllocError> {
+    for i in 0..record.len() {
+        if let Some(field) = record.get(i) {
+            out.push(b'[')?;
+            out.extend_from_slice(field)?;
+            out.push(b']')?;
+        }
+    }
+    out.push(b'\n')?;
+    Ok(())
+}
+
+// The first ten records that a reader gives, and the fault at which it stopped.
+fn first_ten<R: Read + Drop>(alloc: Global, text: R, out: &mut Vec<u8>) -> Option<RecordsFault> {
+    let mut reader = read_records(alloc, text);
+    let mut record = ByteRecord::new(alloc);
+    for _ in 0..10 {
+        match take_record(&mut reader, &mut record) {
+            Ok(true) => {
+                if write_record(out, &record).is_err() {
+                    return Some(RecordsFault::OutOfMemory);
+                }
+            }
+            Ok(false) => return None,
+            Err(fault) => return Some(fault),
+        }
+    }
+    None
+}
+
+#[test]
+fn records_of_a_text(rt: HostRuntime) -> Result<(), Fail> {
+    let cases: [(&[u8], &[u8]); 12] = [
+        (b"", b""),
+        (b"\n\r\n\n", b""),
+        (b"a,b\nc,d\n", b"[a][b]\n[c][d]\n"),
+        (b"a,b\r\nc,d\r\n", b"[a][b]\n[c][d]\n"),
+        (b"a\n\n\r\nb", b"[a]\n[b]\n"),
+        (b"a,b\nc\nd,,\n", b"[a][b]\n[c]\n[d][][]\n"),
+        (b" a , b \n", b"[ a ][ b ]\n"),
+        (b"\"a,\"\"b\"\n", b"[a,\"b]\n"),
+        (b"\"a\nb\",c\n", b"[a\nb][c]\n"),
+        (b"\"\"\n", b"[]\n"),
+        (b"\xEF\xBB\xBFa,b\n", b"[a][b]\n"),
+        (b"\xEF\xBB\xBF\xEF\xBB\xBFa\n", b"[\xEF\xBB\xBFa]\n"),
+    ];
+    for (text, wanted) in cases {
+        let Ok(mut out) = Vec::with_capacity(rt.alloc(), 64) else {
+            return Ok(());
+        };
+        match first_ten(rt.alloc(), text, &mut out) {
+            None => assert_eq!(rt; out.as_slice(), wanted),
+            fault => assert_eq!(rt; fault, Some(RecordsFault::OutOfMemory)),
+        }
+    }
+    Ok(())
+}
+
+#[test]
+fn a_reader_that_gives_little_or_fails(rt: HostRuntime) -> Result<(), Fail> {
+    let cases: [(usize, Option<RecordsFault>, &[u8]); 4] = [
+        (usize::MAX, None, b"[a][b]\n[c]\n"),
+        (0, Some(RecordsFault::ReadFailed), b""),
+        (6, Some(RecordsFault::ReadFailed), b""),
+        (7, Some(RecordsFault::ReadFailed), b"[a][b]\n"),
+    ];
+    for (good, wanted_fault, wanted) in cases {
+        let text = OneByOne {
+            text: b"\xEF\xBB\xBFa,b\nc\n",
+            good,
+        };
+        let Ok(mut out) = Vec::with_capacity(rt.alloc(), 64) else {
+            return Ok(());
+        };
+        let fault = first_ten(rt.alloc(), text, &mut out);
+        if fault != Some(RecordsFault::OutOfMemory) {
+            assert_eq!(rt; fault, wanted_fault);
+            assert_eq!(rt; out.as_slice(), wanted);
+        }
+    }
+    Ok(())
+}

@@ -1,0 +1,113 @@
+-- The sums of a plan over a network's arcs are those of the flow that it is made from.
+use Rattle.std.proofs.Common.{◌≡◌, ℕ, zero, suc, ◌+◌, ◌*◌, ◌<◌, ◌==◌, ◌∙◌, Bool, true, false, List, [], ◌∷◌, length, map, sum_by, slice_index, slice_index_or, if◌then◌else◌, refl, ap, ap₂, sym, inl, inr, arith, eq-eqb, eqb-true, ne_eqb}
+use Rattle.std.specs.Prelude.{◌&&◌}
+use Rattle.std.specs.List.{list_any}
+use Rattle.std.proofs.lemmas.List.Sums.{sum_by-cons, sum_by-append}
+use Rattle.std.proofs.lemmas.List.Folds.{list_any_at}
+use Rattle.std.proofs.lemmas.List.{length-map, get_or-map}
+use Rattle.std.proofs.lemmas.Bool.{cases_eq, cases_Bool, and_parts, and_from}
+use Rattle.hsp_cert.specs.declared.use_line.UseLine.{UseLine}
+use Rattle.hsp_check.specs.declared.arc.NetworkArc.{NetworkArc}
+use Rattle.hsp_check.specs.Plan as plans
+use Rattle.hsp_check.specs.Network.{Network}
+use Rattle.hsp_check.specs.Sums as check
+use Rattle.hsp_check.specs.Uses.{table}
+use Rattle.hsp_check.proofs.Summing.{sum_below_same, sum_below_zero, sum_below_one, by_place}
+use Rattle.hsp_flow.specs.Sums.{sum_below, only}
+use Rattle.hsp_flow.specs.Ordered.{AreOrdered}
+use Rattle.hsp_flow.specs.Planning.{use_of, uses_of, cost_of}
+use Rattle.hsp_flow.proofs.Ordering.{no_arc, one_place}
+
+-- the sums of both crates are the same
+pub same_sum : (n : ℕ) (f : ℕ → ℕ) → sum_below n f ≡ check.sum_below n f
+same_sum zero f = refl
+same_sum (suc n) f = ap (λ s. s + f n) (same_sum n f)
+
+-- the first term apart from the others
+pub first_apart : (n : ℕ) (f : ℕ → ℕ) → check.sum_below (suc n) f ≡ f 0 + check.sum_below n (λ k. f (suc k))
+first_apart zero f = omega arith
+first_apart (suc n) f = let rest : check.sum_below (suc n) f ≡ f 0 + check.sum_below n (λ k. f (suc k)) = first_apart n f in omega arith
+
+abbrev pub arc : List NetworkArc → ℕ → NetworkArc
+arc arcs k = slice_index_or arcs k no_arc
+
+-- whether the arc leads from the row to the site
+abbrev pub leads : ℕ → ℕ → NetworkArc → Bool
+leads i s a = a.row == i && a.site == s
+
+same_twice : (b : Bool) (n : ℕ) → n ≡ (if b then n else n)
+same_twice true n = refl
+same_twice false n = refl
+
+one_use : (a : NetworkArc) (flow i s : ℕ) → table (use_of a flow) i s ≡ (if leads i s a then flow else 0)
+one_use a flow i s = elim (cases_eq flow 0) [
+  | inl none ↦ rw none (same_twice (leads i s a) 0)
+  | inr some ↦ rw (ne_eqb flow 0 some) (sum_by-cons (λ (u : UseLine). if u.row == i && u.site == s then u.count else 0) (record { row = a.row; site = a.site; count = flow }) [] ∙ omega arith)
+]
+
+-- what the uses give a row and a site
+pub table_is : (arcs : List NetworkArc) (flows : List ℕ) (i s : ℕ) → length flows ≡ length arcs →
+    table (uses_of arcs flows) i s ≡ check.sum_below (length arcs) (λ k. if leads i s (arc arcs k) then slice_index flows k else 0)
+table_is [] flows i s many = refl
+table_is (a ∷ arcs) [] i s many = absurd (omega arith)
+table_is (a ∷ arcs) (flow ∷ flows) i s many =
+    let g = λ (u : UseLine). if u.row == i && u.site == s then u.count else 0 in
+    sum_by-append g (use_of a flow) (uses_of arcs flows)
+    ∙ ap₂ (λ m n. m + n) (one_use a flow i s) (table_is arcs flows i s (omega arith))
+    ∙ sym (first_apart (length arcs) (λ k. if leads i s (arc (a ∷ arcs) k) then slice_index (flow ∷ flows) k else 0))
+
+module _ (arcs : List NetworkArc) (flows : List ℕ) (many : length flows ≡ length arcs) where
+  -- a pair that no arc joins gets nothing
+  pub none_planned : (i s : ℕ) → list_any (leads i s) arcs ≡ false → table (uses_of arcs flows) i s ≡ 0
+  none_planned i s none = table_is arcs flows i s many ∙ sum_below_zero (length arcs) _ (λ k l. elim (cases_Bool (leads i s (arc arcs k))) [
+    | inl yes' ↦ absurd (let met : list_any (leads i s) arcs ≡ true = list_any_at (leads i s) arcs k no_arc l yes' in cc)
+    | inr no' ↦ rw no' refl
+  ])
+
+  -- an arc gets its flow
+  pub planned_is : AreOrdered arcs → (k : ℕ) → k < length arcs → table (uses_of arcs flows) (arc arcs k).row (arc arcs k).site ≡ slice_index flows k
+  planned_is ordered k l =
+      let i = (arc arcs k).row in
+      let s = (arc arcs k).site in
+      let here : leads i s (arc arcs k) ≡ true = and_from _ _ (eq-eqb i i refl) (eq-eqb s s refl) in
+      table_is arcs flows i s many
+      ∙ sum_below_one (length arcs) (λ m. if leads i s (arc arcs m) then slice_index flows m else 0) k l
+      (λ m n other. elim (cases_Bool (leads i s (arc arcs m))) [
+        | inl yes' ↦
+            let b = and_parts ((arc arcs m).row == i) ((arc arcs m).site == s) yes' in
+            absurd (other (one_place arcs ordered m k n l (eqb-true (arc arcs m).row i b.0) (eqb-true (arc arcs m).site s b.1)))
+        | inr no' ↦ rw no' refl
+      ])
+      ∙ rw here refl
+
+  -- a sum over the arcs by their ends
+  pub sum_at : AreOrdered arcs → (tail end : NetworkArc → ℕ) (v : ℕ) →
+      sum_by (λ a. if end a == v then table (uses_of arcs flows) a.row a.site else 0) arcs ≡ sum_below (length (map tail arcs)) (λ k. only (slice_index (map end arcs) k) v (slice_index flows k))
+  sum_at ordered tail end v =
+      by_place (λ a. if end a == v then table (uses_of arcs flows) a.row a.site else 0) no_arc arcs
+      ∙ sum_below_same (length arcs) _ _ (λ k l.
+      ap₂ (λ e n. if e == v then n else 0) (sym (get_or-map end arcs k no_arc 0 l)) (planned_is ordered k l))
+      ∙ sym (same_sum (length arcs) (λ k. only (slice_index (map end arcs) k) v (slice_index flows k)))
+      ∙ ap (λ n. sum_below n (λ k. only (slice_index (map end arcs) k) v (slice_index flows k))) (sym (length-map arcs tail))
+
+  -- what the plan costs
+  pub total_at : AreOrdered arcs →
+      sum_by (λ a. a.cost * table (uses_of arcs flows) a.row a.site) arcs ≡ sum_below (length arcs) (λ k. slice_index (map cost_of arcs) k * slice_index flows k)
+  total_at ordered =
+      by_place (λ a. a.cost * table (uses_of arcs flows) a.row a.site) no_arc arcs
+      ∙ sum_below_same (length arcs) _ _ (λ k l.
+      ap₂ (λ c n. c * n) (sym (get_or-map cost_of arcs k no_arc 0 l)) (planned_is ordered k l))
+      ∙ sym (same_sum (length arcs) (λ k. slice_index (map cost_of arcs) k * slice_index flows k))
+
+-- the sums of the definitions, written out for the table of uses
+pub served_sum : (n : Network) (uses : List UseLine) (i : ℕ) → plans.served n (table uses) i ≡ sum_by (λ (a : NetworkArc). if a.row == i then table uses a.row a.site else 0) n.arcs
+served_sum n uses i = refl
+
+pub load_sum : (n : Network) (uses : List UseLine) (j : ℕ) → plans.load n (table uses) j ≡ sum_by (λ (a : NetworkArc). if a.server == j then table uses a.row a.site else 0) n.arcs
+load_sum n uses j = refl
+
+pub total_sum : (n : Network) (uses : List UseLine) → plans.total n (table uses) ≡ sum_by (λ (a : NetworkArc). a.cost * table uses a.row a.site) n.arcs
+total_sum n uses = refl
+
+pub planned_at : (uses : List UseLine) (a : NetworkArc) → plans.planned (table uses) a ≡ table uses a.row a.site
+planned_at uses a = refl

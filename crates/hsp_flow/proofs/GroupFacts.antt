@@ -1,0 +1,256 @@
+-- What the arcs of groups have to do with those of their rows.
+use Rattle.std.proofs.Common.{◌≡◌, ℕ, ◌+◌, ◌-◌, ◌<◌, ◌≤◌, ◌∙◌, List, [], ◌∷◌, length, map, slice_index, slice_index_or, ◌++◌, refl, ap, sym, subst, inl, inr, arith, zero-add, length-append}
+use Rattle.std.specs.Prelude.{Some, slice_get, option_map}
+use Rattle.std.specs.List.{AllByRecursion}
+use Rattle.std.proofs.lemmas.List.{length-map, get_or-map, get_or_past, get_or_append_left, get_or-append_right}
+use Rattle.std.proofs.lemmas.Option.{slice_get-get_or, get_or_from_slice_get, slice_get-map, slice_get_within}
+use Rattle.std.proofs.lemmas.Bool.{cases_lt}
+use Rattle.hsp_instance.specs.declared.arc.Arc.{Arc}
+use Rattle.hsp_instance.specs.Instance.{Instance, IsInstance, AreArcs, IsAscending}
+use Rattle.hsp_instance.specs.Groups.{Groups, AreGroups, AreAlike}
+use Rattle.hsp_check.specs.declared.arc.NetworkArc.{NetworkArc}
+use Rattle.hsp_check.specs.Instance.{arc_of, arcs_from}
+use Rattle.hsp_flow.specs.Grouping.{group_of, AreFirsts, arcs_at, lists_at, group_arcs, offset, IsRun, AreHomes}
+use Rattle.hsp_flow.specs.Layout.{Appends}
+use Rattle.hsp_flow.specs.Planning.{row_of, server_of, cost_of}
+use Rattle.hsp_flow.proofs.Ordering.{no_arc, each_at, rows_between}
+use Rattle.hsp_flow.proofs.Bridging.{arc}
+use Rattle.hsp_flow.proofs.Offsets.{no_own, list_at, Stands, at_offset, Comes, from_offset, offset_all, offset_none, offset_more, offset_rises}
+
+module _ (it : Instance) (is : IsInstance it) (gs : Groups) (ag : AreGroups it gs) (firsts : List ℕ) (af : AreFirsts gs firsts) where
+  pub group_in : (i : ℕ) → i < length it.rows → group_of gs i < gs.count
+  group_in i l = each_at (λ g. g < gs.count) gs.of_rows i 0 (omega (arith, l, ag.one_a_row)) ag.below
+
+  pub first_in : (g : ℕ) → g < gs.count → slice_index firsts g < length it.rows
+  first_in g l = omega (arith, af.there g l, ag.one_a_row)
+
+  -- a row's arcs are those of the first row of its group
+  pub alike_lists : (i : ℕ) → i < length it.rows → list_at (lists_at it firsts) (group_of gs i) ≡ list_at it.arcs i
+  alike_lists i l =
+      let g = group_of gs i in
+      let there : g < gs.count = group_in i l in
+      let first : list_at (lists_at it firsts) g ≡ arcs_at it (slice_index firsts g) = get_or-map (arcs_at it) firsts g 0 [] (omega (arith, there, af.many)) in
+      let r = slice_index firsts g in
+      let inside : r < length it.rows = first_in g there in
+      let own : slice_get gs.of_rows r ≡ Some (slice_index gs.of_rows r) = slice_get-get_or gs.of_rows r 0 (omega (arith, inside, ag.one_a_row)) in
+      let row : slice_get gs.of_rows i ≡ Some (slice_index gs.of_rows i) = slice_get-get_or gs.of_rows i 0 (omega (arith, l, ag.one_a_row)) in
+      let one : slice_index gs.of_rows r ≡ slice_index gs.of_rows i = af.own g there in
+      let same : slice_get gs.of_rows r ≡ slice_get gs.of_rows i = own ∙ ap (λ (n : ℕ). Some n) one ∙ sym row in
+      let alike : AreAlike it r i = (ag.alike r i inside l).0 same in
+      let arcs : slice_get it.arcs i ≡ Some (list_at it.arcs i) = slice_get-get_or it.arcs i [] (omega (arith, l, is.one_list_a_row)) in
+      first ∙ get_or_from_slice_get it.arcs r (list_at it.arcs i) [] (alike.arcs ∙ arcs)
+
+  module _ (homes : List ℕ) (run : IsRun it.arcs (lists_at it firsts) gs (length it.rows) homes) where
+    -- an arc of a row and its home
+    record Paired (k : ℕ) : Type 0 where
+      row : ℕ
+      own : Arc
+      row_in : row < length it.rows
+      inside : slice_index homes k < length (group_arcs it firsts)
+      arc_is : arc (arcs_from 0 it.arcs) k ≡ arc_of row own
+      home_is : arc (group_arcs it firsts) (slice_index homes k) ≡ arc_of (group_of gs row) own
+
+    pair : (i m : ℕ) → i < length it.rows → m < length (list_at it.arcs i) → Paired (offset it.arcs i + m)
+    pair i m l n =
+        let g = group_of gs i in
+        let same = alike_lists i l in
+        let rows : i < length it.arcs = omega (arith, l, is.one_list_a_row) in
+        let groups : g < length (lists_at it firsts) = omega (arith, group_in i l, af.many, length-map firsts (arcs_at it)) in
+        let at_row : Stands 0 it.arcs i m = at_offset 0 it.arcs i m rows n in
+        let place : m < length (list_at (lists_at it firsts) g) = rw same n in
+        let at_group : Stands 0 (lists_at it firsts) g m = at_offset 0 (lists_at it firsts) g m groups place in
+        let home : slice_index homes (offset it.arcs i + m) ≡ offset (lists_at it firsts) g + m = run.at i m l n in
+        record {
+          row = i;
+          own = slice_index_or (list_at it.arcs i) m no_own;
+          row_in = l;
+          inside = rw home at_group.inside;
+          arc_is = at_row.is ∙ ap (λ r. arc_of r (slice_index_or (list_at it.arcs i) m no_own)) (zero-add i);
+          home_is =
+              ap (λ e. arc (group_arcs it firsts) e) home ∙ at_group.is ∙ ap (λ r. arc_of r (slice_index_or (list_at (lists_at it firsts) g) m no_own)) (zero-add g)
+              ∙ ap (λ (xs : List Arc). arc_of g (slice_index_or xs m no_own)) same;
+        }
+
+    paired : (k : ℕ) → k < length (arcs_from 0 it.arcs) → Paired k
+    paired k l =
+        let c : Comes it.arcs k = from_offset 0 it.arcs k l in
+        subst Paired (sym c.is) (pair c.list c.place (omega (arith, c.list_in, is.one_list_a_row)) c.place_in)
+
+    row_at : (k : ℕ) → k < length (arcs_from 0 it.arcs) → slice_index (map row_of (arcs_from 0 it.arcs)) k ≡ (arc (arcs_from 0 it.arcs) k).row
+    row_at k l = get_or-map row_of (arcs_from 0 it.arcs) k no_arc 0 l
+
+    pub homes_are : AreHomes it gs (arcs_from 0 it.arcs) (group_arcs it firsts) homes
+    homes_are = record {
+      many = run.many ∙ ap (λ n. offset it.arcs n) (sym is.one_list_a_row) ∙ offset_all 0 it.arcs;
+      inside = λ k l. (paired k l).inside;
+      row = λ k l.
+          let p = paired k l in
+          get_or-map row_of (group_arcs it firsts) (slice_index homes k) no_arc 0 p.inside ∙ ap (λ (a : NetworkArc). a.row) p.home_is
+          ∙ ap (group_of gs) (sym (ap (λ (a : NetworkArc). a.row) p.arc_is) ∙ sym (row_at k l));
+      server = λ k l.
+          let p = paired k l in
+          get_or-map server_of (group_arcs it firsts) (slice_index homes k) no_arc 0 p.inside ∙ ap (λ (a : NetworkArc). a.server) p.home_is
+          ∙ sym (ap (λ (a : NetworkArc). a.server) p.arc_is) ∙ sym (get_or-map server_of (arcs_from 0 it.arcs) k no_arc 0 l);
+      cost = λ k l.
+          let p = paired k l in
+          get_or-map cost_of (group_arcs it firsts) (slice_index homes k) no_arc 0 p.inside ∙ ap (λ (a : NetworkArc). a.cost) p.home_is
+          ∙ sym (ap (λ (a : NetworkArc). a.cost) p.arc_is) ∙ sym (get_or-map cost_of (arcs_from 0 it.arcs) k no_arc 0 l);
+      covered = cover;
+    }
+      where
+        cover : (i e : ℕ) → i < length it.rows → e < length (group_arcs it firsts) → slice_index (map row_of (group_arcs it firsts)) e ≡ group_of gs i →
+            (k : ℕ) × (k < length (arcs_from 0 it.arcs)) × (slice_index (map row_of (arcs_from 0 it.arcs)) k ≡ i) × (slice_index homes k ≡ e)
+        cover i e l m same =
+            let c : Comes (lists_at it firsts) e = from_offset 0 (lists_at it firsts) e m in
+            let s : Stands 0 (lists_at it firsts) c.list c.place = at_offset 0 (lists_at it firsts) c.list c.place c.list_in c.place_in in
+            let row : slice_index (map row_of (group_arcs it firsts)) e ≡ c.list =
+            get_or-map row_of (group_arcs it firsts) e no_arc 0 m ∙ ap (λ (k : ℕ). (arc (group_arcs it firsts) k).row) c.is ∙ ap (λ (a : NetworkArc). a.row) s.is ∙ zero-add c.list in
+            let group : c.list ≡ group_of gs i = sym row ∙ same in
+            let place : c.place < length (list_at it.arcs i) = rw (sym (alike_lists i l)) (subst (λ (g : ℕ). c.place < length (list_at (lists_at it firsts) g)) group c.place_in) in
+            let k = offset it.arcs i + c.place in
+            let there : Stands 0 it.arcs i c.place = at_offset 0 it.arcs i c.place (omega (arith, l, is.one_list_a_row)) place in (
+              k,
+              there.inside,
+              row_at k there.inside ∙ ap (λ (a : NetworkArc). a.row) there.is ∙ zero-add i,
+              run.at i c.place l place ∙ ap (λ (g : ℕ). offset (lists_at it firsts) g + c.place) (sym group) ∙ sym c.is,
+            )
+
+-- ---- one group or row more
+
+arcs_low : (it : Instance) → IsInstance it → (r : ℕ) → length (arcs_at it r) ≤ 32
+arcs_low it is r = elim (cases_lt r (length it.arcs)) [
+  | inl inside ↦ (each_at (AreArcs it.servers) it.arcs r [] inside is.arcs).few
+  | inr past ↦ let none : arcs_at it r ≡ [] = get_or_past it.arcs r [] (omega arith) in omega (arith, ap (λ (xs : List Arc). length xs) none)
+]
+
+pub lists_low : (it : Instance) → IsInstance it → (firsts : List ℕ) → AllByRecursion (λ arcs. length arcs ≤ 32) (lists_at it firsts)
+lists_low it is [] = tt
+lists_low it is (r ∷ firsts) = (arcs_low it is r, lists_low it is firsts)
+
+-- the arcs of a group, as they were read
+pub group_read : (it : Instance) (firsts : List ℕ) (g : ℕ) (arcs : List Arc) → g < length firsts → slice_get it.arcs (slice_index firsts g) ≡ Some arcs → slice_get (lists_at it firsts) g ≡ Some arcs
+group_read it firsts g arcs l read =
+    slice_get-map (arcs_at it) firsts g ∙ ap (option_map (arcs_at it)) (slice_get-get_or firsts g 0 l) ∙ ap (λ (x : List Arc). Some x) (get_or_from_slice_get it.arcs (slice_index firsts g) arcs [] read)
+
+pub run_none : (lists gl : List (List Arc)) (gs : Groups) → IsRun lists gl gs 0 []
+run_none lists gl gs = record { many = sym (offset_none lists); at = λ i m l n. absurd (omega arith) }
+
+pub run_more : (lists gl : List (List Arc)) (gs : Groups) (row : ℕ) (arcs : List Arc) (old new : List ℕ) (start : ℕ) → slice_get lists row ≡ Some arcs → start ≡ offset gl (group_of gs row) →
+    IsRun lists gl gs row old → Appends old new (length arcs) (λ m. start + m) → IsRun lists gl gs (row + 1) new
+run_more lists gl gs row arcs old new start read begins run more =
+    let inside = slice_get_within lists row arcs read in
+    let own : list_at lists row ≡ arcs = get_or_from_slice_get lists row arcs [] read in
+    let wide : length (list_at lists row) ≡ length arcs = ap (λ (xs : List Arc). length xs) own in
+    let next = offset_more lists row inside in
+    record {
+      many = omega (arith, more.many, run.many, next, wide);
+      at = λ i m l n. elim (cases_lt i row) [
+        | inl before ↦
+            let step = offset_more lists i (omega (arith, before, inside)) in
+            let rises = offset_rises lists (i + 1) (row - (i + 1)) (omega (arith, before, inside)) in
+            let to : (i + 1) + (row - (i + 1)) ≡ row = omega (arith, before) in
+            let far : offset lists ((i + 1) + (row - (i + 1))) ≡ offset lists row = ap (offset lists) to in
+            more.kept (offset lists i + m) (omega (arith, step, rises, far, n, run.many)) ∙ run.at i m before n
+        | inr rest ↦
+            let e : i ≡ row = omega (arith, l, rest) in
+            let place : m < length arcs = omega (arith, n, wide, ap (λ (r : ℕ). length (list_at lists r)) e) in
+            let index : offset lists i + m ≡ length old + m = omega (arith, run.many, ap (offset lists) e) in
+            ap (λ (k : ℕ). slice_index new k) index ∙ more.added m place ∙ ap (λ (n : ℕ). n + m) (begins ∙ ap (λ (r : ℕ). offset gl (group_of gs r)) (sym e))
+      ];
+    }
+
+-- ---- the first rows of groups
+
+module _ (it : Instance) (gs : Groups) (ag : AreGroups it gs) (row g : ℕ) (firsts : List ℕ) (read : slice_get gs.of_rows row ≡ Some g) (few : length firsts ≤ row)
+    (there : (k : ℕ) → k < length firsts → slice_index firsts k < row) (own : (k : ℕ) → k < length firsts → group_of gs (slice_index firsts k) ≡ k)
+    (seen : (i : ℕ) → i < row → group_of gs i < length firsts) where
+  group_is : group_of gs row ≡ g
+  group_is = get_or_from_slice_get gs.of_rows row g 0 read
+
+  -- no group is passed over
+  pub not_beyond : g ≤ length firsts
+  not_beyond = elim (cases_lt (length firsts) g) [
+    | inl beyond ↦
+        let before = ag.in_order row g (length firsts) read beyond in
+        let at : group_of gs before.0 ≡ length firsts = get_or_from_slice_get gs.of_rows before.0 (length firsts) 0 before.2 in
+        absurd (omega (arith, at, seen before.0 before.1))
+    | inr within ↦ omega arith
+  ]
+
+  pub first_there : (k : ℕ) → k < length (firsts ++ row ∷ []) → slice_index (firsts ++ row ∷ []) k < row + 1
+  first_there k l = elim (cases_lt k (length firsts)) [
+    | inl old ↦ omega (arith, get_or_append_left firsts (row ∷ []) 0 k old, there k old)
+    | inr new ↦
+        let at : k - length firsts ≡ 0 = omega (arith, l, new, length-append firsts (row ∷ [])) in
+        omega (arith, get_or-append_right firsts (row ∷ []) (length firsts) k 0 refl new, ap (λ (m : ℕ). slice_index (row ∷ []) m) at)
+  ]
+
+  pub first_own : g ≡ length firsts → (k : ℕ) → k < length (firsts ++ row ∷ []) → group_of gs (slice_index (firsts ++ row ∷ []) k) ≡ k
+  first_own is k l = elim (cases_lt k (length firsts)) [
+    | inl old ↦ ap (group_of gs) (get_or_append_left firsts (row ∷ []) 0 k old) ∙ own k old
+    | inr new ↦
+        let at : k - length firsts ≡ 0 = omega (arith, l, new, length-append firsts (row ∷ [])) in
+        let here : slice_index (firsts ++ row ∷ []) k ≡ row = get_or-append_right firsts (row ∷ []) (length firsts) k 0 refl new ∙ ap (λ (m : ℕ). slice_index (row ∷ []) m) at in
+        let last : length firsts ≡ k = omega (arith, l, new, length-append firsts (row ∷ [])) in
+        ap (group_of gs) here ∙ group_is ∙ is ∙ last
+  ]
+
+  pub seen_new : g ≡ length firsts → (i : ℕ) → i < row + 1 → group_of gs i < length (firsts ++ row ∷ [])
+  seen_new is i l = elim (cases_lt i row) [
+    | inl before ↦ omega (arith, seen i before, length-append firsts (row ∷ []))
+    | inr here ↦ let e : i ≡ row = omega (arith, l, here) in omega (arith, ap (group_of gs) e, group_is, is, length-append firsts (row ∷ []))
+  ]
+
+  pub seen_old : (g ≡ length firsts → ⊥) → (i : ℕ) → i < row + 1 → group_of gs i < length firsts
+  seen_old not-new i l = elim (cases_lt i row) [
+    | inl before ↦ seen i before
+    | inr here ↦
+        let e : i ≡ row = omega (arith, l, here) in
+        let lower : g < length firsts = elim (cases_lt g (length firsts)) [ inl less ↦ less | inr more ↦ absurd (not-new (omega (arith, not_beyond, more))) ] in
+        omega (arith, ap (group_of gs) e, group_is, lower)
+  ]
+
+pub firsts_done : (it : Instance) (gs : Groups) → AreGroups it gs → (row : ℕ) (firsts : List ℕ) → row ≡ length it.rows → length firsts ≤ row → ((k : ℕ) → k < length firsts → slice_index firsts k < row) →
+    ((k : ℕ) → k < length firsts → group_of gs (slice_index firsts k) ≡ k) → ((i : ℕ) → i < row → group_of gs i < length firsts) → AreFirsts gs firsts
+firsts_done it gs ag row firsts all few there own seen = record {
+  many = many;
+  few = omega (arith, many, few, all, ag.one_a_row);
+  there = λ g l. omega (arith, there g (omega (arith, l, many)), all, ag.one_a_row);
+  own = λ g l. own g (omega (arith, l, many));
+}
+  where
+    many : length firsts ≡ gs.count
+    many = elim (cases_lt (length firsts) gs.count) [
+      | inl fewer ↦
+          let one = ag.seen (length firsts) fewer in
+          let at : group_of gs one.0 ≡ length firsts = get_or_from_slice_get gs.of_rows one.0 (length firsts) 0 one.2 in
+          absurd (omega (arith, at, seen one.0 (omega (arith, one.1, all))))
+      | inr not-fewer ↦ elim (cases_lt gs.count (length firsts)) [
+        | inl more ↦
+            let r = there gs.count more in
+            let low : group_of gs (slice_index firsts gs.count) < gs.count = each_at (λ g. g < gs.count) gs.of_rows (slice_index firsts gs.count) 0 (omega (arith, r, all, ag.one_a_row)) ag.below in
+            absurd (omega (arith, low, own gs.count more))
+        | inr not-more ↦ omega arith
+      ]
+    ]
+
+-- ---- limits of the groups' network
+
+pub firsts_few : (it : Instance) → IsInstance it → (gs : Groups) → AreGroups it gs → (firsts : List ℕ) → AreFirsts gs firsts → length firsts ≤ 8192
+firsts_few it is gs ag firsts af = omega (arith, af.many, af.few, ag.one_a_row, is.rows.few)
+
+pub ends_in : (it : Instance) (gs : Groups) (firsts : List ℕ) → AreFirsts gs firsts → (e : ℕ) → e < length (group_arcs it firsts) → slice_index (map row_of (group_arcs it firsts)) e < gs.count
+ends_in it gs firsts af e l =
+    let at : slice_index (map row_of (group_arcs it firsts)) e ≡ (arc (group_arcs it firsts) e).row = get_or-map row_of (group_arcs it firsts) e no_arc 0 l in
+    let between = each_at (λ (a : NetworkArc). (0 ≤ a.row) × (a.row < 0 + length (lists_at it firsts))) (group_arcs it firsts) e no_arc l (rows_between 0 (lists_at it firsts)) in
+    omega (arith, at, between.1, length-map firsts (arcs_at it), af.many)
+
+pub lists_ascend : (it : Instance) → IsInstance it → (firsts : List ℕ) → AllByRecursion IsAscending (lists_at it firsts)
+lists_ascend it is [] = tt
+lists_ascend it is (r ∷ firsts) = (row_ascends r, lists_ascend it is firsts)
+  where
+    row_ascends : (r : ℕ) → IsAscending (arcs_at it r)
+    row_ascends r = elim (cases_lt r (length it.arcs)) [
+      | inl inside ↦ (each_at (AreArcs it.servers) it.arcs r [] inside is.arcs).ascending
+      | inr past ↦ let none : arcs_at it r ≡ [] = get_or_past it.arcs r [] (omega arith) in subst IsAscending (sym none) tt
+    ]

@@ -1,0 +1,147 @@
+-- Flows of groups, spread over their rows.
+use Rattle.std.proofs.Common.{◌≡◌, ℕ, zero, suc, ◌+◌, ◌-◌, ◌<◌, ◌≤◌, ◌⊎◌, ◌∙◌, List, length, slice_index, refl, ap, ap₂, sym, inl, inr, arith, slice_set, get_or-set_same, get_or-set_other}
+use Rattle.std.proofs.lemmas.Bool.{cases_eq}
+use Rattle.hsp_flow.specs.Sums.{sum_below, only}
+use Rattle.hsp_flow.specs.Spreads.{Spread}
+use Rattle.hsp_flow.proofs.Sums.{sum_below_same, term_within, only_here, only_there, only_split}
+use Rattle.hsp_flow.proofs.Totals.{sum_zero, sum_one, sum_add}
+
+only_zero : (w v : ℕ) → only w v 0 ≡ 0
+only_zero w v = elim (cases_eq w v) [
+  | inl e ↦ only_here w v 0 e
+  | inr ne ↦ only_there w v 0 ne
+]
+
+-- what is summed by a key, summed again by a key of the key
+pub by_keys : (outer key f : ℕ → ℕ) (n m g : ℕ) → ((k : ℕ) → k < m → key k < n) →
+    sum_below n (λ v. only (outer v) g (sum_below m (λ k. only (key k) v (f k)))) ≡ sum_below m (λ k. only (outer (key k)) g (f k))
+by_keys outer key f n zero g inside = sum_zero n (λ v. only (outer v) g 0) (λ v l. only_zero (outer v) g)
+by_keys outer key f n (suc m) g inside =
+    let rest = by_keys outer key f n m g (λ k l. inside k (omega arith)) in
+    let term : sum_below n (λ v. only (outer v) g (only (key m) v (f m))) ≡ only (outer (key m)) g (only (key m) (key m) (f m)) =
+    sum_one n (λ v. only (outer v) g (only (key m) v (f m))) (key m) (inside m (omega arith))
+    (λ v l ne. ap (only (outer v) g) (only_there (key m) v (f m) (λ e. ne (sym e))) ∙ only_zero (outer v) g) in
+    let here : only (outer (key m)) g (only (key m) (key m) (f m)) ≡ only (outer (key m)) g (f m) = ap (only (outer (key m)) g) (only_here (key m) (key m) (f m) refl) in
+    let split : sum_below n (λ v. only (outer v) g (sum_below (suc m) (λ k. only (key k) v (f k)))) ≡ sum_below n (λ v. only (outer v) g (sum_below m (λ k. only (key k) v (f k))) + only (outer v) g (only (key m) v (f m))) =
+    sum_below_same n _ _ (λ v l. only_split (outer v) g (sum_below m (λ k. only (key k) v (f k))) (only (key m) v (f m))) in
+    split ∙ sum_add n (λ v. only (outer v) g (sum_below m (λ k. only (key k) v (f k)))) (λ v. only (outer v) g (only (key m) v (f m))) ∙ ap₂ (λ a b. a + b) rest (term ∙ here)
+
+-- a sum that is 0 has no other terms
+pub none_left : (n : ℕ) (f : ℕ → ℕ) → sum_below n f ≡ 0 → (k : ℕ) → k < n → f k ≡ 0
+none_left n f none k l = omega (arith, term_within n f k l, none)
+
+-- one arc more is served: as much as it needs, or as much as there is
+pub spread_more : (rows many groups_many : ℕ) (count row home x x' f need need' left left' : ℕ → ℕ) (n : ℕ) → Spread rows many groups_many count row home x f need left →
+    ((k : ℕ) → k < many → x' k ≡ x k) → x' many ≡ n → n ≤ need (row many) → n ≤ left (home many) → (n ≡ need (row many)) ⊎ (n ≡ left (home many)) →
+    ((i : ℕ) → i < rows → need' i + only (row many) i n ≡ need i) → ((e : ℕ) → e < groups_many → left' e + only (home many) e n ≡ left e) →
+    ((k : ℕ) → k < many + 1 → row k < rows) → ((k : ℕ) → k < many + 1 → home k < groups_many) →
+    Spread rows (many + 1) groups_many count row home x' f need' left'
+spread_more rows many groups_many count row home x x' f need need' left left' n s kept new low less most needs lefts rows_in homes_in =
+    let next : many + 1 ≡ suc many = omega arith in
+    record {
+      flow = λ e l.
+          let before : sum_below many (λ k. only (home k) e (x' k)) ≡ sum_below many (λ k. only (home k) e (x k)) = sum_below_same many _ _ (λ k m. ap (only (home k) e) (kept k m)) in
+          let all : sum_below (many + 1) (λ k. only (home k) e (x' k)) ≡ sum_below many (λ k. only (home k) e (x' k)) + only (home many) e (x' many) = ap (λ m. sum_below m (λ k. only (home k) e (x' k))) next in
+          omega (arith, all, before, ap (only (home many) e) new, lefts e l, s.flow e l);
+      needs = λ i l.
+          let before : sum_below many (λ k. only (row k) i (x' k)) ≡ sum_below many (λ k. only (row k) i (x k)) = sum_below_same many _ _ (λ k m. ap (only (row k) i) (kept k m)) in
+          let all : sum_below (many + 1) (λ k. only (row k) i (x' k)) ≡ sum_below many (λ k. only (row k) i (x' k)) + only (row many) i (x' many) = ap (λ m. sum_below m (λ k. only (row k) i (x' k))) next in
+          omega (arith, all, before, ap (only (row many) i) new, needs i l, s.needs i l);
+      greedy = λ k l.
+          let at_row = needs (row k) (rows_in k l) in
+          let at_home = lefts (home k) (homes_in k l) in
+          elim (cases_eq k many) [
+            | inl e ↦
+                let own : only (row many) (row k) n ≡ n = only_here (row many) (row k) n (ap row (sym e)) in
+                let away : only (home many) (home k) n ≡ n = only_here (home many) (home k) n (ap home (sym e)) in
+                elim most [
+                  | inl needed ↦ inl (omega (arith, at_row, own, needed, ap (λ m. need (row m)) e))
+                  | inr there ↦ inr (omega (arith, at_home, away, there, ap (λ m. left (home m)) e))
+                ]
+            | inr ne ↦ elim (s.greedy k (omega arith)) [
+              | inl met ↦ inl (omega (arith, at_row, met))
+              | inr gone ↦ inr (omega (arith, at_home, gone))
+            ]
+          ];
+    }
+
+module _ (rows many groups_many most : ℕ) (count row home x f need left group end : ℕ → ℕ) (s : Spread rows many groups_many count row home x f need left)
+    (group_in : (i : ℕ) → i < rows → group i < most) (end_in : (e : ℕ) → e < groups_many → end e < most)
+    (rows_in : (k : ℕ) → k < many → row k < rows) (homes_in : (k : ℕ) → k < many → home k < groups_many)
+    (same : (k : ℕ) → k < many → end (home k) ≡ group (row k))
+    (balanced : (g : ℕ) → g < most → sum_below groups_many (λ e. only (end e) g (f e)) ≡ sum_below rows (λ i. only (group i) g (count i)))
+    (covered : (i e : ℕ) → i < rows → e < groups_many → end e ≡ group i → (k : ℕ) × (k < many) × (row k ≡ i) × (home k ≡ e)) where
+  -- what is left of a group's flow is what its rows still need
+  even : (g : ℕ) → g < most → sum_below groups_many (λ e. only (end e) g (left e)) ≡ sum_below rows (λ i. only (group i) g (need i))
+  even g inside =
+      let by_flow : sum_below groups_many (λ e. only (end e) g (f e)) ≡ sum_below groups_many (λ e. only (end e) g (left e)) + sum_below groups_many (λ e. only (end e) g (sum_below many (λ k. only (home k) e (x k)))) =
+      sum_below_same groups_many _ _ (λ e l. ap (only (end e) g) (sym (s.flow e l)) ∙ only_split (end e) g (left e) (sum_below many (λ k. only (home k) e (x k))))
+      ∙ sum_add groups_many (λ e. only (end e) g (left e)) (λ e. only (end e) g (sum_below many (λ k. only (home k) e (x k)))) in
+      let by_need : sum_below rows (λ i. only (group i) g (count i)) ≡ sum_below rows (λ i. only (group i) g (need i)) + sum_below rows (λ i. only (group i) g (sum_below many (λ k. only (row k) i (x k)))) =
+      sum_below_same rows _ _ (λ i l. ap (only (group i) g) (sym (s.needs i l)) ∙ only_split (group i) g (need i) (sum_below many (λ k. only (row k) i (x k))))
+      ∙ sum_add rows (λ i. only (group i) g (need i)) (λ i. only (group i) g (sum_below many (λ k. only (row k) i (x k)))) in
+      let spread_flow = by_keys end home x groups_many many g homes_in in
+      let spread_need = by_keys group row x rows many g rows_in in
+      let alike : sum_below many (λ k. only (end (home k)) g (x k)) ≡ sum_below many (λ k. only (group (row k)) g (x k)) =
+      sum_below_same many _ _ (λ k l. ap (λ (v : ℕ). only v g (x k)) (same k l)) in
+      omega (arith, by_flow, by_need, spread_flow, spread_need, alike, balanced g inside)
+
+  -- no row needs more
+  pub all_met : (i : ℕ) → i < rows → need i ≡ 0
+  all_met i l = elim (cases_eq (need i) 0) [
+    | inl met ↦ met
+    | inr unmet ↦
+        let g = group i in
+        let spent : sum_below groups_many (λ e. only (end e) g (left e)) ≡ 0 =
+        sum_zero groups_many (λ e. only (end e) g (left e)) (λ e m. elim (cases_eq (end e) g) [
+          | inl at ↦
+              let c = covered i e l m at in
+              let row_is : row c.0 ≡ i = c.2 in
+              let home_is : home c.0 ≡ e = c.3 in
+              let none : left e ≡ 0 = elim (s.greedy c.0 c.1) [
+                | inl met ↦ absurd (unmet (ap need (sym row_is) ∙ met))
+                | inr gone ↦ ap left (sym home_is) ∙ gone
+              ] in
+              ap (only (end e) g) none ∙ only_zero (end e) g
+          | inr other ↦ only_there (end e) g (left e) other
+        ]) in
+        let term = term_within rows (λ k. only (group k) g (need k)) i l in
+        let here = only_here (group i) g (need i) refl in
+        absurd (unmet (omega (arith, even g (group_in i l), spent, term, here)))
+  ]
+
+  -- and nothing is left
+  pub all_spent : (e : ℕ) → e < groups_many → left e ≡ 0
+  all_spent e l =
+      let g = end e in
+      let none : sum_below rows (λ i. only (group i) g (need i)) ≡ 0 = sum_zero rows (λ i. only (group i) g (need i)) (λ i m. ap (only (group i) g) (all_met i m) ∙ only_zero (group i) g) in
+      let term = term_within groups_many (λ k. only (end k) g (left k)) e l in
+      omega (arith, even g (end_in e l), none, term, only_here (end e) g (left e) refl)
+
+  pub spread_needs : (i : ℕ) → i < rows → sum_below many (λ k. only (row k) i (x k)) ≡ count i
+  spread_needs i l = omega (arith, s.needs i l, all_met i l)
+
+  pub spread_flows : (e : ℕ) → e < groups_many → sum_below many (λ k. only (home k) e (x k)) ≡ f e
+  spread_flows e l = omega (arith, s.flow e l, all_spent e l)
+
+  -- a sum of the rows' flows by an end that they share with their groups' is that of the groups' flows
+  pub spread_sum : (own ends : ℕ → ℕ) → ((k : ℕ) → k < many → ends (home k) ≡ own k) → (v : ℕ) →
+      sum_below many (λ k. only (own k) v (x k)) ≡ sum_below groups_many (λ e. only (ends e) v (f e))
+  spread_sum own ends shared v =
+      sum_below_same many _ _ (λ k l. ap (λ (w : ℕ). only w v (x k)) (sym (shared k l)))
+      ∙ sym (by_keys ends home x groups_many many v homes_in)
+      ∙ sum_below_same groups_many _ _ (λ e l. ap (only (ends e) v) (spread_flows e l))
+
+  -- where an arc of a row has flow, that of its group has
+  pub spread_used : (k : ℕ) → k < many → 0 < x k → 0 < f (home k)
+  spread_used k l some =
+      let e = home k in
+      let term = term_within many (λ m. only (home m) e (x m)) k l in
+      omega (arith, some, term, only_here (home k) e (x k) refl, spread_flows e (homes_in k l))
+
+-- what a place had less some
+pub set_less : (xs : List ℕ) (r n i : ℕ) → r < length xs → n ≤ slice_index xs r → slice_index (slice_set xs r (slice_index xs r - n)) i + only r i n ≡ slice_index xs i
+set_less xs r n i l low = elim (cases_eq r i) [
+  | inl e ↦ rw (← e) (omega (arith, get_or-set_same xs r (slice_index xs r - n) 0 l, only_here r r n refl))
+  | inr ne ↦ omega (arith, get_or-set_other xs r i (slice_index xs r - n) 0 (λ q. ne (sym q)), only_there r i n ne)
+]

@@ -1,0 +1,15 @@
+pub mod Answer
+pub mod Frontier
+pub mod Index
+pub mod Layout
+pub mod Network
+pub mod Problem
+pub mod Residual
+pub mod Search
+pub mod Shapes
+pub mod Sums
+pub mod Planning
+pub mod Ordered
+pub mod Lists
+pub mod Grouping
+pub mod Spreads

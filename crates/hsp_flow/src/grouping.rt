@@ -1,0 +1,132 @@
+// Rows of one group as one source of the network.
+
+ghost use Rattle.std.specs.Prelude.{◌≡◌, ℕ, ◌+◌, ◌<◌, ◌≤◌, IfOk, OnOk, length, map, slice_index};
+ghost use Rattle.hsp_instance.specs.Groups.{AreGroups};
+ghost use Rattle.hsp_instance.specs.Instance.{IsInstance};
+ghost use Rattle.hsp_check.specs.Instance.{arcs_from};
+ghost use Rattle.hsp_flow.specs.Grouping.{AreFirsts, AreHomes, IsRun, arcs_at, group_arcs, group_demand, group_of, lists_at, offset};
+ghost use Rattle.hsp_flow.specs.Layout.{Appends};
+
+use crate::arcs::push_arcs;
+use hsp_check::NetworkArc;
+use hsp_instance::{Groups, Instance};
+use std::alloc::{AllocError, Global};
+
+/// The first row of each group.
+pub(crate) fn firsts_of(
+    alloc: Global,
+    instance: &Instance,
+    groups: &Groups,
+) -> Result<Vec<u32>, AllocError>
+    requires { AreGroups instance.now groups.now }
+    ensures { IfOk result (λ firsts. AreFirsts groups.now firsts.items) }
+{
+    let mut firsts = Vec::new(alloc);
+    for row in 0..instance.rows() {
+        if groups.of(row) as usize == firsts.len() {
+            firsts.push(row)?;
+        }
+    }
+    Ok(firsts)
+}
+
+/// The arcs of the groups in turn, each group's those of its first row.
+pub(crate) fn group_arcs_of(
+    alloc: Global,
+    instance: &Instance,
+    firsts: &[u32],
+) -> Result<Vec<NetworkArc>, AllocError>
+    requires many { length firsts.now ≤ 8192 }
+    requires there { (g : ℕ) → g < length firsts.now → slice_index firsts.now g < length instance.now.rows }
+    ensures { IfOk result (λ arcs. arcs.items ≡ group_arcs instance.now firsts.now) }
+{
+    let mut all = Vec::new(alloc);
+    for group in 0..firsts.len() {
+        push_arcs(&mut all, group as u32, instance.arcs(firsts[group]))?;
+    }
+    Ok(all)
+}
+
+/// Where the arcs of each group begin.
+pub(crate) fn starts_of(
+    alloc: Global,
+    instance: &Instance,
+    firsts: &[u32],
+) -> Result<Vec<usize>, AllocError>
+    requires many { length firsts.now ≤ 8192 }
+    requires there { (g : ℕ) → g < length firsts.now → slice_index firsts.now g < length instance.now.rows }
+    requires within { IsInstance instance.now }
+    ensures many { IfOk result (λ starts. length starts.items ≡ length firsts.now) }
+    ensures starts { IfOk result (λ starts. (g : ℕ) → g < length firsts.now → slice_index starts.items g ≡ offset (lists_at instance.now firsts.now) g) }
+{
+    let mut starts = Vec::new(alloc);
+    let mut next: usize = 0;
+    for group in 0..firsts.len() {
+        starts.push(next)?;
+        next += instance.arcs(firsts[group]).len();
+    }
+    Ok(starts)
+}
+
+// Adds the counts of the rows to the demands of their groups, which are 0.
+fn add_counts(demands: &mut [u64], instance: &Instance, groups: &Groups)
+    requires groups { AreGroups instance.now groups.now }
+    requires many { length demands.old ≡ groups.now.count }
+    requires none { (g : ℕ) → g < length demands.old → slice_index demands.old g ≡ 0 }
+    ensures many { length demands.new ≡ groups.now.count }
+    ensures demands { (g : ℕ) → g < groups.now.count → slice_index demands.new g ≡ group_demand instance.now groups.now g }
+{
+    for row in 0..instance.rows() {
+        let (_, _, count) = instance.row(row);
+        demands[groups.of(row) as usize] += count;
+    }
+}
+
+/// What the rows of each group ask for together.
+pub(crate) fn group_demands(
+    alloc: Global,
+    instance: &Instance,
+    groups: &Groups,
+) -> Result<Vec<u64>, AllocError>
+    requires groups { AreGroups instance.now groups.now }
+    ensures many { IfOk result (λ demands. length demands.items ≡ groups.now.count) }
+    ensures demands { IfOk result (λ demands. (g : ℕ) → g < groups.now.count → slice_index demands.items g ≡ group_demand instance.now groups.now g) }
+{
+    let mut demands = vec![in alloc; 0u64; groups.len() as usize]?;
+    add_counts(&mut demands, instance, groups);
+    Ok(demands)
+}
+
+// Appends so many numbers from the first on.
+fn push_run(numbers: &mut Vec<usize>, first: usize, count: usize) -> Result<(), AllocError>
+    requires { first + count < 18446744073709551616 }
+    ensures { OnOk result (Appends numbers.old.items numbers.new.items count (λ m. first + m)) }
+{
+    for place in 0..count {
+        numbers.push(first + place)?;
+    }
+    Ok(())
+}
+
+/// For each arc of the rows its arc of the row's group.
+pub(crate) fn homes_of(
+    alloc: Global,
+    instance: &Instance,
+    groups: &Groups,
+    firsts: &[u32],
+    starts: &[usize],
+) -> Result<Vec<usize>, AllocError>
+    requires groups { AreGroups instance.now groups.now }
+    requires within { IsInstance instance.now }
+    requires firsts { AreFirsts groups.now firsts.now }
+    requires many { length starts.now ≡ length firsts.now }
+    requires starts { (g : ℕ) → g < length firsts.now → slice_index starts.now g ≡ offset (lists_at instance.now firsts.now) g }
+    ensures { IfOk result (λ homes. IsRun instance.now.arcs (lists_at instance.now firsts.now) groups.now (length instance.now.rows) homes.items) }
+{
+    let mut homes = Vec::new(alloc);
+    for row in 0..instance.rows() {
+        let start = starts[groups.of(row) as usize];
+        push_run(&mut homes, start, instance.arcs(row).len())?;
+    }
+    Ok(homes)
+}

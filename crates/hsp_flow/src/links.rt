@@ -1,0 +1,70 @@
+ghost use Rattle.std.specs.Prelude.{length};
+ghost use Rattle.hsp_flow.specs.Index.{ByTail};
+ghost use Rattle.hsp_flow.specs.Residual.{Graph, Scale};
+
+/// The nodes and links that a flow runs on: each link leads from a node to a lower one, in the order of their tails,
+/// and node 0 is the sink. The nodes from `first` on are the sources.
+#[derive(Drop)]
+pub struct Links<'a> {
+    pub first: u32,
+    pub tails: &'a [u32],
+    pub heads: &'a [u32],
+    pub costs: &'a [u64],
+    pub capacities: &'a [u64],
+    /// What each node sends out.
+    pub supplies: &'a [u64],
+    /// Where the links that leave a node begin.
+    pub starts: &'a [usize],
+    /// Where the links that enter a node begin in a flow's order of them.
+    pub places: &'a [usize],
+    pub most: u64,
+    pub limit: u64,
+    pub step: u64,
+    pub ghost graph: { Graph (length supplies.now) tails.now heads.now costs.now capacities.now supplies.now },
+    pub ghost by_tail: { ByTail (length supplies.now) tails.now starts.now },
+    pub ghost scale: { Scale first (length supplies.now) tails.now heads.now costs.now capacities.now most limit step },
+}
+
+/// A flow with its prices: what flows on each link and what room is left, the price of each node, and what of its supply
+/// is not met. Of the links that enter a node those with flow come first in `order`, up to `ends`; a link stands there
+/// at its slot.
+#[derive(Drop)]
+pub struct Flow<'a> {
+    pub flows: &'a mut [u64],
+    pub room: &'a mut [u64],
+    pub price: &'a mut [u64],
+    pub unmet: &'a mut [u64],
+    pub order: &'a mut [usize],
+    pub slots: &'a mut [usize],
+    pub ends: &'a mut [usize],
+}
+
+/// What a search knows of each node: its distance, the link by which the search came to it, what can be sent to it that
+/// way, and over how many links; and the nodes that have a distance.
+#[derive(Drop)]
+pub struct SearchTree<'a> {
+    pub key: &'a mut [u64],
+    pub via: &'a mut [usize],
+    pub amount: &'a mut [u64],
+    pub depth: &'a mut [usize],
+    pub touched: Vec<u32>,
+}
+
+/// A node that a search from `root` settles in its turn `turn`, at the distance `near`.
+#[derive(Clone, Copy)]
+pub struct Visit {
+    pub root: u32,
+    pub node: u32,
+    pub near: u64,
+    pub turn: usize,
+}
+
+/// A way of length `key` to the node `to`, by `link` from the node `from`, for up to `much`.
+#[derive(Clone, Copy)]
+pub struct Offer {
+    pub link: usize,
+    pub from: u32,
+    pub to: u32,
+    pub key: u64,
+    pub much: u64,
+}

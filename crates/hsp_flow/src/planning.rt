@@ -1,0 +1,200 @@
+// The planner: for every instance a certificate that is valid.
+
+ghost use Rattle.std.specs.Prelude.{◌≡◌, IfOk};
+ghost use Rattle.hsp_instance.specs.Groups.{AreGroups};
+ghost use Rattle.hsp_instance.specs.Instance.{IsInstance};
+ghost use Rattle.hsp_check.specs.Instance.{arcs_from, network_of};
+ghost use Rattle.hsp_check.specs.Valid.{IsValid};
+ghost use Rattle.hsp_flow.specs.Answer.{Answers, IsMet, IsShortSet};
+ghost use Rattle.hsp_flow.specs.Grouping.{AreFirsts, AreGroupLists, grouped};
+ghost use Rattle.hsp_flow.specs.Lists.{transport_in};
+ghost use Rattle.hsp_flow.specs.Planning.{HasLimitedPrices, transport_of};
+
+use crate::amounts::{NetworkLists, lists_of};
+use crate::arcs::arcs_of;
+use crate::certify::plan_certificate;
+use crate::frontier::Frontier;
+use crate::group_lists::{GroupLists, group_lists};
+use crate::grouping::firsts_of;
+use crate::heap::HeapFrontier;
+use crate::network::{Network, Outcome, Plan};
+use crate::shortfall::short_certificate;
+use crate::solving::solve_network;
+use crate::spreading::{spread_flags, spread_flows, spread_prices};
+use hsp_cert::Certificate;
+use hsp_check::NetworkArc;
+use hsp_instance::{Groups, Instance, groups};
+use std::alloc::{AllocError, Global};
+
+// What becomes of the groups' network.
+fn solve_groups<'a, F: Frontier>(
+    alloc: Global,
+    instance: &Instance,
+    groups: &Groups,
+    firsts: &[u32],
+    rows: &'a NetworkLists,
+    lists: &'a GroupLists,
+) -> Result<Outcome, AllocError>
+    requires within { IsInstance instance.now }
+    requires groups { AreGroups instance.now groups.now }
+    requires firsts { AreFirsts groups.now firsts.now }
+    requires rows { transport_in rows.now ≡ transport_of instance.now }
+    requires lists { AreGroupLists instance.now groups.now firsts.now lists.now }
+    ensures { IfOk result (Answers (grouped instance.now firsts.now lists.now.demands.items)) }
+{
+    let _ = instance;
+    let _ = groups;
+    let _ = firsts;
+    let network = Network {
+        demands: &lists.demands,
+        capacities: &rows.capacities,
+        limits: &rows.limits,
+        hosts: &rows.hosts,
+        sources: &lists.sources,
+        servers: &lists.servers,
+        costs: &lists.costs,
+    };
+    solve_network::<F>(alloc, &network)
+}
+
+// The plan of the groups, spread over their rows.
+fn spread_plan(
+    alloc: Global,
+    instance: &Instance,
+    groups: &Groups,
+    firsts: &[u32],
+    rows: &NetworkLists,
+    lists: &GroupLists,
+    plan: Plan,
+) -> Result<Plan, AllocError>
+    requires within { IsInstance instance.now }
+    requires groups { AreGroups instance.now groups.now }
+    requires firsts { AreFirsts groups.now firsts.now }
+    requires rows { transport_in rows.now ≡ transport_of instance.now }
+    requires lists { AreGroupLists instance.now groups.now firsts.now lists.now }
+    requires met { IsMet (grouped instance.now firsts.now lists.now.demands.items) plan }
+    ensures { IfOk result (IsMet (transport_of instance.now)) }
+{
+    let _ = firsts;
+    let flows = spread_flows(
+        alloc,
+        &rows.demands,
+        &rows.sources,
+        &lists.homes,
+        &plan.flows,
+    )?;
+    let source_prices = spread_prices(alloc, groups, instance.rows(), &plan.source_prices)?;
+    Ok(Plan {
+        flows,
+        source_prices,
+        server_prices: plan.server_prices,
+        host_prices: plan.host_prices,
+    })
+}
+
+// The certificate of a short set of the rows.
+fn certify_short(
+    alloc: Global,
+    instance: &Instance,
+    rows: &NetworkLists,
+    set: &[bool],
+) -> Result<Certificate, AllocError>
+    requires within { IsInstance instance.now }
+    requires rows { transport_in rows.now ≡ transport_of instance.now }
+    requires short { IsShortSet (transport_of instance.now) set.now }
+    ensures valid { IfOk result (IsValid (network_of instance.now)) }
+    ensures low { IfOk result (HasLimitedPrices (network_of instance.now)) }
+{
+    let network = Network {
+        demands: &rows.demands,
+        capacities: &rows.capacities,
+        limits: &rows.limits,
+        hosts: &rows.hosts,
+        sources: &rows.sources,
+        servers: &rows.servers,
+        costs: &rows.costs,
+    };
+    short_certificate(alloc, instance, &network, set)
+}
+
+// The flags of the rows of short groups.
+fn short_rows(
+    alloc: Global,
+    instance: &Instance,
+    groups: &Groups,
+    firsts: &[u32],
+    lists: &GroupLists,
+    set: &[bool],
+) -> Result<Vec<bool>, AllocError>
+    requires within { IsInstance instance.now }
+    requires groups { AreGroups instance.now groups.now }
+    requires firsts { AreFirsts groups.now firsts.now }
+    requires lists { AreGroupLists instance.now groups.now firsts.now lists.now }
+    requires short { IsShortSet (grouped instance.now firsts.now lists.now.demands.items) set.now }
+    ensures { IfOk result (λ flags. IsShortSet (transport_of instance.now) flags.items) }
+{
+    let _ = firsts;
+    let _ = lists;
+    let flags = spread_flags(alloc, groups, instance.rows(), set)?;
+    Ok(flags)
+}
+
+// The certificate by the lists of the rows' network and of the groups'.
+fn solve_lists<F: Frontier>(
+    alloc: Global,
+    instance: &Instance,
+    arcs: &[NetworkArc],
+    groups: &Groups,
+    firsts: &[u32],
+    rows: &NetworkLists,
+    lists: &GroupLists,
+) -> Result<Certificate, AllocError>
+    requires within { IsInstance instance.now }
+    requires arcs { arcs.now ≡ arcs_from 0 instance.now.arcs }
+    requires groups { AreGroups instance.now groups.now }
+    requires firsts { AreFirsts groups.now firsts.now }
+    requires rows { transport_in rows.now ≡ transport_of instance.now }
+    requires lists { AreGroupLists instance.now groups.now firsts.now lists.now }
+    ensures valid { IfOk result (IsValid (network_of instance.now)) }
+    ensures low { IfOk result (HasLimitedPrices (network_of instance.now)) }
+{
+    match solve_groups::<F>(alloc, instance, groups, firsts, rows, lists)? {
+        Outcome::Met(plan) => {
+            let plan = spread_plan(alloc, instance, groups, firsts, rows, lists, plan)?;
+            plan_certificate(alloc, instance, arcs, &rows.costs, plan)
+        }
+        Outcome::Short(set) => {
+            let set = short_rows(alloc, instance, groups, firsts, lists, &set)?;
+            certify_short(alloc, instance, rows, &set)
+        }
+    }
+}
+
+/// A valid certificate for the instance: a plan that meets every row within all capacities and limits at the least cost, with
+/// prices that show it, or a short set of rows. `F` is the frontier of the searches; its nodes are the groups of rows, the
+/// servers, the hosts and one more.
+///
+/// No price is above the greatest cost of an arc for each row, server and host, and once more.
+pub fn solve_with<F: Frontier>(
+    alloc: Global,
+    instance: &Instance,
+) -> Result<Certificate, AllocError>
+    ensures valid { IfOk result (IsValid (network_of instance.now)) }
+    ensures low { IfOk result (HasLimitedPrices (network_of instance.now)) }
+{
+    let _ = instance.rows();
+    let arcs = arcs_of(alloc, instance)?;
+    let rows = lists_of(alloc, instance, &arcs)?;
+    let groups = groups(alloc, instance)?;
+    let firsts = firsts_of(alloc, instance, &groups)?;
+    let lists = group_lists(alloc, instance, &groups, &firsts)?;
+    solve_lists::<F>(alloc, instance, &arcs, &groups, &firsts, &rows, &lists)
+}
+
+/// As [`solve_with`], with [`HeapFrontier`].
+pub fn solve(alloc: Global, instance: &Instance) -> Result<Certificate, AllocError>
+    ensures valid { IfOk result (IsValid (network_of instance.now)) }
+    ensures low { IfOk result (HasLimitedPrices (network_of instance.now)) }
+{
+    solve_with::<HeapFrontier>(alloc, instance)
+}

@@ -1,0 +1,185 @@
+ghost use Rattle.std.specs.Prelude.{◌≡◌, ℕ, ◌+◌, ◌*◌, ◌<◌, ◌≤◌, ◌⊎◌, IfOk, length, slice_index};
+ghost use Rattle.hsp_flow.specs.Answer.{Answers};
+ghost use Rattle.hsp_flow.specs.Index.{ByHead, Places};
+ghost use Rattle.hsp_flow.specs.Layout.{IsSmall, LinksOf};
+ghost use Rattle.hsp_flow.specs.Problem.{IsLeastBound, IsLinksOf, problem_of};
+ghost use Rattle.hsp_flow.specs.Shapes.{Ready, nodes};
+
+use crate::answer::{plan_of, short_set};
+use crate::frontier::Frontier;
+use crate::index::{count_heads, fill_order, head_places, link_starts};
+use crate::links::{Flow, Links, SearchTree};
+use crate::network::{Network, Outcome};
+use crate::phase::meet_all;
+use crate::tables::{link_capacities, link_costs, link_heads, link_tails, node_supplies};
+use std::alloc::{AllocError, Global};
+
+/// The greatest cost, 0 where there is none.
+fn greatest(costs: &[u64]) -> u64
+    ensures bound { (k : ℕ) → k < length costs.now → slice_index costs.now k ≤ result }
+    ensures attained { (result ≡ 0) ⊎ ((k : ℕ) × (k < length costs.now) × (slice_index costs.now k ≡ result)) }
+{
+    let mut most = 0;
+    for cost in costs {
+        if *cost > most {
+            most = *cost;
+        }
+    }
+    most
+}
+
+/// Runs the solver from a flow without prices.
+fn solve_from<F: Frontier>(
+    alloc: Global,
+    network: &Network,
+    links: &Links,
+    flow: &mut Flow,
+) -> Result<Outcome, AllocError>
+    requires links_of { IsLinksOf network.now links.now }
+    requires small { IsSmall (problem_of network.now) }
+    requires least { IsLeastBound network.now links.now.most }
+    requires first { links.now.first ≡ 1 + length network.now.limits.now + length network.now.capacities.now }
+    requires ready { Ready links.now flow.old }
+    ensures { IfOk result (Answers (problem_of network.now)) }
+{
+    let nodes = links.supplies.len();
+    let mut key = vec![in alloc; u64::MAX; nodes]?;
+    let mut via = vec![in alloc; 0; nodes]?;
+    let mut amount = vec![in alloc; 0; nodes]?;
+    let mut depth = vec![in alloc; 0; nodes]?;
+    let mut tree = SearchTree {
+        key: &mut key,
+        via: &mut via,
+        amount: &mut amount,
+        depth: &mut depth,
+        touched: Vec::new(alloc),
+    };
+    let mut frontier = F::with_nodes(alloc, nodes as u32)?;
+    match meet_all(&mut frontier, links, flow, &mut tree)? {
+        None => Ok(Outcome::Met(plan_of(alloc, network, links, flow)?)),
+        Some(root) => Ok(Outcome::Short(short_set(alloc, network, links, flow, &tree, root)?)),
+    }
+}
+
+/// Runs the solver from no flow.
+fn solve_indexed<F: Frontier>(
+    alloc: Global,
+    network: &Network,
+    links: &Links,
+    order: &mut [usize],
+    slots: &mut [usize],
+) -> Result<Outcome, AllocError>
+    requires links_of { IsLinksOf network.now links.now }
+    requires small { IsSmall (problem_of network.now) }
+    requires least { IsLeastBound network.now links.now.most }
+    requires first { links.now.first ≡ 1 + length network.now.limits.now + length network.now.capacities.now }
+    requires by_head { ByHead (nodes links.now) links.now.heads.now order.old links.now.places.now slots.old }
+    ensures { IfOk result (Answers (problem_of network.now)) }
+{
+    let nodes = links.supplies.len();
+    let mut flows = vec![in alloc; 0; links.tails.len()]?;
+    let mut room = links.capacities.to_vec(alloc)?;
+    let mut price = vec![in alloc; 0; nodes]?;
+    let mut unmet = links.supplies.to_vec(alloc)?;
+    let mut ends = links.places[..nodes].to_vec(alloc)?;
+    let mut flow = Flow {
+        flows: &mut flows,
+        room: &mut room,
+        price: &mut price,
+        unmet: &mut unmet,
+        order,
+        slots,
+        ends: &mut ends,
+    };
+    solve_from::<F>(alloc, network, links, &mut flow)
+}
+
+/// Runs the solver over a network's links, whose numbers and index by tails are known.
+fn solve_ordered<F: Frontier>(
+    alloc: Global,
+    network: &Network,
+    links: &Links,
+) -> Result<Outcome, AllocError>
+    requires links_of { IsLinksOf network.now links.now }
+    requires small { IsSmall (problem_of network.now) }
+    requires least { IsLeastBound network.now links.now.most }
+    requires first { links.now.first ≡ 1 + length network.now.limits.now + length network.now.capacities.now }
+    requires placed { Places (nodes links.now) links.now.heads.now links.now.places.now }
+    ensures { IfOk result (Answers (problem_of network.now)) }
+{
+    let many = links.heads.len();
+    let nodes = links.supplies.len();
+    let mut order = vec![in alloc; 0; many]?;
+    let mut slots = vec![in alloc; 0; many]?;
+    let mut ends = links.places[..nodes].to_vec(alloc)?;
+    fill_order(links.heads, links.places, &mut order, &mut slots, &mut ends);
+    solve_indexed::<F>(alloc, network, links, &mut order, &mut slots)
+}
+
+/// Where the links that enter each node begin.
+fn places_of(alloc: Global, heads: &[u32], nodes: usize) -> Result<Vec<usize>, AllocError>
+    requires few { length heads.now < 4294967296 }
+    requires inside { (k : ℕ) → k < length heads.now → slice_index heads.now k < nodes }
+    ensures { IfOk result (λ places. Places nodes heads.now places.items) }
+{
+    let mut counts = vec![in alloc; 0; nodes]?;
+    count_heads(heads, &mut counts);
+    head_places(alloc, heads, &counts)
+}
+
+/// Runs the solver over the lists of a network's links.
+fn solve_links<F: Frontier>(
+    alloc: Global,
+    network: &Network,
+    tails: &[u32],
+    heads: &[u32],
+    costs: &[u64],
+    capacities: &[u64],
+    supplies: &[u64],
+) -> Result<Outcome, AllocError>
+    requires small { IsSmall (problem_of network.now) }
+    requires links_of { LinksOf (problem_of network.now) tails.now heads.now costs.now capacities.now supplies.now }
+    ensures { IfOk result (Answers (problem_of network.now)) }
+{
+    let nodes = supplies.len();
+    let starts = link_starts(alloc, tails, nodes as u32)?;
+    let places = places_of(alloc, heads, nodes)?;
+    let most = greatest(network.costs);
+    let limit = nodes as u64 * most;
+    let links = Links {
+        first: (1 + network.limits.len() + network.capacities.len()) as u32,
+        tails,
+        heads,
+        costs,
+        capacities,
+        supplies,
+        starts: &starts,
+        places: &places,
+        most,
+        limit,
+        step: limit + most,
+    };
+    solve_ordered::<F>(alloc, network, &links)
+}
+
+/// A flow that meets every source at the least cost, with prices that show it, or a set of sources that demand more than
+/// the servers that they may use can take (Network Flows, section 9.7).
+pub fn solve_network<F: Frontier>(alloc: Global, network: &Network) -> Result<Outcome, AllocError>
+    requires small { IsSmall (problem_of network.now) }
+    ensures { IfOk result (Answers (problem_of network.now)) }
+{
+    let tails = link_tails(alloc, network)?;
+    let heads = link_heads(alloc, network)?;
+    let costs = link_costs(alloc, network)?;
+    let capacities = link_capacities(alloc, network)?;
+    let supplies = node_supplies(alloc, network)?;
+    solve_links::<F>(
+        alloc,
+        network,
+        &tails,
+        &heads,
+        &costs,
+        &capacities,
+        &supplies,
+    )
+}

@@ -1,0 +1,2 @@
+pub mod Option
+pub mod Place

@@ -1,0 +1,13 @@
+// The server that is responsible for a handle within a site: hash options, digests and places (RFC 3652, section 3.1.3).
+#![tactic(auto)]
+
+mod digest;
+mod option;
+mod place;
+
+pub use digest::digest_of;
+pub use option::HashOption;
+pub use place::{number_of_digest, server_number};
+
+#[cfg(test)]
+mod tests;

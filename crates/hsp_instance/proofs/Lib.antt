@@ -1,0 +1,10 @@
+pub mod Lists
+pub mod ArcLists
+pub mod ServerLists
+pub mod Limits
+pub mod FirstSeen
+pub mod SiteSums
+pub mod SitesInTurn
+pub mod RowPlaces
+pub mod TableChecks
+pub mod NewRows

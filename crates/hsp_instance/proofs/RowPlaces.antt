@@ -1,0 +1,19 @@
+-- The place of a row among rows is that of its key among the keys of the map that holds them.
+use Rattle.std.proofs.Common.{◌≡◌, ◌&&◌, ℕ, List, [], ◌∷◌, length, map, refl}
+use Rattle.std.specs.List.{position, position_or_len}
+use Rattle.std.specs.Map.{keys_of}
+use Rattle.std.specs.Str.{bytes_eq}
+use Rattle.hsp_instance.specs.Instance.{has_keys}
+use Rattle.hsp_instance.specs.KeyedRows.{row_entry}
+use Rattle.hsp_instance.specs.declared.rows.RowKey.{RowKey}
+
+as_many : (es : List (RowKey × ℕ)) → length (keys_of es) ≡ length (map row_entry es)
+as_many [] = refl
+as_many (e ∷ es) = rw (as_many es) refl
+
+same_place : (region handle : List ℕ) (es : List (RowKey × ℕ)) → position_or_len (λ (k : RowKey). bytes_eq region k.region.items && bytes_eq handle k.handle.items) (keys_of es) ≡ position_or_len (has_keys region handle) (map row_entry es)
+same_place region handle [] = refl
+same_place region handle (e ∷ es) = rw (same_place region handle es) refl
+
+pub row_place : (region handle : List ℕ) (es : List (RowKey × ℕ)) → position (λ (k : RowKey). bytes_eq region k.region.items && bytes_eq handle k.handle.items) (keys_of es) ≡ position (has_keys region handle) (map row_entry es)
+row_place region handle es = rw (as_many es, same_place region handle es) refl

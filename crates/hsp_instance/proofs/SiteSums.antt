@@ -1,0 +1,50 @@
+-- Sites and the number of their servers.
+use Rattle.std.proofs.Common.{◌≡◌, ◌≤◌, ◌<◌, ◌+◌, ℕ, zero, suc, List, [], ◌∷◌, ◌++◌, Option, Some, None, length, option_map, take, refl, ap, add-one, arith, length-append}
+use Rattle.std.specs.List.{slice_get}
+use Rattle.hsp_instance.specs.Instance.{AreSites, HasServer, Site, servers_of}
+use Rattle.hsp_instance.proofs.Lists.{all_push}
+
+pub servers_of-push : (sites : List Site) (site : Site) → servers_of (sites ++ site ∷ []) ≡ servers_of sites + length site.servers
+servers_of-push [] site = omega arith
+servers_of-push (first ∷ sites) site = let e = servers_of-push sites site in omega arith
+
+-- a site has no more servers than all
+pub servers_within : (sites : List Site) (i : ℕ) (site : Site) → slice_get sites i ≡ Some site → length site.servers ≤ servers_of sites
+servers_within [] i site e = let none : ◌≡◌ {A = Option Site} None (Some site) = e in cc
+servers_within (first ∷ sites) zero site e =
+    let same : first ≡ site = cc (e) in
+    let long : length first.servers ≡ length site.servers = ap (λ (s : Site). length s.servers) same in
+    omega arith
+servers_within (first ∷ sites) (suc i) site e = let less = servers_within sites i site e in omega arith
+
+-- one more site within the limits
+pub sites_push : (sites : List Site) (site : Site) → AreSites sites → length sites < 32 → 0 < length site.servers → servers_of sites + length site.servers ≤ 1024 → AreSites (sites ++ site ∷ [])
+sites_push sites site are room has few = record {
+  few = omega (arith, length-append sites (site ∷ []));
+  each = all_push HasServer sites site are.each has;
+  servers = rw (servers_of-push sites site) few;
+}
+
+taken_suc : (sites : List Site) (i : ℕ) (site : Site) → slice_get sites i ≡ Some site → servers_of (take (suc i) sites) ≡ servers_of (take i sites) + length site.servers
+taken_suc [] i site e = let none : ◌≡◌ {A = Option Site} None (Some site) = e in cc
+taken_suc (first ∷ sites) zero site e =
+    let same : first ≡ site = cc (e) in
+    let long : length first.servers ≡ length site.servers = ap (λ (s : Site). length s.servers) same in
+    omega arith
+taken_suc (first ∷ sites) (suc i) site e = let more = taken_suc sites i site e in omega arith
+
+-- the servers of one more of the first sites
+pub servers_of-taken : (sites : List Site) (i : ℕ) (site : Site) → slice_get sites i ≡ Some site → servers_of (take (i + 1) sites) ≡ servers_of (take i sites) + length site.servers
+servers_of-taken sites i site e = rw add-one (taken_suc sites i site e)
+
+-- the first sites have no more servers than all
+pub servers_of-first : (sites : List Site) (i : ℕ) → servers_of (take i sites) ≤ servers_of sites
+servers_of-first [] zero = omega arith
+servers_of-first [] (suc i) = omega arith
+servers_of-first (first ∷ sites) zero = omega arith
+servers_of-first (first ∷ sites) (suc i) = let less = servers_of-first sites i in omega arith
+
+-- a site by the number of its servers
+pub site_with : (o : Option Site) (count : ℕ) → option_map (λ (s : Site). length s.servers) o ≡ Some count → (site : Site) × (o ≡ Some site) × (length site.servers ≡ count)
+site_with None count e = cc (e)
+site_with (Some site) count e = (site, refl, cc (e))

@@ -1,0 +1,5 @@
+use Rattle.hsp_instance.proofs.FirstSeen.{AreNumbered}
+use Rattle.hsp_instance.proofs.grouping.groups.Given as goal
+
+abbrev pub invariant-loop-row : goal.invariant-loop-row
+invariant-loop-row l = AreNumbered l.instance l.row l.kinds.keys l.of_rows.items

@@ -1,0 +1,144 @@
+-- An instance: rows of demand, sites and their servers, hosts, and the arcs by which the queries of a row may go to a site.
+use Rattle.std.specs.Prelude.{◌≡◌, ◌≤◌, ◌<◌, ◌+◌, ◌&&◌, ⊤, Bool, ℕ, List, [], ◌∷◌, length, Option, None, Some}
+use Rattle.std.specs.List.{AllByRecursion, IsDistinct, slice_get}
+use Rattle.std.specs.Str.{bytes_eq}
+use Rattle.hsp_hash.specs.declared.option.HashOption.{HashOption}
+use Rattle.hsp_instance.specs.declared.arc.Arc.{Arc}
+
+-- so many queries for a handle, from a region
+pub record Row : Type 0 where
+  pub region : List ℕ
+  pub handle : List ℕ
+  pub count : ℕ
+
+-- a server of a site, by the site's record
+pub record SiteServer : Type 0 where
+  pub id : ℕ
+  pub address : List ℕ
+
+-- a site: its name, and its record's hash option and servers
+pub record Site : Type 0 where
+  pub name : List ℕ
+  pub option : HashOption
+  pub servers : List SiteServer
+
+-- a server of an instance: the number of its site, its place there, its identifier, how many queries it takes, and the
+-- number of the host that it stands on
+pub record Server : Type 0 where
+  pub site : ℕ
+  pub place : ℕ
+  pub id : ℕ
+  pub capacity : ℕ
+  pub host : Option ℕ
+
+-- a host: its address, and how many queries its servers take together
+pub record Host : Type 0 where
+  pub address : List ℕ
+  pub limit : ℕ
+
+-- an instance; each row has a list of arcs
+pub record Instance : Type 0 where
+  pub rows : List Row
+  pub sites : List Site
+  pub servers : List Server
+  pub hosts : List Host
+  pub arcs : List (List Arc)
+
+-- a row is of the region and the handle
+abbrev pub has_keys : List ℕ → List ℕ → Row → Bool
+has_keys region handle row = bytes_eq region row.region && bytes_eq handle row.handle
+
+-- two rows have the same region and handle
+abbrev pub same_keys : Row → Row → Bool
+same_keys a b = has_keys a.region a.handle b
+
+-- the number of servers of sites
+abbrev pub servers_of : List Site → ℕ
+servers_of [] = 0
+servers_of (site ∷ sites) = length site.servers + servers_of sites
+
+-- a site has a server
+abbrev pub HasServer : Site → Type 0
+HasServer site = 0 < length site.servers
+
+-- sites within the limits, each with a server
+pub record AreSites (sites : List Site) : Type 0 where
+  pub few : length sites ≤ 32
+  pub each : AllByRecursion HasServer sites
+  pub servers : servers_of sites ≤ 1024
+
+abbrev pub IsCounted : Row → Type 0
+IsCounted row = row.count ≤ 1000000
+
+-- rows within the limits, no two with one region and handle
+pub record AreRows (rows : List Row) : Type 0 where
+  pub few : length rows ≤ 8192
+  pub each : AllByRecursion IsCounted rows
+  pub apart : IsDistinct same_keys rows
+
+abbrev pub IsLimited : Host → Type 0
+IsLimited host = host.limit ≤ 1000000000000
+
+-- hosts within the limits
+pub record AreHosts (hosts : List Host) : Type 0 where
+  pub few : length hosts ≤ 1024
+  pub each : AllByRecursion IsLimited hosts
+
+-- the host that a server stands on is one of so many
+abbrev pub IsHostOf : ℕ → Option ℕ → Type 0
+IsHostOf hosts None = ⊤
+IsHostOf hosts (Some host) = host < hosts
+
+-- a server stands at a place of a site, with the identifier that the site's record has there
+pub record StandsAt (sites : List Site) (server : Server) : Type 0 where
+  pub site : Site
+  pub own : SiteServer
+  pub is_site : slice_get sites server.site ≡ Some site
+  pub is_own : slice_get site.servers server.place ≡ Some own
+  pub same_id : server.id ≡ own.id
+
+-- a server within the limits, at a place of a site and on no host or a host that is there
+pub record IsServer (sites : List Site) (hosts : ℕ) (server : Server) : Type 0 where
+  pub place : StandsAt sites server
+  pub capacity : server.capacity ≤ 1000000000
+  pub host : IsHostOf hosts server.host
+
+-- servers within the limits
+pub record AreServers (sites : List Site) (hosts : ℕ) (servers : List Server) : Type 0 where
+  pub few : length servers ≤ 1024
+  pub each : AllByRecursion (IsServer sites hosts) servers
+
+-- an arc within the limits, to a server of its site
+pub record IsArc (servers : List Server) (arc : Arc) : Type 0 where
+  pub server : Server
+  pub is_server : slice_get servers arc.server ≡ Some server
+  pub same_site : arc.site ≡ server.site
+  pub cost : arc.cost ≤ 1000000
+
+-- in ascending order of the sites, each site at most once
+abbrev pub IsAscending : List Arc → Type 0
+IsAscending [] = ⊤
+IsAscending (arc ∷ arcs) = AllByRecursion (λ (later : Arc). arc.site < later.site) arcs × IsAscending arcs
+
+-- the arcs of a row
+pub record AreArcs (servers : List Server) (arcs : List Arc) : Type 0 where
+  pub few : length arcs ≤ 32
+  pub each : AllByRecursion (IsArc servers) arcs
+  pub ascending : IsAscending arcs
+
+-- an instance within the limits: a list of arcs for each row
+pub record IsInstance (it : Instance) : Type 0 where
+  pub rows : AreRows it.rows
+  pub sites : AreSites it.sites
+  pub hosts : AreHosts it.hosts
+  pub servers : AreServers it.sites (length it.hosts) it.servers
+  pub one_list_a_row : length it.arcs ≡ length it.rows
+  pub arcs : AllByRecursion (AreArcs it.servers) it.arcs
+
+-- the server at a place of a site, if they are there
+abbrev pub own_at : ℕ → Option Site → Option SiteServer
+own_at place None = None
+own_at place (Some site) = slice_get site.servers place
+
+abbrev pub server_in : List Site → ℕ → ℕ → Option SiteServer
+server_in sites site place = own_at place (slice_get sites site)

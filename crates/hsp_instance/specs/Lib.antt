@@ -1,0 +1,6 @@
+pub mod Instance
+pub mod KeyedRows
+pub mod Building
+pub mod LentKeys
+pub mod RegionCosts
+pub mod Groups

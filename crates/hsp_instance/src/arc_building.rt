@@ -1,0 +1,84 @@
+// The arcs of the rows of demand.
+
+ghost use Rattle.std.specs.Prelude.{◌≡◌, ◌≤◌, ◌<◌, ◌+◌, ◌++◌, length, map, OnOk, IfOk};
+ghost use Rattle.hsp_names.specs.Lent.{octets_of};
+ghost use Rattle.hsp_instance.specs.Building.{arc_to};
+ghost use Rattle.hsp_instance.specs.Instance.{AreSites};
+ghost use Rattle.hsp_instance.specs.RegionCosts.{arcs_by, arcs_of};
+
+use crate::arc::Arc;
+use crate::instance::ArcList;
+use crate::region_costs::{RegionCosts, place_of};
+use crate::sites::Site;
+use hsp_hash::server_number;
+use hsp_names::HandleRef;
+use hsp_tables::{Costs, Demand};
+use std::alloc::{AllocError, Global};
+
+// Adds the arc to a site whose servers are numbered from `first` on, where a query has a cost there.
+fn push_arc(
+    arcs: &mut Vec<Arc>,
+    handle: HandleRef<'_>,
+    number: u32,
+    first: u32,
+    site: &Site,
+    cost: Option<u64>,
+) -> Result<(), AllocError>
+    requires first { first ≤ 1024 }
+    requires some { 0 < length site.now.servers }
+    requires few { length site.now.servers ≤ 1024 }
+    ensures { OnOk result (arcs.new.items ≡ arcs.old.items ++ arc_to (octets_of handle.entry) number first site.now cost) }
+{
+    let Some(cost) = cost else {
+        return Ok(());
+    };
+    let place = server_number(site.option, handle, site.servers.len() as u32);
+    arcs.push(Arc {
+        site: number,
+        server: first + place,
+        cost,
+    })?;
+    Ok(())
+}
+
+// The arcs for a handle, by what a query costs at each site.
+fn arcs_by(
+    alloc: Global,
+    handle: HandleRef<'_>,
+    sites: &[Site],
+    costs: &[Option<u64>],
+) -> Result<ArcList, AllocError>
+    requires sites { AreSites sites.now }
+    requires costs { length costs.now ≡ length sites.now }
+    ensures { IfOk result (λ arcs. arcs ≡ arcs_by (octets_of handle.entry) 0 0 sites.now costs.now) }
+{
+    let mut arcs = Vec::new(alloc);
+    let mut first: u32 = 0;
+    for (number, site) in sites.iter().enumerate() {
+        push_arc(&mut arcs, handle, number as u32, first, site, costs[number])?;
+        first += site.servers.len() as u32;
+    }
+    Ok(ArcList { arcs })
+}
+
+// The arcs of each row.
+#[tactic(auto, using(crate::proofs::Lists::take_whole))]
+pub(crate) fn arcs_of(
+    alloc: Global,
+    demand: &Demand,
+    sites: &[Site],
+    costs: &Costs,
+) -> Result<Vec<ArcList>, AllocError>
+    requires { AreSites sites.now }
+    ensures { IfOk result (λ v. v.items ≡ map (arcs_of costs.now sites.now) demand.now) }
+{
+    let mut known: Vec<RegionCosts> = Vec::new(alloc);
+    let mut lists = Vec::new(alloc);
+    for number in 0..demand.len() {
+        let row = demand.row(number);
+        let place = place_of(alloc, &mut known, costs, sites, row.region)?;
+        let found = &known[place];
+        lists.push(arcs_by(alloc, row.handle, sites, found.costs.as_slice())?)?;
+    }
+    Ok(lists)
+}

@@ -1,0 +1,62 @@
+// The instance of settings, values, demand, costs and capacities.
+
+ghost use Rattle.std.specs.Prelude.{◌≡◌, List, Option, option_map};
+ghost use Rattle.hsp_record.specs.Values.{HandleValue};
+ghost use Rattle.hsp_instance.specs.Building.{Answers, Gives, IsBuilt, instance_with};
+
+use crate::arc_building::arcs_of;
+use crate::checks::{check_capacities, check_costs};
+use crate::fault::BuildFault;
+use crate::instance::Instance;
+use crate::rows::rows_of;
+use crate::server_building::{hosts_of, servers_of};
+use crate::site_reading::build_sites;
+use crate::sites::Sites;
+use hsp_record::ValueList;
+use hsp_tables::{Capacities, Costs, Demand, Settings};
+use std::alloc::Global;
+
+// The instance whose sites these are.
+fn instance_with(
+    alloc: Global,
+    sites: Sites,
+    settings: &Settings,
+    demand: &Demand,
+    costs: &Costs,
+    capacity: &Capacities,
+) -> Result<Instance, BuildFault>
+    ensures { (values : Option (List HandleValue)) → Gives result (instance_with (record { settings = settings.now; values = values; demand = demand.now; costs = costs.now; capacities = capacity.now }) sites) }
+{
+    let list = sites.sites.as_slice();
+    check_costs(list, costs)?;
+    check_capacities(list, capacity)?;
+    let hosts = hosts_of(alloc, settings)?;
+    let servers = servers_of(alloc, list, capacity, hosts.as_slice())?;
+    let rows = rows_of(alloc, demand)?;
+    let arcs = arcs_of(alloc, demand, list, costs)?;
+    Ok(Instance {
+        rows,
+        sites,
+        servers,
+        hosts,
+        arcs,
+    })
+}
+
+/// The instance of settings, the value list that they may refer to, demand, costs and capacities.
+///
+/// The first fault is answered: those of the sites as [`build_sites`] has them; then, row by row, UnknownSite of the costs; then, row
+/// by row, UnknownSite and UnknownServer of the capacities; then, by site and place, NoCapacity.
+pub fn build(
+    alloc: Global,
+    settings: &Settings,
+    values: Option<&ValueList<'_>>,
+    demand: &Demand,
+    costs: &Costs,
+    capacity: &Capacities,
+) -> Result<Instance, BuildFault>
+    ensures { Answers (IsBuilt (record { settings = settings.now; values = option_map (λ v. v.now) values.entry; demand = demand.now; costs = costs.now; capacities = capacity.now })) result }
+{
+    let sites = build_sites(alloc, settings, values)?;
+    instance_with(alloc, sites, settings, demand, costs, capacity)
+}

@@ -1,0 +1,29 @@
+// An instance of the planning of loads: the rows of demand, the sites and their servers, the hosts, and the arcs by which
+// the queries of a row may go to a site, as settings, values and tables define them.
+#![tactic(auto)]
+
+mod arc;
+mod arc_building;
+mod building;
+mod checks;
+mod fault;
+mod group_numbers;
+mod grouping;
+mod instance;
+mod region_costs;
+mod rows;
+mod server_building;
+mod site_reading;
+mod sites;
+
+pub use arc::Arc;
+pub use building::build;
+pub use fault::{BuildFault, Table};
+pub use group_numbers::Groups;
+pub use grouping::groups;
+pub use instance::Instance;
+pub use site_reading::build_sites;
+pub use sites::Sites;
+
+#[cfg(test)]
+mod tests;

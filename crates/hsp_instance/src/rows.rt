@@ -1,0 +1,137 @@
+// The rows of demand, found by their regions and handles.
+
+ghost use Rattle.std.specs.Prelude.{◌≡◌, ◌<◌, ◌∷◌, ◌++◌, [], Some, length, map, position, slice_get, OnOk, IfOk, IfErr, false};
+ghost use Rattle.std.specs.List.{list_any};
+ghost use Rattle.hsp_tables.specs.Demand.{AreDemand};
+ghost use Rattle.hsp_instance.specs.declared.fault.BuildFault.TheVariants.{OutOfMemory};
+ghost use Rattle.hsp_instance.specs.Building.{row_of};
+ghost use Rattle.hsp_instance.specs.Instance.{has_keys};
+
+use crate::fault::BuildFault;
+use hsp_tables::Demand;
+use indexmap::{Equivalent, IndexMap};
+use std::alloc::Global;
+use std::hash::Hash;
+use std::marker::Model;
+
+// The region and the handle by which a row is found.
+#[derive(Debug, PartialEq, Eq, Hash, Drop)]
+pub(crate) struct RowKey {
+    pub(crate) region: Vec<u8>,
+    pub(crate) handle: Vec<u8>,
+}
+
+// The same, lent.
+#[derive(Clone, Copy, Debug, PartialEq, Eq, Hash)]
+pub(crate) struct LentKey<'a> {
+    pub(crate) region: &'a [u8],
+    pub(crate) handle: &'a [u8],
+}
+
+impl Equivalent<RowKey> for LentKey<'_> {
+    ghost use Rattle.std.specs.Prelude.{◌≡◌, ◌&&◌};
+    ghost use Rattle.std.specs.Str.{bytes_eq};
+
+    ghost equivalent = { λ q k. bytes_eq q.region.now k.region.items && bytes_eq q.handle.now k.handle.items };
+
+    ghost use Rattle.hsp_instance.specs.LentKeys.{hashed_alike, compared_alike};
+
+    ghost respects_hash = { λ q k h. hashed_alike q.region.now k.region.items q.handle.now k.handle.items h };
+
+    ghost respects_eq = { λ q x y h. compared_alike q.region.now x.region.items q.handle.now x.handle.items y.region.items y.handle.items h };
+
+    fn equivalent(&self, key: &RowKey) -> bool {
+        self.region == key.region.as_slice() && self.handle == key.handle.as_slice()
+    }
+}
+
+// Rows in the order in which they came.
+#[derive(Drop)]
+pub(crate) struct Rows {
+    rows: IndexMap<RowKey, u64>,
+}
+
+impl Model for Rows {
+    ghost use Rattle.std.specs.Prelude.{List, map};
+    ghost use Rattle.hsp_instance.specs.Instance.{Row};
+
+    ghost Value = { List Row };
+
+    ghost use Rattle.hsp_instance.specs.KeyedRows.{row_entry};
+
+    ghost view = { λ r. map row_entry r.rows.entries };
+
+    ghost use Rattle.std.specs.Prelude.{◌≤◌, length};
+
+    ghost invariant = { λ r. length r.rows.entries ≤ 8192 };
+}
+
+impl Rows {
+    pub(crate) fn new(alloc: Global) -> Rows
+        ensures { result ≡ [] }
+    {
+        Rows {
+            rows: IndexMap::new(alloc),
+        }
+    }
+
+    pub(crate) fn len(&self) -> usize
+        ensures { result ≡ length self.now }
+    {
+        self.rows.len()
+    }
+
+    // The region, the handle and the count of a row, by its place.
+    pub(crate) fn row(&self, place: usize) -> (&[u8], &[u8], u64)
+        requires { place < length self.now }
+        ensures { slice_get self.now place ≡ Some (record { region = result.0.now; handle = result.1.now; count = result.2 }) }
+    {
+        let (key, count) = self.rows.get_index(place).unwrap();
+        (key.region.as_slice(), key.handle.as_slice(), *count)
+    }
+
+    // The place of the row of a region and a handle.
+    pub(crate) fn find(&self, region: &[u8], handle: &[u8]) -> Option<u32>
+        ensures { result ≡ position (has_keys region.now handle.now) self.now }
+    {
+        let place = self.rows.get_index_of(LentKey { region, handle })?;
+        Some(place as u32)
+    }
+
+    // Adds a row whose region and handle no row has.
+    pub(crate) fn push(
+        &mut self,
+        alloc: Global,
+        region: &[u8],
+        handle: &[u8],
+        count: u64,
+    ) -> Result<(), BuildFault>
+        requires room { length self.old < 8192 }
+        requires new { list_any (has_keys region.now handle.now) self.old ≡ false }
+        ensures ok { OnOk result (self.new ≡ self.old ++ record { region = region.now; handle = handle.now; count = count } ∷ []) }
+        ensures err { IfErr result (λ e. e ≡ OutOfMemory) }
+    {
+        let key = RowKey {
+            region: Vec::from_slice(alloc, region)?,
+            handle: Vec::from_slice(alloc, handle)?,
+        };
+        self.rows.insert(key, count)?;
+        Ok(())
+    }
+}
+
+// The rows of demand.
+#[tactic(auto, using(crate::proofs::Lists::take_whole))]
+pub(crate) fn rows_of(alloc: Global, demand: &Demand) -> Result<Rows, BuildFault>
+    ensures ok { IfOk result (λ rows. rows ≡ map row_of demand.now) }
+    ensures err { IfErr result (λ e. e ≡ OutOfMemory) }
+    // The demand is within its limits.
+    ensures within { AreDemand demand.now }
+{
+    let mut rows = Rows::new(alloc);
+    for number in 0..demand.len() {
+        let row = demand.row(number);
+        rows.push(alloc, row.region, row.handle.bytes(), row.count)?;
+    }
+    Ok(rows)
+}

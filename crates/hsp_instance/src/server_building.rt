@@ -1,0 +1,131 @@
+// The hosts and the servers of an instance.
+
+ghost use Rattle.std.specs.Prelude.{◌≡◌, ◌≤◌, ◌<◌, ◌+◌, ◌⊎◌, ◌∷◌, ◌++◌, [], Ok, Err, Some, length, map, option_map, position, slice_get, OnOk, IfOk, IfErr};
+ghost use Rattle.hsp_tables.specs.Rows.{capacity_shown};
+ghost use Rattle.hsp_tables.specs.Settings.{AreSettings};
+ghost use Rattle.hsp_instance.specs.declared.fault.BuildFault.TheVariants.{OutOfMemory};
+ghost use Rattle.hsp_instance.specs.Building.{GivesExactly, capacity_of, host_at, host_of_entry, is_capacity_of, server_at, servers_at, servers_from};
+ghost use Rattle.hsp_instance.specs.Instance.{AreSites};
+
+use crate::fault::BuildFault;
+use crate::instance::{Host, Server};
+use crate::sites::{Site, SiteServer};
+use hsp_tables::{Capacities, CapacityRow, Settings};
+use std::alloc::{AllocError, Global};
+
+// The hosts of the settings.
+#[tactic(auto, using(crate::proofs::Lists::take_whole))]
+pub(crate) fn hosts_of(alloc: Global, settings: &Settings) -> Result<Vec<Host>, AllocError>
+    ensures hosts { IfOk result (λ v. v.items ≡ map host_of_entry settings.now.hosts) }
+    // The settings are within their limits.
+    ensures within { AreSettings settings.now }
+{
+    // `len` says that they are.
+    let _sites = settings.len();
+    let mut hosts = Vec::new(alloc);
+    for number in 0..settings.host_count() {
+        let (address, limit) = settings.host(number);
+        hosts.push(Host { address, limit })?;
+    }
+    Ok(hosts)
+}
+
+// Whether a row is of the site of a name and of the server of an identifier.
+fn is_capacity_of(row: CapacityRow<'_>, name: &[u8], id: u32) -> bool
+    ensures { result ≡ is_capacity_of name.now id (capacity_shown row.entry) }
+{
+    row.site == name && row.server_id == id
+}
+
+// The capacity of a server, by the name of its site and its identifier.
+fn capacity_of(capacities: &Capacities, name: &[u8], id: u32) -> Option<u64>
+    ensures { result ≡ capacity_of capacities.now name.now id }
+{
+    for number in 0..capacities.len() {
+        let row = capacities.row(number);
+        if is_capacity_of(row, name, id) {
+            return Some(row.capacity);
+        }
+    }
+    None
+}
+
+// The number of the host of an address.
+fn host_of(hosts: &[Host], address: &[u8; 16]) -> Option<u32>
+    requires { length hosts.now ≤ 1024 }
+    ensures { result ≡ host_at 0 hosts.now address.now }
+{
+    for (number, host) in hosts.iter().enumerate() {
+        if host.address.as_slice() == address.as_slice() {
+            return Some(number as u32);
+        }
+    }
+    None
+}
+
+// The server at a place of a site.
+fn server_at(
+    capacities: &Capacities,
+    hosts: &[Host],
+    site: u32,
+    name: &[u8],
+    place: u32,
+    own: &SiteServer,
+) -> Result<Server, BuildFault>
+    requires { length hosts.now ≤ 1024 }
+    ensures { GivesExactly (λ s. s) result (server_at capacities.now hosts.now site name.now place own.now) }
+{
+    let Some(capacity) = capacity_of(capacities, name, own.id) else {
+        return Err(BuildFault::NoCapacity {
+            site,
+            server_id: own.id,
+        });
+    };
+    Ok(Server {
+        site,
+        place,
+        id: own.id,
+        capacity,
+        host: host_of(hosts, &own.address),
+    })
+}
+
+// Adds the servers of a site.
+fn push_servers(
+    servers: &mut Vec<Server>,
+    capacities: &Capacities,
+    hosts: &[Host],
+    number: u32,
+    site: &Site,
+) -> Result<(), BuildFault>
+    requires hosts { length hosts.now ≤ 1024 }
+    requires few { length site.now.servers ≤ 1024 }
+    ensures ok { OnOk result (servers_at capacities.now hosts.now number site.now.name 0 servers.old.items site.now.servers ≡ Ok servers.new.items) }
+    ensures err { IfErr result (λ e. (e ≡ OutOfMemory) ⊎ (servers_at capacities.now hosts.now number site.now.name 0 servers.old.items site.now.servers ≡ Err e)) }
+{
+    for (place, own) in site.servers.iter().enumerate() {
+        let name = site.name.as_slice();
+        let server = server_at(capacities, hosts, number, name, place as u32, own)?;
+        servers.push(server)?;
+    }
+    Ok(())
+}
+
+// The servers of sites, which have at most 1,024 servers.
+pub(crate) fn servers_of(
+    alloc: Global,
+    sites: &[Site],
+    capacities: &Capacities,
+    hosts: &[Host],
+) -> Result<Vec<Server>, BuildFault>
+    requires hosts { length hosts.now ≤ 1024 }
+    requires sites { AreSites sites.now }
+    ensures ok { IfOk result (λ v. servers_from capacities.now hosts.now 0 [] sites.now ≡ Ok v.items) }
+    ensures err { IfErr result (λ e. (e ≡ OutOfMemory) ⊎ (servers_from capacities.now hosts.now 0 [] sites.now ≡ Err e)) }
+{
+    let mut servers = Vec::new(alloc);
+    for (number, site) in sites.iter().enumerate() {
+        push_servers(&mut servers, capacities, hosts, number as u32, site)?;
+    }
+    Ok(servers)
+}

@@ -1,0 +1,12 @@
+/// Why octets are no handle. Of several reasons the first in this order is told.
+#[derive(Clone, Copy, Debug, PartialEq, Eq)]
+pub enum HandleFault {
+    /// More than 4,096 octets.
+    TooLong,
+    /// Not UTF-8.
+    NotUtf8,
+    /// No `/` ends a naming authority.
+    NoSlash,
+    /// A segment of the naming authority is empty.
+    EmptySegment,
+}

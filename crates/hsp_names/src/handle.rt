@@ -1,0 +1,119 @@
+// A handle and its parts, lent from the octets that spell it.
+
+ghost use Rattle.std.specs.Prelude.{◌≡◌, ◌<◌, length, IsTrue, IfOk, IfErr, IfNone, IfSome, OnSome, true, false, position};
+ghost use Rattle.std.specs.List.{position_or_len};
+ghost use Rattle.std.specs.Str.{is_utf8};
+ghost use Rattle.hsp_names.specs.Handle.{is_slash, has_slash, is_handle, has_segments, naming_authority, local_name, segments, handle_in, IsHandle, IsFault};
+
+use crate::fault::HandleFault;
+use crate::segments::Segments;
+use std::str;
+
+// The length of the longest handle, in octets.
+const LONGEST_HANDLE: usize = 4096;
+
+/// A handle: a naming authority, one `/`, and a local name (RFC 3651, section 2).
+///
+/// The first `/` ends the naming authority, which is one or more segments joined by `.`, none of them empty. The local name
+/// may be empty and may hold further `/`. A handle is UTF-8 of at most 4,096 octets; two handles are equal when their octets are.
+#[derive(Clone, Copy, Debug)]
+pub struct HandleRef<'a> {
+    octets: &'a [u8],
+    slash: usize,
+    ghost is_handle: { IsTrue (is_handle octets.now) },
+    ghost within: { slash < length octets.now },
+    ghost at_slash: { slash ≡ position_or_len is_slash octets.now },
+}
+
+// Whether the octets are UTF-8.
+fn is_text(octets: &[u8]) -> bool
+    ensures { result ≡ is_utf8 octets.now }
+{
+    match str::from_utf8(octets) {
+        Ok(_) => true,
+        Err(_) => false,
+    }
+}
+
+fn first_slash(octets: &[u8]) -> Option<usize>
+    ensures { result ≡ position is_slash octets.now }
+{
+    octets.iter().position(|octet| *octet == b'/')
+}
+
+// The place of the first slash, which ends the naming authority.
+fn slash_in(octets: &[u8]) -> Option<usize>
+    ensures none { IfNone result (has_slash octets.now ≡ false) }
+    ensures some { OnSome result (has_slash octets.now ≡ true) }
+    ensures place { IfSome result (λ slash. (slash < length octets.now) × (slash ≡ position_or_len is_slash octets.now)) }
+{
+    first_slash(octets)
+}
+
+// Whether no segment of a naming authority is empty.
+fn has_segments(authority: &[u8]) -> bool
+    ensures { result ≡ has_segments authority.now }
+{
+    for segment in Segments::of(authority) {
+        if segment.is_empty() {
+            return false;
+        }
+    }
+    true
+}
+
+impl<'a> HandleRef<'a> {
+    ghost use Rattle.hsp_names.specs.Lent.{octets_of, segments_left, Reads};
+
+    /// The handle that the octets spell, or the first fault in the order of [`HandleFault`].
+    pub fn parse(octets: &'a [u8]) -> Result<HandleRef<'a>, HandleFault>
+        // What is read is a handle, and what is refused has the fault.
+        ensures handle { IfOk result (λ handle. IsHandle octets.now (naming_authority octets.now) (local_name octets.now)) }
+        ensures fault { IfErr result (λ fault. IsFault octets.now fault) }
+        // The same as one value, whose octets are those that were lent.
+        ensures reads { Reads result (handle_in octets.now) }
+    {
+        if octets.len() > LONGEST_HANDLE {
+            return Err(HandleFault::TooLong);
+        }
+        if !is_text(octets) {
+            return Err(HandleFault::NotUtf8);
+        }
+        let Some(slash) = slash_in(octets) else {
+            return Err(HandleFault::NoSlash);
+        };
+        if !has_segments(&octets[..slash]) {
+            return Err(HandleFault::EmptySegment);
+        }
+        Ok(HandleRef { octets, slash })
+    }
+
+    /// The octets of the whole handle.
+    pub fn bytes(self) -> &'a [u8]
+        ensures octets { result.now ≡ octets_of self.entry }
+        ensures handle { IsTrue (is_handle result.now) }
+    {
+        self.octets
+    }
+
+    /// The octets before the first `/`.
+    pub fn naming_authority(self) -> &'a [u8]
+        ensures { result.now ≡ naming_authority (octets_of self.entry) }
+    {
+        &self.octets[..self.slash]
+    }
+
+    /// The octets after the first `/`.
+    pub fn local_name(self) -> &'a [u8]
+        ensures { result.now ≡ local_name (octets_of self.entry) }
+    {
+        &self.octets[self.slash + 1..]
+    }
+
+    /// The segments of the naming authority, from the first to the last.
+    pub fn segments(self) -> Segments<'a>
+        ensures { segments_left result ≡ segments (octets_of self.entry) }
+    {
+        Segments::of(self.naming_authority())
+    }
+}

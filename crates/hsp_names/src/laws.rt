@@ -1,0 +1,13 @@
+// Laws of the definitions.
+
+ghost use Rattle.hsp_names.specs.Handle.{PartsAreUnique, ReadingsAreHandles};
+
+/// A handle has one naming authority and one local name.
+pub fn parts_are_unique()
+    ensures { PartsAreUnique }
+{}
+
+/// What is read as a handle is a handle, with the parts that the definition gives it, and every handle is read.
+pub fn readings_are_handles()
+    ensures { ReadingsAreHandles }
+{}

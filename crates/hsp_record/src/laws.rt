@@ -1,0 +1,20 @@
+// What holds of all spellings.
+
+ghost use Rattle.hsp_record.specs.Fields.{HasOneSpelling, HasNothingAfter};
+ghost use Rattle.hsp_record.specs.Site.{site_format};
+ghost use Rattle.hsp_record.specs.Values.{values_format};
+ghost use Rattle.hsp_record.specs.Request.{request_format};
+
+/// No two records are spelled alike.
+pub fn one_spelling()
+    ensures sites { HasOneSpelling site_format }
+    ensures value_lists { HasOneSpelling values_format }
+    ensures requests { HasOneSpelling request_format }
+{}
+
+/// What follows a spelling changes nothing of what is read, so no spelling is a proper prefix of another.
+pub fn nothing_after()
+    ensures sites { HasNothingAfter site_format }
+    ensures value_lists { HasNothingAfter values_format }
+    ensures requests { HasNothingAfter request_format }
+{}

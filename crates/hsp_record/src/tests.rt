@@ -1,0 +1,279 @@
+// The worked cases, and the readers of a record that has something in every field.
+
+use super::*;
+use std::alloc::{AllocError, Global};
+use std::test::Fail;
+
+/// A site of one server, 7, in 48 octets.
+const SITE: [u8; 48] = [
+    0, 1, 2, 0, 0, 1, 0, 1, 0, 0, 0, 0, 0, 0, 0, 0, 0, 0, 0, 1, 0, 0, 0, 7, 0, 0, 0, 0, 0, 0, 0, 0,
+    0, 0, 0, 0, 0, 0, 0, 1, 0, 0, 0, 0, 0, 0, 0, 0,
+];
+
+/// A site of two servers, 7 and 3, in 76 octets.
+const TWO_SERVERS: [u8; 76] = [
+    0, 1, 2, 0, 0, 1, 0, 1, 0, 0, 0, 0, 0, 0, 0, 0, 0, 0, 0, 2, 0, 0, 0, 7, 0, 0, 0, 0, 0, 0, 0, 0,
+    0, 0, 0, 0, 0, 0, 0, 1, 0, 0, 0, 0, 0, 0, 0, 0, 0, 0, 0, 3, 0, 0, 0, 0, 0, 0, 0, 0, 0, 0, 0, 0,
+    0, 0, 0, 1, 0, 0, 0, 0, 0, 0, 0, 0,
+];
+
+/// A site with a filter, an attribute, a key and an interface.
+const FULL_SITE: &[u8] =
+    b"\0\x04\x02\x01\0\x05\x06\x02\0\0\0\x01f\0\0\0\x01\0\0\0\x01a\0\0\0\x02bc\0\0\0\x01\0\0\0\x09addressofserver9\0\0\0\x03key\0\0\0\x01\x01\x02\0\0\x0a\x51";
+
+/// The fields of a value of index 1 before the length of its data, in a list of one.
+const ONE_VALUE: &[u8] = b"\0\0\0\x01\0\0\0\x01\0\0\0\x07HS_SITE";
+
+fn joined(alloc: Global, parts: &[&[u8]]) -> Result<Vec<u8>, AllocError> {
+    let mut octets = Vec::new(alloc);
+    for part in parts {
+        octets.extend_from_slice(part)?;
+    }
+    Ok(octets)
+}
+
+fn site_fault(alloc: Global, octets: &[u8]) -> Option<RecordFault> {
+    decode_site(alloc, octets).err()
+}
+
+fn values_fault(alloc: Global, octets: &[u8]) -> Option<RecordFault> {
+    decode_values(alloc, octets).err()
+}
+
+/// What is wanted, or that memory ran out.
+fn is_or_memory(fault: Option<RecordFault>, wanted: Option<RecordFault>) -> bool {
+    fault == wanted || fault == Some(RecordFault::OutOfMemory)
+}
+
+#[test]
+fn sites_come_back(rt: HostRuntime) -> Result<(), Fail> {
+    let mut no_server = [0; 20];
+    no_server.copy_from_slice(&SITE[..20]);
+    no_server[19] = 0;
+    let mut third_option = SITE;
+    third_option[7] = 3;
+    for octets in [
+        SITE.as_slice(),
+        TWO_SERVERS.as_slice(),
+        FULL_SITE,
+        no_server.as_slice(),
+        third_option.as_slice(),
+    ] {
+        match decode_site(rt.alloc(), octets) {
+            Ok(site) => match encode_site(rt.alloc(), &site) {
+                Ok(spelled) => assert_eq!(rt; spelled.as_slice(), octets),
+                Err(e) => assert_eq!(rt; e, AllocError),
+            },
+            Err(fault) => assert_eq!(rt; fault, RecordFault::OutOfMemory),
+        }
+    }
+    Ok(())
+}
+
+#[test]
+fn fields_are_read(rt: HostRuntime) -> Result<(), Fail> {
+    let site = match decode_site(rt.alloc(), FULL_SITE) {
+        Ok(site) => site,
+        Err(fault) => {
+            assert_eq!(rt; fault, RecordFault::OutOfMemory);
+            return Ok(());
+        }
+    };
+    assert_eq!(rt; site.version(), 4);
+    assert_eq!(rt; site.protocol(), (2, 1));
+    assert_eq!(rt; site.serial(), 5);
+    assert_eq!(rt; site.mask(), 6);
+    assert_eq!(rt; site.option_octet(), 2);
+    assert_eq!(rt; site.filter(), b"f".as_slice());
+    assert_eq!(rt; site.attribute_count(), 1);
+    let (name, value) = site.attribute(0);
+    assert_eq!(rt; name, b"a".as_slice());
+    assert_eq!(rt; value, b"bc".as_slice());
+    assert_eq!(rt; site.server_count(), 1);
+    let server = site.server(0);
+    assert_eq!(rt; server.id(), 9);
+    assert_eq!(rt; server.address(), *b"addressofserver9");
+    assert_eq!(rt; server.key(), b"key".as_slice());
+    assert_eq!(rt; server.interface_count(), 1);
+    assert_eq!(rt; server.interface(0), (1, 2, 2641));
+    Ok(())
+}
+
+#[test]
+fn site_faults_are_told(rt: HostRuntime) {
+    let mut octets = [0; 49];
+    octets[..48].copy_from_slice(&SITE);
+    assert!(rt;
+        is_or_memory(
+            site_fault(rt.alloc(), &octets),
+            Some(RecordFault::Trailing { at: 48 })
+        )
+    );
+    assert_eq!(rt;
+        site_fault(rt.alloc(), &SITE[..47]),
+        Some(RecordFault::Truncated { at: 44 })
+    );
+    for (count, wanted) in [
+        ([0, 0, 0, 1], RecordFault::Truncated { at: 20 }),
+        ([0, 0, 4, 0], RecordFault::Truncated { at: 20 }),
+        ([0, 0, 4, 1], RecordFault::TooManyServers),
+        ([255, 255, 255, 255], RecordFault::TooManyServers),
+    ] {
+        octets[16..20].copy_from_slice(&count);
+        assert_eq!(rt; site_fault(rt.alloc(), &octets[..20]), Some(wanted));
+    }
+    octets[16] = 255;
+    assert_eq!(rt;
+        site_fault(rt.alloc(), &octets[..17]),
+        Some(RecordFault::Truncated { at: 16 })
+    );
+}
+
+#[test]
+fn every_cut_is_told(rt: HostRuntime) {
+    let fields = [0, 2, 4, 6, 7, 8, 12, 16, 20, 24, 40, 44, 48, 52, 68, 72];
+    for n in 0..76 {
+        let mut at = 0;
+        for field in fields {
+            if field <= n {
+                at = field;
+            }
+        }
+        assert!(rt;
+            is_or_memory(
+                site_fault(rt.alloc(), &TWO_SERVERS[..n]),
+                Some(RecordFault::Truncated { at })
+            ),
+            "at {n}"
+        );
+    }
+}
+
+#[test]
+fn forged_counts_take_no_memory(rt: HostRuntime) {
+    for (place, len, at) in [(8, 12, 12), (12, 16, 16), (40, 48, 44), (44, 48, 48)] {
+        let mut octets = SITE;
+        octets[place..place + 4].copy_from_slice(&[255; 4]);
+        assert_eq!(rt;
+            site_fault(rt.alloc(), &octets[..len]),
+            Some(RecordFault::Truncated { at })
+        );
+    }
+    assert_eq!(rt;
+        values_fault(rt.alloc(), &[255; 4]),
+        Some(RecordFault::Truncated { at: 4 })
+    );
+}
+
+#[test]
+fn value_lists_come_back(rt: HostRuntime) -> Result<(), Fail> {
+    let Ok(octets) = joined(rt.alloc(), &[ONE_VALUE, &[0, 0, 0, 48], &SITE, &[0; 18]]) else {
+        return Ok(());
+    };
+    assert_eq!(rt; octets.len(), 89);
+    let (_, cut) = octets.split_last().ok_or("no octets")?;
+    assert!(rt;
+        is_or_memory(
+            values_fault(rt.alloc(), cut),
+            Some(RecordFault::Truncated { at: 85 })
+        )
+    );
+    match decode_values(rt.alloc(), &octets) {
+        Ok(list) => {
+            assert_eq!(rt; list.len(), 1);
+            assert!(rt; list.find(2).is_none());
+            let value = list.find(1).ok_or("no value of index 1")?;
+            assert_eq!(rt; value.index(), 1);
+            assert_eq!(rt; value.type_octets(), b"HS_SITE".as_slice());
+            assert_eq!(rt; value.octets(), SITE.as_slice());
+            match encode_values(rt.alloc(), &list) {
+                Ok(spelled) => assert_eq!(rt; spelled.as_slice(), octets.as_slice()),
+                Err(e) => assert_eq!(rt; e, AllocError),
+            }
+        }
+        Err(fault) => assert_eq!(rt; fault, RecordFault::OutOfMemory),
+    }
+    Ok(())
+}
+
+#[test]
+fn references_and_no_values_come_back(rt: HostRuntime) -> Result<(), Fail> {
+    let Ok(referring) = joined(
+        rt.alloc(),
+        &[
+            ONE_VALUE,
+            b"\0\0\0\0\x0e\x01\0\0\x0e\x10\0\0\0\0\x65\x53\xf1\0\0\0\0\x01\0\0\0\x0410/3\0\0\0\x02",
+        ],
+    ) else {
+        return Ok(());
+    };
+    for (octets, len) in [([0; 4].as_slice(), 0), (referring.as_slice(), 1)] {
+        match decode_values(rt.alloc(), octets) {
+            Ok(list) => {
+                assert_eq!(rt; list.len(), len);
+                assert_eq!(rt; list.is_empty(), len == 0);
+                match encode_values(rt.alloc(), &list) {
+                    Ok(spelled) => assert_eq!(rt; spelled.as_slice(), octets),
+                    Err(e) => assert_eq!(rt; e, AllocError),
+                }
+            }
+            Err(fault) => assert_eq!(rt; fault, RecordFault::OutOfMemory),
+        }
+    }
+    Ok(())
+}
+
+#[test]
+fn value_faults_are_told(rt: HostRuntime) {
+    let mut octets = [0; 38];
+    octets[3] = 2;
+    octets[7] = 1;
+    octets[37] = 1;
+    assert!(rt;
+        is_or_memory(
+            values_fault(rt.alloc(), &octets),
+            Some(RecordFault::IndexTwice { index: 1 })
+        )
+    );
+    assert!(rt;
+        is_or_memory(
+            values_fault(rt.alloc(), &octets[..37]),
+            Some(RecordFault::Truncated { at: 34 })
+        )
+    );
+    octets[3] = 1;
+    assert!(rt;
+        is_or_memory(
+            values_fault(rt.alloc(), &octets),
+            Some(RecordFault::Trailing { at: 34 })
+        )
+    );
+}
+
+#[test]
+fn request_bodies_are_read(rt: HostRuntime) {
+    let cases: [(&[u8], Result<&[u8], RecordFault>); 6] = [
+        (b"\0\0\0\x0210\0\0\0\0\0\0\0\0", Ok(b"10")),
+        (b"\0\0\0\x0410/3\0\0\0\0\0\0\0\0", Ok(b"10/3")),
+        (
+            b"\0\0\0\x0410/3\0\0\0\x01\0\0\0\x01\0\0\0\x01\0\0\0\x07HS_SITE",
+            Ok(b"10/3"),
+        ),
+        (b"\0\0\0\x04", Err(RecordFault::Truncated { at: 4 })),
+        (
+            b"\0\0\0\x0410/3\xff\xff\xff\xff",
+            Err(RecordFault::Truncated { at: 12 }),
+        ),
+        (
+            b"\0\0\0\x0210\0\0\0\0\0\0\0\0\0",
+            Err(RecordFault::Trailing { at: 14 }),
+        ),
+    ];
+    for (body, wanted) in cases {
+        match (decode_request(body), wanted) {
+            (Ok(request), Ok(handle)) => assert_eq!(rt; request.handle(), handle),
+            (Err(fault), Err(expected)) => assert_eq!(rt; fault, expected),
+            _ => assert!(rt; false, "{body:?}"),
+        }
+    }
+}

@@ -1,0 +1,3 @@
+pub mod Consuming
+pub mod Printing
+pub mod Showing

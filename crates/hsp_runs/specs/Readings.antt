@@ -1,0 +1,60 @@
+-- What runs read from their inputs, one after the other, up to the first fault.
+use Rattle.std.specs.Prelude.{◌≡◌, ◌≢◌, ◌⊎◌, ℕ, List, Option, Some, None, Result, Ok, Err}
+use Rattle.hsp_record.specs.Fields.{Means}
+use Rattle.hsp_record.specs.Values.{HandleValue, values_format}
+use Rattle.hsp_record.specs.declared.fault.RecordFault.{RecordFault}
+use Rattle.hsp_record.specs.declared.fault.RecordFault.TheVariants as record_fault
+use Rattle.hsp_tables.specs.Settings.{SettingsEntries, settings_of}
+use Rattle.hsp_instance.specs.Instance.{Site}
+use Rattle.hsp_instance.specs.Building.{AreSitesOf}
+use Rattle.hsp_instance.specs.declared.fault.BuildFault.{BuildFault}
+use Rattle.hsp_runs.specs.declared.fault.Fault.{Fault}
+use Rattle.hsp_runs.specs.declared.fault.Fault.TheVariants.{Settings, Values, Build, OutOfMemory}
+
+-- the answer, seen by view, is one that stands, or memory ran out
+abbrev pub Stands : {X Y : Type 0} → (X → Y) → (Result Y Fault → Type 0) → Result X Fault → Type 0
+Stands view Is (Ok x) = Is (Ok (view x))
+Stands view Is (Err e) = (e ≡ OutOfMemory) ⊎ Is (Err e)
+
+-- what follows a reading: the next one with what was read, or its fault
+abbrev pub Follows : {A B : Type 0} → Result A Fault → (A → Result B Fault → Type 0) → Result B Fault → Type 0
+Follows (Ok x) Next answer = Next x answer
+Follows (Err e) Next answer = answer ≡ Err e
+
+-- one reading, and then the next
+abbrev pub Then : {A B : Type 0} → (Result A Fault → Type 0) → (A → Result B Fault → Type 0) → Result B Fault → Type 0
+Then {A} First Next answer = (first : Result A Fault) × First first × Follows first Next answer
+
+-- a reading in the terms of a run
+abbrev pub told_as : {A E : Type 0} → (E → Fault) → Result A E → Result A Fault
+told_as part (Ok x) = Ok x
+told_as part (Err e) = Err (part e)
+
+-- the settings that octets spell
+abbrev pub AreSettings : List ℕ → Result SettingsEntries Fault → Type 0
+AreSettings octets answer = answer ≡ told_as Settings (settings_of octets)
+
+-- the value list that octets spell
+abbrev pub AreListed : List ℕ → Result (List HandleValue) Fault → Type 0
+AreListed octets answer =
+    (reading : Result (List HandleValue) RecordFault) × Means values_format octets reading × (reading ≢ Err record_fault.OutOfMemory) × (answer ≡ told_as Values reading)
+
+-- the same where a list is given
+abbrev pub some_list : Result (List HandleValue) Fault → Result (Option (List HandleValue)) Fault
+some_list (Ok values) = Ok (Some values)
+some_list (Err e) = Err e
+
+abbrev pub AreValues : Option (List ℕ) → Result (Option (List HandleValue)) Fault → Type 0
+AreValues None answer = answer ≡ Ok None
+AreValues (Some octets) answer = (reading : Result (List HandleValue) Fault) × AreListed octets reading × (answer ≡ some_list reading)
+
+-- the sites of settings and values
+abbrev pub AreSites : SettingsEntries → Option (List HandleValue) → Result (List Site) Fault → Type 0
+AreSites settings values answer = (sites : Result (List Site) BuildFault) × AreSitesOf settings values sites × (answer ≡ told_as Build sites)
+
+-- the sites that the octets of settings and of values define
+abbrev pub AreSitesWith : SettingsEntries → Option (List ℕ) → Result (List Site) Fault → Type 0
+AreSitesWith settings values = Then (AreValues values) (AreSites settings)
+
+abbrev pub AreSitesIn : List ℕ → Option (List ℕ) → Result (List Site) Fault → Type 0
+AreSitesIn settings values = Then (AreSettings settings) (λ s. AreSitesWith s values)

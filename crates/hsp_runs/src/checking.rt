@@ -1,0 +1,54 @@
+// The verdict on a certificate.
+
+ghost use Rattle.std.specs.Prelude.{◌≡◌, IfOk};
+ghost use Rattle.hsp_check.specs.Instance.{network_of};
+ghost use Rattle.hsp_check.specs.declared.verdict.Verdict.TheVariants.{Yes};
+ghost use Rattle.hsp_runs.specs.Check.{Holds, IsCertificate, IsChecked, IsVerdict, IsVerdictOn, Shows, ShowsOf};
+ghost use Rattle.hsp_runs.specs.Readings.{Stands};
+
+use crate::fault::Fault;
+use crate::inputs::Inputs;
+use crate::instance::instance_in;
+use hsp_cert::{CertFault, Certificate, read_cert};
+use hsp_check::{Verdict, check};
+use hsp_instance::Instance;
+use std::alloc::Global;
+
+// A certificate.
+fn certificate_in(alloc: Global, octets: &[u8]) -> Result<Certificate, Fault>
+    ensures { Stands (λ certificate. certificate) (IsCertificate octets.now) result }
+{
+    match read_cert(alloc, octets) {
+        Ok(certificate) => Ok(certificate),
+        Err(CertFault::OutOfMemory) => Err(Fault::OutOfMemory),
+        Err(fault) => Err(Fault::Cert(fault)),
+    }
+}
+
+// The verdict on a certificate.
+fn judged(alloc: Global, instance: &Instance, certificate: &Certificate) -> Result<Verdict, Fault>
+    ensures verdict { Stands (λ verdict. verdict) (IsVerdict instance.now certificate.now) result }
+    ensures holds { IfOk result (λ verdict. verdict ≡ Yes → Holds (network_of instance.now) certificate.now) }
+{
+    Ok(check(alloc, instance, certificate)?)
+}
+
+// The verdict on the certificate that octets spell.
+fn judged_text(alloc: Global, instance: &Instance, octets: &[u8]) -> Result<Verdict, Fault>
+    ensures verdict { Stands (λ verdict. verdict) (IsVerdictOn octets.now instance.now) result }
+    ensures shows { IfOk result (λ verdict. verdict ≡ Yes → Shows octets.now instance.now) }
+{
+    let certificate = certificate_in(alloc, octets)?;
+    judged(alloc, instance, &certificate)
+}
+
+/// Whether the text is that of a certificate which is valid for the instance of the inputs, and the first reason why it isn't.
+/// Faults in this order: `Settings`, `Values`, `Demand`, `Costs`, `Capacity`, `Build`, `Cert`.
+pub fn check_run(alloc: Global, inputs: &Inputs, cert: &[u8]) -> Result<Verdict, Fault>
+    ensures verdict { Stands (λ verdict. verdict) (IsChecked inputs.now cert.now) result }
+    // Yes says that the certificate's plan is best, or that there is no feasible plan.
+    ensures shows { IfOk result (λ verdict. verdict ≡ Yes → ShowsOf inputs.now cert.now) }
+{
+    let instance = instance_in(alloc, inputs)?;
+    judged_text(alloc, &instance, cert)
+}

@@ -1,0 +1,9 @@
+/// The octets of the inputs that define an instance. The value list is what sites of the settings refer to by its indices.
+#[derive(Debug, Drop)]
+pub struct Inputs {
+    pub settings: Vec<u8>,
+    pub values: Option<Vec<u8>>,
+    pub demand: Vec<u8>,
+    pub costs: Vec<u8>,
+    pub capacity: Vec<u8>,
+}

@@ -1,0 +1,121 @@
+// The instance that inputs define.
+
+ghost use Rattle.std.specs.Prelude.{option_map};
+ghost use Rattle.hsp_runs.specs.Instance.{AreCapacities, AreCosts, IsBuilt, IsDemand, IsInstanceOf, IsWithCosts, IsWithDemand, IsWithSettings, IsWithValues};
+ghost use Rattle.hsp_runs.specs.Readings.{Stands};
+
+use crate::fault::Fault;
+use crate::inputs::Inputs;
+use crate::readings::{settings_in, values_in};
+use hsp_instance::{BuildFault, Instance, build};
+use hsp_record::ValueList;
+use hsp_tables::{
+    Capacities, Costs, Demand, Settings, TableFault, read_capacity, read_costs, read_demand,
+};
+use std::alloc::Global;
+
+fn demand_in(alloc: Global, octets: &[u8]) -> Result<Demand, Fault>
+    ensures { Stands (λ demand. demand) (IsDemand octets.now) result }
+{
+    match read_demand(alloc, octets) {
+        Ok(demand) => Ok(demand),
+        Err(TableFault::OutOfMemory) => Err(Fault::OutOfMemory),
+        Err(fault) => Err(Fault::Demand(fault)),
+    }
+}
+
+fn costs_in(alloc: Global, octets: &[u8]) -> Result<Costs, Fault>
+    ensures { Stands (λ costs. costs) (AreCosts octets.now) result }
+{
+    match read_costs(alloc, octets) {
+        Ok(costs) => Ok(costs),
+        Err(TableFault::OutOfMemory) => Err(Fault::OutOfMemory),
+        Err(fault) => Err(Fault::Costs(fault)),
+    }
+}
+
+fn capacities_in(alloc: Global, octets: &[u8]) -> Result<Capacities, Fault>
+    ensures { Stands (λ capacities. capacities) (AreCapacities octets.now) result }
+{
+    match read_capacity(alloc, octets) {
+        Ok(capacities) => Ok(capacities),
+        Err(TableFault::OutOfMemory) => Err(Fault::OutOfMemory),
+        Err(fault) => Err(Fault::Capacity(fault)),
+    }
+}
+
+// The instance of what was read.
+fn built(
+    alloc: Global,
+    settings: &Settings,
+    values: Option<&ValueList<'_>>,
+    demand: &Demand,
+    costs: &Costs,
+    capacity: &Capacities,
+) -> Result<Instance, Fault>
+    ensures { Stands (λ instance. instance) (IsBuilt (record { settings = settings.now; values = option_map (λ v. v.now) values.entry; demand = demand.now; costs = costs.now; capacities = capacity.now })) result }
+{
+    match build(alloc, settings, values, demand, costs, capacity) {
+        Ok(instance) => Ok(instance),
+        Err(BuildFault::OutOfMemory) => Err(Fault::OutOfMemory),
+        Err(fault) => Err(Fault::Build(fault)),
+    }
+}
+
+// The instance, after the costs were read.
+fn with_costs(
+    alloc: Global,
+    inputs: &Inputs,
+    settings: &Settings,
+    values: Option<&ValueList<'_>>,
+    demand: &Demand,
+    costs: &Costs,
+) -> Result<Instance, Fault>
+    ensures { Stands (λ instance. instance) (IsWithCosts inputs.now settings.now (option_map (λ v. v.now) values.entry) demand.now costs.now) result }
+{
+    let capacity = capacities_in(alloc, &inputs.capacity)?;
+    built(alloc, settings, values, demand, costs, &capacity)
+}
+
+// The instance, after the demand was read.
+fn with_demand(
+    alloc: Global,
+    inputs: &Inputs,
+    settings: &Settings,
+    values: Option<&ValueList<'_>>,
+    demand: &Demand,
+) -> Result<Instance, Fault>
+    ensures { Stands (λ instance. instance) (IsWithDemand inputs.now settings.now (option_map (λ v. v.now) values.entry) demand.now) result }
+{
+    let costs = costs_in(alloc, &inputs.costs)?;
+    with_costs(alloc, inputs, settings, values, demand, &costs)
+}
+
+// The instance, after the values were read.
+fn with_values(
+    alloc: Global,
+    inputs: &Inputs,
+    settings: &Settings,
+    values: Option<&ValueList<'_>>,
+) -> Result<Instance, Fault>
+    ensures { Stands (λ instance. instance) (IsWithValues inputs.now settings.now (option_map (λ v. v.now) values.entry)) result }
+{
+    let demand = demand_in(alloc, &inputs.demand)?;
+    with_demand(alloc, inputs, settings, values, &demand)
+}
+
+// The instance, after the settings were read.
+fn with_settings(alloc: Global, inputs: &Inputs, settings: &Settings) -> Result<Instance, Fault>
+    ensures { Stands (λ instance. instance) (IsWithSettings inputs.now settings.now) result }
+{
+    let values = values_in(alloc, inputs.values.as_deref())?;
+    with_values(alloc, inputs, settings, values.as_ref())
+}
+
+/// The instance that the inputs define.
+pub(crate) fn instance_in(alloc: Global, inputs: &Inputs) -> Result<Instance, Fault>
+    ensures { Stands (λ instance. instance) (IsInstanceOf inputs.now) result }
+{
+    let settings = settings_in(alloc, &inputs.settings)?;
+    with_settings(alloc, inputs, &settings)
+}

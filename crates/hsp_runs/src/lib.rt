@@ -1,0 +1,32 @@
+// The runs behind the program: from the octets of its words and files to the octets that it prints.
+#![tactic(auto)]
+
+mod checking;
+mod fault;
+mod fault_text;
+mod fault_words;
+mod input;
+mod inputs;
+mod instance;
+mod locate;
+mod plan;
+mod readings;
+mod site;
+mod site_lines;
+mod text;
+mod verdict_text;
+
+pub use checking::check_run;
+pub use fault::Fault;
+pub use fault_text::{fault_line, status_of};
+pub use input::{first_line, read_file};
+pub use inputs::Inputs;
+pub use locate::{Locate, locate_run};
+pub use plan::{PlanText, plan_run};
+pub use site::site_run;
+pub use verdict_text::{verdict_line, verdict_status};
+
+#[cfg(test)]
+mod run_tests;
+#[cfg(test)]
+mod tests;

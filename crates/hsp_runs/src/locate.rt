@@ -1,0 +1,114 @@
+// The servers that are responsible for a handle.
+
+ghost use Rattle.std.specs.Prelude.{◌≡◌, ◌++◌, ◌∷◌, [], IfOk, decimal, option_map};
+ghost use Rattle.hsp_names.specs.Lent.{octets_of, Reads};
+ghost use Rattle.hsp_runs.specs.Answers.{Gives, GivesAtOnce};
+ghost use Rattle.hsp_runs.specs.Locate.{AreLocated, IsLocated, handle_at, option_at, placed, servers_at};
+ghost use Rattle.hsp_runs.specs.Readings.{Stands};
+
+use crate::fault::Fault;
+use crate::readings::sites_in;
+use crate::site_lines::site_lines;
+use hsp_hash::{HashOption, server_number};
+use hsp_names::HandleRef;
+use hsp_text::{push_whole, read_whole};
+use std::alloc::{AllocError, Global};
+
+// How many servers a site may have.
+const MOST_SERVERS: u64 = 1024;
+
+/// What decides the server of a handle.
+#[derive(Debug, Drop)]
+pub enum Locate {
+    /// A hash option, `na`, `local` or `handle`, and a number of servers.
+    Place {
+        option: Vec<u8>,
+        servers: Vec<u8>,
+    },
+    /// Settings, and the value list that their sites' indices are of, where there is one.
+    Sites {
+        settings: Vec<u8>,
+        values: Option<Vec<u8>>,
+    },
+}
+
+fn option_at(text: &[u8]) -> Result<HashOption, Fault>
+    ensures { GivesAtOnce (λ option. option) result (option_at text.now) }
+{
+    if text == b"na".as_slice() {
+        return Ok(HashOption::ByNa);
+    }
+    if text == b"local".as_slice() {
+        return Ok(HashOption::ByLocal);
+    }
+    if text == b"handle".as_slice() {
+        return Ok(HashOption::ByHandle);
+    }
+    Err(Fault::BadOption)
+}
+
+fn servers_at(text: &[u8]) -> Result<u32, Fault>
+    ensures { GivesAtOnce (λ servers. servers) result (servers_at text.now) }
+{
+    match read_whole(text, MOST_SERVERS) {
+        Ok(0) | Err(_) => Err(Fault::BadServers),
+        Ok(servers) => Ok(servers as u32),
+    }
+}
+
+fn handle_at(octets: &[u8]) -> Result<HandleRef<'_>, Fault>
+    ensures { GivesAtOnce (λ handle. octets_of handle) result (handle_at octets.now) }
+{
+    match HandleRef::parse(octets) {
+        Ok(handle) => Ok(handle),
+        Err(fault) => Err(Fault::Handle(fault)),
+    }
+}
+
+// A number on a line of its own.
+fn number_line(alloc: Global, number: u32) -> Result<Vec<u8>, AllocError>
+    ensures { IfOk result (λ line. line.items ≡ decimal number ++ 10 ∷ []) }
+{
+    let mut line = Vec::new(alloc);
+    push_whole(&mut line, u64::from(number))?;
+    line.push(b'\n')?;
+    Ok(line)
+}
+
+// The place of the handle's server.
+fn place_run(alloc: Global, option: &[u8], servers: &[u8], handle: &[u8]) -> Result<Vec<u8>, Fault>
+    ensures { Gives (λ text. text.items) result (placed option.now servers.now handle.now) }
+{
+    let option = option_at(option)?;
+    let servers = servers_at(servers)?;
+    let handle = handle_at(handle)?;
+    Ok(number_line(alloc, server_number(option, handle, servers))?)
+}
+
+// The handle's server at each site.
+fn sites_run(
+    alloc: Global,
+    settings: &[u8],
+    values: Option<&[u8]>,
+    handle: &[u8],
+) -> Result<Vec<u8>, Fault>
+    ensures { Stands (λ text. text.items) (AreLocated settings.now (option_map (λ v. v.now) values.entry) handle.now) result }
+{
+    let handle = handle_at(handle)?;
+    let sites = sites_in(alloc, settings, values)?;
+    Ok(site_lines(alloc, &sites, handle)?)
+}
+
+/// Where the handle is served: the place of its server, on a line of its own; or a line for each site, of its name and the
+/// place and the identifier of the handle's server there. Faults in this order: `BadOption`, `BadServers`, `Handle`;
+/// for sites: `Handle`, `Settings`, `Values`, `Build`.
+pub fn locate_run(alloc: Global, locate: &Locate, handle: &[u8]) -> Result<Vec<u8>, Fault>
+    ensures { Stands (λ text. text.items) (IsLocated locate.now handle.now) result }
+{
+    match locate {
+        Locate::Place { option, servers } => place_run(alloc, option, servers, handle),
+        Locate::Sites { settings, values } => {
+            sites_run(alloc, settings, values.as_deref(), handle)
+        }
+    }
+}

@@ -1,0 +1,80 @@
+// What runs read from their inputs.
+
+ghost use Rattle.std.specs.Prelude.{option_map};
+ghost use Rattle.hsp_runs.specs.Readings.{AreListed, AreSettings, AreSites, AreSitesIn, AreSitesWith, AreValues, Stands};
+
+use crate::fault::Fault;
+use hsp_instance::{BuildFault, Sites, build_sites};
+use hsp_record::{RecordFault, ValueList, decode_values};
+use hsp_tables::{Settings, TableFault, read_settings};
+use std::alloc::Global;
+
+/// The settings.
+pub(crate) fn settings_in(alloc: Global, octets: &[u8]) -> Result<Settings, Fault>
+    ensures { Stands (λ settings. settings) (AreSettings octets.now) result }
+{
+    match read_settings(alloc, octets) {
+        Ok(settings) => Ok(settings),
+        Err(TableFault::OutOfMemory) => Err(Fault::OutOfMemory),
+        Err(fault) => Err(Fault::Settings(fault)),
+    }
+}
+
+// A value list.
+fn list_in(alloc: Global, octets: &[u8]) -> Result<ValueList<'_>, Fault>
+    ensures { Stands (λ values. values) (AreListed octets.now) result }
+{
+    match decode_values(alloc, octets) {
+        Ok(values) => Ok(values),
+        Err(RecordFault::OutOfMemory) => Err(Fault::OutOfMemory),
+        Err(fault) => Err(Fault::Values(fault)),
+    }
+}
+
+/// The value list, where one is given.
+pub(crate) fn values_in<'a>(
+    alloc: Global,
+    octets: Option<&'a [u8]>,
+) -> Result<Option<ValueList<'a>>, Fault>
+    ensures { Stands (λ values. values) (AreValues (option_map (λ o. o.now) octets.entry)) result }
+{
+    match octets {
+        None => Ok(None),
+        Some(octets) => Ok(Some(list_in(alloc, octets)?)),
+    }
+}
+
+// The sites of settings and values.
+fn sites_of(
+    alloc: Global,
+    settings: &Settings,
+    values: Option<&ValueList<'_>>,
+) -> Result<Sites, Fault>
+    ensures { Stands (λ sites. sites) (AreSites settings.now (option_map (λ v. v.now) values.entry)) result }
+{
+    match build_sites(alloc, settings, values) {
+        Ok(sites) => Ok(sites),
+        Err(BuildFault::OutOfMemory) => Err(Fault::OutOfMemory),
+        Err(fault) => Err(Fault::Build(fault)),
+    }
+}
+
+// The sites of settings and of the value list, where one is given.
+fn sites_with(alloc: Global, settings: &Settings, values: Option<&[u8]>) -> Result<Sites, Fault>
+    ensures { Stands (λ sites. sites) (AreSitesWith settings.now (option_map (λ o. o.now) values.entry)) result }
+{
+    let values = values_in(alloc, values)?;
+    sites_of(alloc, settings, values.as_ref())
+}
+
+/// The sites that settings define, with the value list, where one is given.
+pub(crate) fn sites_in(
+    alloc: Global,
+    settings: &[u8],
+    values: Option<&[u8]>,
+) -> Result<Sites, Fault>
+    ensures { Stands (λ sites. sites) (AreSitesIn settings.now (option_map (λ o. o.now) values.entry)) result }
+{
+    let settings = settings_in(alloc, settings)?;
+    sites_with(alloc, &settings, values)
+}

@@ -1,0 +1,135 @@
+// The fields of a site record, as the program prints them.
+
+ghost use Rattle.std.specs.Prelude.{◌≡◌, ◌++◌, ◌∷◌, [], ◌<◌, length, OnOk, IfOk, option_map, codes};
+ghost use Rattle.hex.specs.Hex.{encode_lower};
+ghost use Rattle.hsp_record.specs.Site.{IsSite};
+ghost use Rattle.hsp_runs.specs.Text.{numbered};
+ghost use Rattle.hsp_runs.specs.SiteText.{IsRecordRun, IsSiteRun, IsValueRun, counts_text, numbers_text, server_line, server_lines, site_text};
+
+use crate::fault::Fault;
+use crate::text::{put, put_numbered};
+use hsp_record::{RecordFault, ServerRecord, SiteRecord, decode_site, decode_values};
+use hsp_text::{push_whole, read_whole};
+use std::alloc::{AllocError, Global};
+
+// The greatest index of a value.
+const MOST_INDEX: u64 = 4_294_967_295;
+
+fn put_numbers(out: &mut Vec<u8>, site: &SiteRecord) -> Result<(), AllocError>
+    ensures { OnOk result (out.new.items ≡ out.old.items ++ numbers_text site.now) }
+{
+    let (major, minor) = site.protocol();
+    put_numbered(out, b"version", &[u64::from(site.version())])?;
+    put_numbered(out, b"protocol", &[u64::from(major), u64::from(minor)])?;
+    put_numbered(out, b"serial", &[u64::from(site.serial())])?;
+    put_numbered(out, b"mask", &[u64::from(site.mask())])?;
+    put_numbered(out, b"option", &[u64::from(site.option_octet())])
+}
+
+fn put_count(out: &mut Vec<u8>, word: &[u8], count: usize) -> Result<(), AllocError>
+    ensures { OnOk result (out.new.items ≡ out.old.items ++ numbered word.now (count ∷ [])) }
+{
+    put_numbered(out, word, &[count as u64])
+}
+
+fn put_filter(out: &mut Vec<u8>, filter: &[u8]) -> Result<(), AllocError>
+    ensures { OnOk result (out.new.items ≡ out.old.items ++ numbered (codes "filter") (length filter.now ∷ [])) }
+{
+    put_count(out, b"filter", filter.len())
+}
+
+fn put_counts(out: &mut Vec<u8>, site: &SiteRecord) -> Result<(), AllocError>
+    ensures { OnOk result (out.new.items ≡ out.old.items ++ counts_text site.now) }
+{
+    put_filter(out, site.filter())?;
+    put_count(out, b"attributes", site.attribute_count())?;
+    put_count(out, b"servers", site.server_count())
+}
+
+fn put_address(out: &mut Vec<u8>, address: [u8; 16]) -> Result<(), AllocError>
+    ensures { OnOk result (out.new.items ≡ out.old.items ++ encode_lower address) }
+{
+    let mut digits = [0u8; 32];
+    hex::encode_to_slice(address.as_slice(), &mut digits).unwrap();
+    put(out, &digits)
+}
+
+fn put_server(out: &mut Vec<u8>, place: u32, server: &ServerRecord) -> Result<(), AllocError>
+    ensures { OnOk result (out.new.items ≡ out.old.items ++ server_line place server.now) }
+{
+    put(out, b"server ")?;
+    push_whole(out, u64::from(place))?;
+    put(out, b" ")?;
+    push_whole(out, u64::from(server.id()))?;
+    put(out, b" ")?;
+    put_address(out, server.address())?;
+    put_numbered(
+        out,
+        b"",
+        &[server.key().len() as u64, server.interface_count() as u64],
+    )
+}
+
+fn put_servers(out: &mut Vec<u8>, site: &SiteRecord) -> Result<(), AllocError>
+    ensures { OnOk result (out.new.items ≡ out.old.items ++ server_lines 0 site.now.servers) }
+{
+    let count = site.server_count();
+    for place in 0..count {
+        put_server(out, place as u32, site.server(place))?;
+    }
+    Ok(())
+}
+
+// The text of a record.
+fn site_text(alloc: Global, site: &SiteRecord) -> Result<Vec<u8>, AllocError>
+    ensures { IfOk result (λ text. text.items ≡ site_text site.now) }
+{
+    let mut text = Vec::new(alloc);
+    put_numbers(&mut text, site)?;
+    put_counts(&mut text, site)?;
+    put_servers(&mut text, site)?;
+    Ok(text)
+}
+
+// The text of the record that the octets spell.
+fn record_run(alloc: Global, octets: &[u8]) -> Result<Vec<u8>, Fault>
+    ensures { IsRecordRun octets.now result }
+{
+    match decode_site(alloc, octets) {
+        Ok(site) => Ok(site_text(alloc, &site)?),
+        Err(RecordFault::OutOfMemory) => Err(Fault::OutOfMemory),
+        Err(fault) => Err(Fault::Site(fault)),
+    }
+}
+
+// The text of the record that is the data of the value with this index.
+fn value_run(alloc: Global, octets: &[u8], index: u32) -> Result<Vec<u8>, Fault>
+    ensures { IsValueRun octets.now index result }
+{
+    let values = match decode_values(alloc, octets) {
+        Ok(values) => values,
+        Err(RecordFault::OutOfMemory) => return Err(Fault::OutOfMemory),
+        Err(fault) => return Err(Fault::Values(fault)),
+    };
+    let Some(value) = values.find(index) else {
+        return Err(Fault::NoValue);
+    };
+    if value.type_octets() != b"HS_SITE".as_slice() {
+        return Err(Fault::NotSiteValue);
+    }
+    record_run(alloc, value.octets())
+}
+
+/// The fields of a site record, one a line: of the octets themselves or, with an index, of the value with this index in the
+/// value list that they spell. Faults in this order: `BadIndex`, `Values`, `NoValue`, `NotSiteValue`, `Site`.
+pub fn site_run(alloc: Global, octets: &[u8], index: Option<&[u8]>) -> Result<Vec<u8>, Fault>
+    ensures { IsSiteRun octets.now (option_map (λ digits. digits.now) index.entry) result }
+{
+    let Some(digits) = index else {
+        return record_run(alloc, octets);
+    };
+    match read_whole(digits, MOST_INDEX) {
+        Ok(index) => value_run(alloc, octets, index as u32),
+        Err(_) => Err(Fault::BadIndex),
+    }
+}

@@ -1,0 +1,11 @@
+pub mod RecordFields
+pub mod KeyedMaps
+pub mod SeenNames
+pub mod PairTables
+pub mod TurnLaws
+pub mod TableLaws
+pub mod TableRows
+pub mod Documents
+pub mod SettingsLists
+pub mod TableReading
+pub mod TableKinds

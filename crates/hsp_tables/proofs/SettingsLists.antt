@@ -1,0 +1,131 @@
+-- The sites and the hosts of settings that are read: within their limits, each as it should be, and distinct.
+use Rattle.std.proofs.Common.{◌≡◌, ◌∙◌, ◌≤◌, ℕ, ℤ, pos, negsuc, Bool, true, false, cond, List, [], ◌∷◌, ◌++◌, length, Option, Some, None, Result, Ok, Err, nat_le, codes, refl, sym, arith, rules}
+use Rattle.std.proofs.lemmas.Bool.{leb-false, leb-true}
+use Rattle.std.specs.Cmp.{IsEquivalence}
+use Rattle.std.specs.Cmp.Rules.{comparing}
+use Rattle.std.specs.List.{list_all, list_any}
+use Rattle.hex.specs.Hex.{decode_sized}
+use Rattle.hex.specs.declared.error.FromHexError.{FromHexError}
+use Rattle.hex.proofs.HexLemmas.{decode_of-ok, decode_sized-ok, decode_sized-twice}
+use Rattle.toml.specs.Data.{Data, Members, as_array, as_table, get_member}
+use Rattle.hsp_text.specs.Name.{is_name}
+use Rattle.hsp_tables.specs.declared.fault.TableFault.{TableFault}
+use Rattle.hsp_tables.specs.declared.fault.TableFault.TheVariants as fault
+use Rattle.hsp_tables.specs.Answers.{◌>>=◌, or_fault}
+use Rattle.hsp_tables.specs.InTurn.{AreKeyed}
+use Rattle.hsp_tables.specs.Settings.{HostEntry, IsHostEntry, IsSiteEntry, IsSource, SiteEntry, SiteSource, decoded, elements_in, host_address, host_after, host_in, host_limit, index, index_source, integer_of, is_host_key, is_site_key, keys_in, listed, new_host, new_site, number_up_to, octets, record_source, same_address, same_name, site_after, site_in, site_name, site_source, text_of}
+use Rattle.hsp_tables.proofs.TurnLaws.{first_step, keyed_and_one, none_keyed, rows_keep, test_held, test_passed}
+
+-- an integer that is taken is within its limit
+number_within : (fault : TableFault) (most : ℕ) (i : ℤ) (n : ℕ) → number_up_to fault most i ≡ Ok n → n ≤ most
+number_within fault most (pos i) n e =
+    let held = test_held (nat_le i most) fault i n e in
+    rw (← held.1) (leb-true i most held.0)
+number_within fault most (negsuc i) n e = cc e
+
+site_name_is : (n : ℕ) (value : Option Data) (name : List ℕ) → site_name n value ≡ Ok name → is_name name ≡ true
+site_name_is n value name e =
+    let text = first_step (text_of (fault.BadSite n) value) _ name e in
+    let held = test_held (is_name text.0) (fault.BadSite n) text.0 name text.2 in
+    rw (← held.1) held.0
+
+record_source_is : (n : ℕ) (value : Data) (source : SiteSource) → record_source n value ≡ Ok source → IsSource source
+record_source_is n value source e =
+    let text = first_step (text_of (fault.BadSite n) (Some value)) _ source e in
+    let bytes = first_step (decoded (fault.BadSite n) _) (λ b. Ok (octets b)) source text.2 in
+    let same : octets bytes.0 ≡ source = cc (bytes.2) in
+    rw (← same) tt
+
+index_source_is : (n : ℕ) (value : Data) (source : SiteSource) → index_source n value ≡ Ok source → IsSource source
+index_source_is n value source e =
+    let number = first_step (integer_of (fault.BadSite n) (Some value)) _ source e in
+    let i = first_step (number_up_to (fault.BadSite n) 4294967295 number.0) (λ i. Ok (index i)) source number.2 in
+    let same : index i.0 ≡ source = cc (i.2) in
+    rw (← same) (number_within (fault.BadSite n) 4294967295 number.0 i.0 i.1)
+
+site_source_is : (n : ℕ) (a b : Option Data) (source : SiteSource) → site_source n a b ≡ Ok source → IsSource source
+site_source_is n (Some value) None source e = record_source_is n value source e
+site_source_is n None (Some value) source e = index_source_is n value source e
+site_source_is n None None source e = cc e
+site_source_is n (Some value) (Some other) source e = cc e
+
+-- a test that must hold for a result, and the result
+under_test : {A : Type 0} (test : Bool) (fault : TableFault) (r : Result A TableFault) (y : A) → cond test r (Err fault) ≡ Ok y → r ≡ Ok y
+under_test true fault r y e = e
+under_test false fault r y e = cc e
+
+-- two steps that ended well, each with its value
+two_steps : {A B C : Type 0} (a : Result A TableFault) (b : Result B TableFault) (made : A → B → C) (c : C) → (a >>= λ x. b >>= λ y. Ok (made x y)) ≡ Ok c → (x : A) × (y : B) × (a ≡ Ok x) × (b ≡ Ok y) × (made x y ≡ c)
+two_steps (Ok x) (Ok y) made c e = (x, y, refl, refl, cc (e))
+two_steps (Err fault) b made c e = cc e
+two_steps (Ok x) (Err fault) made c e = cc e
+
+site_is : (n : ℕ) (members : Members) (site : SiteEntry) → site_in n members ≡ Ok site → IsSiteEntry site
+site_is n ms site e =
+    let made = λ (name : List ℕ) (source : SiteSource). let s : SiteEntry = record { name = name; source = source } in s in
+    let name_of = site_name n (get_member (codes "name") ms) in
+    let source_of = site_source n (get_member (codes "record") ms) (get_member (codes "index") ms) in
+    let steps = two_steps name_of source_of made site (under_test (list_all is_site_key (keys_in ms)) fault.UnknownKey _ site e) in
+    rw (← steps.4) (record { name = site_name_is n (get_member (codes "name") ms) steps.0 steps.2; source = site_source_is n (get_member (codes "record") ms) (get_member (codes "index") ms) steps.1 steps.3 })
+
+-- sixteen octets are decoded where there is room for sixteen
+decoded_length : (fault : TableFault) (text bytes : List ℕ) → decoded fault (decode_sized text 16) ≡ Ok bytes → length bytes ≡ 16
+decoded_length fault text bytes e = by_decoding (decode_sized text 16) refl e
+  where
+    by_decoding : (r : Result (List ℕ) FromHexError) → decode_sized text 16 ≡ r → decoded fault r ≡ Ok bytes → length bytes ≡ 16
+    by_decoding (Ok found) is e =
+        let same : found ≡ bytes = cc (e) in
+        let digits = decode_sized-ok text 16 found is in
+        let halves = (decode_of-ok text found (sym (decode_sized-twice text 16 digits) ∙ is)).2 in
+        rw (← same) (omega (arith, digits, halves))
+    by_decoding (Err why) is e = cc e
+
+host_is : (n : ℕ) (members : Members) (host : HostEntry) → host_in n members ≡ Ok host → IsHostEntry host
+host_is n ms host e =
+    let made = λ (address : List ℕ) (limit : ℕ). let h : HostEntry = record { address = address; limit = limit } in h in
+    let address_of = host_address n (get_member (codes "address") ms) in
+    let limit_of = host_limit n (get_member (codes "limit") ms) in
+    let steps = two_steps address_of limit_of made host (under_test (list_all is_host_key (keys_in ms)) fault.UnknownKey _ host e) in
+    let text = first_step (text_of (fault.BadHost n) (get_member (codes "address") ms)) _ steps.0 steps.2 in
+    let number = first_step (integer_of (fault.BadHost n) (get_member (codes "limit") ms)) _ steps.1 steps.3 in
+    rw (← steps.4) (record { address = decoded_length (fault.BadHost n) text.0 steps.0 text.2; limit = number_within (fault.BadHost n) 1000000000000 number.0 steps.1 number.2 })
+
+site_keys : IsEquivalence same_name
+site_keys = search (rules, comparing)
+
+host_keys : IsEquivalence same_address
+host_keys = search (rules, comparing)
+
+-- one more site
+site_keeps : (earlier : List SiteEntry) (value : Data) (site : SiteEntry) → AreKeyed 32 IsSiteEntry same_name earlier → site_after earlier value ≡ Ok site → AreKeyed 32 IsSiteEntry same_name (earlier ++ site ∷ [])
+site_keeps earlier value site are e =
+    let few = test_passed (nat_le 32 (length earlier)) _ _ site e in
+    let spelled = first_step (or_fault (fault.BadSite (length earlier)) (as_table value) >>= site_in (length earlier)) (new_site earlier) site few.1 in
+    let table = first_step (or_fault (fault.BadSite (length earlier)) (as_table value)) (site_in (length earlier)) spelled.0 spelled.1 in
+    let new = test_passed (list_any (same_name spelled.0) earlier) _ _ site spelled.2 in
+    let same : spelled.0 ≡ site = cc (new.1) in
+    keyed_and_one 32 IsSiteEntry same_name site_keys earlier site are (leb-false 32 (length earlier) few.0) (rw same at (site_is (length earlier) table.0 spelled.0 table.2)) (rw same at new.0)
+
+-- one more host
+host_keeps : (earlier : List HostEntry) (value : Data) (host : HostEntry) → AreKeyed 1024 IsHostEntry same_address earlier → host_after earlier value ≡ Ok host → AreKeyed 1024 IsHostEntry same_address (earlier ++ host ∷ [])
+host_keeps earlier value host are e =
+    let few = test_passed (nat_le 1024 (length earlier)) _ _ host e in
+    let spelled = first_step (or_fault (fault.BadHost (length earlier)) (as_table value) >>= host_in (length earlier)) (new_host earlier) host few.1 in
+    let table = first_step (or_fault (fault.BadHost (length earlier)) (as_table value)) (host_in (length earlier)) spelled.0 spelled.1 in
+    let new = test_passed (list_any (same_address spelled.0) earlier) _ _ host spelled.2 in
+    let same : spelled.0 ≡ host = cc (new.1) in
+    keyed_and_one 1024 IsHostEntry same_address host_keys earlier host are (leb-false 1024 (length earlier) few.0) (rw same at (host_is (length earlier) table.0 spelled.0 table.2)) (rw same at new.0)
+
+-- the sites that are listed
+pub sites_are : (value : Option Data) (rows : List SiteEntry) → listed (fault.BadSite 0) site_after value ≡ Ok rows → AreKeyed 32 IsSiteEntry same_name rows
+sites_are None rows e = let same : [] ≡ rows = cc (e) in rw (← same) (none_keyed 32 IsSiteEntry same_name)
+sites_are (Some value) rows e =
+    let items = first_step (or_fault (fault.BadSite 0) (as_array value)) _ rows e in
+    rows_keep (λ (t : List SiteEntry). AreKeyed 32 IsSiteEntry same_name t) site_after site_keeps (elements_in items.0) [] rows (none_keyed 32 IsSiteEntry same_name) items.2
+
+-- the hosts that are listed
+pub hosts_are : (value : Option Data) (rows : List HostEntry) → listed (fault.BadHost 0) host_after value ≡ Ok rows → AreKeyed 1024 IsHostEntry same_address rows
+hosts_are None rows e = let same : [] ≡ rows = cc (e) in rw (← same) (none_keyed 1024 IsHostEntry same_address)
+hosts_are (Some value) rows e =
+    let items = first_step (or_fault (fault.BadHost 0) (as_array value)) _ rows e in
+    rows_keep (λ (t : List HostEntry). AreKeyed 1024 IsHostEntry same_address t) host_after host_keeps (elements_in items.0) [] rows (none_keyed 1024 IsHostEntry same_address) items.2

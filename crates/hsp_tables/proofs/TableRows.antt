@@ -1,0 +1,153 @@
+-- The rows of the three tables, by what their fields spell.
+use Rattle.std.proofs.Common.{◌≡◌, ◌∙◌, ◌≤◌, inl, inr, ℕ, Bool, true, false, cond, List, [], ◌∷◌, length, map, zero, suc, Option, None, Some, not, Result, Ok, Err, nat_le, nat_lt, refl, sym, ap, arith, rules}
+use Rattle.std.proofs.lemmas.Bool.{cases_Bool, leb-true}
+use Rattle.std.specs.Cmp.{IsEquivalence}
+use Rattle.std.specs.Cmp.Rules.{comparing}
+use Rattle.std.specs.List.{AllByRecursion, list_any, slice_get}
+use Rattle.std.specs.Str.{is_utf8}
+use Rattle.std.specs.Str.Parse.{digits_value}
+use Rattle.hsp_csv.specs.Records.{Fields}
+use Rattle.hsp_names.specs.Handle as names
+use Rattle.hsp_names.specs.declared.fault.HandleFault.{HandleFault}
+use Rattle.hsp_text.specs.Name.{is_name}
+use Rattle.hsp_text.specs.Whole.{is_whole, up_to, whole_within}
+use Rattle.hsp_text.specs.declared.whole.WholeFault.{WholeFault}
+use Rattle.hsp_text.specs.declared.whole.WholeFault.TheVariants.{NotWhole, TooLarge}
+use Rattle.hsp_tables.specs.declared.fault.TableFault.{TableFault}
+use Rattle.hsp_tables.specs.Answers.{◌>>=◌}
+use Rattle.hsp_tables.specs.Capacities.{AreCapacities, CapacityEntry, IsCapacityEntry, capacity_in, capacity_table, same_capacity}
+use Rattle.hsp_tables.specs.Costs.{AreCosts, CostEntry, IsCostEntry, cost_in, cost_table, same_cost}
+use Rattle.hsp_tables.specs.Demand.{AreDemand, DemandEntry, IsDemandEntry, demand_in, demand_table, same_demand}
+use Rattle.hsp_tables.specs.Keyed.{PairEntry, demand_entry}
+use Rattle.hsp_tables.specs.Fields.{handle_in, handle_or, name_in, number_in, number_or}
+use Rattle.hsp_tables.specs.Table.{table_of}
+use Rattle.hsp_tables.proofs.TableLaws.{rows_are}
+use Rattle.hsp_tables.proofs.TurnLaws.{test_held}
+
+name_is : (row : ℕ) (octets name : List ℕ) → name_in row octets ≡ Ok name → is_name name ≡ true
+name_is row octets name e =
+    let held = test_held (is_name octets) _ octets name e in
+    rw (← held.1) held.0
+
+up_to_most : (most n v : ℕ) → up_to most n ≡ Ok v → v ≤ most
+up_to_most most n v e =
+    elim (cases_Bool (nat_le n most)) [
+      | inl within ↦ let same : ◌≡◌ {A = Result ℕ WholeFault} (Ok n) (Ok v) = rw within at e in let is : n ≡ v = cc in rw (← is) (leb-true n most within)
+      | inr past ↦ let none : ◌≡◌ {A = Result ℕ WholeFault} (Err TooLarge) (Ok v) = rw past at e in cc
+    ]
+
+pub whole_within_most : (most : ℕ) (octets : List ℕ) (v : ℕ) → whole_within most octets ≡ Ok v → v ≤ most
+whole_within_most most octets v e = by_form (is_whole octets) e
+  where
+    by_form : (b : Bool) → cond b (up_to most (digits_value 10 octets)) (Err NotWhole) ≡ Ok v → v ≤ most
+    by_form true e = up_to_most most (digits_value 10 octets) v e
+    by_form false e = cc e
+
+number_within : (row most : ℕ) (octets : List ℕ) (v : ℕ) → number_in row most octets ≡ Ok v → v ≤ most
+number_within row most octets v e = by_reading (whole_within most octets) refl e
+  where
+    by_reading : (r : Result ℕ WholeFault) → whole_within most octets ≡ r → number_or row r ≡ Ok v → v ≤ most
+    by_reading (Ok n) is e = let same : n ≡ v = cc (e) in rw (← same) (whole_within_most most octets n is)
+    by_reading (Err fault) is e = cc e
+
+-- three steps that ended well, each with its value
+three_steps : {A B C D : Type 0} (a : Result A TableFault) (b : Result B TableFault) (c : Result C TableFault) (made : A → B → C → D) (d : D) → (a >>= λ x. b >>= λ y. c >>= λ z. Ok (made x y z)) ≡ Ok d
+    → (x : A) × (y : B) × (z : C) × (a ≡ Ok x) × (b ≡ Ok y) × (c ≡ Ok z) × (made x y z ≡ d)
+three_steps (Ok x) (Ok y) (Ok z) made d e = (x, y, z, refl, refl, refl, cc (e))
+three_steps (Err fault) b c made d e = cc e
+three_steps (Ok x) (Err fault) c made d e = cc e
+three_steps (Ok x) (Ok y) (Err fault) made d e = cc e
+
+handle_is_its_octets : (octets handle : List ℕ) → names.handle_in octets ≡ Ok handle → octets ≡ handle
+handle_is_its_octets octets handle e =
+    let short = name_passed (nat_lt 4096 (length octets)) _ _ handle e in
+    let text = name_passed (not (is_utf8 octets)) _ _ handle short in
+    let slash = name_passed (not (list_any names.is_slash octets)) _ _ handle text in
+    let segments = name_passed (not (names.has_segments (names.naming_authority octets))) _ _ handle slash in
+    let same : octets ≡ handle = cc (segments) in same
+  where
+    name_passed : (test : Bool) (fault : HandleFault) (r : Result (List ℕ) HandleFault) (y : List ℕ) → cond test (Err fault) r ≡ Ok y → r ≡ Ok y
+    name_passed true fault r y e = cc e
+    name_passed false fault r y e = e
+
+handle_is : (row : ℕ) (octets handle : List ℕ) → handle_in row octets ≡ Ok handle → names.handle_in handle ≡ Ok handle
+handle_is row octets handle e = by_reading (names.handle_in octets) refl e
+  where
+    by_reading : (r : Result (List ℕ) HandleFault) → names.handle_in octets ≡ r → handle_or row r ≡ Ok handle → names.handle_in handle ≡ Ok handle
+    by_reading (Ok h) is e =
+        let same : h ≡ handle = cc (e) in
+        let read : names.handle_in octets ≡ Ok handle = is ∙ ap (λ (t : List ℕ). Ok t) same in
+        rw (handle_is_its_octets octets handle read) at read
+    by_reading (Err fault) is e = cc e
+
+demand_is : (row : ℕ) (fields : Fields) (demand : DemandEntry) → demand_in row fields ≡ Ok demand → IsDemandEntry demand
+demand_is row [] demand e = cc e
+demand_is row (r ∷ []) demand e = cc e
+demand_is row (r ∷ h ∷ []) demand e = cc e
+demand_is row (r ∷ h ∷ n ∷ []) demand e =
+    let made = λ (r : List ℕ) (h : List ℕ) (n : ℕ). let d : DemandEntry = record { region = r; handle = h; count = n } in d in
+    let t = three_steps (name_in row r) (handle_in row h) (number_in row 1000000 n) made demand e in
+    rw (← t.6) (record { region = name_is row r t.0 t.3; handle = handle_is row h t.1 t.4; count = number_within row 1000000 n t.2 t.5 })
+demand_is row (r ∷ h ∷ n ∷ x ∷ more) demand e = cc e
+
+cost_is : (row : ℕ) (fields : Fields) (cost : CostEntry) → cost_in row fields ≡ Ok cost → IsCostEntry cost
+cost_is row [] cost e = cc e
+cost_is row (r ∷ []) cost e = cc e
+cost_is row (r ∷ s ∷ []) cost e = cc e
+cost_is row (r ∷ s ∷ n ∷ []) cost e =
+    let made = λ (r : List ℕ) (s : List ℕ) (n : ℕ). let c : CostEntry = record { region = r; site = s; cost = n } in c in
+    let t = three_steps (name_in row r) (name_in row s) (number_in row 1000000 n) made cost e in
+    rw (← t.6) (record { region = name_is row r t.0 t.3; site = name_is row s t.1 t.4; cost = number_within row 1000000 n t.2 t.5 })
+cost_is row (r ∷ s ∷ n ∷ x ∷ more) cost e = cc e
+
+capacity_is : (row : ℕ) (fields : Fields) (capacity : CapacityEntry) → capacity_in row fields ≡ Ok capacity → IsCapacityEntry capacity
+capacity_is row [] capacity e = cc e
+capacity_is row (s ∷ []) capacity e = cc e
+capacity_is row (s ∷ i ∷ []) capacity e = cc e
+capacity_is row (s ∷ i ∷ n ∷ []) capacity e =
+    let made = λ (s : List ℕ) (i : ℕ) (n : ℕ). let c : CapacityEntry = record { site = s; server_id = i; capacity = n } in c in
+    let t = three_steps (name_in row s) (number_in row 4294967295 i) (number_in row 1000000000 n) made capacity e in
+    rw (← t.6) (record { site = name_is row s t.0 t.3; server_id = number_within row 4294967295 i t.1 t.4; capacity = number_within row 1000000000 n t.2 t.5 })
+capacity_is row (s ∷ i ∷ n ∷ x ∷ more) capacity e = cc e
+
+pub demand_keys : IsEquivalence same_demand
+demand_keys = search (rules, comparing)
+
+pub cost_keys : IsEquivalence same_cost
+cost_keys = search (rules, comparing)
+
+pub capacity_keys : IsEquivalence same_capacity
+capacity_keys = search (rules, comparing)
+
+-- what the rows of a table that is read are
+pub demand_is_read : (records : List Fields) (rows : List DemandEntry) → table_of demand_table records ≡ Ok rows → AreDemand rows
+demand_is_read = rows_are demand_table IsDemandEntry demand_keys demand_is (omega arith)
+
+pub costs_are : (records : List Fields) (rows : List CostEntry) → table_of cost_table records ≡ Ok rows → AreCosts rows
+costs_are = rows_are cost_table IsCostEntry cost_keys cost_is (omega arith)
+
+pub capacities_are : (records : List Fields) (rows : List CapacityEntry) → table_of capacity_table records ≡ Ok rows → AreCapacities rows
+capacities_are = rows_are capacity_table IsCapacityEntry capacity_keys capacity_is (omega arith)
+
+row_is : (pairs : List PairEntry) (place : ℕ) (pair : PairEntry) → AllByRecursion IsDemandEntry (map demand_entry pairs) → slice_get pairs place ≡ Some pair → IsDemandEntry (demand_entry pair)
+row_is [] place pair all e = let none : ◌≡◌ {A = Option PairEntry} None (Some pair) = e in cc
+row_is (p ∷ pairs) zero pair all e = let same : p ≡ pair = cc (e) in rw same at all.0
+row_is (p ∷ pairs) (suc place) pair all e = row_is pairs place pair all.1 e
+
+-- the handle of a row that is kept is read again as itself
+pub handle_again : (pairs : List PairEntry) (place : ℕ) (pair : PairEntry) → AreDemand (map demand_entry pairs) → slice_get pairs place ≡ Some pair → names.handle_in pair.second ≡ Ok pair.second
+handle_again pairs place pair are e = (row_is pairs place pair are.keyed.each e).handle
+
+row_at : (pairs : List PairEntry) (place : ℕ) (pair : PairEntry) → slice_get pairs place ≡ Some pair → slice_get (map demand_entry pairs) place ≡ Some (demand_entry pair)
+row_at [] place pair e = let none : ◌≡◌ {A = Option PairEntry} None (Some pair) = e in cc
+row_at (p ∷ pairs) zero pair e = let same : p ≡ pair = cc (e) in ap (λ (t : PairEntry). Some (demand_entry t)) same
+row_at (p ∷ pairs) (suc place) pair e = row_at pairs place pair e
+
+-- a row that is shown with the handle that was read is the row that is kept
+pub shown_row : (pairs : List PairEntry) (place : ℕ) (pair : PairEntry) (handle : List ℕ) → AreDemand (map demand_entry pairs) → slice_get pairs place ≡ Some pair → names.handle_in pair.second ≡ Ok handle
+    → slice_get (map demand_entry pairs) place ≡ Some (record { region = pair.first; handle = handle; count = pair.number })
+shown_row pairs place pair handle are e read =
+    let again = handle_again pairs place pair are e in
+    let ok : ◌≡◌ {A = Result (List ℕ) HandleFault} (Ok pair.second) (Ok handle) = sym again ∙ read in
+    let same : pair.second ≡ handle = cc (ok) in
+    row_at pairs place pair e ∙ ap (λ (h : List ℕ). let row : DemandEntry = record { region = pair.first; handle = h; count = pair.number } in Some row) same

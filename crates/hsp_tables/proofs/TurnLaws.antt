@@ -1,0 +1,102 @@
+-- Rows that are read in turn: what the rows and the first fault are, and what holds of the rows.
+use Rattle.std.proofs.Common.{◌≡◌, ◌∙◌, ◌<◌, ℕ, Bool, true, false, cond, List, [], ◌∷◌, ◌++◌, length, Result, Ok, Err, refl, sym, ap, subst, arith}
+use Rattle.std.proofs.lemmas.List.{length-append}
+use Rattle.std.proofs.lemmas.Map.Keys.{IsDistinct-push}
+use Rattle.std.specs.Cmp.{IsEquivalence}
+use Rattle.std.specs.List.{AllByRecursion, IsDistinct, list_any}
+use Rattle.hsp_tables.specs.declared.fault.TableFault.{TableFault}
+use Rattle.hsp_tables.specs.Answers.{◌>>=◌}
+use Rattle.hsp_tables.specs.InTurn.{AreKeyed, FaultStays, Reading, rows_after, with_row}
+
+-- a second step that ended well came after a first one that did
+pub first_step : {A B : Type 0} (r : Result A TableFault) (f : A → Result B TableFault) (y : B) → (r >>= f) ≡ Ok y → (x : A) × (r ≡ Ok x) × (f x ≡ Ok y)
+first_step (Ok x) f y e = (x, refl, e)
+first_step (Err fault) f y e = cc e
+
+-- a step that ended well has passed its test
+pub test_passed : {A : Type 0} (test : Bool) (fault : TableFault) (r : Result A TableFault) (y : A) → cond test (Err fault) r ≡ Ok y → (test ≡ false) × (r ≡ Ok y)
+test_passed true fault r y e = cc e
+test_passed false fault r y e = (refl, e)
+
+pub test_held : {A : Type 0} (test : Bool) (fault : TableFault) (x y : A) → cond test (Ok x) (Err fault) ≡ Ok y → (test ≡ true) × (x ≡ y)
+test_held true fault x y e = (refl, cc)
+test_held false fault x y e = cc e
+
+-- the row of a further item stands after the others
+pub row_joins : {Item Row : Type 0} (read : Reading Item Row) (earlier : List Row) (item : Item) (rows : List Row) → with_row read earlier item ≡ Ok rows → (row : Row) × (read earlier item ≡ Ok row) × (rows ≡ earlier ++ row ∷ [])
+row_joins read earlier item rows e =
+    let s = first_step (read earlier item) (λ row. Ok (earlier ++ row ∷ [])) rows e in
+    (s.0, s.1, let same : earlier ++ s.0 ∷ [] ≡ rows = cc (s.2) in sym same)
+
+-- the items in two parts
+pub rows_in_parts : {Item Row : Type 0} (read : Reading Item Row) (earlier : List Row) (a b : List Item) → rows_after read earlier (a ++ b) ≡ (rows_after read earlier a >>= λ rows. rows_after read rows b)
+rows_in_parts read earlier [] b = refl
+rows_in_parts {Row = Row} read earlier (item ∷ a) b = by_step (with_row read earlier item) (λ rows. rows_in_parts read rows a b)
+  where
+    by_step : (r : Result (List Row) TableFault) → ((rows : List Row) → rows_after read rows (a ++ b) ≡ (rows_after read rows a >>= λ t. rows_after read t b))
+        → (r >>= λ rows. rows_after read rows (a ++ b)) ≡ ((r >>= λ rows. rows_after read rows a) >>= λ t. rows_after read t b)
+    by_step (Ok rows) later = later rows
+    by_step (Err fault) later = refl
+
+-- a fault stays, whatever items follow
+pub fault_stays : {Item Row : Type 0} (read : Reading Item Row) → FaultStays read
+fault_stays read items more fault e = rows_in_parts read [] items more ∙ rw e refl
+
+-- the place of a fault: an item that is refused after items that gave rows
+pub record FaultPlace {Item Row : Type 0} (read : Reading Item Row) (earlier : List Row) (items : List Item) (fault : TableFault) : Type 0 where
+  pub before : List Item
+  pub bad : Item
+  pub after : List Item
+  pub rows : List Row
+  pub place : items ≡ before ++ bad ∷ after
+  pub good : rows_after read earlier before ≡ Ok rows
+  pub refused : read rows bad ≡ Err fault
+
+-- every fault has a place
+pub fault_place : {Item Row : Type 0} (read : Reading Item Row) (earlier : List Row) (items : List Item) (fault : TableFault) → rows_after read earlier items ≡ Err fault → FaultPlace read earlier items fault
+fault_place read earlier [] fault e = cc e
+fault_place {Item = Item} {Row = Row} read earlier (item ∷ items) fault e = by_item (read earlier item) refl e (λ rows. fault_place read rows items fault)
+  where
+    further : (row : Row) → read earlier item ≡ Ok row → FaultPlace read (earlier ++ row ∷ []) items fault → FaultPlace read earlier (item ∷ items) fault
+    further row is p = record {
+      before = item ∷ p.before;
+      bad = p.bad;
+      after = p.after;
+      rows = p.rows;
+      place = ap (λ (t : List Item). item ∷ t) p.place;
+      good = rw is p.good;
+      refused = p.refused;
+    }
+
+    by_item : (r : Result Row TableFault) → read earlier item ≡ r → (r >>= (λ row. Ok (earlier ++ row ∷ [])) >>= λ rows. rows_after read rows items) ≡ Err fault
+        → ((rows : List Row) → rows_after read rows items ≡ Err fault → FaultPlace read rows items fault) → FaultPlace read earlier (item ∷ items) fault
+    by_item (Ok row) is e later = further row is (later (earlier ++ row ∷ []) e)
+    by_item (Err other) is e later =
+        let same : other ≡ fault = cc (e) in
+        record { before = []; bad = item; after = items; rows = earlier; place = refl; good = refl; refused = rw (← same) is }
+
+-- what holds of no rows, and still holds with each further one, holds of all
+pub rows_keep : {Item Row : Type 0} (P : List Row → Type 0) (read : Reading Item Row) → ((earlier : List Row) (item : Item) (row : Row) → P earlier → read earlier item ≡ Ok row → P (earlier ++ row ∷ []))
+    → (items : List Item) (earlier rows : List Row) → P earlier → rows_after read earlier items ≡ Ok rows → P rows
+rows_keep P read keep [] earlier rows holds e = let same : earlier ≡ rows = cc in subst P same holds
+rows_keep P read keep (item ∷ items) earlier rows holds e =
+    let s = first_step (with_row read earlier item) (λ t. rows_after read t items) rows e in
+    let j = row_joins read earlier item s.0 s.1 in
+    rows_keep P read keep items s.0 rows (subst P (sym j.2) (keep earlier item j.0 holds j.1)) s.2
+
+all_and_one : {Row : Type 0} (Is : Row → Type 0) (rows : List Row) (row : Row) → AllByRecursion Is rows → Is row → AllByRecursion Is (rows ++ row ∷ [])
+all_and_one Is [] row all is = (is, tt)
+all_and_one Is (r ∷ rows) row all is = (all.0, all_and_one Is rows row all.1 is)
+
+-- one more row, within the limit and of a new key
+pub keyed_and_one : {Row : Type 0} (most : ℕ) (Is : Row → Type 0) (same_key : Row → Row → Bool) → IsEquivalence same_key
+    → (rows : List Row) (row : Row) → AreKeyed most Is same_key rows → length rows < most → Is row → list_any (same_key row) rows ≡ false → AreKeyed most Is same_key (rows ++ row ∷ [])
+keyed_and_one most Is same_key laws rows row are few is new = record {
+  few = simp length-append (omega arith);
+  each = all_and_one Is rows row are.each is;
+  apart = IsDistinct-push laws rows row are.apart new;
+}
+
+pub none_keyed : {Row : Type 0} (most : ℕ) (Is : Row → Type 0) (same_key : Row → Row → Bool) → AreKeyed most Is same_key []
+unfolding IsDistinct
+none_keyed most Is same_key = record { few = omega arith; each = tt; apart = tt }

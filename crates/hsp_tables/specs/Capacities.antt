@@ -1,0 +1,55 @@
+-- The table of capacities: how many queries the server of an identifier can take at a site.
+use Rattle.std.specs.Prelude.{◌≡◌, ◌≤◌, ◌==◌, ◌&&◌, Bool, true, ℕ, List, [], ◌∷◌, Result, Ok, Err, codes}
+use Rattle.std.specs.Str.{bytes_eq}
+use Rattle.hsp_csv.specs.Records.{Fields}
+use Rattle.hsp_text.specs.Name.{is_name}
+use Rattle.hsp_tables.specs.declared.fault.TableFault.{TableFault}
+use Rattle.hsp_tables.specs.declared.fault.TableFault.TheVariants as fault
+use Rattle.hsp_tables.specs.Answers.{◌>>=◌}
+use Rattle.hsp_tables.specs.Fields.{name_in, number_in}
+use Rattle.hsp_tables.specs.Table.{AreRows, Table}
+
+pub record CapacityEntry : Type 0 where
+  pub site : List ℕ
+  pub server_id : ℕ
+  pub capacity : ℕ
+
+-- the entry of these fields
+abbrev pub capacity_entry : List ℕ → ℕ → ℕ → CapacityEntry
+capacity_entry site server_id capacity = record { site = site; server_id = server_id; capacity = capacity }
+
+-- the row that the fields of a record spell
+abbrev pub capacity_in : ℕ → Fields → Result CapacityEntry TableFault
+capacity_in row (site ∷ server_id ∷ capacity ∷ []) = do
+  s ← name_in row site
+  i ← number_in row 4294967295 server_id
+  c ← number_in row 1000000000 capacity
+  Ok (record { site = s; server_id = i; capacity = c })
+capacity_in row _ = Err (fault.Fields row)
+
+-- the key is the site and the identifier
+abbrev pub same_capacity : CapacityEntry → CapacityEntry → Bool
+same_capacity a b = bytes_eq a.site b.site && (a.server_id == b.server_id)
+
+-- the table names no region
+abbrev pub no_regions : List CapacityEntry → List (List ℕ)
+no_regions rows = []
+
+abbrev pub capacity_table : Table CapacityEntry
+capacity_table = record {
+  header = codes "site" ∷ codes "server_id" ∷ codes "capacity" ∷ [];
+  most_rows = 1024;
+  row_in = capacity_in;
+  same_key = same_capacity;
+  regions_of = no_regions;
+}
+
+-- what each row is
+pub record IsCapacityEntry (row : CapacityEntry) : Type 0 where
+  pub site : is_name row.site ≡ true
+  pub server_id : row.server_id ≤ 4294967295
+  pub capacity : row.capacity ≤ 1000000000
+
+-- what the rows are
+abbrev pub AreCapacities : List CapacityEntry → Type 0
+AreCapacities rows = AreRows capacity_table IsCapacityEntry rows

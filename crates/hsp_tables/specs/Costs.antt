@@ -1,0 +1,50 @@
+-- The table of costs: what a query from a region costs at a site.
+use Rattle.std.specs.Prelude.{◌≡◌, ◌≤◌, ◌&&◌, Bool, true, ℕ, List, [], ◌∷◌, map, Result, Ok, Err, codes}
+use Rattle.std.specs.Str.{bytes_eq}
+use Rattle.hsp_csv.specs.Records.{Fields}
+use Rattle.hsp_text.specs.Name.{is_name}
+use Rattle.hsp_tables.specs.declared.fault.TableFault.{TableFault}
+use Rattle.hsp_tables.specs.declared.fault.TableFault.TheVariants as fault
+use Rattle.hsp_tables.specs.Answers.{◌>>=◌}
+use Rattle.hsp_tables.specs.Fields.{name_in, number_in}
+use Rattle.hsp_tables.specs.Table.{AreRows, Table, first_seen}
+
+pub record CostEntry : Type 0 where
+  pub region : List ℕ
+  pub site : List ℕ
+  pub cost : ℕ
+
+-- the row that the fields of a record spell
+abbrev pub cost_in : ℕ → Fields → Result CostEntry TableFault
+cost_in row (region ∷ site ∷ cost ∷ []) = do
+  r ← name_in row region
+  s ← name_in row site
+  c ← number_in row 1000000 cost
+  Ok (record { region = r; site = s; cost = c })
+cost_in row _ = Err (fault.Fields row)
+
+-- the key is the region and the site
+abbrev pub same_cost : CostEntry → CostEntry → Bool
+same_cost a b = bytes_eq a.region b.region && bytes_eq a.site b.site
+
+abbrev pub cost_regions : List CostEntry → List (List ℕ)
+cost_regions rows = first_seen (map (λ (row : CostEntry). row.region) rows)
+
+abbrev pub cost_table : Table CostEntry
+cost_table = record {
+  header = codes "region" ∷ codes "site" ∷ codes "cost" ∷ [];
+  most_rows = 2048;
+  row_in = cost_in;
+  same_key = same_cost;
+  regions_of = cost_regions;
+}
+
+-- what each row is
+pub record IsCostEntry (row : CostEntry) : Type 0 where
+  pub region : is_name row.region ≡ true
+  pub site : is_name row.site ≡ true
+  pub cost : row.cost ≤ 1000000
+
+-- what the rows are
+abbrev pub AreCosts : List CostEntry → Type 0
+AreCosts rows = AreRows cost_table IsCostEntry rows

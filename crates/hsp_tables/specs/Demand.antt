@@ -1,0 +1,51 @@
+-- The table of demand: how many queries for a handle come from a region.
+use Rattle.std.specs.Prelude.{◌≡◌, ◌≤◌, ◌&&◌, Bool, true, ℕ, List, [], ◌∷◌, map, Result, Ok, Err, codes}
+use Rattle.std.specs.Str.{bytes_eq}
+use Rattle.hsp_csv.specs.Records.{Fields}
+use Rattle.hsp_names.specs.Handle as names
+use Rattle.hsp_text.specs.Name.{is_name}
+use Rattle.hsp_tables.specs.declared.fault.TableFault.{TableFault}
+use Rattle.hsp_tables.specs.declared.fault.TableFault.TheVariants as fault
+use Rattle.hsp_tables.specs.Answers.{◌>>=◌}
+use Rattle.hsp_tables.specs.Fields.{handle_in, name_in, number_in}
+use Rattle.hsp_tables.specs.Table.{AreRows, Table, first_seen}
+
+pub record DemandEntry : Type 0 where
+  pub region : List ℕ
+  pub handle : List ℕ
+  pub count : ℕ
+
+-- the row that the fields of a record spell
+abbrev pub demand_in : ℕ → Fields → Result DemandEntry TableFault
+demand_in row (region ∷ handle ∷ count ∷ []) = do
+  r ← name_in row region
+  h ← handle_in row handle
+  c ← number_in row 1000000 count
+  Ok (record { region = r; handle = h; count = c })
+demand_in row _ = Err (fault.Fields row)
+
+-- the key is the region and the handle
+abbrev pub same_demand : DemandEntry → DemandEntry → Bool
+same_demand a b = bytes_eq a.region b.region && bytes_eq a.handle b.handle
+
+abbrev pub demand_regions : List DemandEntry → List (List ℕ)
+demand_regions rows = first_seen (map (λ (row : DemandEntry). row.region) rows)
+
+abbrev pub demand_table : Table DemandEntry
+demand_table = record {
+  header = codes "region" ∷ codes "handle" ∷ codes "count" ∷ [];
+  most_rows = 8192;
+  row_in = demand_in;
+  same_key = same_demand;
+  regions_of = demand_regions;
+}
+
+-- what each row is
+pub record IsDemandEntry (row : DemandEntry) : Type 0 where
+  pub region : is_name row.region ≡ true
+  pub handle : names.handle_in row.handle ≡ Ok row.handle
+  pub count : row.count ≤ 1000000
+
+-- what the rows are
+abbrev pub AreDemand : List DemandEntry → Type 0
+AreDemand rows = AreRows demand_table IsDemandEntry rows

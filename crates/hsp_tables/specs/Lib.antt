@@ -1,0 +1,12 @@
+pub mod Answers
+pub mod Fields
+pub mod InTurn
+pub mod Table
+pub mod Demand
+pub mod Costs
+pub mod Capacities
+pub mod Keyed
+pub mod KeyedRows
+pub mod Rows
+pub mod Settings
+pub mod SettingsRows

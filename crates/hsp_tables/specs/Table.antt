@@ -1,0 +1,94 @@
+-- A table: the records of a text as rows under a header, or the first fault.
+use Rattle.std.specs.Prelude.{◌≡◌, ◌≢◌, ◌≤◌, ◌+◌, ◌↔◌, ◌⊎◌, ⊤, Bool, ℕ, List, [], ◌∷◌, ◌++◌, length, fold, nat_le, nat_lt, Result, Ok, Err, if◌then◌else◌}
+use Rattle.std.specs.List.{IsDistinct, list_any}
+use Rattle.std.specs.Str.{bytes_eq}
+use Rattle.indexmap.specs.IndexSet.{insert_key}
+use Rattle.hsp_csv.specs.Records.{Fields}
+use Rattle.hsp_tables.specs.declared.fault.TableFault.{TableFault}
+use Rattle.hsp_tables.specs.declared.fault.TableFault.TheVariants.{Header, RowTwice, TooManyRows, TooManyRegions}
+use Rattle.hsp_tables.specs.Answers.{◌>>=◌}
+use Rattle.hsp_tables.specs.Fields.{same_fields}
+use Rattle.hsp_tables.specs.InTurn.{AreKeyed, Reading, rows_after}
+
+-- a kind of table: its header, the limit of its rows, the row that the fields of a record spell by its number, when two rows
+-- have one key, and the regions of its rows, each once
+pub record Table (Row : Type 0) : Type 0 where
+  pub header : Fields
+  pub most_rows : ℕ
+  pub row_in : ℕ → Fields → Result Row TableFault
+  pub same_key : Row → Row → Bool
+  pub regions_of : List Row → List (List ℕ)
+
+-- the limit of regions in one table
+abbrev pub most_regions : ℕ
+most_regions = 64
+
+-- names in first-seen order, each once
+abbrev pub first_seen : List (List ℕ) → List (List ℕ)
+first_seen names = fold (insert_key bytes_eq) [] names
+
+-- a row whose key is new and whose region is not one too many
+abbrev pub new_row : {Row : Type 0} → Table Row → List Row → Row → Result Row TableFault
+new_row table earlier row =
+    if list_any (table.same_key row) earlier then Err (RowTwice (length earlier))
+    else if nat_lt most_regions (length (table.regions_of (earlier ++ row ∷ []))) then Err TooManyRegions
+    else Ok row
+
+-- the row of a record after the rows before it, or its first fault
+abbrev pub row_after : {Row : Type 0} → Table Row → Reading Fields Row
+row_after table earlier fields =
+    if nat_le table.most_rows (length earlier) then Err TooManyRows
+    else table.row_in (length earlier) fields >>= new_row table earlier
+
+-- the rows that the records give, or the first fault
+abbrev pub table_of : {Row : Type 0} → Table Row → List Fields → Result (List Row) TableFault
+table_of table [] = Err Header
+table_of table (first ∷ body) = if same_fields first table.header then rows_after (row_after table) [] body else Err Header
+
+-- what the rows of a table are: within its limits, each as it should be, and no two with one key
+pub record AreRows {Row : Type 0} (table : Table Row) (Is : Row → Type 0) (rows : List Row) : Type 0 where
+  pub keyed : AreKeyed table.most_rows Is table.same_key rows
+  pub regions : length (table.regions_of rows) ≤ most_regions
+
+-- records under the header spell rows, each by its number
+abbrev pub SpellRows : {Row : Type 0} → Table Row → ℕ → List Fields → List Row → Type 0
+SpellRows table number [] [] = ⊤
+SpellRows table number [] (row ∷ rows) = ⊥
+SpellRows table number (fields ∷ body) [] = ⊥
+SpellRows table number (fields ∷ body) (row ∷ rows) = (table.row_in number fields ≡ Ok row) × SpellRows table (number + 1) body rows
+
+-- as a relation: the records are the header and those that spell the rows, which are within the limits, no two with one key
+pub record IsTable {Row : Type 0} (table : Table Row) (records : List Fields) (rows : List Row) : Type 0 where
+  pub body : List Fields
+  pub headed : records ≡ table.header ∷ body
+  pub spelled : SpellRows table 0 body rows
+  pub few : length rows ≤ table.most_rows
+  pub apart : IsDistinct table.same_key rows
+  pub regions : length (table.regions_of rows) ≤ most_regions
+
+-- the first record is not the header, or there is none
+abbrev pub LacksHeader : {Row : Type 0} → Table Row → List Fields → Type 0
+LacksHeader table records = (body : List Fields) → records ≢ table.header ∷ body
+
+-- the fault of a record after records that are a table
+pub record IsRowFault {Row : Type 0} (table : Table Row) (records : List Fields) (fault : TableFault) : Type 0 where
+  pub before : List Fields
+  pub bad : Fields
+  pub after : List Fields
+  pub rows : List Row
+  pub place : records ≡ before ++ bad ∷ after
+  pub good : IsTable table before rows
+  pub refused : row_after table rows bad ≡ Err fault
+
+-- the first fault of records
+abbrev pub IsTableFault : {Row : Type 0} → Table Row → List Fields → TableFault → Type 0
+IsTableFault table records fault = (LacksHeader table records × (fault ≡ Header)) ⊎ IsRowFault table records fault
+
+-- the reading is the relation: records give just the rows of which they are the table, or just their first fault
+pub record ReadsAsItsRelation {Row : Type 0} (table : Table Row) : Type 0 where
+  pub rows : (records : List Fields) (rows : List Row) → (table_of table records ≡ Ok rows) ↔ IsTable table records rows
+  pub fault : (records : List Fields) (fault : TableFault) → (table_of table records ≡ Err fault) ↔ IsTableFault table records fault
+
+-- a fault is decided by the records up to it: whatever records follow, it stays
+abbrev pub KeepsFirstFault : {Row : Type 0} → Table Row → Type 0
+KeepsFirstFault table = (first : Fields) (body more : List Fields) (fault : TableFault) → table_of table (first ∷ body) ≡ Err fault → table_of table (first ∷ (body ++ more)) ≡ Err fault

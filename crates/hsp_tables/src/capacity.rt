@@ -1,0 +1,138 @@
+// The table of capacities: how many queries the server of an identifier can take at a site.
+
+ghost use Rattle.std.specs.Prelude.{◌≡◌, ◌<◌, ◌⊎◌, Some, Ok, Err, length, slice_get, OnOk, IfErr};
+ghost use Rattle.csv.specs.Records.{fields_of};
+ghost use Rattle.hsp_csv.specs.Records.{records_of};
+ghost use Rattle.hsp_tables.specs.declared.fault.TableFault.TheVariants.{OutOfMemory};
+ghost use Rattle.hsp_tables.specs.Answers.{Answers, GivesExactly};
+ghost use Rattle.hsp_tables.specs.InTurn.{with_row};
+ghost use Rattle.hsp_tables.specs.Table.{row_after, table_of};
+ghost use Rattle.hsp_tables.specs.Capacities.{AreCapacities, capacity_in, capacity_table};
+ghost use Rattle.hsp_tables.specs.Rows.{capacity_shown};
+
+use crate::fault::TableFault;
+use crate::fields::{name_in, number_in, take_header, three_fields};
+use crate::keyed::ServerRows;
+use csv::ByteRecord;
+use hsp_csv::{read_records, take_record};
+use std::alloc::Global;
+use std::marker::Model;
+
+// The greatest number of rows.
+const MOST_ROWS: usize = 1024;
+
+// The greatest identifier.
+const MOST_ID: u64 = 4_294_967_295;
+
+// The greatest capacity.
+const MOST_CAPACITY: u64 = 1_000_000_000;
+
+/// The capacities: rows of a site, the identifier of a server and its capacity, each site and identifier once.
+///
+/// There are at most 1,024 rows.
+#[derive(Drop)]
+pub struct Capacities {
+    rows: ServerRows,
+}
+
+impl Model for Capacities {
+    ghost use Rattle.std.specs.Prelude.{List};
+    ghost use Rattle.hsp_tables.specs.Capacities.{AreCapacities, CapacityEntry};
+
+    ghost Value = { List CapacityEntry };
+
+    ghost view = { λ t. t.rows };
+
+    ghost invariant = { λ t. AreCapacities t.rows };
+}
+
+/// A row of the capacities.
+#[derive(Clone, Copy, Debug)]
+pub struct CapacityRow<'a> {
+    /// The name of the site.
+    pub site: &'a [u8],
+    /// The identifier of the server.
+    pub server_id: u32,
+    /// How many queries the server can take, at most 1,000,000,000.
+    pub capacity: u64,
+}
+
+impl Capacities {
+    /// How many rows there are.
+    pub fn len(&self) -> u32
+        ensures count { result ≡ length self.now }
+        // The table is within its limits, each row is as it should be, and no two rows have one key.
+        ensures rows { AreCapacities self.now }
+    {
+        self.rows.len() as u32
+    }
+
+    /// The row of a number below [`Capacities::len`].
+    pub fn row(&self, number: u32) -> CapacityRow<'_>
+        requires { number < length self.now }
+        ensures { slice_get self.now number ≡ Some (capacity_shown result) }
+    {
+        let (site, server_id, capacity) = self.rows.row(number as usize);
+        CapacityRow {
+            site,
+            server_id,
+            capacity,
+        }
+    }
+}
+
+// The row that the fields of a record spell.
+fn capacity_in(number: u32, fields: &ByteRecord) -> Result<CapacityRow<'_>, TableFault>
+    ensures { GivesExactly capacity_shown result (capacity_in number (fields_of fields.now)) }
+{
+    let Some((site, server_id, capacity)) = three_fields(fields) else {
+        return Err(TableFault::Fields { row: number });
+    };
+    Ok(CapacityRow {
+        site: name_in(number, site)?,
+        server_id: number_in(number, server_id, MOST_ID)? as u32,
+        capacity: number_in(number, capacity, MOST_CAPACITY)?,
+    })
+}
+
+// Adds the row of a further record to the rows.
+fn add_record(alloc: Global, rows: &mut ServerRows, fields: &ByteRecord) -> Result<(), TableFault>
+    ensures ok { OnOk result (with_row (row_after capacity_table) rows.old (fields_of fields.now) ≡ Ok rows.new) }
+    ensures err { IfErr result (λ e. (e ≡ OutOfMemory)
+        ⊎ (with_row (row_after capacity_table) rows.old (fields_of fields.now) ≡ Err e)) }
+{
+    let number = rows.len();
+    if number >= MOST_ROWS {
+        return Err(TableFault::TooManyRows);
+    }
+    let number = number as u32;
+    let row = capacity_in(number, fields)?;
+    if !rows.insert(alloc, row.site, row.server_id, row.capacity)? {
+        return Err(TableFault::RowTwice { row: number });
+    }
+    Ok(())
+}
+
+/// The capacities that a text of comma-separated values spells, or its first fault.
+///
+/// The header is `site,server_id,capacity`. The order of faults is: Header; then record by record TooManyRows (this record is
+/// one too many), Fields, BadName, BadNumber, RowTwice.
+#[tactic(auto, using(crate::proofs::TableLaws::table_of_headed, crate::proofs::TableLaws::table_of_headless))]
+pub fn read_capacity(alloc: Global, text: &[u8]) -> Result<Capacities, TableFault>
+    ensures { Answers result (table_of capacity_table (records_of text.now)) }
+{
+    let mut records = read_records(alloc, text);
+    let mut fields = ByteRecord::new(alloc);
+    take_header(
+        &mut records,
+        &mut fields,
+        b"site",
+        b"server_id",
+        b"capacity",
+    )?;
+    let mut rows = ServerRows::new(alloc);
+    'rows: while take_record(&mut records, &mut fields)? {
+        add_record(alloc, &mut rows, &fields)?;
+    }
+    Ok(Capacities { rows })
+}

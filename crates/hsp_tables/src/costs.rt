@@ -1,0 +1,152 @@
+// The table of costs: what a query from a region costs at a site.
+
+ghost use Rattle.std.specs.Prelude.{◌≡◌, ◌<◌, ◌⊎◌, Some, Ok, Err, length, map, slice_get, OnOk, IfErr};
+ghost use Rattle.csv.specs.Records.{fields_of};
+ghost use Rattle.hsp_csv.specs.Records.{records_of};
+ghost use Rattle.hsp_tables.specs.declared.fault.TableFault.TheVariants.{OutOfMemory};
+ghost use Rattle.hsp_tables.specs.Answers.{Answers, GivesExactly};
+ghost use Rattle.hsp_tables.specs.InTurn.{with_row};
+ghost use Rattle.hsp_tables.specs.Table.{row_after, table_of};
+ghost use Rattle.hsp_tables.specs.Costs.{AreCosts, cost_in, cost_regions, cost_table};
+ghost use Rattle.hsp_tables.specs.Keyed.{cost_entry};
+ghost use Rattle.hsp_tables.specs.Rows.{cost_shown};
+
+use crate::fault::TableFault;
+use crate::fields::{name_in, number_in, take_header, three_fields};
+use crate::keyed::{PairRow, PairRows, Regions};
+use csv::ByteRecord;
+use hsp_csv::{read_records, take_record};
+use std::alloc::Global;
+use std::marker::Model;
+
+// The greatest number of rows.
+const MOST_ROWS: usize = 2048;
+
+// The greatest number of regions.
+const MOST_REGIONS: usize = 64;
+
+// The greatest cost.
+const MOST_COST: u64 = 1_000_000;
+
+/// The costs: rows of a region, a site and a cost, each region and site once.
+///
+/// There are at most 2,048 rows and 64 regions.
+#[derive(Drop)]
+pub struct Costs {
+    rows: PairRows,
+}
+
+impl Model for Costs {
+    ghost use Rattle.std.specs.Prelude.{List, map};
+    ghost use Rattle.hsp_tables.specs.Costs.{AreCosts, CostEntry};
+    ghost use Rattle.hsp_tables.specs.Keyed.{cost_entry};
+
+    ghost Value = { List CostEntry };
+
+    ghost view = { λ t. map cost_entry t.rows };
+
+    ghost invariant = { λ t. AreCosts (map cost_entry t.rows) };
+}
+
+/// A row of the costs.
+#[derive(Clone, Copy, Debug)]
+pub struct CostRow<'a> {
+    /// The name of the region.
+    pub region: &'a [u8],
+    /// The name of the site.
+    pub site: &'a [u8],
+    /// What a query costs, at most 1,000,000.
+    pub cost: u64,
+}
+
+impl Costs {
+    /// How many rows there are.
+    pub fn len(&self) -> u32
+        ensures count { result ≡ length self.now }
+        // The table is within its limits, each row is as it should be, and no two rows have one key.
+        ensures rows { AreCosts self.now }
+    {
+        self.rows.len() as u32
+    }
+
+    /// The row of a number below [`Costs::len`].
+    pub fn row(&self, number: u32) -> CostRow<'_>
+        requires { number < length self.now }
+        ensures { slice_get self.now number ≡ Some (cost_shown result) }
+    {
+        let row = self.rows.row(number as usize);
+        CostRow {
+            region: row.first,
+            site: row.second,
+            cost: row.number,
+        }
+    }
+}
+
+// The row that the fields of a record spell.
+fn cost_in(number: u32, fields: &ByteRecord) -> Result<CostRow<'_>, TableFault>
+    ensures { GivesExactly cost_shown result (cost_in number (fields_of fields.now)) }
+{
+    let Some((region, site, cost)) = three_fields(fields) else {
+        return Err(TableFault::Fields { row: number });
+    };
+    Ok(CostRow {
+        region: name_in(number, region)?,
+        site: name_in(number, site)?,
+        cost: number_in(number, cost, MOST_COST)?,
+    })
+}
+
+// Adds the row of a further record to the rows and its region to the regions.
+fn add_record(
+    alloc: Global,
+    rows: &mut PairRows,
+    regions: &mut Regions,
+    fields: &ByteRecord,
+) -> Result<(), TableFault>
+    requires { regions.old ≡ cost_regions (map cost_entry rows.old) }
+    ensures ok { OnOk result (
+        with_row (row_after cost_table) (map cost_entry rows.old) (fields_of fields.now) ≡ Ok (map cost_entry rows.new)) }
+    ensures regions { OnOk result (regions.new ≡ cost_regions (map cost_entry rows.new)) }
+    ensures err { IfErr result (λ e. (e ≡ OutOfMemory)
+        ⊎ (with_row (row_after cost_table) (map cost_entry rows.old) (fields_of fields.now) ≡ Err e)) }
+{
+    let number = rows.len();
+    if number >= MOST_ROWS {
+        return Err(TableFault::TooManyRows);
+    }
+    let number = number as u32;
+    let row = cost_in(number, fields)?;
+    let kept = PairRow {
+        first: row.region,
+        second: row.site,
+        number: row.cost,
+    };
+    if !rows.insert(alloc, kept)? {
+        return Err(TableFault::RowTwice { row: number });
+    }
+    regions.see(alloc, row.region)?;
+    if regions.len() > MOST_REGIONS {
+        return Err(TableFault::TooManyRegions);
+    }
+    Ok(())
+}
+
+/// The costs that a text of comma-separated values spells, or its first fault.
+///
+/// The header is `region,site,cost`. The order of faults is: Header; then record by record TooManyRows (this record is one
+/// too many), Fields, BadName, BadNumber, RowTwice, TooManyRegions.
+#[tactic(auto, using(crate::proofs::TableLaws::table_of_headed, crate::proofs::TableLaws::table_of_headless))]
+pub fn read_costs(alloc: Global, text: &[u8]) -> Result<Costs, TableFault>
+    ensures { Answers result (table_of cost_table (records_of text.now)) }
+{
+    let mut records = read_records(alloc, text);
+    let mut fields = ByteRecord::new(alloc);
+    take_header(&mut records, &mut fields, b"region", b"site", b"cost")?;
+    let mut rows = PairRows::new(alloc);
+    let mut regions = Regions::new(alloc);
+    'rows: while take_record(&mut records, &mut fields)? {
+        add_record(alloc, &mut rows, &mut regions, &fields)?;
+    }
+    Ok(Costs { rows })
+}

@@ -1,0 +1,157 @@
+// The table of demand: how many queries for a handle come from a region.
+
+ghost use Rattle.std.specs.Prelude.{◌≡◌, ◌<◌, ◌⊎◌, Some, Ok, Err, length, map, slice_get, OnOk, IfErr};
+ghost use Rattle.csv.specs.Records.{fields_of};
+ghost use Rattle.hsp_csv.specs.Records.{records_of};
+ghost use Rattle.hsp_tables.specs.declared.fault.TableFault.TheVariants.{OutOfMemory};
+ghost use Rattle.hsp_tables.specs.Answers.{Answers, GivesExactly};
+ghost use Rattle.hsp_tables.specs.InTurn.{with_row};
+ghost use Rattle.hsp_tables.specs.Table.{row_after, table_of};
+ghost use Rattle.hsp_tables.specs.Demand.{AreDemand, demand_in, demand_regions, demand_table};
+ghost use Rattle.hsp_tables.specs.Keyed.{demand_entry};
+ghost use Rattle.hsp_tables.specs.Rows.{demand_shown};
+
+use crate::fault::TableFault;
+use crate::fields::{handle_in, name_in, number_in, take_header, three_fields};
+use crate::keyed::{PairRow, PairRows, Regions};
+use csv::ByteRecord;
+use hsp_csv::{read_records, take_record};
+use hsp_names::HandleRef;
+use std::alloc::Global;
+use std::marker::Model;
+
+// The greatest number of rows.
+const MOST_ROWS: usize = 8192;
+
+// The greatest number of regions.
+const MOST_REGIONS: usize = 64;
+
+// The greatest count of a row.
+const MOST_QUERIES: u64 = 1_000_000;
+
+/// The demand: rows of a region, a handle and a count, each region and handle once.
+///
+/// There are at most 8,192 rows and 64 regions.
+#[derive(Drop)]
+pub struct Demand {
+    rows: PairRows,
+}
+
+impl Model for Demand {
+    ghost use Rattle.std.specs.Prelude.{List, map};
+    ghost use Rattle.hsp_tables.specs.Demand.{AreDemand, DemandEntry};
+    ghost use Rattle.hsp_tables.specs.Keyed.{demand_entry};
+
+    ghost Value = { List DemandEntry };
+
+    ghost view = { λ t. map demand_entry t.rows };
+
+    ghost invariant = { λ t. AreDemand (map demand_entry t.rows) };
+}
+
+/// A row of the demand.
+#[derive(Clone, Copy, Debug)]
+pub struct DemandRow<'a> {
+    /// The name of the region.
+    pub region: &'a [u8],
+    /// The handle that is asked for.
+    pub handle: HandleRef<'a>,
+    /// How many queries there are, at most 1,000,000.
+    pub count: u64,
+}
+
+impl Demand {
+    /// How many rows there are.
+    pub fn len(&self) -> u32
+        ensures count { result ≡ length self.now }
+        // The table is within its limits, each row is as it should be, and no two rows have one key.
+        ensures rows { AreDemand self.now }
+    {
+        self.rows.len() as u32
+    }
+
+    /// The row of a number below [`Demand::len`].
+    pub fn row(&self, number: u32) -> DemandRow<'_>
+        requires { number < length self.now }
+        ensures { slice_get self.now number ≡ Some (demand_shown result) }
+    {
+        let row = self.rows.row(number as usize);
+        match HandleRef::parse(row.second) {
+            Ok(handle) => DemandRow {
+                region: row.first,
+                handle,
+                count: row.number,
+            },
+            // The handle was read once before.
+            Err(_) => unreachable!(),
+        }
+    }
+}
+
+// The row that the fields of a record spell.
+fn demand_in(number: u32, fields: &ByteRecord) -> Result<DemandRow<'_>, TableFault>
+    ensures { GivesExactly demand_shown result (demand_in number (fields_of fields.now)) }
+{
+    let Some((region, handle, count)) = three_fields(fields) else {
+        return Err(TableFault::Fields { row: number });
+    };
+    Ok(DemandRow {
+        region: name_in(number, region)?,
+        handle: handle_in(number, handle)?,
+        count: number_in(number, count, MOST_QUERIES)?,
+    })
+}
+
+// Adds the row of a further record to the rows and its region to the regions.
+fn add_record(
+    alloc: Global,
+    rows: &mut PairRows,
+    regions: &mut Regions,
+    fields: &ByteRecord,
+) -> Result<(), TableFault>
+    requires { regions.old ≡ demand_regions (map demand_entry rows.old) }
+    ensures ok { OnOk result (
+        with_row (row_after demand_table) (map demand_entry rows.old) (fields_of fields.now) ≡ Ok (map demand_entry rows.new)) }
+    ensures regions { OnOk result (regions.new ≡ demand_regions (map demand_entry rows.new)) }
+    ensures err { IfErr result (λ e. (e ≡ OutOfMemory)
+        ⊎ (with_row (row_after demand_table) (map demand_entry rows.old) (fields_of fields.now) ≡ Err e)) }
+{
+    let number = rows.len();
+    if number >= MOST_ROWS {
+        return Err(TableFault::TooManyRows);
+    }
+    let number = number as u32;
+    let row = demand_in(number, fields)?;
+    let kept = PairRow {
+        first: row.region,
+        second: row.handle.bytes(),
+        number: row.count,
+    };
+    if !rows.insert(alloc, kept)? {
+        return Err(TableFault::RowTwice { row: number });
+    }
+    regions.see(alloc, row.region)?;
+    if regions.len() > MOST_REGIONS {
+        return Err(TableFault::TooManyRegions);
+    }
+    Ok(())
+}
+
+/// The demand that a text of comma-separated values spells, or its first fault.
+///
+/// The header is `region,handle,count`. The order of faults is: Header; then record by record TooManyRows (this record is one
+/// too many), Fields, BadName, BadHandle, BadNumber, RowTwice, TooManyRegions.
+#[tactic(auto, using(crate::proofs::TableLaws::table_of_headed, crate::proofs::TableLaws::table_of_headless))]
+pub fn read_demand(alloc: Global, text: &[u8]) -> Result<Demand, TableFault>
+    ensures { Answers result (table_of demand_table (records_of text.now)) }
+{
+    let mut records = read_records(alloc, text);
+    let mut fields = ByteRecord::new(alloc);
+    take_header(&mut records, &mut fields, b"region", b"handle", b"count")?;
+    let mut rows = PairRows::new(alloc);
+    let mut regions = Regions::new(alloc);
+    'rows: while take_record(&mut records, &mut fields)? {
+        add_record(alloc, &mut rows, &mut regions, &fields)?;
+    }
+    Ok(Demand { rows })
+}

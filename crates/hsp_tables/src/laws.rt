@@ -1,0 +1,32 @@
+// Laws of the definitions of the three tables and of the settings.
+
+ghost use Rattle.hsp_tables.specs.Capacities.{capacity_table};
+ghost use Rattle.hsp_tables.specs.Costs.{cost_table};
+ghost use Rattle.hsp_tables.specs.Demand.{demand_table};
+ghost use Rattle.hsp_tables.specs.InTurn.{FaultStays};
+ghost use Rattle.hsp_tables.specs.Settings.{host_after, site_after};
+ghost use Rattle.hsp_tables.specs.Table.{KeepsFirstFault, ReadsAsItsRelation};
+
+/// What a table reads as is its relation: just the rows that its records spell under the header, where they are within the limits
+/// and no two have one key, or else just its first fault.
+#[tactic(auto, using(crate::proofs::TableKinds::demand_is_its_relation, crate::proofs::TableKinds::costs_are_their_relation, crate::proofs::TableKinds::capacities_are_their_relation))]
+pub fn reading_is_the_relation()
+    ensures demand { ReadsAsItsRelation demand_table }
+    ensures costs { ReadsAsItsRelation cost_table }
+    ensures capacity { ReadsAsItsRelation capacity_table }
+{}
+
+/// A fault is decided by the records up to it: it stays, whatever records follow.
+#[tactic(auto, using(crate::proofs::TableKinds::demand_keeps_first_fault, crate::proofs::TableKinds::costs_keep_first_fault, crate::proofs::TableKinds::capacities_keep_first_fault))]
+pub fn fault_is_first()
+    ensures demand { KeepsFirstFault demand_table }
+    ensures costs { KeepsFirstFault cost_table }
+    ensures capacity { KeepsFirstFault capacity_table }
+{}
+
+/// A fault of a site or a host is decided by the elements up to it: it stays, whatever elements follow in the array.
+#[tactic(auto, using(crate::proofs::TurnLaws::fault_stays))]
+pub fn fault_of_settings_is_first()
+    ensures sites { FaultStays site_after }
+    ensures hosts { FaultStays host_after }
+{}

@@ -1,0 +1,26 @@
+// The settings and the three tables of an instance, read from octets: the rows that they spell, or the first fault.
+//
+// The tables of demand, costs and capacities are comma-separated values, the settings are TOML.
+#![tactic(auto)]
+
+mod capacity;
+mod costs;
+mod demand;
+mod fault;
+mod fields;
+mod hosts;
+mod keyed;
+pub mod laws;
+mod members;
+mod settings;
+mod sites;
+
+pub use capacity::{Capacities, CapacityRow, read_capacity};
+pub use costs::{CostRow, Costs, read_costs};
+pub use demand::{Demand, DemandRow, read_demand};
+pub use fault::TableFault;
+pub use settings::{Settings, read_settings};
+pub use sites::Source;
+
+#[cfg(test)]
+mod tests;

@@ -1,0 +1,86 @@
+// Whole numbers in texts.
+
+ghost use Rattle.std.specs.Prelude.{◌≡◌, ◌≤◌, ◌+◌, ◌++◌, length, IsOk, OnOk, OnErr, decimal, vec_len, vec_capacity};
+ghost use Rattle.hsp_text.specs.Whole.{is_whole, whole_within};
+
+use std::alloc::AllocError;
+
+/// Why a text is no whole number up to a limit.
+#[derive(Clone, Copy, Debug, PartialEq, Eq)]
+pub enum WholeFault {
+    /// Not decimal digits alone, none at all, or a leading zero before another digit.
+    NotWhole,
+    /// The digits of a number above the limit.
+    TooLarge,
+}
+
+// The room that the digits of any number of 64 bits take at the most, in octets.
+const MOST_DIGITS: usize = 20;
+
+// Whether the octets are decimal digits without a leading zero, except `0` itself.
+fn is_whole(text: &[u8]) -> bool
+    ensures { result ≡ is_whole text.now }
+{
+    if text.is_empty() {
+        return false;
+    }
+    if text[0] == b'0' && text.len() != 1 {
+        return false;
+    }
+    for octet in text {
+        if !octet.is_ascii_digit() {
+            return false;
+        }
+    }
+    true
+}
+
+/// The number whose decimal digits the text is, without sign and without a leading zero, where it is at most `max`.
+///
+/// Digits of any length are read. `NotWhole` comes before `TooLarge`.
+pub fn read_whole(text: &[u8], max: u64) -> Result<u64, WholeFault>
+    ensures { result ≡ whole_within max text.now }
+{
+    if !is_whole(text) {
+        return Err(WholeFault::NotWhole);
+    }
+    let mut number: u64 = 0;
+    for digit in text {
+        let longer = u128::from(number) * 10 + u128::from(*digit - b'0');
+        if longer > u128::from(max) {
+            return Err(WholeFault::TooLarge);
+        }
+        number = longer as u64;
+    }
+    Ok(number)
+}
+
+// Appends the decimal digits of a number, for which there is room.
+#[tactic(auto, using(std::proofs::lemmas::Fmt::decimal_step, std::proofs::lemmas::Fmt::decimal_digit))]
+fn put_digits(out: &mut Vec<u8>, number: u64)
+    requires { vec_len out.old + length (decimal number) ≤ vec_capacity out.old }
+    ensures digits { out.new.items ≡ out.old.items ++ decimal number }
+    ensures len { vec_len out.new ≡ vec_len out.old + length (decimal number) }
+    ensures room { vec_capacity out.old ≤ vec_capacity out.new }
+{
+    if number < 10 {
+        out.push(b'0' + number as u8).unwrap();
+        return;
+    }
+    put_digits(out, number / 10);
+    out.push(b'0' + (number % 10) as u8).unwrap();
+}
+
+/// Appends the decimal digits of a number, at most twenty. It can't fail where there is room for twenty octets, and leaves
+/// `out` as it was where a growth is refused.
+pub fn push_whole(out: &mut Vec<u8>, number: u64) -> Result<(), AllocError>
+    ensures digits { OnOk result (out.new.items ≡ out.old.items ++ decimal number) }
+    ensures len { OnOk result (vec_len out.new ≤ vec_len out.old + 20) }
+    ensures err { OnErr result (out.new.items ≡ out.old.items) }
+    ensures room { vec_capacity out.old ≤ vec_capacity out.new }
+    ensures succeeds { vec_len out.old + 20 ≤ vec_capacity out.old → IsOk result }
+{
+    out.reserve(MOST_DIGITS)?;
+    put_digits(out, number);
+    Ok(())
+}

@@ -1,0 +1,410 @@
+// Certificates judged.
+use crate::inputs::{
+    BASE, CAPACITY, CROWDED, HOSTED, Numbers, ONE_SERVER, SETTINGS, Texts, instance_of, plan,
+    shortage,
+};
+use hsp_cert::Certificate;
+use hsp_check::{Reason, Verdict, check};
+use hsp_instance::Instance;
+use std::alloc::Global;
+use std::process::Abort;
+
+// A best plan of the base.
+const BEST: Numbers = Numbers {
+    cost: 17,
+    uses: &[(0, 0, 5), (1, 0, 4), (2, 0, 1), (2, 1, 2)],
+    rows: &[2, 1, 3],
+    servers: &[0, 1, 0, 0, 0],
+    hosts: &[],
+};
+
+// Whether the certificate has this verdict.
+fn judged(
+    rt: &impl Abort,
+    alloc: Global,
+    instance: &Instance,
+    certificate: Option<Certificate>,
+    wanted: Verdict,
+) {
+    let Some(certificate) = certificate else {
+        return;
+    };
+    if let Ok(verdict) = check(alloc, instance, &certificate) {
+        assert_eq!(rt; verdict, wanted);
+    }
+}
+
+#[test]
+fn a_best_plan_is_valid(rt: HostRuntime) {
+    let alloc = rt.alloc();
+    let Some(base) = instance_of(alloc, BASE) else {
+        return;
+    };
+    judged(&rt, alloc, &base, plan(alloc, BEST), Verdict::Yes);
+}
+
+#[test]
+fn sums_that_are_wrong_are_told(rt: HostRuntime) {
+    let alloc = rt.alloc();
+    let Some(base) = instance_of(alloc, BASE) else {
+        return;
+    };
+    let cases = [
+        (Numbers { cost: 16, ..BEST }, Reason::Cost),
+        (
+            Numbers {
+                cost: 16,
+                servers: &[0, 1, 0, 0, 1],
+                ..BEST
+            },
+            Reason::Cost,
+        ),
+        (
+            Numbers {
+                cost: 16,
+                uses: &[(0, 0, 4), (1, 0, 4), (2, 0, 1), (2, 1, 2)],
+                ..BEST
+            },
+            Reason::RowSum,
+        ),
+        (
+            Numbers {
+                uses: &[(0, 0, 4), (1, 0, 4), (2, 0, 1), (2, 1, 2)],
+                ..BEST
+            },
+            Reason::RowSum,
+        ),
+        (
+            Numbers {
+                uses: &[(0, 0, 5), (1, 0, 4), (2, 0, 3)],
+                ..BEST
+            },
+            Reason::Load,
+        ),
+    ];
+    for (numbers, reason) in cases {
+        judged(&rt, alloc, &base, plan(alloc, numbers), Verdict::No(reason));
+    }
+}
+
+#[test]
+fn shapes_that_are_wrong_are_told(rt: HostRuntime) {
+    let alloc = rt.alloc();
+    let Some(base) = instance_of(alloc, BASE) else {
+        return;
+    };
+    let cases = [
+        (
+            Numbers {
+                servers: &[0, 1, 0, 0],
+                ..BEST
+            },
+            Reason::Shape,
+        ),
+        (
+            Numbers {
+                uses: &[(0, 0, 5), (1, 2, 4), (2, 0, 1), (2, 1, 2)],
+                ..BEST
+            },
+            Reason::NoSuchUse,
+        ),
+    ];
+    for (numbers, reason) in cases {
+        judged(&rt, alloc, &base, plan(alloc, numbers), Verdict::No(reason));
+    }
+}
+
+#[test]
+fn prices_that_are_wrong_are_told(rt: HostRuntime) {
+    let alloc = rt.alloc();
+    let Some(base) = instance_of(alloc, BASE) else {
+        return;
+    };
+    let cases = [
+        (
+            Numbers {
+                servers: &[0, 1, 0, 0, 1],
+                ..BEST
+            },
+            Reason::IdlePrice,
+        ),
+        (
+            Numbers {
+                rows: &[3, 1, 3],
+                ..BEST
+            },
+            Reason::ArcPrice,
+        ),
+        (
+            Numbers {
+                rows: &[1, 1, 3],
+                ..BEST
+            },
+            Reason::UsedArcPrice,
+        ),
+        (
+            Numbers {
+                rows: &[1000000000000, 1, 3],
+                ..BEST
+            },
+            Reason::ArcPrice,
+        ),
+    ];
+    for (numbers, reason) in cases {
+        judged(&rt, alloc, &base, plan(alloc, numbers), Verdict::No(reason));
+    }
+}
+
+#[test]
+fn short_sets_are_judged(rt: HostRuntime) {
+    let alloc = rt.alloc();
+    let texts = Texts {
+        demand: b"region,handle,count\nr1,10/1,5\nr1,10/2,4\nr2,10/3,9\n",
+        ..BASE
+    };
+    let Some(instance) = instance_of(alloc, texts) else {
+        return;
+    };
+    let cases: [(&[u32], u64, u64, Verdict); 6] = [
+        (&[2], 9, 8, Verdict::Yes),
+        (&[2], 10, 8, Verdict::No(Reason::DemandSum)),
+        (&[2], 9, 9, Verdict::No(Reason::CapacitySum)),
+        (&[1], 4, 20, Verdict::No(Reason::NotShort)),
+        (&[3], 9, 8, Verdict::No(Reason::Shape)),
+        (&[2], 10000000000000000, 8, Verdict::No(Reason::DemandSum)),
+    ];
+    for (rows, demand, capacity, verdict) in cases {
+        judged(
+            &rt,
+            alloc,
+            &instance,
+            shortage(alloc, rows, demand, capacity),
+            verdict,
+        );
+    }
+}
+
+#[test]
+fn the_empty_short_set_is_not_short(rt: HostRuntime) {
+    let alloc = rt.alloc();
+    let Some(base) = instance_of(alloc, BASE) else {
+        return;
+    };
+    judged(
+        &rt,
+        alloc,
+        &base,
+        shortage(alloc, &[], 0, 0),
+        Verdict::No(Reason::NotShort),
+    );
+}
+
+#[test]
+fn each_of_several_best_plans_is_valid(rt: HostRuntime) {
+    let alloc = rt.alloc();
+    let texts = Texts {
+        settings: SETTINGS,
+        demand: b"region,handle,count\nr1,10/1,2\n",
+        costs: b"region,site,cost\nr1,E,1\nr1,W,1\n",
+        capacity: CAPACITY,
+    };
+    let Some(instance) = instance_of(alloc, texts) else {
+        return;
+    };
+    let all: [&[(u32, u32, u64)]; 3] = [&[(0, 0, 2)], &[(0, 0, 1), (0, 1, 1)], &[(0, 1, 2)]];
+    for uses in all {
+        let numbers = Numbers {
+            cost: 2,
+            uses,
+            rows: &[1],
+            servers: &[0, 0, 0, 0, 0],
+            hosts: &[],
+        };
+        judged(&rt, alloc, &instance, plan(alloc, numbers), Verdict::Yes);
+    }
+}
+
+#[test]
+fn an_empty_demand_has_an_empty_plan(rt: HostRuntime) {
+    let alloc = rt.alloc();
+    let texts = Texts {
+        demand: b"region,handle,count\n",
+        ..BASE
+    };
+    let Some(instance) = instance_of(alloc, texts) else {
+        return;
+    };
+    let numbers = Numbers {
+        cost: 0,
+        uses: &[],
+        rows: &[],
+        servers: &[0, 0, 0, 0, 0],
+        hosts: &[],
+    };
+    judged(&rt, alloc, &instance, plan(alloc, numbers), Verdict::Yes);
+}
+
+#[test]
+fn a_row_without_costs_is_short_where_it_asks(rt: HostRuntime) {
+    let alloc = rt.alloc();
+    let asking = Texts {
+        demand: b"region,handle,count\nr3,10/1,1\n",
+        ..BASE
+    };
+    if let Some(instance) = instance_of(alloc, asking) {
+        judged(
+            &rt,
+            alloc,
+            &instance,
+            shortage(alloc, &[0], 1, 0),
+            Verdict::Yes,
+        );
+    }
+    let idle = Texts {
+        demand: b"region,handle,count\nr3,10/1,0\n",
+        ..BASE
+    };
+    let numbers = Numbers {
+        cost: 0,
+        uses: &[],
+        rows: &[0],
+        servers: &[0, 0, 0, 0, 0],
+        hosts: &[],
+    };
+    if let Some(instance) = instance_of(alloc, idle) {
+        judged(&rt, alloc, &instance, plan(alloc, numbers), Verdict::Yes);
+    }
+}
+
+#[test]
+fn hosts_have_limits_and_prices(rt: HostRuntime) {
+    let alloc = rt.alloc();
+    let hosted = Texts {
+        settings: HOSTED,
+        ..BASE
+    };
+    let numbers = Numbers {
+        cost: 23,
+        uses: &[(0, 0, 5), (1, 0, 2), (1, 1, 2), (2, 0, 1), (2, 1, 2)],
+        rows: &[4, 4, 5],
+        servers: &[0, 0, 2, 0, 0],
+        hosts: &[3],
+    };
+    let Some(instance) = instance_of(alloc, hosted) else {
+        return;
+    };
+    let cheaper = Numbers {
+        hosts: &[2],
+        ..numbers
+    };
+    judged(&rt, alloc, &instance, plan(alloc, numbers), Verdict::Yes);
+    judged(
+        &rt,
+        alloc,
+        &instance,
+        plan(alloc, cheaper),
+        Verdict::No(Reason::ArcPrice),
+    );
+    judged(
+        &rt,
+        alloc,
+        &instance,
+        plan(alloc, BEST),
+        Verdict::No(Reason::Shape),
+    );
+}
+
+#[test]
+fn a_host_is_counted_once(rt: HostRuntime) {
+    let alloc = rt.alloc();
+    let texts = Texts {
+        settings: CROWDED,
+        costs: b"region,site,cost\nr1,E,1\nr2,E,2\n",
+        ..BASE
+    };
+    let Some(instance) = instance_of(alloc, texts) else {
+        return;
+    };
+    judged(
+        &rt,
+        alloc,
+        &instance,
+        shortage(alloc, &[0, 1, 2], 12, 2),
+        Verdict::Yes,
+    );
+    judged(
+        &rt,
+        alloc,
+        &instance,
+        shortage(alloc, &[0, 1, 2], 12, 16),
+        Verdict::No(Reason::CapacitySum),
+    );
+}
+
+#[test]
+fn handles_of_one_hash_share_a_server(rt: HostRuntime) {
+    let alloc = rt.alloc();
+    let texts = Texts {
+        demand: b"region,handle,count\nr1,10/a,2\nr1,10/A,3\nr2,10/a,4\n",
+        ..BASE
+    };
+    let Some(instance) = instance_of(alloc, texts) else {
+        return;
+    };
+    let numbers = Numbers {
+        cost: 16,
+        uses: &[(0, 0, 2), (1, 0, 3), (2, 0, 1), (2, 1, 3)],
+        rows: &[2, 2, 3],
+        servers: &[0, 1, 0, 0, 0],
+        hosts: &[],
+    };
+    judged(&rt, alloc, &instance, plan(alloc, numbers), Verdict::Yes);
+}
+
+#[test]
+fn the_greatest_sums_are_judged(rt: HostRuntime) {
+    let alloc = rt.alloc();
+    let texts = Texts {
+        settings: ONE_SERVER,
+        demand: TWENTY_ROWS,
+        costs: b"region,site,cost\nr1,X,1000000\n",
+        capacity: b"site,server_id,capacity\nX,7,20000000\n",
+    };
+    let Some(instance) = instance_of(alloc, texts) else {
+        return;
+    };
+    let numbers = Numbers {
+        cost: 20000000000000,
+        uses: TWENTY_USES,
+        rows: &[1000000000000; 20],
+        servers: &[999999000000],
+        hosts: &[],
+    };
+    judged(&rt, alloc, &instance, plan(alloc, numbers), Verdict::Yes);
+}
+
+const TWENTY_ROWS: &[u8] =
+    b"region,handle,count\nr1,10/0,1000000\nr1,10/1,1000000\nr1,10/2,1000000\nr1,10/3,1000000\nr1,10/4,1000000\nr1,10/5,1000000\nr1,10/6,1000000\nr1,10/7,1000000\nr1,10/8,1000000\nr1,10/9,1000000\nr1,10/10,1000000\nr1,10/11,1000000\nr1,10/12,1000000\nr1,10/13,1000000\nr1,10/14,1000000\nr1,10/15,1000000\nr1,10/16,1000000\nr1,10/17,1000000\nr1,10/18,1000000\nr1,10/19,1000000\n";
+
+const TWENTY_USES: &[(u32, u32, u64)] = &[
+    (0, 0, 1000000),
+    (1, 0, 1000000),
+    (2, 0, 1000000),
+    (3, 0, 1000000),
+    (4, 0, 1000000),
+    (5, 0, 1000000),
+    (6, 0, 1000000),
+    (7, 0, 1000000),
+    (8, 0, 1000000),
+    (9, 0, 1000000),
+    (10, 0, 1000000),
+    (11, 0, 1000000),
+    (12, 0, 1000000),
+    (13, 0, 1000000),
+    (14, 0, 1000000),
+    (15, 0, 1000000),
+    (16, 0, 1000000),
+    (17, 0, 1000000),
+    (18, 0, 1000000),
+    (19, 0, 1000000),
+];
