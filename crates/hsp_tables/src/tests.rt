@@ -126,7 +126,7 @@ fn the_base_settings_are_read(rt: HostRuntime) -> Result<(), Fail> {
 }
 
 #[test]
-fn faults_of_tables(rt: HostRuntime) -> Result<(), Fail> {
+fn faults_of_demand(rt: HostRuntime) -> Result<(), Fail> {
     let twice = Some(TableFault::RowTwice { row: 1 });
     let number = Some(TableFault::BadNumber { row: 0 });
     let fields = Some(TableFault::Fields { row: 0 });
@@ -161,6 +161,12 @@ fn faults_of_tables(rt: HostRuntime) -> Result<(), Fail> {
     for (text, wanted) in cases {
         is_fault(&rt, text, read_demand(rt.alloc(), text).err(), wanted);
     }
+    Ok(())
+}
+
+#[test]
+fn faults_of_costs(rt: HostRuntime) -> Result<(), Fail> {
+    let number = Some(TableFault::BadNumber { row: 0 });
     let cases: [(&[u8], Option<TableFault>); 4] = [
         (b"region,handle,count\n", Some(TableFault::Header)),
         (
@@ -176,6 +182,13 @@ fn faults_of_tables(rt: HostRuntime) -> Result<(), Fail> {
     for (text, wanted) in cases {
         is_fault(&rt, text, read_costs(rt.alloc(), text).err(), wanted);
     }
+    Ok(())
+}
+
+#[test]
+fn faults_of_capacity(rt: HostRuntime) -> Result<(), Fail> {
+    let twice = Some(TableFault::RowTwice { row: 1 });
+    let number = Some(TableFault::BadNumber { row: 0 });
     let cases: [(&[u8], Option<TableFault>); 4] = [
         (
             b"site,server_id,capacity\nE,4294967295,1000000000\nW,4294967295,0\n",
@@ -319,78 +332,95 @@ fn numbered(
 }
 
 #[test]
-fn tables_at_the_limits(rt: HostRuntime) -> Result<(), Fail> {
-    let rows = Some(TableFault::TooManyRows);
-    let regions = Some(TableFault::TooManyRegions);
+fn demand_at_the_limits(rt: HostRuntime) -> Result<(), Fail> {
     let head = b"region,handle,count\n";
     for (before, after, end, wanted) in [
         (b"r1,10/".as_slice(), b",1\n".as_slice(), 8192, None),
-        (b"r1,10/".as_slice(), b",1\n".as_slice(), 8193, rows),
+        (
+            b"r1,10/".as_slice(),
+            b",1\n".as_slice(),
+            8193,
+            Some(TableFault::TooManyRows),
+        ),
         (b"r".as_slice(), b",10/1,1\n".as_slice(), 64, None),
-        (b"r".as_slice(), b",10/1,1\n".as_slice(), 65, regions),
+        (
+            b"r".as_slice(),
+            b",10/1,1\n".as_slice(),
+            65,
+            Some(TableFault::TooManyRegions),
+        ),
     ] {
-        let text = numbered(rt.alloc(), head, before, after, 0, end)?;
-        is_fault(
-            &rt,
-            before,
-            read_demand(rt.alloc(), text.as_slice()).err(),
-            wanted,
-        );
-    }
-    let head = b"region,site,cost\n";
-    for (before, after, end, wanted) in [
-        (b"r1,s".as_slice(), b",1\n".as_slice(), 2048, None),
-        (b"r1,s".as_slice(), b",1\n".as_slice(), 2049, rows),
-        (b"r".as_slice(), b",E,1\n".as_slice(), 65, regions),
-    ] {
-        let text = numbered(rt.alloc(), head, before, after, 0, end)?;
-        is_fault(
-            &rt,
-            before,
-            read_costs(rt.alloc(), text.as_slice()).err(),
-            wanted,
-        );
-    }
-    for (end, wanted) in [(1024, None), (1025, rows)] {
-        let text = numbered(
-            rt.alloc(),
-            b"site,server_id,capacity\n",
-            b"E,",
-            b",1\n",
-            0,
-            end,
-        )?;
-        is_fault(
-            &rt,
-            b"E",
-            read_capacity(rt.alloc(), text.as_slice()).err(),
-            wanted,
-        );
+        let Ok(text) = numbered(rt.alloc(), head, before, after, 0, end) else {
+            return Ok(());
+        };
+        let answer = read_demand(rt.alloc(), text.as_slice()).err();
+        is_fault(&rt, before, answer, wanted);
     }
     Ok(())
 }
 
 #[test]
-fn settings_at_the_limits(rt: HostRuntime) -> Result<(), Fail> {
+fn costs_at_the_limits(rt: HostRuntime) -> Result<(), Fail> {
+    let head = b"region,site,cost\n";
+    for (before, after, end, wanted) in [
+        (b"r1,s".as_slice(), b",1\n".as_slice(), 2048, None),
+        (
+            b"r1,s".as_slice(),
+            b",1\n".as_slice(),
+            2049,
+            Some(TableFault::TooManyRows),
+        ),
+        (
+            b"r".as_slice(),
+            b",E,1\n".as_slice(),
+            65,
+            Some(TableFault::TooManyRegions),
+        ),
+    ] {
+        let Ok(text) = numbered(rt.alloc(), head, before, after, 0, end) else {
+            return Ok(());
+        };
+        let answer = read_costs(rt.alloc(), text.as_slice()).err();
+        is_fault(&rt, before, answer, wanted);
+    }
+    Ok(())
+}
+
+#[test]
+fn capacity_at_the_limits(rt: HostRuntime) -> Result<(), Fail> {
+    let head = b"site,server_id,capacity\n";
+    for (end, wanted) in [(1024, None), (1025, Some(TableFault::TooManyRows))] {
+        let Ok(text) = numbered(rt.alloc(), head, b"E,", b",1\n", 0, end) else {
+            return Ok(());
+        };
+        let answer = read_capacity(rt.alloc(), text.as_slice()).err();
+        is_fault(&rt, b"E", answer, wanted);
+    }
+    Ok(())
+}
+
+#[test]
+fn sites_at_the_limits(rt: HostRuntime) -> Result<(), Fail> {
     let before = b"[[site]]\nname = \"s";
     for (end, wanted) in [(32, None), (33, Some(TableFault::TooManySites))] {
-        let text = numbered(rt.alloc(), b"", before, b"\"\nindex = 1\n", 0, end)?;
-        is_fault(
-            &rt,
-            before,
-            read_settings(rt.alloc(), text.as_slice()).err(),
-            wanted,
-        );
+        let Ok(text) = numbered(rt.alloc(), b"", before, b"\"\nindex = 1\n", 0, end) else {
+            return Ok(());
+        };
+        let answer = read_settings(rt.alloc(), text.as_slice()).err();
+        is_fault(&rt, before, answer, wanted);
     }
+    Ok(())
+}
+
+#[test]
+fn hosts_at_the_limits(rt: HostRuntime) -> Result<(), Fail> {
     let before = b"[[host]]\naddress = \"0000000000000000000000000000";
     for (end, wanted) in [(2024, None), (2025, Some(TableFault::TooManyHosts))] {
-        let text = numbered(rt.alloc(), b"", before, b"\"\nlimit = 1\n", 1000, end)?;
-        is_fault(
-            &rt,
-            before,
-            read_settings(rt.alloc(), text.as_slice()).err(),
-            wanted,
-        );
+        let Ok(text) = numbered(rt.alloc(), b"", before, b"\"\nlimit = 1\n", 1000, end) else {
+            return Ok(());
+        };
+        let answer = read_settings(rt.alloc(), text.as_slice()).err();
+        is_fault(&rt, before, answer, wanted);
     }
     Ok(())
 }
