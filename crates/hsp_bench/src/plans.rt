@@ -7,7 +7,7 @@ use crate::tables::{build_instance, read_texts};
 use crate::watch::Watch;
 use hsp_cert::Certificate;
 use hsp_check::check;
-use hsp_flow::solve;
+use hsp_flow::{Effort, HeapFrontier, solve_counted};
 use hsp_instance::Instance;
 use std::alloc::Global;
 use std::rt::Clock;
@@ -71,6 +71,12 @@ fn print_size<R: Print>(rt: &R, size: &Size) -> io::Result<()> {
     print!(rt; "{rows} rows, capacity {whole}.{part:02}, costs up to {most}: ")
 }
 
+fn print_effort<R: Print>(rt: &R, effort: &Effort) -> io::Result<()> {
+    let (searches, settled) = (effort.searches, effort.settled);
+    let augmentations = effort.augmentations;
+    print!(rt; "    {searches} searches, {settled} settled nodes, {augmentations} augmentations")
+}
+
 /// Plans an instance of the size, checks the certificate, and prints the times of both.
 pub fn measure_plan<R: AllocGlobal + Clock + CpuClock + Print>(
     rt: &R,
@@ -80,13 +86,16 @@ pub fn measure_plan<R: AllocGlobal + Clock + CpuClock + Print>(
     let instance = instance_of(alloc, size)?;
     print_size(rt, size)?;
     let solving = Watch::start(rt)?;
-    let certificate = solve(alloc, &instance)?;
+    let mut effort = Effort::default();
+    let certificate = solve_counted::<HeapFrontier>(alloc, &instance, &mut effort)?;
     let solved = solving.times(rt)?;
     let checking = Watch::start(rt)?;
     let verdict = check(alloc, &instance, &certificate)?;
     let checked = checking.times(rt)?;
     let shown = shown_by(&certificate);
-    println!(rt; "{shown}, solved in {solved}, checked in {checked}: {verdict:?}")?;
+    println!(rt; "{shown}, solved in {solved}")?;
+    print_effort(rt, &effort)?;
+    println!(rt; ", checked in {checked}: {verdict:?}")?;
     Ok(())
 }
 

@@ -35,10 +35,17 @@ impl Watch {
     }
 }
 
+// A duration in seconds, to the millisecond.
+fn write_seconds<W: fmt::Write>(f: &mut fmt::Formatter<W>, time: Duration) -> fmt::Result {
+    let (seconds, thousandths) = (time.as_secs(), time.subsec_millis());
+    write!(f, "{seconds}.{thousandths:03}")
+}
+
 impl fmt::Display for Times {
     fn fmt<W: fmt::Write>(&self, f: &mut fmt::Formatter<W>) -> fmt::Result {
-        let elapsed = self.elapsed.as_millis();
-        let processor = self.processor.as_millis();
-        write!(f, "{elapsed} ms ({processor} of the processor)")
+        write_seconds(f, self.elapsed)?;
+        f.write_str(" s (")?;
+        write_seconds(f, self.processor)?;
+        f.write_str(" of the processor)")
     }
 }

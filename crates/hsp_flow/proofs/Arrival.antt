@@ -1,36 +1,26 @@
 -- After a search that came to the sink: its tree is tight under the raised prices, and the prices stay within bounds.
 use Rattle.std.proofs.Common.{◌≡◌, ◌≢◌, ℕ, ◌+◌, ◌-◌, ◌<◌, ◌≤◌, ◌==◌, inl, inr, Bool, List, length, slice_index, set, Option, ap, arith, get_or-set_same, get_or-set_other, add-mul, mul-le-mul_right}
 use Rattle.std.proofs.lemmas.Bool.{cases_eq, cases_lt}
-use Rattle.hsp_flow.specs.Residual.{Graph, Sound, Relaxed, Tree, from, to, width, raised}
+use Rattle.hsp_flow.specs.Residual.{Graph, Sound, Tree, from, to, width, raised}
 use Rattle.hsp_flow.specs.Search.{Found, Offered, Priced, Spread, Begun}
 use Rattle.hsp_flow.proofs.Directions.{gives_raised, takes_raised}
-use Rattle.hsp_flow.proofs.Searching.{arrived}
 
 module _ (root top nodes : ℕ) (tails heads costs capacities supplies flows room : List ℕ) (price : ℕ → ℕ) (unmet : List ℕ) (much : ℕ)
     (key via amount depth : List ℕ)
     (graph : Graph nodes tails heads costs capacities supplies)
     (sound : Sound nodes tails heads costs capacities supplies flows room price unmet)
     (found : Found root top nodes tails heads costs flows room price much key via amount depth) where
-  pub relaxed_by : Relaxed (slice_index key 0) tails heads costs flows room price key
-  relaxed_by = arrived root top nodes tails heads costs flows room price much found.held key via amount depth found.now found.search found.least
-
-  pub sink_near : slice_index key 0 < top
-  sink_near = found.search.held_low 0 (slice_index key 0) found.least.there
-
-  pub sink_in : 0 < nodes
-  sink_in = found.search.held_in 0 (slice_index key 0) found.least.there
-
   pub sink_some : 0 < slice_index amount 0
-  sink_some = found.search.some 0 sink_in sink_near
+  sink_some = found.search.some 0 found.sink_in found.sink_near
 
   pub sink_low : slice_index amount 0 ≤ much
-  sink_low = found.search.no_more 0 sink_in sink_near
+  sink_low = found.search.no_more 0 found.sink_in found.sink_near
 
   pub tree_by : Tree root (slice_index key 0) nodes tails heads costs flows room (raised price key (slice_index key 0)) key via amount depth
   tree_by = record {
     via_many = found.search.via_many;
     arc = λ v l nr q.
-        let near : slice_index key v < top = omega (arith, sink_near) in
+        let near : slice_index key v < top = omega (arith, found.sink_near) in
         let it = found.search.reached v l nr near in
         let d : Bool = slice_index heads (slice_index via v) == v in
         let wide : 0 < width flows room (slice_index via v) (slice_index heads (slice_index via v) == v) = omega (arith, found.search.some v l near, it.fits) in
@@ -59,7 +49,7 @@ module _ (root top nodes : ℕ) (tails heads costs capacities supplies flows roo
       (v : ℕ) → v < nodes → price v + (slice_index key 0 - slice_index key v) ≤ limit
   priced_by limit up down p few old v l = elim (cases_lt (slice_index key v) (slice_index key 0)) [
     | inl less ↦
-        omega (arith, sound.sink_free, p.low 0 sink_in sink_near, p.high v l (omega (arith, sink_near)))
+        omega (arith, sound.sink_free, p.low 0 found.sink_in found.sink_near, p.high v l (omega (arith, found.sink_near)))
     | inr more ↦ omega (arith, old v l)
   ]
 
@@ -85,7 +75,7 @@ pub priced_more : (root top nodes : ℕ) (price : ℕ → ℕ) (key : List ℕ) 
     Priced root top nodes price key up' down'
 priced_more root top nodes price key up down up' down' p a b = record { low = λ v l q. omega (arith, p.low v l q); high = λ v l q. omega (arith, p.high v l q) }
 
-priced_offered : (root top nodes : ℕ) (price : ℕ → ℕ) (held held' : ℕ → Option ℕ) (key key' via via' amount amount' depth depth' : List ℕ) (arc from to offer much up down : ℕ) →
+pub priced_offered : (root top nodes : ℕ) (price : ℕ → ℕ) (held held' : ℕ → Option ℕ) (key key' via via' amount amount' depth depth' : List ℕ) (arc from to offer much up down : ℕ) →
     to < length key → Offered held held' key key' via via' amount amount' depth depth' arc from to offer much →
     Priced root top nodes price key up down →
     offer + price root ≤ price to + up → price to ≤ offer + price root + down →
@@ -99,14 +89,8 @@ priced_offered root top nodes price held held' key key' via via' amount amount' 
 -- an offer along a link of the node may add its cost to what lies between, one against a link takes it
 module _ (root top nodes : ℕ) (tails heads costs : List ℕ) (price : ℕ → ℕ) (held held' : ℕ → Option ℕ)
     (key key' via via' amount amount' depth depth' : List ℕ) (near node k cost offer much up down : ℕ)
-    (key0 : List ℕ) (node-in : node < nodes) (near-low : near < top) (at0 : slice_index key0 node ≡ near) (p0 : Priced root top nodes price key0 up down)
+    (node-low : near + price root ≤ price node + up) (node-high : price node ≤ near + price root + down)
     (dear : slice_index costs k ≤ cost) where
-  node-low : near + price root ≤ price node + up
-  node-low = omega (arith, p0.low node node-in (omega arith))
-
-  node-high : price node ≤ near + price root + down
-  node-high = omega (arith, p0.high node node-in (omega arith))
-
   pub out_priced : slice_index heads k < length key → offer + price node ≡ near + (slice_index costs k + price (slice_index heads k)) →
       Priced root top nodes price key (up + cost) down →
       Offered held held' key key' via via' amount amount' depth depth' k node (slice_index heads k) offer much →

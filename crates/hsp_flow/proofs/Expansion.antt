@@ -5,7 +5,7 @@ use Rattle.hsp_flow.specs.Residual.{Graph, from, to, width, gives, takes}
 use Rattle.hsp_flow.specs.Search.{Settled, Offered, Expanding, Among, settled_test, settled_count}
 use Rattle.hsp_flow.proofs.Sums.{sum_below_le}
 use Rattle.hsp_flow.proofs.Directions.{to_in}
-use Rattle.hsp_flow.proofs.Searching.{kept, lowered, still, cases_option}
+use Rattle.hsp_flow.proofs.Searching.{fewer, kept, lowered, still, cases_option}
 
 module _ (held : ℕ → Option ℕ) (key : List ℕ) (top v : ℕ) where
   pub settled_from_test : settled_test held key top v ≡ true → Settled held key top v
@@ -65,25 +65,8 @@ module _ (root top nodes : ℕ) (tails heads costs flows room : List ℕ) (price
       ((k : ℕ) (d : Bool) → k < length tails → 0 < width flows room k d → from tails heads k d ≡ node → seen' k d → seen k d) →
       Expanding root top nodes tails heads costs flows room price unmet held key via amount depth near node seen' many turn far
   reseen seen' old =
-      let s = e.search in
       record {
-        search = record {
-          key_many = s.key_many;
-          via_many = s.via_many;
-          amount_many = s.amount_many;
-          depth_many = s.depth_many;
-          held_in = s.held_in;
-          held_key = s.held_key;
-          held_late = s.held_late;
-          held_low = s.held_low;
-          settled_early = s.settled_early;
-          sink_waits = s.sink_waits;
-          relaxed = λ k d l wide st look. s.relaxed k d l wide st (λ q. old k d l wide q (look q));
-          reached = s.reached;
-          root_near = s.root_near;
-          some = s.some;
-          no_more = s.no_more;
-        };
+        search = fewer root top nodes tails heads costs flows room price unmet held key via amount depth near _ _ (λ k d l wide look q. old k d l wide q (look q)) e.search;
         settled = e.settled;
         at = e.at;
         node_in = e.node_in;
@@ -123,8 +106,8 @@ module _ (root top nodes : ℕ) (tails heads costs capacities supplies flows roo
     near-here : slice_index key (from tails heads k d) ≡ near
     near-here = rw leaves e.at
 
-    settled-here : Settled held key top (from tails heads k d)
-    settled-here = rw leaves e.settled
+    early-here : slice_index key (from tails heads k d) ≤ near
+    early-here = omega (arith, near-here)
 
     -- the arc's end was offered the way over it
     pub offered : (held' : ℕ → Option ℕ) (key' via' amount' depth' : List ℕ) →
@@ -151,10 +134,10 @@ module _ (root top nodes : ℕ) (tails heads costs capacities supplies flows roo
           let carried' : much ≤ slice_index amount (from tails heads k d) = omega arith in
           let still' : (v : ℕ) → Settled held key top v → Settled held' (set key (to tails heads k d) offer) top v =
           still root top nodes tails heads costs capacities supplies flows room price unmet graph held key via amount depth near k d _ _ look_next e.search
-          (to tails heads k d) offer much held' w.0 link refl settled-here late less off-top exact' pos carried' fits in
+          (to tails heads k d) offer much held' w.0 link refl early-here late less off-top exact' pos carried' fits in
           rw (w.1, w.2, w.3, w.4) (record {
             search = rw leaves at (lowered root top nodes tails heads costs capacities supplies flows room price unmet graph held key via amount depth near k d _ _ look_next e.search
-                (to tails heads k d) offer much held' w.0 link refl settled-here late less off-top exact' pos carried' fits);
+                (to tails heads k d) offer much held' w.0 link refl early-here late less off-top exact' pos carried' fits);
             settled = still' node e.settled;
             at = low-key node ne ∙ e.at;
             node_in = e.node_in;

@@ -2,6 +2,7 @@ pub mod Appending
 pub mod Arrival
 pub mod Building
 pub mod Carrying
+pub mod Descending
 pub mod Directions
 pub mod Expansion
 pub mod Filling

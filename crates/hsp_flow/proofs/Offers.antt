@@ -45,13 +45,13 @@ module _ (root top nodes : ℕ) (tails heads costs capacities supplies flows roo
         (omega (arith, e.search.some node e.node_in e.settled.reached)) (omega arith) (omega arith)
 
     pub out_spread : (held' : ℕ → Option ℕ) (key' via' amount' depth' : List ℕ) (sent : ℕ) → slice_index costs k ≤ dearest →
-        Priced root top nodes price key0 up down → Priced root top nodes price key (up + dearest) down →
+        near + price root ≤ price node + up → price node ≤ near + price root + down → Priced root top nodes price key (up + dearest) down →
         Offered held held' key key' via via' amount amount' depth depth' k node (slice_index heads k)
         (near + (slice_index costs k + price (slice_index heads k) - price node)) sent →
         Priced root top nodes price key' (up + dearest) down
-    out_spread held' key' via' amount' depth' sent dear p0 p o =
+    out_spread held' key' via' amount' depth' sent dear low high p o =
         out_priced root top nodes tails heads costs price held held' key key' via via' amount amount' depth depth' near node k dearest _ sent up down
-        key0 e.node_in near-low at0 p0 dear (omega (arith, e.search.key_many, graph.down k link, graph.tails_in k link)) (omega (arith, out_pays)) p o
+        low high dear (omega (arith, e.search.key_many, graph.down k link, graph.tails_in k link)) (omega (arith, out_pays)) p o
 
   module _ (here : slice_index heads k ≡ node) (wide : 0 < slice_index flows k) (steps : price (slice_index tails k) ≤ step) where
     pub in_pays : slice_index costs k + price node ≤ price (slice_index tails k)
@@ -79,4 +79,5 @@ module _ (root top nodes : ℕ) (tails heads costs capacities supplies flows roo
         Priced root top nodes price key' up (down + dearest)
     in_spread held' key' via' amount' depth' sent dear p0 p o =
         in_priced root top nodes tails heads costs price held held' key key' via via' amount amount' depth depth' near node k dearest _ sent up down
-        key0 e.node_in near-low at0 p0 dear (omega (arith, e.search.key_many, graph.tails_in k link)) (omega (arith, in_pays)) p o
+        (omega (arith, p0.low node e.node_in (omega arith))) (omega (arith, p0.high node e.node_in (omega arith)))
+        dear (omega (arith, e.search.key_many, graph.tails_in k link)) (omega (arith, in_pays)) p o

@@ -51,6 +51,18 @@ module _ (held : ℕ → Option ℕ) (xs : List (Reverse (ℕ × ℕ))) (paired 
           let there : list_any (is_pair v key) xs ≡ true = paired v key h in
           absurd (let none : list_any (is_pair v key) xs ≡ false = no_pair xs (is_pair v key) empty in cc)
 
+-- where no pair's node is held, none is
+pub all_forgotten : (held held' : ℕ → Option ℕ) (xs : List (Reverse (ℕ × ℕ))) → Pairs held xs →
+    ((v key : ℕ) → held' v ≡ Some key → held v ≡ Some key) → ((v key : ℕ) → list_any (is_pair v key) xs ≡ true → held' v ≡ None) → (v : ℕ) → held' v ≡ None
+all_forgotten held held' xs paired kept gone v = at (held' v) refl
+  where
+    at : (o : Option ℕ) → held' v ≡ o → o ≡ None
+    at None h = refl
+    at (Some key) h = absurd (let none : held' v ≡ None = gone v key (paired v key (kept v key h)) in cc)
+
+pub none_paired : (held : ℕ → Option ℕ) (xs : List (Reverse (ℕ × ℕ))) → ((v : ℕ) → held v ≡ None) → Pairs held xs
+none_paired held xs none v key h = absurd (let n = none v in cc)
+
 not_after : (x y : ℕ) (o : Ordering) → is_lt (ordering_then (nat_cmp y x) o) ≡ false → x ≤ y
 not_after x y o h = elim (cases_lt y x) [
   | inl less ↦ absurd (let t : is_lt (ordering_then (nat_cmp y x) o) ≡ true = rw (lt-ltb y x less) refl in cc)

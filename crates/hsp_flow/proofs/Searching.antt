@@ -2,13 +2,37 @@
 use Rattle.std.proofs.Common.{◌≡◌, ◌≢◌, ℕ, ◌+◌, ◌<◌, ◌≤◌, ◌==◌, ◌⊎◌, inl, inr, Bool, List, length, slice_index, set, Option, Some, None, refl, ap, sym, ◌∙◌, arith, length-set, get_or-set_same, get_or-set_other}
 use Rattle.std.proofs.lemmas.Bool.{cases_eq, cases_lt}
 use Rattle.hsp_flow.specs.Frontier.{Changes, IsLeast}
-use Rattle.hsp_flow.specs.Residual.{Graph, Relaxed, from, to, width, gives, takes}
-use Rattle.hsp_flow.specs.Search.{Settled, Reached, Search, Closed}
+use Rattle.hsp_flow.specs.Residual.{Graph, from, to, width, gives, takes}
+use Rattle.hsp_flow.specs.Search.{Settled, Reached, Search, Closed, Found}
 use Rattle.hsp_flow.proofs.Directions.{from_in, to_in, direction}
 
 pub cases_option : (o : Option ℕ) → (o ≡ None) ⊎ ((d : ℕ) × (o ≡ Some d))
 cases_option None = inl refl
 cases_option (Some d) = inr (d, refl)
+
+-- the same of fewer arcs
+pub fewer : (root top nodes : ℕ) (tails heads costs flows room : List ℕ) (price : ℕ → ℕ) (unmet : ℕ)
+    (held : ℕ → Option ℕ) (key via amount depth : List ℕ) (now : ℕ) (looked looked' : ℕ → Bool → Type 0) →
+    ((k : ℕ) (d : Bool) → k < length tails → 0 < width flows room k d → looked' k d → looked k d) →
+    Search root top nodes tails heads costs flows room price unmet held key via amount depth now looked →
+    Search root top nodes tails heads costs flows room price unmet held key via amount depth now looked'
+fewer root top nodes tails heads costs flows room price unmet held key via amount depth now looked looked' old s = record {
+  key_many = s.key_many;
+  via_many = s.via_many;
+  amount_many = s.amount_many;
+  depth_many = s.depth_many;
+  held_in = s.held_in;
+  held_key = s.held_key;
+  held_late = s.held_late;
+  held_low = s.held_low;
+  settled_early = s.settled_early;
+  sink_waits = s.sink_waits;
+  relaxed = λ k d l wide st look. s.relaxed k d l wide st (old k d l wide look);
+  reached = s.reached;
+  root_near = s.root_near;
+  some = s.some;
+  no_more = s.no_more;
+}
 
 module _ (root top nodes : ℕ) (tails heads costs capacities supplies flows room : List ℕ) (price : ℕ → ℕ) (unmet : ℕ)
     (graph : Graph nodes tails heads costs capacities supplies)
@@ -45,7 +69,7 @@ module _ (root top nodes : ℕ) (tails heads costs capacities supplies flows roo
 
   module _ (node offer much : ℕ) (held' : ℕ → Option ℕ) (change : Changes held held' node (Some offer))
       (link : k < length tails) (end : to tails heads k d ≡ node)
-      (settled : Settled held key top (from tails heads k d))
+      (early : slice_index key (from tails heads k d) ≤ now)
       (late : now ≤ offer) (less : offer < slice_index key node) (low : offer < top)
       (exact : offer + gives tails heads costs price k d ≡ slice_index key (from tails heads k d) + takes tails heads costs price k d)
       (pos : 0 < much) (carried : much ≤ slice_index amount (from tails heads k d)) (fits : much ≤ width flows room k d) where
@@ -112,11 +136,11 @@ module _ (root top nodes : ℕ) (tails heads costs capacities supplies flows roo
     new_arc : Reached tails heads costs flows room price (set key node offer) (set via node k) (set amount node much)
         (set depth node (slice_index depth (from tails heads k d) + 1)) now node d
     new_arc =
-        let ne = apart (from tails heads k d) settled in
+        let ne = apart_early (from tails heads k d) early in
         record {
           link = rw via-here link;
           end = rw via-here end;
-          soon = rw via-here (omega (arith, key-same (from tails heads k d) ne, s.settled_early (from tails heads k d) settled));
+          soon = rw via-here (omega (arith, key-same (from tails heads k d) ne, early));
           exact = rw via-here (omega (arith, key-here, key-same (from tails heads k d) ne, exact));
           nearer = rw via-here (omega (arith, depth-here, depth-same (from tails heads k d) ne));
           carried = rw via-here (omega (arith, amount-here, amount-same (from tails heads k d) ne));
@@ -173,7 +197,7 @@ module _ (root top nodes : ℕ) (tails heads costs capacities supplies flows roo
         | inr ne ↦ omega (arith, amount-same v ne, s.some v l (omega (arith, key-same v ne)))
       ];
       no_more = λ v l near. elim (cases_eq v node) [
-        | inl e ↦ rw e (omega (arith, amount-here, s.no_more (from tails heads k d) (from_in nodes tails heads costs capacities supplies graph k d link) settled.reached))
+        | inl e ↦ rw e (omega (arith, amount-here, s.no_more (from tails heads k d) (from_in nodes tails heads costs capacities supplies graph k d link) (omega arith)))
         | inr ne ↦ omega (arith, amount-same v ne, s.no_more v l (omega (arith, key-same v ne)))
       ];
     }
@@ -194,12 +218,22 @@ module _ (root top nodes : ℕ) (tails heads costs flows room : List ℕ) (price
     reached = let b : near < top = s.held_low node near least.there in omega arith;
   }
 
-  -- the search came to the sink
-  pub arrived : IsLeast held 0 (slice_index key 0) → Relaxed (slice_index key 0) tails heads costs flows room price key
-  arrived least = record {
-    arrived = refl;
-    relaxed = λ k d l wide less. (s.relaxed k d l wide (sooner 0 (slice_index key 0) (from tails heads k d) least less) tt).0;
-  }
+  -- the sink is the least node that is held: the search came to it
+  pub arrived : (near : ℕ) → IsLeast held 0 near → Found root top nodes tails heads costs flows room price unmet key via amount depth
+  arrived near least =
+      let at : slice_index key 0 ≡ near = s.held_key 0 near least.there in
+      let low : near < top = s.held_low 0 near least.there in
+      record {
+        held = held;
+        now = now;
+        search = fewer root top nodes tails heads costs flows room price unmet held key via amount depth now _ _ (λ k d l wide none. tt) s;
+        sink_in = s.held_in 0 near least.there;
+        sink_near = omega arith;
+        relaxed = record {
+          arrived = refl;
+          relaxed = λ k d l wide less. (s.relaxed k d l wide (sooner 0 near (from tails heads k d) least (omega arith)) tt).0;
+        };
+      }
 
   -- there is nothing left to settle
   pub closed : ((v : ℕ) → held v ≡ None) → Closed root top tails heads flows room key

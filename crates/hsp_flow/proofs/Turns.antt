@@ -7,7 +7,7 @@ use Rattle.hsp_flow.specs.Residual.{Graph, from}
 use Rattle.hsp_flow.specs.Search.{Settled, Expanding, Begun, Running, settled_test, settled_count}
 use Rattle.hsp_flow.proofs.Sums.{sum_below_lt, all_ones}
 use Rattle.hsp_flow.proofs.Directions.{from_in}
-use Rattle.hsp_flow.proofs.Searching.{taken, cases_option}
+use Rattle.hsp_flow.proofs.Searching.{fewer, taken, cases_option}
 use Rattle.hsp_flow.proofs.Expansion.{settled_from_test, test_from_settled}
 
 abbrev bit : Bool → ℕ
@@ -139,26 +139,9 @@ module _ (root top nodes : ℕ) (tails heads costs capacities supplies flows roo
       Expanding root top nodes tails heads costs flows room price unmet held key via amount depth near node (λ _ _. Unit {0}) (turn + 1) (turn + 1) (near + step) →
       Running root top nodes tails heads costs flows room price unmet held key via amount depth (turn + 1) step
   went held key via amount depth near node now turn step n early e =
-      let s = e.search in
       record {
         now = near;
-        search = record {
-          key_many = s.key_many;
-          via_many = s.via_many;
-          amount_many = s.amount_many;
-          depth_many = s.depth_many;
-          held_in = s.held_in;
-          held_key = s.held_key;
-          held_late = s.held_late;
-          held_low = s.held_low;
-          settled_early = s.settled_early;
-          sink_waits = s.sink_waits;
-          relaxed = λ k d l wide st look. s.relaxed k d l wide st (λ q. tt);
-          reached = s.reached;
-          root_near = s.root_near;
-          some = s.some;
-          no_more = s.no_more;
-        };
+        search = fewer root top nodes tails heads costs flows room price unmet held key via amount depth near _ _ (λ k d l wide look q. tt) e.search;
         counted = e.counted;
         early = omega (arith, add-mul turn 1 step);
       }

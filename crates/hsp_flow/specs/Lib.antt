@@ -7,6 +7,7 @@ pub mod Problem
 pub mod Residual
 pub mod Search
 pub mod Shapes
+pub mod Descent
 pub mod Sums
 pub mod Planning
 pub mod Ordered

@@ -1,8 +1,8 @@
 -- A search for the sink by Dijkstra's algorithm over reduced costs (Network Flows, sections 4.5 and 9.7), in the middle of its work.
 use Rattle.std.specs.Prelude.{◌≡◌, ◌≢◌, ℕ, ◌+◌, ◌*◌, ◌<◌, ◌≤◌, ◌==◌, ◌&&◌, Bool, List, length, slice_index, slice_set, Option, Some, None, is_none, nat_lt, if◌then◌else◌}
-use Rattle.hsp_flow.specs.Frontier.{Changes, IsLeast}
+use Rattle.hsp_flow.specs.Frontier.{Changes}
 use Rattle.hsp_flow.specs.Sums.{sum_below}
-use Rattle.hsp_flow.specs.Residual.{from, to, width, gives, takes}
+use Rattle.hsp_flow.specs.Residual.{Relaxed, from, to, width, gives, takes}
 
 -- the node has a key below `top`, and doesn't wait any more
 pub record Settled (held : ℕ → Option ℕ) (key : List ℕ) (top v : ℕ) : Type 0 where
@@ -98,12 +98,24 @@ pub record Running (root top nodes : ℕ) (tails heads costs flows room : List �
   pub counted : Counted held key depth nodes top turn turn (now + step)
   pub early : now ≤ turn * step
 
--- the search came to the sink
+-- in the middle of the arcs of a node at the distance `near`: another node v is as near, no node is deeper than `deep`
+pub record Level (root top nodes : ℕ) (tails heads costs flows room : List ℕ) (price : ℕ → ℕ) (unmet : ℕ)
+    (held : ℕ → Option ℕ) (key via amount depth : List ℕ) (near v deep : ℕ) : Type 0 where
+  pub search : Search root top nodes tails heads costs flows room price unmet held key via amount depth near
+      (λ k d. slice_index key (from tails heads k d) < near)
+  pub at : slice_index key v ≤ near
+  pub here : v < nodes
+  pub near_low : near < top
+  pub depth_low : (w : ℕ) → w < nodes → slice_index key w < top → slice_index depth w ≤ deep
+
+-- the search came to the sink: no residual arc undercuts the key of a node that is nearer
 pub record Found (root top nodes : ℕ) (tails heads costs flows room : List ℕ) (price : ℕ → ℕ) (unmet : ℕ) (key via amount depth : List ℕ) : Type 0 where
   pub held : ℕ → Option ℕ
   pub now : ℕ
-  pub search : Search root top nodes tails heads costs flows room price unmet held key via amount depth now (λ _ _. Unit {0})
-  pub least : IsLeast held 0 (slice_index key 0)
+  pub search : Search root top nodes tails heads costs flows room price unmet held key via amount depth now (λ _ _. ⊥)
+  pub sink_in : 0 < nodes
+  pub sink_near : slice_index key 0 < top
+  pub relaxed : Relaxed (slice_index key 0) tails heads costs flows room price key
 
 -- how far prices and keys can lie apart: by `up` the one way, by `down` the other
 pub record Priced (root top nodes : ℕ) (price : ℕ → ℕ) (key : List ℕ) (up down : ℕ) : Type 0 where

@@ -2,7 +2,7 @@
 use Rattle.std.specs.Prelude.{◌≡◌, ℕ, ◌+◌, ◌<◌, ◌≤◌, Bool, [], length, slice_index, Option}
 use Rattle.hsp_flow.specs.Index.{ByHead, Carries}
 use Rattle.hsp_flow.specs.Residual.{Sound, Tree, Shifted, raised}
-use Rattle.hsp_flow.specs.Search.{Expanding, Found, Closed, Priced, Spread, Offered, Noted}
+use Rattle.hsp_flow.specs.Search.{Expanding, Level, Found, Closed, Priced, Spread, Offered, Noted}
 use Rattle.hsp_flow.specs.declared.links.Links.{Links}
 use Rattle.hsp_flow.specs.declared.links.Flow.{Flow}
 use Rattle.hsp_flow.specs.declared.links.SearchTree.{SearchTree}
@@ -68,8 +68,28 @@ IsExpanding n f held t at seen =
     Expanding at.root top (nodes n) n.tails.now n.heads.now n.costs.now f.flows.now f.room.now (λ v. slice_index f.price.now v) (slice_index f.unmet.now at.root) held
     t.key.now t.via.now t.amount.now t.depth.now at.near at.node seen (at.turn + 1) (at.turn + 1) (at.near + n.step)
 
+-- the node v is as near as the one that is settled
+abbrev pub IsLevel : Links → Flow → (ℕ → Option ℕ) → SearchTree → Visit → ℕ → Type 0
+IsLevel n f held t at v =
+    Level at.root top (nodes n) n.tails.now n.heads.now n.costs.now f.flows.now f.room.now (λ v. slice_index f.price.now v) (slice_index f.unmet.now at.root) held
+    t.key.now t.via.now t.amount.now t.depth.now at.near v (at.turn + 1)
+
+-- the link leaves the node, has room and reduced cost 0
+pub record Tight (n : Links) (f : Flow) (node link : ℕ) : Type 0 where
+  pub there : link < length n.tails.now
+  pub leaves : slice_index n.tails.now link ≡ node
+  pub wide : 0 < slice_index f.room.now link
+  pub zero : slice_index n.costs.now link + slice_index f.price.now (slice_index n.heads.now link) ≡ slice_index f.price.now node
+
 abbrev pub IsPriced : Links → Flow → SearchTree → ℕ → ℕ → ℕ → Type 0
 IsPriced n f t root up down = Priced root top (nodes n) (λ v. slice_index f.price.now v) t.key.now up down
+
+-- a step on from the node that is settled lets prices and keys lie farther apart by no more than its cost
+abbrev pub Adds : Links → Flow → SearchTree → SearchTree → Visit → ℕ → Type 0
+Adds n f t t' at cost = (up down : ℕ) →
+    at.near + slice_index f.price.now at.root ≤ slice_index f.price.now at.node + up →
+    slice_index f.price.now at.node ≤ at.near + slice_index f.price.now at.root + down →
+    IsPriced n f t at.root (up + cost) down → IsPriced n f t' at.root (up + cost) down
 
 abbrev pub IsFound : Links → Flow → SearchTree → ℕ → Type 0
 IsFound n f t root =

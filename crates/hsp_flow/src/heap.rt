@@ -1,6 +1,7 @@
-ghost use Rattle.std.specs.Prelude.{◌≡◌, ℕ, ◌<◌, ◌≤◌, ◌-◌, ◌↔◌, IsTrue, true, Option, Some, None, slice_index_or, vec_len};
+ghost use Rattle.std.specs.Prelude.{◌≡◌, ℕ, ◌<◌, ◌≤◌, ◌-◌, ◌↔◌, IsTrue, true, Option, Some, None, slice_index_or, length, vec_len};
+ghost use Rattle.std.specs.List.{list_any};
 ghost use Rattle.std.specs.BinaryHeap.{heap_capacity, heap_items, heap_len, IsHeap, IsHeap-prop};
-ghost use Rattle.hsp_flow.specs.Frontier.{Pairs, later_pair};
+ghost use Rattle.hsp_flow.specs.Frontier.{Pairs, is_pair, later_pair};
 
 use crate::frontier::Frontier;
 use std::alloc::{AllocError, Global};
@@ -65,11 +66,8 @@ impl Frontier for HeapFrontier {
     }
 
     fn clear(&mut self) {
-        while let Some(Reverse((_, node))) = self.pairs.pop() {
-            if (node as usize) < self.keys.len() {
-                self.keys[node as usize] = None;
-            }
-        }
+        forget_keys(&mut self.keys, self.pairs.as_slice());
+        self.pairs.clear();
     }
 
     fn spare(&self) -> u64 {
@@ -83,4 +81,17 @@ fn is_present(keys: &[Option<u64>], node: u32, key: u64) -> bool
 {
     keys.get(node as usize)
         .is_some_and(|held| *held == Some(key))
+}
+
+/// Lets no node of a pair be held.
+fn forget_keys(keys: &mut Vec<Option<u64>>, pairs: &[Reverse<(u64, u32)>])
+    ensures gone { (v key : ℕ) → list_any (is_pair v key) pairs.now ≡ true → slice_index_or keys.new.items v None ≡ None }
+    ensures kept { (v key : ℕ) → slice_index_or keys.new.items v None ≡ Some key → slice_index_or keys.old.items v None ≡ Some key }
+    ensures many { vec_len keys.new ≡ vec_len keys.old }
+{
+    for Reverse((_, node)) in pairs {
+        if (*node as usize) < keys.len() {
+            keys[*node as usize] = None;
+        }
+    }
 }

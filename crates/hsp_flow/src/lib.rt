@@ -8,6 +8,7 @@ mod answer;
 mod arcs;
 mod augment;
 mod certify;
+mod descend;
 mod expand;
 mod frontier;
 mod group_lists;
@@ -30,7 +31,8 @@ mod tables;
 
 pub use frontier::Frontier;
 pub use heap::HeapFrontier;
-pub use planning::{solve, solve_with};
+pub use links::Effort;
+pub use planning::{solve, solve_counted, solve_with};
 pub use scan::ScanFrontier;
 
 #[cfg(test)]

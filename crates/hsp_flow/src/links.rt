@@ -39,8 +39,17 @@ pub struct Flow<'a> {
     pub ends: &'a mut [usize],
 }
 
+/// How much work a solver's run took: the searches that were begun, the nodes that they settled, and the paths along which
+/// flow was sent.
+#[derive(Clone, Copy, Default)]
+pub struct Effort {
+    pub searches: u64,
+    pub settled: u64,
+    pub augmentations: u64,
+}
+
 /// What a search knows of each node: its distance, the link by which the search came to it, what can be sent to it that
-/// way, and over how many links; and the nodes that have a distance.
+/// way, and over how many links; the nodes that have a distance; and the work of all searches so far.
 #[derive(Drop)]
 pub struct SearchTree<'a> {
     pub key: &'a mut [u64],
@@ -48,6 +57,7 @@ pub struct SearchTree<'a> {
     pub amount: &'a mut [u64],
     pub depth: &'a mut [usize],
     pub touched: Vec<u32>,
+    pub effort: Effort,
 }
 
 /// A node that a search from `root` settles in its turn `turn`, at the distance `near`.

@@ -38,6 +38,7 @@ pub fn meet_some<F: Frontier>(
     let much = tree.amount[0];
     augment(links, flow, tree, root, much);
     raise(flow.price, tree, reach);
+    tree.effort.augmentations = tree.effort.augmentations.saturating_add(1);
     Ok(true)
 }
 

@@ -17,6 +17,7 @@ use crate::frontier::Frontier;
 use crate::group_lists::{GroupLists, group_lists};
 use crate::grouping::firsts_of;
 use crate::heap::HeapFrontier;
+use crate::links::Effort;
 use crate::network::{Network, Outcome, Plan};
 use crate::shortfall::short_certificate;
 use crate::solving::solve_network;
@@ -34,6 +35,7 @@ fn solve_groups<'a, F: Frontier>(
     firsts: &[u32],
     rows: &'a NetworkLists,
     lists: &'a GroupLists,
+    effort: &mut Effort,
 ) -> Result<Outcome, AllocError>
     requires within { IsInstance instance.now }
     requires groups { AreGroups instance.now groups.now }
@@ -54,7 +56,7 @@ fn solve_groups<'a, F: Frontier>(
         servers: &lists.servers,
         costs: &lists.costs,
     };
-    solve_network::<F>(alloc, &network)
+    solve_network::<F>(alloc, &network, effort)
 }
 
 // The plan of the groups, spread over their rows.
@@ -148,6 +150,7 @@ fn solve_lists<F: Frontier>(
     firsts: &[u32],
     rows: &NetworkLists,
     lists: &GroupLists,
+    effort: &mut Effort,
 ) -> Result<Certificate, AllocError>
     requires within { IsInstance instance.now }
     requires arcs { arcs.now ≡ arcs_from 0 instance.now.arcs }
@@ -158,7 +161,7 @@ fn solve_lists<F: Frontier>(
     ensures valid { IfOk result (IsValid (network_of instance.now)) }
     ensures low { IfOk result (HasLimitedPrices (network_of instance.now)) }
 {
-    match solve_groups::<F>(alloc, instance, groups, firsts, rows, lists)? {
+    match solve_groups::<F>(alloc, instance, groups, firsts, rows, lists, effort)? {
         Outcome::Met(plan) => {
             let plan = spread_plan(alloc, instance, groups, firsts, rows, lists, plan)?;
             plan_certificate(alloc, instance, arcs, &rows.costs, plan)
@@ -168,6 +171,26 @@ fn solve_lists<F: Frontier>(
             certify_short(alloc, instance, rows, &set)
         }
     }
+}
+
+/// As [`solve_with`], and adds to `effort` the work that it took: no clause speaks of those counts.
+pub fn solve_counted<F: Frontier>(
+    alloc: Global,
+    instance: &Instance,
+    effort: &mut Effort,
+) -> Result<Certificate, AllocError>
+    ensures valid { IfOk result (IsValid (network_of instance.now)) }
+    ensures low { IfOk result (HasLimitedPrices (network_of instance.now)) }
+{
+    let _ = instance.rows();
+    let arcs = arcs_of(alloc, instance)?;
+    let rows = lists_of(alloc, instance, &arcs)?;
+    let groups = groups(alloc, instance)?;
+    let firsts = firsts_of(alloc, instance, &groups)?;
+    let lists = group_lists(alloc, instance, &groups, &firsts)?;
+    solve_lists::<F>(
+        alloc, instance, &arcs, &groups, &firsts, &rows, &lists, effort,
+    )
 }
 
 /// A valid certificate for the instance: a plan that meets every row within all capacities and limits at the least cost, with
@@ -182,13 +205,8 @@ pub fn solve_with<F: Frontier>(
     ensures valid { IfOk result (IsValid (network_of instance.now)) }
     ensures low { IfOk result (HasLimitedPrices (network_of instance.now)) }
 {
-    let _ = instance.rows();
-    let arcs = arcs_of(alloc, instance)?;
-    let rows = lists_of(alloc, instance, &arcs)?;
-    let groups = groups(alloc, instance)?;
-    let firsts = firsts_of(alloc, instance, &groups)?;
-    let lists = group_lists(alloc, instance, &groups, &firsts)?;
-    solve_lists::<F>(alloc, instance, &arcs, &groups, &firsts, &rows, &lists)
+    let mut effort = Effort::default();
+    solve_counted::<F>(alloc, instance, &mut effort)
 }
 
 /// As [`solve_with`], with [`HeapFrontier`].

@@ -30,31 +30,35 @@ pub fn begin<F: Frontier>(
     tree.key[node] = 0;
     tree.amount[node] = much;
     tree.depth[node] = 0;
+    tree.effort.searches = tree.effort.searches.saturating_add(1);
     Ok(())
 }
 
-/// Offers all ways on from a node that is settled.
+/// Offers all ways on from a node that is settled, until one leads to the sink at the node's own distance: whether one does.
 pub fn expand<F: Frontier>(
     frontier: &mut F,
     links: &Links,
     flow: &Flow,
     tree: &mut SearchTree,
     at: Visit,
-) -> Result<(), AllocError>
+) -> Result<bool, AllocError>
     requires ready { Ready links.now flow.now }
     requires expanding { IsExpanding links.now flow.now (F.held frontier.old) tree.old at (λ _ _. ⊥) }
     requires far { at.near + links.now.step < u64.MAX }
-    requires turns { at.turn + 1 < u64.MAX }
+    requires turns { at.turn + 3 < u64.MAX }
     requires count { nodes links.now ≤ F.node_count frontier.old }
     requires noted { IsNoted tree.old }
-    ensures ok { OnOk result (IsExpanding links.now flow.now (F.held frontier.new) tree.new at (λ _ _. Unit {0})) }
+    ensures ok { IfOk result (λ yes. yes ≡ false → IsExpanding links.now flow.now (F.held frontier.new) tree.new at (λ _ _. Unit {0})) }
+    ensures found { IfOk result (λ yes. IsTrue yes → IsFound links.now flow.now tree.new at.root) }
     ensures noted { OnOk result (IsNoted tree.new) }
     ensures spread { OnOk result (IsSpread links.now flow.now tree.old at.root at.turn → IsSpread links.now flow.now tree.new at.root (at.turn + 1)) }
     ensures count { F.node_count frontier.new ≡ F.node_count frontier.old }
 {
-    expand_out(frontier, links, flow, tree, at)?;
+    if expand_out(frontier, links, flow, tree, at)? {
+        return Ok(true);
+    }
     expand_in(frontier, links, flow, tree, at)?;
-    Ok(())
+    Ok(false)
 }
 
 /// Whether the sink can be reached from the node `root`. Where it can, the tree has a shortest path to it.
@@ -86,13 +90,16 @@ pub fn search<F: Frontier>(
         if node == 0 {
             return Ok(true);
         }
+        tree.effort.settled = tree.effort.settled.saturating_add(1);
         let at = Visit {
             root,
             node,
             near,
             turn,
         };
-        expand(frontier, links, flow, tree, at)?;
+        if expand(frontier, links, flow, tree, at)? {
+            return Ok(true);
+        }
     }
     Ok(false)
 }

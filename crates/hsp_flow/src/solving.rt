@@ -8,7 +8,7 @@ ghost use Rattle.hsp_flow.specs.Shapes.{Ready, nodes};
 use crate::answer::{plan_of, short_set};
 use crate::frontier::Frontier;
 use crate::index::{count_heads, fill_order, head_places, link_starts};
-use crate::links::{Flow, Links, SearchTree};
+use crate::links::{Effort, Flow, Links, SearchTree};
 use crate::network::{Network, Outcome};
 use crate::phase::meet_all;
 use crate::tables::{link_capacities, link_costs, link_heads, link_tails, node_supplies};
@@ -34,6 +34,7 @@ fn solve_from<F: Frontier>(
     network: &Network,
     links: &Links,
     flow: &mut Flow,
+    effort: &mut Effort,
 ) -> Result<Outcome, AllocError>
     requires links_of { IsLinksOf network.now links.now }
     requires small { IsSmall (problem_of network.now) }
@@ -53,9 +54,12 @@ fn solve_from<F: Frontier>(
         amount: &mut amount,
         depth: &mut depth,
         touched: Vec::new(alloc),
+        effort: *effort,
     };
     let mut frontier = F::with_nodes(alloc, nodes as u32)?;
-    match meet_all(&mut frontier, links, flow, &mut tree)? {
+    let unmet = meet_all(&mut frontier, links, flow, &mut tree)?;
+    *effort = tree.effort;
+    match unmet {
         None => Ok(Outcome::Met(plan_of(alloc, network, links, flow)?)),
         Some(root) => Ok(Outcome::Short(short_set(alloc, network, links, flow, &tree, root)?)),
     }
@@ -68,6 +72,7 @@ fn solve_indexed<F: Frontier>(
     links: &Links,
     order: &mut [usize],
     slots: &mut [usize],
+    effort: &mut Effort,
 ) -> Result<Outcome, AllocError>
     requires links_of { IsLinksOf network.now links.now }
     requires small { IsSmall (problem_of network.now) }
@@ -91,7 +96,7 @@ fn solve_indexed<F: Frontier>(
         slots,
         ends: &mut ends,
     };
-    solve_from::<F>(alloc, network, links, &mut flow)
+    solve_from::<F>(alloc, network, links, &mut flow, effort)
 }
 
 /// Runs the solver over a network's links, whose numbers and index by tails are known.
@@ -99,6 +104,7 @@ fn solve_ordered<F: Frontier>(
     alloc: Global,
     network: &Network,
     links: &Links,
+    effort: &mut Effort,
 ) -> Result<Outcome, AllocError>
     requires links_of { IsLinksOf network.now links.now }
     requires small { IsSmall (problem_of network.now) }
@@ -113,7 +119,7 @@ fn solve_ordered<F: Frontier>(
     let mut slots = vec![in alloc; 0; many]?;
     let mut ends = links.places[..nodes].to_vec(alloc)?;
     fill_order(links.heads, links.places, &mut order, &mut slots, &mut ends);
-    solve_indexed::<F>(alloc, network, links, &mut order, &mut slots)
+    solve_indexed::<F>(alloc, network, links, &mut order, &mut slots, effort)
 }
 
 /// Where the links that enter each node begin.
@@ -136,6 +142,7 @@ fn solve_links<F: Frontier>(
     costs: &[u64],
     capacities: &[u64],
     supplies: &[u64],
+    effort: &mut Effort,
 ) -> Result<Outcome, AllocError>
     requires small { IsSmall (problem_of network.now) }
     requires links_of { LinksOf (problem_of network.now) tails.now heads.now costs.now capacities.now supplies.now }
@@ -159,12 +166,16 @@ fn solve_links<F: Frontier>(
         limit,
         step: limit + most,
     };
-    solve_ordered::<F>(alloc, network, &links)
+    solve_ordered::<F>(alloc, network, &links, effort)
 }
 
 /// A flow that meets every source at the least cost, with prices that show it, or a set of sources that demand more than
-/// the servers that they may use can take (Network Flows, section 9.7).
-pub fn solve_network<F: Frontier>(alloc: Global, network: &Network) -> Result<Outcome, AllocError>
+/// the servers that they may use can take (Network Flows, section 9.7). `effort` gains the work that it took.
+pub fn solve_network<F: Frontier>(
+    alloc: Global,
+    network: &Network,
+    effort: &mut Effort,
+) -> Result<Outcome, AllocError>
     requires small { IsSmall (problem_of network.now) }
     ensures { IfOk result (Answers (problem_of network.now)) }
 {
@@ -181,5 +192,6 @@ pub fn solve_network<F: Frontier>(alloc: Global, network: &Network) -> Result<Ou
         &costs,
         &capacities,
         &supplies,
+        effort,
     )
 }

@@ -3,6 +3,7 @@ ghost use Rattle.hsp_flow.specs.Problem.{problem_of};
 
 use crate::frontier::Frontier;
 use crate::heap::HeapFrontier;
+use crate::links::Effort;
 use crate::network::{Network, Outcome};
 use crate::scan::ScanFrontier;
 use crate::solving::solve_network;
@@ -83,7 +84,7 @@ fn frontiers_know_their_spare_calls(rt: HostRuntime) -> Result<(), Fail> {
 fn meets<F: Frontier>(rt: &impl Abort, alloc: Global, network: &Network, flows: &[u64])
     requires { IsSmall (problem_of network.now) }
 {
-    let outcome = solve_network::<F>(alloc, network);
+    let outcome = solve_network::<F>(alloc, network, &mut Effort::default());
     match &outcome {
         Ok(Outcome::Met(plan)) => assert_eq!(rt; plan.flows.as_slice(), flows),
         _ => assert!(rt; outcome.is_err()),
@@ -94,7 +95,7 @@ fn meets<F: Frontier>(rt: &impl Abort, alloc: Global, network: &Network, flows: 
 fn lacks<F: Frontier>(rt: &impl Abort, alloc: Global, network: &Network, short: &[bool])
     requires { IsSmall (problem_of network.now) }
 {
-    let outcome = solve_network::<F>(alloc, network);
+    let outcome = solve_network::<F>(alloc, network, &mut Effort::default());
     match &outcome {
         Ok(Outcome::Short(reached)) => assert_eq!(rt; reached.as_slice(), short),
         _ => assert!(rt; outcome.is_err()),

@@ -1,6 +1,7 @@
-use Rattle.std.proofs.Common.{◌≡◌, ℕ, ◌+◌, ◌-◌, ◌<◌, ◌≤◌, length, slice_index, ap, ◌∙◌, arith, add-mul}
-use Rattle.hsp_flow.proofs.Arrival.{tree_by, priced_by, sink_in}
+use Rattle.std.proofs.Common.{◌≡◌, ℕ, ◌+◌, ◌-◌, ◌<◌, ◌≤◌, length, slice_index, ap, sym, ◌∙◌, arith, add-mul}
+use Rattle.hsp_flow.proofs.Arrival.{tree_by, priced_by}
 use Rattle.hsp_flow.proofs.Raising.{sound_same}
+use Rattle.hsp_flow.proofs.Sums.{only_there}
 use Rattle.hsp_flow.proofs.phase.meet_some.Goals as goal
 
 pub augment-requires-clause-tree : goal.augment-requires-clause-tree
@@ -18,6 +19,9 @@ raise-requires-clause-fits g c = λ v l.
     let low = priced_by _ _ _ _ _ _ _ _ _ _ _ _ _ _ _ _ _ c.args.links.now.graph c.requires.ready.sound (c.in_ok-search.ensures.found c.if-not-branch.false) c.args.links.now.limit spread.up spread.down spread.priced within c.requires.ready.low v in' in
     omega (arith, scale.small, scale.step_is, add-mul n 1 c.args.links.now.step)
 
+pub returns-clause-others : goal.returns-clause-others
+returns-clause-others g c = λ v ne. omega (arith, c.augment.ensures.spent v, only_there c.args.root v (slice_index c.search.new.tree.amount.now 0) (λ e. ne (sym e)))
+
 pub returns-clause-ready : goal.returns-clause-ready
 returns-clause-ready g c =
     let scale = c.args.links.now.scale in
@@ -30,7 +34,7 @@ returns-clause-ready g c =
     let same : slice_index c.augment.new.flow.price.now v ≡ slice_index c.args.flow.now.price.now v = ap (λ xs. slice_index xs v) c.augment.ensures.price in
     omega (arith, c.raise.ensures.by v (omega (arith, many))) in
     record {
-      sound = sound_same _ _ _ _ _ _ _ _ _ _ _ c.args.links.now.graph (sink_in _ _ _ _ _ _ _ _ _ _ _ _ _ _ _ _ _ c.args.links.now.graph c.requires.ready.sound (c.in_ok-search.ensures.found c.if-not-branch.false)) c.augment.ensures.sound by;
+      sound = sound_same _ _ _ _ _ _ _ _ _ _ _ c.args.links.now.graph (c.in_ok-search.ensures.found c.if-not-branch.false).sink_in c.augment.ensures.sound by;
       price_many = many;
       low = λ v l. omega (arith, by v l, priced_by _ _ _ _ _ _ _ _ _ _ _ _ _ _ _ _ _ c.args.links.now.graph c.requires.ready.sound (c.in_ok-search.ensures.found c.if-not-branch.false) c.args.links.now.limit spread.up spread.down spread.priced within c.requires.ready.low v l);
       indexed = record { by_head = c.augment.ensures.indexed.by_head; carries = c.augment.ensures.indexed.carries };

@@ -1,5 +1,5 @@
 use Rattle.std.proofs.Common.{length, ◌∙◌, arith}
-use Rattle.hsp_flow.proofs.Searching.{closed}
+use Rattle.hsp_flow.proofs.Searching.{arrived, closed}
 use Rattle.hsp_flow.proofs.Arrival.{spread_begun, spread_later}
 use Rattle.hsp_flow.proofs.Turns.{begun, next_near, turned, all_done, went, far_fits}
 use Rattle.hsp_flow.proofs.search.search.Goals as goal
@@ -15,6 +15,10 @@ loop-turn-init g c =
 
 pub returns-in_default-clause-none : goal.returns-in_default-clause-none
 returns-in_default-clause-none g c = λ _. closed _ _ _ _ _ _ _ _ _ _ _ _ _ _ _ _ c.loop-turn.invariant.0.search c.in_default.ensures.none
+
+pub returns-then-node-eq0-clause-found : goal.returns-then-node-eq0-clause-found
+returns-then-node-eq0-clause-found g c = λ _.
+    arrived _ _ _ _ _ _ _ _ _ _ _ _ _ _ _ _ c.loop-turn.invariant.0.search _ (rw c.if-node-eq0.true at c.in-Some.ensures.least)
 
 pub returns-then-node-eq0-clause-spread : goal.returns-then-node-eq0-clause-spread
 returns-then-node-eq0-clause-spread g c = λ _. spread_later _ _ _ _ _ _ _ _ c.loop-turn.invariant.2 (omega arith)
@@ -33,7 +37,7 @@ pub loop-turn-preserved : goal.loop-turn-preserved
 loop-turn-preserved g c =
     let r = c.loop-turn.invariant.0 in
     let near = next_near _ _ _ _ _ _ _ _ _ _ _ _ c.args.links.now.graph _ _ _ _ _ _ _ r _ _ c.in-Some.ensures.least in (
-      went _ _ _ _ _ _ _ _ _ _ _ _ c.args.links.now.graph _ _ _ _ _ _ _ _ _ _ near r.early c.in_ok-expand.ensures.ok,
+      went _ _ _ _ _ _ _ _ _ _ _ _ c.args.links.now.graph _ _ _ _ _ _ _ _ _ _ near r.early (c.in_ok-expand.ensures.ok c.if-branch.false),
       c.expand.ensures.count ∙ c.take_least.ensures.nodes ∙ c.loop-turn.invariant.1,
       c.in_ok-expand.ensures.spread c.loop-turn.invariant.2,
       c.in_ok-expand.ensures.noted,
@@ -43,3 +47,11 @@ pub returns-clause-none : goal.returns-clause-none
 returns-clause-none g c = λ _.
     closed _ _ _ _ _ _ _ _ _ _ _ _ _ _ _ _ c.loop-turn.invariant.0.search
     (all_done _ _ _ _ _ _ _ _ _ _ _ _ c.args.links.now.graph _ _ _ _ _ _ _ c.loop-turn.invariant.0 (omega arith))
+
+pub returns-then-branch-clause-covers : goal.returns-then-branch-clause-covers
+returns-then-branch-clause-covers g c =
+    let s = (c.in_ok-expand.ensures.found c.if-branch.true).search in
+    record { key_many = s.key_many; via_many = s.via_many; amount_many = s.amount_many; depth_many = s.depth_many }
+
+pub returns-then-branch-clause-spread : goal.returns-then-branch-clause-spread
+returns-then-branch-clause-spread g c = λ _. spread_later _ _ _ _ _ _ _ _ (c.in_ok-expand.ensures.spread c.loop-turn.invariant.2) (omega arith)
