@@ -45,7 +45,7 @@ fn use_count(certificate: &Certificate) -> usize {
 }
 
 /// Writes and reads the certificate with the longest text, and prints the times of both.
-pub fn measure_certificate<R: AllocGlobal + Clock + CpuClock + Print>(
+pub(crate) fn measure_certificate<R: AllocGlobal + Clock + CpuClock + Print>(
     rt: &R,
 ) -> Result<(), Failure> {
     let alloc = rt.alloc();

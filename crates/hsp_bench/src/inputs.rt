@@ -25,7 +25,7 @@ pub struct Texts {
 
 impl Texts {
     /// How many octets the texts have together.
-    pub fn octets(&self) -> usize {
+    pub(crate) fn octets(&self) -> usize {
         self.settings
             .len()
             .saturating_add(self.values.len())
@@ -157,7 +157,7 @@ fn capacity_text(alloc: Global, parts: &[Part], all: u64) -> Result<String, Allo
 }
 
 /// The texts of an instance of 64 regions, 32 sites, 1,024 servers and 2,048 costs. The same size has the same texts.
-pub fn texts_of_size(alloc: Global, size: &Size) -> Result<Texts, AllocError> {
+pub(crate) fn texts_of_size(alloc: Global, size: &Size) -> Result<Texts, AllocError> {
     let mut generator = Generator::new();
     let counts = counts(alloc, &mut generator, size.rows)?;
     let demand = counts

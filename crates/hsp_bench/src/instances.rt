@@ -9,7 +9,9 @@ use std::rt::Clock;
 use std::time::CpuClock;
 
 /// Reads the texts of the largest instance, builds it, and prints the times of both.
-pub fn measure_instance<R: AllocGlobal + Clock + CpuClock + Print>(rt: &R) -> Result<(), Failure> {
+pub(crate) fn measure_instance<R: AllocGlobal + Clock + CpuClock + Print>(
+    rt: &R,
+) -> Result<(), Failure> {
     let alloc = rt.alloc();
     let texts = texts_of_size(alloc, &LARGEST)?;
     let reading = Watch::start(rt)?;

@@ -78,7 +78,7 @@ fn print_effort<R: Print>(rt: &R, effort: &Effort) -> io::Result<()> {
 }
 
 /// Plans an instance of the size, checks the certificate, and prints the times of both.
-pub fn measure_plan<R: AllocGlobal + Clock + CpuClock + Print>(
+pub(crate) fn measure_plan<R: AllocGlobal + Clock + CpuClock + Print>(
     rt: &R,
     size: &Size,
 ) -> Result<(), Failure> {
@@ -117,7 +117,9 @@ fn measure_capacities<R: AllocGlobal + Clock + CpuClock + Print>(
 }
 
 /// Plans instances of 1,000 and of 8,192 rows, with large and with small costs.
-pub fn measure_plans<R: AllocGlobal + Clock + CpuClock + Print>(rt: &R) -> Result<(), Failure> {
+pub(crate) fn measure_plans<R: AllocGlobal + Clock + CpuClock + Print>(
+    rt: &R,
+) -> Result<(), Failure> {
     for (rows, most) in [
         (1_000, 1_000_000),
         (1_000, 10),

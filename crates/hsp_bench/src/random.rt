@@ -9,12 +9,12 @@ pub struct Generator {
 }
 
 impl Generator {
-    pub fn new() -> Generator {
+    pub(crate) fn new() -> Generator {
         Generator { state: 1 }
     }
 
     /// The next number, below `limit`.
-    pub fn below(&mut self, limit: u64) -> u64
+    pub(crate) fn below(&mut self, limit: u64) -> u64
         requires { 0 < limit }
         ensures { result < limit }
     {

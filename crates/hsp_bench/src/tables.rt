@@ -20,7 +20,7 @@ pub struct Tables<'a> {
 }
 
 /// Reads the texts.
-pub fn read_texts<'a>(alloc: Global, texts: &'a Texts) -> Result<Tables<'a>, Failure> {
+pub(crate) fn read_texts<'a>(alloc: Global, texts: &'a Texts) -> Result<Tables<'a>, Failure> {
     Ok(Tables {
         settings: read_settings(alloc, texts.settings.as_bytes())?,
         values: decode_values(alloc, &texts.values)?,
@@ -31,7 +31,7 @@ pub fn read_texts<'a>(alloc: Global, texts: &'a Texts) -> Result<Tables<'a>, Fai
 }
 
 /// Builds the instance of what was read.
-pub fn build_instance(alloc: Global, tables: &Tables<'_>) -> Result<Instance, Failure> {
+pub(crate) fn build_instance(alloc: Global, tables: &Tables<'_>) -> Result<Instance, Failure> {
     Ok(build(
         alloc,
         &tables.settings,

@@ -31,7 +31,7 @@ fn size_in(rows: &str, percent: &str, most: &str) -> Option<Size> {
 }
 
 /// What the words ask for, and None where they ask for nothing.
-pub fn measurement_in(words: &[String]) -> Option<Measurement> {
+pub(crate) fn measurement_in(words: &[String]) -> Option<Measurement> {
     match words {
         [one] if one.as_str() == "instance" => Some(Measurement::Instance),
         [one] if one.as_str() == "certificate" => Some(Measurement::Certificate),
