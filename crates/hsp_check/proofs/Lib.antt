@@ -3,7 +3,6 @@ pub mod Duality
 pub mod Adding
 pub mod UsesLaid
 pub mod Shortages
-pub mod Reading
 pub mod RowLists
 pub mod LaidSums
 pub mod PlanMet

@@ -4,7 +4,7 @@ ghost use Rattle.std.specs.Prelude.{◌≡◌, ◌<◌, ◌≤◌, ◌^◌, All,
 
 use crate::lists::NetworkLists;
 use crate::sums::LaidArc;
-use hsp_instance::Instance;
+use hsp_instance::{Instance, capacities_of, counts_of, homes_of, limits_of};
 use std::alloc::{AllocError, Global};
 
 /// What each row asks for, what each server and each host can take, and the host that each server stands on.
@@ -20,56 +20,6 @@ pub(crate) struct NetworkNumbers {
     ghost few_hosts: { length limits.items < 2 ^ 16 },
 }
 
-// What each row asks for.
-fn demands_of(alloc: Global, instance: &Instance) -> Result<Vec<u64>, AllocError>
-    ensures demands { IfOk result (λ demands. demands.items ≡ map (λ r. r.count) instance.now.rows) }
-    ensures few { IfOk result (λ demands. length demands.items < 2 ^ 16) }
-{
-    let mut demands = Vec::new(alloc);
-    for row in 0..instance.rows() {
-        let (_, _, count) = instance.row(row);
-        demands.push(count)?;
-    }
-    Ok(demands)
-}
-
-// What each server can take.
-fn capacities_of(alloc: Global, instance: &Instance) -> Result<Vec<u64>, AllocError>
-    ensures { IfOk result (λ capacities. capacities.items ≡ map (λ s. s.capacity) instance.now.servers) }
-{
-    let mut capacities = Vec::new(alloc);
-    for server in 0..instance.servers() {
-        let (_, _, _, capacity) = instance.server(server);
-        capacities.push(capacity)?;
-    }
-    Ok(capacities)
-}
-
-// The host that each server stands on.
-fn homes_of(alloc: Global, instance: &Instance) -> Result<Vec<Option<u32>>, AllocError>
-    ensures homes { IfOk result (λ homes. homes.items ≡ map (λ s. s.host) instance.now.servers) }
-    ensures few { IfOk result (λ homes. length homes.items < 2 ^ 16) }
-{
-    let mut homes = Vec::new(alloc);
-    for server in 0..instance.servers() {
-        homes.push(instance.host_of(server))?;
-    }
-    Ok(homes)
-}
-
-// What the servers on each host can take together.
-fn limits_of(alloc: Global, instance: &Instance) -> Result<Vec<u64>, AllocError>
-    ensures limits { IfOk result (λ limits. limits.items ≡ map (λ h. h.limit) instance.now.hosts) }
-    ensures few { IfOk result (λ limits. length limits.items < 2 ^ 16) }
-{
-    let mut limits = Vec::new(alloc);
-    for host in 0..instance.hosts() {
-        let (_, limit) = instance.host(host);
-        limits.push(limit)?;
-    }
-    Ok(limits)
-}
-
 /// The numbers of an instance.
 pub(crate) fn numbers_of(alloc: Global, instance: &Instance) -> Result<NetworkNumbers, AllocError>
     ensures demands { IfOk result (λ numbers. numbers.demands.items ≡ map (λ r. r.count) instance.now.rows) }
@@ -77,7 +27,7 @@ pub(crate) fn numbers_of(alloc: Global, instance: &Instance) -> Result<NetworkNu
     ensures limits { IfOk result (λ numbers. numbers.limits.items ≡ map (λ h. h.limit) instance.now.hosts) }
     ensures homes { IfOk result (λ numbers. numbers.homes.items ≡ map (λ s. s.host) instance.now.servers) }
 {
-    let demands = demands_of(alloc, instance)?;
+    let demands = counts_of(alloc, instance)?;
     let capacities = capacities_of(alloc, instance)?;
     let limits = limits_of(alloc, instance)?;
     let homes = homes_of(alloc, instance)?;

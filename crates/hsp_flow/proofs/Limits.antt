@@ -13,7 +13,7 @@ use Rattle.hsp_check.specs.declared.arc.NetworkArc.{NetworkArc}
 use Rattle.hsp_check.specs.Instance.{arc_of, arcs_from, network_of}
 use Rattle.hsp_check.specs.Plan.{Plan, Feasible, planned, served, total}
 use Rattle.hsp_check.specs.Sums as check
-use Rattle.hsp_check.proofs.Reading.{at_read}
+use Rattle.hsp_instance.proofs.Reading.{at_read}
 use Rattle.hsp_check.proofs.Summing.{sum_by_le_all, by_key}
 use Rattle.hsp_flow.specs.Layout.{IsSmall}
 use Rattle.hsp_flow.specs.Network.{IsNetwork, host_of}

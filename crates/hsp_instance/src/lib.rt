@@ -6,6 +6,7 @@ mod arc;
 mod arc_building;
 mod building;
 mod checks;
+mod columns;
 mod fault;
 mod group_numbers;
 mod grouping;
@@ -18,6 +19,7 @@ mod sites;
 
 pub use arc::Arc;
 pub use building::build;
+pub use columns::{capacities_of, counts_of, homes_of, limits_of};
 pub use fault::{BuildFault, Table};
 pub use group_numbers::Groups;
 pub use grouping::groups;

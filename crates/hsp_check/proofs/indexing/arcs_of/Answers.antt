@@ -1,6 +1,6 @@
 use Rattle.std.proofs.Common.{◌≡◌, length, vec_len}
 use Rattle.hsp_instance.specs.Instance.{AreArcs}
-use Rattle.hsp_check.proofs.Reading.{at_read}
+use Rattle.hsp_instance.proofs.Reading.{at_read}
 use Rattle.hsp_check.proofs.RowLists.{indexed_more}
 use Rattle.hsp_check.proofs.indexing.arcs_of.Goals as goal
 

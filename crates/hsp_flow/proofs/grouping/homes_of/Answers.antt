@@ -2,7 +2,7 @@ use Rattle.std.proofs.Common.{◌≡◌, ◌<◌, ◌∙◌, ap, length, slice_i
 use Rattle.std.proofs.lemmas.List.{length-map}
 use Rattle.std.proofs.lemmas.Option.{get_or_from_slice_get}
 use Rattle.hsp_instance.specs.Instance.{AreArcs}
-use Rattle.hsp_check.proofs.Reading.{at_read}
+use Rattle.hsp_instance.proofs.Reading.{at_read}
 use Rattle.hsp_flow.specs.Grouping.{arcs_at, group_of, lists_at, offset}
 use Rattle.hsp_flow.proofs.GroupFacts.{run_none, run_more, lists_low}
 use Rattle.hsp_flow.proofs.Offsets.{offset_low}

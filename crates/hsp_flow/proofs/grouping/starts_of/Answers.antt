@@ -4,7 +4,7 @@ use Rattle.std.proofs.lemmas.List.{length-map, get_or_append_left, get_or-append
 use Rattle.std.proofs.lemmas.Option.{get_or_from_slice_get}
 use Rattle.hsp_instance.specs.Instance.{AreArcs}
 use Rattle.hsp_instance.specs.declared.arc.Arc.{Arc}
-use Rattle.hsp_check.proofs.Reading.{at_read}
+use Rattle.hsp_instance.proofs.Reading.{at_read}
 use Rattle.hsp_flow.specs.Grouping.{arcs_at, lists_at, offset}
 use Rattle.hsp_flow.proofs.GroupFacts.{group_read}
 use Rattle.hsp_flow.proofs.Offsets.{list_at, offset_more}

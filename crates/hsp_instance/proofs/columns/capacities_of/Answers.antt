@@ -1,7 +1,7 @@
 use Rattle.std.proofs.Common.{◌∙◌}
 use Rattle.hsp_instance.specs.Instance.{Server}
-use Rattle.hsp_check.proofs.Reading.{read_more}
-use Rattle.hsp_check.proofs.numbers.capacities_of.Goals as goal
+use Rattle.hsp_instance.proofs.Reading.{read_more}
+use Rattle.hsp_instance.proofs.columns.capacities_of.Goals as goal
 
 pub loop-server-preserved : goal.loop-server-preserved
 loop-server-preserved c = c.in_ok-push.ensures.items ∙ read_more (λ (x : Server). x.capacity) _ _ _ _ c.server-capacity.ensures.capacity c.loop-server.invariant

@@ -1,5 +1,5 @@
 use Rattle.std.proofs.Common.{◌≡◌, take, map}
-use Rattle.hsp_flow.proofs.amounts.counts_of.Given as goal
+use Rattle.hsp_instance.proofs.columns.counts_of.Given as goal
 
 abbrev pub invariant-loop-row : goal.invariant-loop-row
 invariant-loop-row l = l.counts.items ≡ take l.row (map (λ x. x.count) l.instance.rows)

@@ -1,7 +1,0 @@
-use Rattle.std.proofs.Common.{◌∙◌, ap, option_map}
-use Rattle.hsp_instance.specs.Instance.{Host}
-use Rattle.hsp_check.proofs.Reading.{read_more}
-use Rattle.hsp_check.proofs.numbers.limits_of.Goals as goal
-
-pub loop-host-preserved : goal.loop-host-preserved
-loop-host-preserved c = c.in_ok-push.ensures.items ∙ read_more (λ (x : Host). x.limit) _ _ _ _ (ap (λ h. option_map (λ (x : Host). x.limit) h) c.host-limit.ensures) c.loop-host.invariant

@@ -1,7 +1,0 @@
-use Rattle.std.proofs.Common.{◌∙◌, ap, option_map}
-use Rattle.hsp_instance.specs.Instance.{Row}
-use Rattle.hsp_check.proofs.Reading.{read_more}
-use Rattle.hsp_flow.proofs.amounts.counts_of.Goals as goal
-
-pub loop-row-preserved : goal.loop-row-preserved
-loop-row-preserved c = c.in_ok-push.ensures.items ∙ read_more (λ (x : Row). x.count) _ _ _ _ (ap (λ r. option_map (λ (x : Row). x.count) r) c.row-count.ensures) c.loop-row.invariant
