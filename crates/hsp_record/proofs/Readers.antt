@@ -68,7 +68,7 @@ octets_codec n = record {
 
 -- ---- a number
 
-record IsWidth (w : Width) (limit : ℕ) : Type 0 where
+pub record IsWidth (w : Width) (limit : ℕ) : Type 0 where
   pub len : (n : ℕ) → length (to_be_bytes w n) ≡ byte_len w
   pub back : (bytes : List ℕ) → length bytes ≡ byte_len w → IsOctets bytes → to_be_bytes w (from_be_bytes w bytes) ≡ bytes
   pub again : (n : ℕ) → n < limit → from_be_bytes w (to_be_bytes w n) ≡ n

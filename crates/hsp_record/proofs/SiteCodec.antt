@@ -82,7 +82,7 @@ server_codec =
     (λ s h. refl)
 
 -- a record of no server, of which the head is read
-record IsBareHead (s : Site) : Type 0 where
+pub record IsBareHead (s : Site) : Type 0 where
   pub fits : IsHead s
   pub bare : s.servers ≡ []
 

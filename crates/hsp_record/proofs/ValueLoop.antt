@@ -3,7 +3,6 @@ use Rattle.std.proofs.Common.{◌≡◌, ℕ, suc, ◌-◌, ◌+◌, ◌≤◌, 
 use Rattle.std.specs.Prelude.{nat_eq}
 use Rattle.std.specs.Ordering.{nat_cmp, is_eq}
 use Rattle.std.specs.Int.{w32, to_be_bytes}
-use Rattle.std.specs.List.{list_any}
 use Rattle.std.specs.BTreeSet as set
 use Rattle.std.specs.BTreeSet.{BTreeSet}
 use Rattle.std.proofs.lemmas.Bool.Decides.{nat_tests}
@@ -46,7 +45,7 @@ references_found count octets references rest fits e =
     }
 
 -- a count, that many references, and the octets that they stand in
-record SplitsReferences (bytes : List ℕ) (count : ℕ) (front back : List ℕ) : Type 0 where
+pub record SplitsReferences (bytes : List ℕ) (count : ℕ) (front back : List ℕ) : Type 0 where
   pub are : AreReferences count front
   pub read : list_at reference_at bytes ≡ Ok (references_in count front, back)
 
