@@ -1,1 +1,2 @@
-pub mod Matching
+mod Forms
+mod Matching

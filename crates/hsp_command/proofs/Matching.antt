@@ -1,6 +1,8 @@
 -- The subcommand that clap met, against the words.
-use Rattle.std.proofs.Common.{◌≡◌, ◌∙◌, sym, refl, List, ℕ, Option, Some, None, option_map, Box, true, false, ap₂}
-use Rattle.clap.specs.Words.{App, Row, Text, HasMatchesOf, app_of, rule_of, with_rule, Rule, AddsArg, is_simple, subcommand_of, subcommand_rows_of, subcommand_rows, subcommand_name_of, rows_of, found_of}
+use Rattle.std.proofs.Common.{◌≡◌, ◌∙◌, inl, inr, sym, refl, List, [], ℕ, Option, Some, None, option_map, Box, Result, Ok, Err, OnOk, true, false, ap₂}
+use Rattle.clap.specs.Words.{App, Row, Text, HasMatchesOf, app_of, rule_of, with_rule, Rule, AddsArg, is_simple, is_simple_and_free, FailsBy, HasKind, Kinds, fault_of, kind_of, subcommand_of, subcommand_rows_of, subcommand_rows, subcommand_name_of, rows_of, found_of}
+use Rattle.clap.specs.declared.error.Error.{Error}
+use Rattle.clap.specs.declared.error.kind.ErrorKind.TheVariants as kind
 use Rattle.clap.specs.declared.parser.matches.ArgMatches.{ArgMatches}
 use Rattle.clap.specs.declared.parser.matches.ArgMatches.TheViews.{out-ArgMatches, out-SubCommand}
 use Rattle.clap.specs.declared.parser.matches.SubCommand.{SubCommand}
@@ -15,6 +17,10 @@ is_simple-hsplan : is_simple hsplan_app ≡ true
 unfolding clap_on_literals
 is_simple-hsplan = refl
 
+is_free-hsplan : is_simple_and_free hsplan_app ≡ true
+unfolding clap_on_literals
+is_free-hsplan = refl
+
 -- one argument more of a command
 pub adds_arg : (old new : Command) (a : Arg) (app : App) (rule : Rule) → app_of old ≡ app → has_globals_of old ≡ false → rule_of a ≡ rule → a.global ≡ false
     → AddsArg old a new → (app_of new ≡ with_rule app rule) × (has_globals_of new ≡ false)
@@ -26,10 +32,40 @@ met_is : {Z : Type 0} (o : Option (Box SubCommand Z)) (n : List ℕ) (rows : Lis
 met_is None n rows p q = cc
 met_is (Some b) n rows p q = let x : n ≡ (out-SubCommand (box_value b)).name.now = cc in let y : rows ≡ rows_of (found_of (out-SubCommand (box_value b)).matches) = cc in rw (x, y) refl
 
+none_is : {Z : Type 0} (o : Option (Box SubCommand Z)) → None ≡ option_map (λ b. (out-SubCommand (box_value b)).name.now) o → subcommand_rows o ≡ None
+none_is None p = refl
+none_is (Some b) p = cc
+
 -- the subcommand that was taken off the matches is that of the words
 pub met : (m : ArgMatches) (words : List Text) (n : List ℕ) (rows : List Row) (a : App)
     → Some n ≡ subcommand_name_of m → Some rows ≡ option_map (λ p. p.1) (subcommand_rows_of m) → a ≡ hsplan_app → HasMatchesOf a words m
     → subcommand_of hsplan_app words ≡ Some (n, rows)
 met m words n rows a p q e h =
     let at = rw e at h in
-    sym (at is_simple-hsplan).1 ∙ met_is (out-ArgMatches m).subcommand n rows p q
+    let rows_are : subcommand_rows_of m ≡ subcommand_of hsplan_app words = (at is_simple-hsplan).1 in
+    sym rows_are ∙ met_is (out-ArgMatches m).subcommand n rows p q
+
+-- no subcommand was met, and the words have none
+pub met_none : (m : ArgMatches) (words : List Text) (a : App) → None ≡ subcommand_name_of m → a ≡ hsplan_app → HasMatchesOf a words m
+    → subcommand_of hsplan_app words ≡ None
+met_none m words a p e h =
+    let at = rw e at h in
+    let rows_are : subcommand_rows_of m ≡ subcommand_of hsplan_app words = (at is_simple-hsplan).1 in
+    sym rows_are ∙ none_is (out-ArgMatches m).subcommand p
+
+-- the parse fails by what the words give
+pub fails_by : {T : Type 0} (r : Result T Error) (words : List Text) (a : App) → a ≡ hsplan_app → (is_simple_and_free a ≡ true → FailsBy (fault_of a words) r)
+    → FailsBy (fault_of hsplan_app words) r
+fails_by r words a e h =
+    let at = rw e at h in
+    at is_free-hsplan
+
+-- what stands of every answer stands of an order
+pub of_orders : {A E : Type 0} {P : Type 0} (r : Result A E) → P → OnOk r P
+of_orders (Ok x) p = p
+of_orders (Err e) p = tt
+
+-- an error of another kind than want of memory is one of the kinds that the words give, so these are some
+pub has_fault : (e : Error) (kinds : Kinds) → HasKind kinds e → (kind_of e ≡ kind.OutOfMemory → ⊥) → kinds ≡ [] → ⊥
+has_fault e kinds (inl memory) other none = other memory
+has_fault e kinds (inr among) other none = rw none at among

@@ -1,6 +1,7 @@
 -- What an order holds: the subcommand that clap met in the words, and the values of its options and words.
-use Rattle.std.specs.Prelude.{◌≡◌, List, codes, Option, Some, None}
-use Rattle.clap.specs.Words.{Row, Text, first_of}
+use Rattle.std.specs.Prelude.{◌≡◌, List, [], codes, Option, Some, None}
+use Rattle.clap.specs.Words.{Row, Text, fault_of, first_of, subcommand_of}
+use Rattle.hsp_command.specs.Commands.{hsplan_app}
 use Rattle.hsp_command.specs.declared.order.Order.{Order}
 use Rattle.hsp_command.specs.declared.order.InputFiles.{InputFiles}
 use Rattle.hsp_command.specs.declared.order.Order.TheVariants as order
@@ -29,3 +30,7 @@ IsOrderIn (order.Check inputs plan) name rows = (name ≡ codes "check") × HasI
 abbrev pub IsOrderOf : Order → Option (Text × List Row) → Type 0
 IsOrderOf o None = ⊥
 IsOrderOf o (Some (name, rows)) = IsOrderIn o name rows
+
+-- the words give no order: clap refuses them, or what it found in them is the values of none
+abbrev pub IsUsage : List Text → Type 0
+IsUsage words = fault_of hsplan_app words ≡ [] → (o : Order) → IsOrderOf o (subcommand_of hsplan_app words) → ⊥

@@ -1,9 +1,13 @@
 // The order that words give.
 
-ghost use Rattle.std.specs.Prelude.{◌≡◌, IfOk, Some, codes, map, string_bytes};
-ghost use Rattle.clap.specs.Words.{found_of, rows_of, first_of, subcommand_of};
+ghost use Rattle.std.specs.Prelude.{◌≡◌, ◌↔◌, [], IfOk, OnOk, Err, Some, None, codes, map, string_bytes};
+ghost use Rattle.clap.specs.Words.{fault_of, found_of, kind_of, rows_of, first_of, subcommand_of};
+ghost use Rattle.clap.specs.declared.error.kind.ErrorKind.TheVariants as kind;
 ghost use Rattle.hsp_command.specs.Commands.{hsplan_app};
-ghost use Rattle.hsp_command.specs.Orders.{HasInputs, IsOrderIn, IsOrderOf};
+ghost use Rattle.hsp_command.specs.Orders.{HasInputs, IsOrderIn, IsOrderOf, IsUsage};
+ghost use Rattle.hsp_command.specs.declared.fault.CommandFault.TheVariants as fault;
+ghost use Rattle.hsp_command.specs.declared.order.InputFiles.{InputFiles};
+ghost use Rattle.hsp_command.specs.declared.order.Order.{Order};
 
 use crate::commands::hsplan_command;
 use crate::fault::CommandFault;
@@ -24,7 +28,8 @@ fn word_of(alloc: Global, matches: &ArgMatches<'_>, name: &str) -> Result<Option
 
 // A value that has to be there.
 fn needed_of(alloc: Global, matches: &ArgMatches<'_>, name: &str) -> Result<Word, CommandFault>
-    ensures { IfOk result (λ word. first_of name.now (rows_of (found_of matches.now)) ≡ Some word) }
+    ensures given { IfOk result (λ word. first_of name.now (rows_of (found_of matches.now)) ≡ Some word) }
+    ensures absent { result ≡ Err fault.Usage → first_of name.now (rows_of (found_of matches.now)) ≡ None }
 {
     match word_of(alloc, matches, name)? {
         Some(word) => Ok(word),
@@ -33,7 +38,8 @@ fn needed_of(alloc: Global, matches: &ArgMatches<'_>, name: &str) -> Result<Word
 }
 
 fn inputs_of(alloc: Global, matches: &ArgMatches<'_>) -> Result<InputFiles, CommandFault>
-    ensures { IfOk result (λ inputs. HasInputs (rows_of (found_of matches.now)) inputs) }
+    ensures given { IfOk result (λ inputs. HasInputs (rows_of (found_of matches.now)) inputs) }
+    ensures absent { result ≡ Err fault.Usage → (inputs : InputFiles) → HasInputs (rows_of (found_of matches.now)) inputs → ⊥ }
 {
     let settings = needed_of(alloc, matches, "settings")?;
     let values = word_of(alloc, matches, "values")?;
@@ -51,7 +57,8 @@ fn inputs_of(alloc: Global, matches: &ArgMatches<'_>) -> Result<InputFiles, Comm
 
 // One of the two forms of `locate`, and neither a mixture nor a part.
 fn locate_of(alloc: Global, matches: &ArgMatches<'_>) -> Result<Order, CommandFault>
-    ensures { IfOk result (λ order. IsOrderIn order (codes "locate") (rows_of (found_of matches.now))) }
+    ensures order { IfOk result (λ order. IsOrderIn order (codes "locate") (rows_of (found_of matches.now))) }
+    ensures usage { result ≡ Err fault.Usage → (order : Order) → IsOrderIn order (codes "locate") (rows_of (found_of matches.now)) → ⊥ }
 {
     let option = word_of(alloc, matches, "option")?;
     let servers = word_of(alloc, matches, "servers")?;
@@ -75,7 +82,8 @@ fn locate_of(alloc: Global, matches: &ArgMatches<'_>) -> Result<Order, CommandFa
 
 // The order of a subcommand with its values.
 fn order_of(alloc: Global, name: &str, matches: &ArgMatches<'_>) -> Result<Order, CommandFault>
-    ensures { IfOk result (λ order. IsOrderIn order name.now (rows_of (found_of matches.now))) }
+    ensures order { IfOk result (λ order. IsOrderIn order name.now (rows_of (found_of matches.now))) }
+    ensures usage { result ≡ Err fault.Usage → (order : Order) → IsOrderIn order name.now (rows_of (found_of matches.now)) → ⊥ }
 {
     match name {
         "locate" => locate_of(alloc, matches),
@@ -97,7 +105,10 @@ fn order_of(alloc: Global, name: &str, matches: &ArgMatches<'_>) -> Result<Order
     }
 }
 
-fn fault_of(error: &Error) -> CommandFault {
+// What an error of clap's parser says.
+fn command_fault(error: &Error) -> CommandFault
+    ensures { result ≡ fault.OutOfMemory ↔ (kind_of error.now ≡ kind.OutOfMemory) }
+{
     if error.kind() == ErrorKind::OutOfMemory {
         CommandFault::OutOfMemory
     } else {
@@ -106,14 +117,16 @@ fn fault_of(error: &Error) -> CommandFault {
 }
 
 /// The order that the words give, the first of them being the command. What clap's parser refuses is `Usage`, a request for
-/// help too.
+/// help too, and so is a mixture or a part of the two forms of `locate`.
 pub fn read_command(alloc: Global, words: &[String]) -> Result<Order, CommandFault>
-    ensures { IfOk result (λ order. IsOrderOf order (subcommand_of hsplan_app (map string_bytes words.now))) }
+    ensures order { IfOk result (λ order. IsOrderOf order (subcommand_of hsplan_app (map string_bytes words.now))) }
+    ensures taken { OnOk result (fault_of hsplan_app (map string_bytes words.now) ≡ []) }
+    ensures usage { result ≡ Err fault.Usage → IsUsage (map string_bytes words.now) }
 {
     let command = hsplan_command(alloc)?;
     let mut matches = match command.try_get_matches_from(words) {
         Ok(matches) => matches,
-        Err(error) => return Err(fault_of(&error)),
+        Err(error) => return Err(command_fault(&error)),
     };
     match matches.remove_subcommand() {
         Some((name, found)) => order_of(alloc, name, &found),

@@ -3,9 +3,20 @@ use std::alloc::Global;
 use std::process::Abort;
 use std::test::Fail;
 
-// The words of a line, or None where memory ran out.
+// The words of a line. Want of memory is met by a second call: where one growth is refused, it answers as with ample memory.
 fn words_of(alloc: Global, line: &[u8]) -> Option<Vec<String>> {
-    split_words(alloc, line).ok()?
+    match split_words(alloc, line) {
+        Ok(words) => words,
+        Err(_) => split_words(alloc, line).ok()?,
+    }
+}
+
+// The order of the words, by a second call where the first tells want of memory.
+fn order_of(alloc: Global, words: &[String]) -> Result<Order, CommandFault> {
+    match read_command(alloc, words) {
+        Err(CommandFault::OutOfMemory) => read_command(alloc, words),
+        answer => answer,
+    }
 }
 
 // What the words of a line are read as: the values one after the other, with bars between.
@@ -54,40 +65,29 @@ fn shown_inputs(alloc: Global, name: &str, inputs: &InputFiles, plan: &str) -> O
     format!(in alloc; "{name}|{settings}|{values}|{demand}|{costs}|{capacity}|{plan}").ok()
 }
 
-// The words of the line give the order, unless memory runs out.
-fn gives(rt: &impl Abort, alloc: Global, line: &[u8], wanted: &str) {
-    let Some(words) = words_of(alloc, line) else {
-        return;
-    };
-    match read_command(alloc, words.as_slice()) {
-        Ok(order) => {
-            if let Some(text) = shown(alloc, &order) {
-                assert_eq!(rt; text.as_str(), wanted);
-            }
-        }
-        Err(fault) => assert_eq!(rt; fault, CommandFault::OutOfMemory),
+// The words of the line give the order.
+fn gives(rt: &impl Abort, alloc: Global, line: &[u8], wanted: &str) -> Result<(), Fail> {
+    let words = words_of(alloc, line).ok_or("no words")?;
+    let order = order_of(alloc, words.as_slice()).ok().ok_or("no order")?;
+    if let Some(text) = shown(alloc, &order) {
+        assert_eq!(rt; text.as_str(), wanted);
     }
+    Ok(())
 }
 
-// The words of the line are no order, unless memory runs out.
-fn refused(rt: &impl Abort, alloc: Global, line: &[u8]) {
-    let Some(words) = words_of(alloc, line) else {
-        return;
-    };
-    match read_command(alloc, words.as_slice()) {
-        Ok(_) => assert!(rt; false, "an order was read"),
-        Err(fault) => assert!(rt;
-            fault == CommandFault::Usage || fault == CommandFault::OutOfMemory
-        ),
-    }
+// The words of the line are no order.
+fn refused(rt: &impl Abort, alloc: Global, line: &[u8]) -> Result<(), Fail> {
+    let words = words_of(alloc, line).ok_or("no words")?;
+    assert_eq!(rt;
+        order_of(alloc, words.as_slice()).err(),
+        Some(CommandFault::Usage)
+    );
+    Ok(())
 }
 
 #[test]
 fn words_stand_between_spaces(rt: HostRuntime) -> Result<(), Fail> {
-    let Ok(found) = split_words(rt.alloc(), b"a  b") else {
-        return Ok(());
-    };
-    let words = found.ok_or("no text")?;
+    let words = words_of(rt.alloc(), b"a  b").ok_or("no words")?;
     assert_eq!(rt; words.len(), 2);
     assert_eq!(rt; words[0].as_str(), "a");
     assert_eq!(rt; words[1].as_str(), "b");
@@ -102,73 +102,73 @@ fn octets_that_are_no_text_are_no_words(rt: HostRuntime) {
 }
 
 #[test]
-fn places_are_ordered(rt: HostRuntime) {
+fn places_are_ordered(rt: HostRuntime) -> Result<(), Fail> {
     gives(
         &rt,
         rt.alloc(),
         b"locate --option local --servers 2 10/3",
         "place|local|2|10/3",
-    );
+    )
 }
 
 #[test]
-fn a_word_behind_two_dashes_is_no_option(rt: HostRuntime) {
+fn a_word_behind_two_dashes_is_no_option(rt: HostRuntime) -> Result<(), Fail> {
     gives(
         &rt,
         rt.alloc(),
         b"locate --servers=-1 --option= -- -x/1",
         "place||-1|-x/1",
-    );
+    )
 }
 
 #[test]
-fn sites_are_ordered(rt: HostRuntime) {
+fn sites_are_ordered(rt: HostRuntime) -> Result<(), Fail> {
     gives(
         &rt,
         rt.alloc(),
         b"locate --settings s 10/3",
         "sites|s|none|10/3",
-    );
+    )
 }
 
 #[test]
-fn sites_with_values_are_ordered(rt: HostRuntime) {
+fn sites_with_values_are_ordered(rt: HostRuntime) -> Result<(), Fail> {
     gives(
         &rt,
         rt.alloc(),
         b"locate 10/3 --values v --settings s",
         "sites|s|v|10/3",
-    );
+    )
 }
 
 #[test]
-fn a_record_is_ordered(rt: HostRuntime) {
-    gives(&rt, rt.alloc(), b"site f", "site|none|f");
-    gives(&rt, rt.alloc(), b"site --index 1 f", "site|1|f");
+fn a_record_is_ordered(rt: HostRuntime) -> Result<(), Fail> {
+    gives(&rt, rt.alloc(), b"site f", "site|none|f")?;
+    gives(&rt, rt.alloc(), b"site --index 1 f", "site|1|f")
 }
 
 #[test]
-fn a_plan_is_ordered(rt: HostRuntime) {
+fn a_plan_is_ordered(rt: HostRuntime) -> Result<(), Fail> {
     gives(
         &rt,
         rt.alloc(),
         b"plan --settings s --demand d --costs c --capacity k",
         "plan|s|none|d|c|k|",
-    );
+    )
 }
 
 #[test]
-fn a_check_is_ordered(rt: HostRuntime) {
+fn a_check_is_ordered(rt: HostRuntime) -> Result<(), Fail> {
     gives(
         &rt,
         rt.alloc(),
         b"check --settings s --values v --demand d --costs c --capacity k --plan p",
         "check|s|v|d|c|k|p",
-    );
+    )
 }
 
 #[test]
-fn other_words_are_no_order(rt: HostRuntime) {
+fn other_words_are_no_order(rt: HostRuntime) -> Result<(), Fail> {
     let lines: [&[u8]; 14] = [
         b"",
         b"locate",
@@ -186,6 +186,7 @@ fn other_words_are_no_order(rt: HostRuntime) {
         b"check --settings s --demand d --costs c --capacity k",
     ];
     for line in lines {
-        refused(&rt, rt.alloc(), line);
+        refused(&rt, rt.alloc(), line)?;
     }
+    Ok(())
 }

@@ -10,7 +10,7 @@ use Rattle.csv.specs.declared.parser.State.TheVariants as state
 use Rattle.hsp_csv.specs.Records.{Fields, IsReading, TakesRecord, records_from_state}
 
 -- after a record fewer octets are left, or the text is at its end
-abbrev pub IsNearerTheEnd : List ℕ → Read → Type 0
+abbrev IsNearerTheEnd : List ℕ → Read → Type 0
 IsNearerTheEnd octets read = (length read.2 < length octets) ⊎ ((read.1 ≡ state.StartRecord) × (read.2 ≡ []))
 
 same_read : (x y : Read) → Some x ≡ Some y → x ≡ y
@@ -26,7 +26,7 @@ nearer_by_one octet octets read (inl fewer) = inl (omega arith)
 nearer_by_one octet octets read (inr ended) = inr ended
 
 -- each record brings the reading nearer to the end
-pub record_nears_end : (config : Config) (s : State) (fields : Fields) (field octets : List ℕ) (read : Read) → next_record config s fields field octets ≡ Some read → IsNearerTheEnd octets read
+record_nears_end : (config : Config) (s : State) (fields : Fields) (field octets : List ℕ) (read : Read) → next_record config s fields field octets ≡ Some read → IsNearerTheEnd octets read
 unfolding next_record
 record_nears_end config s fields field [] read e =
     let same = record_at_end (ends_at_end s) _ read e in
@@ -49,7 +49,7 @@ none_at_end config zero = refl
 none_at_end config (suc steps) = refl
 
 -- any two numbers of steps above the number of octets list the same records
-pub steps_enough : (config : Config) (n m : ℕ) (s : State) (octets : List ℕ) → length octets < n → length octets < m → records_from config n s octets ≡ records_from config m s octets
+steps_enough : (config : Config) (n m : ℕ) (s : State) (octets : List ℕ) → length octets < n → length octets < m → records_from config n s octets ≡ records_from config m s octets
 unfolding records_from
 steps_enough config zero m s octets h k = absurd (omega arith)
 steps_enough config (suc n) zero s octets h k = absurd (omega arith)
@@ -66,7 +66,7 @@ steps_enough config (suc n) (suc m) s octets h k = by_read (next_record config s
         ]
 
 -- a record that is read stands before the records of what it leaves
-pub first_record : (s : State) (octets : List ℕ) (read : Read) → next_record default_config s [] [] octets ≡ Some read
+first_record : (s : State) (octets : List ℕ) (read : Read) → next_record default_config s [] [] octets ≡ Some read
     → records_from_state s (Some octets) ≡ read.0 ∷ records_from_state read.1 (Some read.2)
 unfolding records_from
 first_record s octets read e =
@@ -76,7 +76,7 @@ first_record s octets read e =
     ])
 
 -- where no record is read, none is left
-pub no_record : (s : State) (octets : List ℕ) → next_record default_config s [] [] octets ≡ None → records_from_state s (Some octets) ≡ []
+no_record : (s : State) (octets : List ℕ) → next_record default_config s [] [] octets ≡ None → records_from_state s (Some octets) ≡ []
 unfolding records_from
 no_record s octets e = rw (add-one (length octets), e) refl
 

@@ -29,6 +29,14 @@ impl<'a> Read for OneByOne<'a> {
     }
 }
 
+// Two records behind a byte order mark.
+fn little(good: usize) -> OneByOne<'static> {
+    OneByOne {
+        text: b"\xEF\xBB\xBFa,b\nc\n",
+        good,
+    }
+}
+
 // Writes a record as its fields, each in brackets, and an LF.
 fn write_record(out: &mut Vec<u8>, record: &ByteRecord) -> Result<(), AllocError> {
     for i in 0..record.len() {
@@ -42,7 +50,8 @@ fn write_record(out: &mut Vec<u8>, record: &ByteRecord) -> Result<(), AllocError
     Ok(())
 }
 
-// The first ten records that a reader gives, and the fault at which it stopped.
+// The first ten records that a reader gives, and the fault at which it stopped. Where that is want of memory, the tests read
+// once more: where one growth is refused, the second reading is that of ample memory.
 fn first_ten<R: Read + Drop>(alloc: Global, text: R, out: &mut Vec<u8>) -> Option<RecordsFault> {
     let mut reader = read_records(alloc, text);
     let mut record = ByteRecord::new(alloc);
@@ -80,10 +89,13 @@ fn records_of_a_text(rt: HostRuntime) -> Result<(), Fail> {
         let Ok(mut out) = Vec::with_capacity(rt.alloc(), 64) else {
             return Ok(());
         };
-        match first_ten(rt.alloc(), text, &mut out) {
-            None => assert_eq!(rt; out.as_slice(), wanted),
-            fault => assert_eq!(rt; fault, Some(RecordsFault::OutOfMemory)),
+        let mut fault = first_ten(rt.alloc(), text, &mut out);
+        if fault == Some(RecordsFault::OutOfMemory) {
+            out.clear();
+            fault = first_ten(rt.alloc(), text, &mut out);
         }
+        assert_eq!(rt; fault, None);
+        assert_eq!(rt; out.as_slice(), wanted);
     }
     Ok(())
 }
@@ -97,18 +109,16 @@ fn a_reader_that_gives_little_or_fails(rt: HostRuntime) -> Result<(), Fail> {
         (7, Some(RecordsFault::ReadFailed), b"[a][b]\n"),
     ];
     for (good, wanted_fault, wanted) in cases {
-        let text = OneByOne {
-            text: b"\xEF\xBB\xBFa,b\nc\n",
-            good,
-        };
         let Ok(mut out) = Vec::with_capacity(rt.alloc(), 64) else {
             return Ok(());
         };
-        let fault = first_ten(rt.alloc(), text, &mut out);
-        if fault != Some(RecordsFault::OutOfMemory) {
-            assert_eq!(rt; fault, wanted_fault);
-            assert_eq!(rt; out.as_slice(), wanted);
+        let mut fault = first_ten(rt.alloc(), little(good), &mut out);
+        if fault == Some(RecordsFault::OutOfMemory) {
+            out.clear();
+            fault = first_ten(rt.alloc(), little(good), &mut out);
         }
+        assert_eq!(rt; fault, wanted_fault);
+        assert_eq!(rt; out.as_slice(), wanted);
     }
     Ok(())
 }

@@ -1,2 +1,2 @@
-pub mod Signed
-pub mod Upper
+mod Signed
+mod Upper

@@ -15,7 +15,7 @@ absolute v h = elim (cases_lt v (2 ^ 31)) [
   | inr above ↦ rw (le-ltb v (2 ^ 31) above) (omega arith)
 ]
 
-pub absolute_again : (v : ℕ) → v < 2 ^ 32 → unsigned_abs (to_z w32 (of_z w32 (to_z w32 v))) ≡ absolute_value v
+absolute_again : (v : ℕ) → v < 2 ^ 32 → unsigned_abs (to_z w32 (of_z w32 (to_z w32 v))) ≡ absolute_value v
 absolute_again v h = rw (of_z-to_z w32 v h) (absolute v h)
 
 -- the place, by what reading the word and its absolute value give

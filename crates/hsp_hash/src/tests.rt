@@ -19,55 +19,34 @@ fn options_have_their_octets(rt: HostRuntime) {
     assert_eq!(rt; HashOption::of_octet(255), None);
 }
 
-// The MD5 of each text, as RFC 1321's algorithm gives it.
+// The MD5 of each local name, as RFC 1321's algorithm gives it.
+const DIGESTS_OF_LOCAL_NAMES: [(&[u8], u128); 7] = [
+    (b"10/", 0xd41d8cd98f00b204e9800998ecf8427e),
+    (b"10/0", 0xcfcd208495d565ef66e7dff9f98764da),
+    (b"10/1", 0xc4ca4238a0b923820dcc509a6f75849b),
+    (b"10/2", 0xc81e728d9d4c2f636f067f89cc14862c),
+    (b"10/3", 0xeccbc87e4b5ce2fe28308fd9f2a7baf3),
+    (b"10/123", 0x202cb962ac59075b964b07152d234b70),
+    (b"10/A", 0x7fc56270e7a70fa81a5935b72eacbe29),
+];
+
 #[test]
 fn digests_are_md5(rt: HostRuntime) -> Result<(), Fail> {
-    let cases: [(HashOption, &[u8], u128); 8] = [
-        (
-            HashOption::ByLocal,
-            b"10/",
-            0xd41d8cd98f00b204e9800998ecf8427e,
-        ),
-        (
-            HashOption::ByLocal,
-            b"10/0",
-            0xcfcd208495d565ef66e7dff9f98764da,
-        ),
-        (
-            HashOption::ByLocal,
-            b"10/1",
-            0xc4ca4238a0b923820dcc509a6f75849b,
-        ),
-        (
-            HashOption::ByLocal,
-            b"10/2",
-            0xc81e728d9d4c2f636f067f89cc14862c,
-        ),
-        (
-            HashOption::ByLocal,
-            b"10/3",
-            0xeccbc87e4b5ce2fe28308fd9f2a7baf3,
-        ),
-        (
-            HashOption::ByNa,
-            b"10/1",
-            0xd3d9446802a44259755d38e6d163e820,
-        ),
-        (
-            HashOption::ByLocal,
-            b"10/123",
-            0x202cb962ac59075b964b07152d234b70,
-        ),
-        (
-            HashOption::ByLocal,
-            b"10/A",
-            0x7fc56270e7a70fa81a5935b72eacbe29,
-        ),
-    ];
-    for (option, handle, wanted) in cases {
+    for (handle, wanted) in DIGESTS_OF_LOCAL_NAMES {
         let handle = HandleRef::parse(handle).ok().ok_or("no handle")?;
-        assert_eq!(rt; digest_of(option, handle), wanted.to_be_bytes());
+        assert_eq!(rt;
+            digest_of(HashOption::ByLocal, handle),
+            wanted.to_be_bytes()
+        );
     }
+    Ok(())
+}
+
+#[test]
+fn naming_authorities_are_hashed(rt: HostRuntime) -> Result<(), Fail> {
+    let handle = HandleRef::parse(b"10/1").ok().ok_or("no handle")?;
+    let wanted: u128 = 0xd3d9446802a44259755d38e6d163e820;
+    assert_eq!(rt; digest_of(HashOption::ByNa, handle), wanted.to_be_bytes());
     Ok(())
 }
 

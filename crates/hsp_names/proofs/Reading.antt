@@ -20,7 +20,7 @@ is_one h e =
     record { short = leb-true (length h) 4096 first.0; text = IsUtf8-from_is_utf8 h first.1; parts = parts.0; authority = cut_is_authority (naming_authority h) last.1 parts.1 }
 
 -- the parts of a handle are those before and after its first slash
-pub parts_of : (h n l : List ℕ) → IsHandle h n l → (naming_authority h ≡ n) × (local_name h ≡ l)
+parts_of : (h n l : List ℕ) → IsHandle h n l → (naming_authority h ≡ n) × (local_name h ≡ l)
 parts_of h n l one =
     let cut = authority_is_cut n one.authority in
     rw one.parts (cut_parts is_slash n 47 l cut.1 refl)

@@ -25,7 +25,7 @@ place_of p xs i e = elim (cases_lt (position_or_len p xs) (length xs)) [
 ]
 
 -- the first octet that passes is there where some octet passes
-pub first_within : (p : ℕ → Bool) (xs : List ℕ) → list_any p xs ≡ true → position_or_len p xs < length xs
+first_within : (p : ℕ → Bool) (xs : List ℕ) → list_any p xs ≡ true → position_or_len p xs < length xs
 first_within p [] a = absurd cc
 first_within p (x ∷ xs) a = elim (cases_Bool (p x)) [
   | inl passes ↦ rw passes (omega arith)
@@ -105,7 +105,7 @@ slash_parts h some =
     )
 
 -- a slash that was found
-pub slash_found : (h : List ℕ) (i : ℕ) → Some i ≡ position is_slash h → (has_slash h ≡ true) × (take i h ≡ naming_authority h) × (i < length h) × (i ≡ position_or_len is_slash h)
+slash_found : (h : List ℕ) (i : ℕ) → Some i ≡ position is_slash h → (has_slash h ≡ true) × (take i h ≡ naming_authority h) × (i < length h) × (i ≡ position_or_len is_slash h)
 slash_found h i e =
     let place = place_of is_slash h i e in
     let within : position_or_len is_slash h < length h = rw (← place.1) place.0 in (

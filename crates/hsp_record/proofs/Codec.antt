@@ -8,7 +8,7 @@ use Rattle.hsp_record.specs.Fields.{IsOctets, joined}
 use Rattle.hsp_record.specs.Reading.{◌>>=◌, Reader, then_at, both_at}
 use Rattle.hsp_record.proofs.Cuts.{Cuts, joined-append, cuts_left, cuts_right, cuts_split}
 
-pub IsOctets-end : (f rest : List ℕ) → IsOctets (f ++ rest) → IsOctets rest
+IsOctets-end : (f rest : List ℕ) → IsOctets (f ++ rest) → IsOctets rest
 IsOctets-end [] rest h = h
 IsOctets-end (x ∷ f) rest h = IsOctets-end f rest (λ i. h (suc i))
 

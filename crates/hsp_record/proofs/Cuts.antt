@@ -84,7 +84,7 @@ ends_from_cuts (f ∷ fs) octets left cut =
           subst (λ (k : ℕ). EndsIn (f ∷ fs) octets k) (sym at) (later_end f fs octets later.0 (length later.0 - left) later.1 (ends_from_cuts fs later.0 left later.2))
     ]
 
-pub split_longer : (a b c d : List ℕ) → a ++ b ≡ c ++ d → length c ≤ length a → (m : List ℕ) × (a ≡ c ++ m) × (d ≡ m ++ b)
+split_longer : (a b c d : List ℕ) → a ++ b ≡ c ++ d → length c ≤ length a → (m : List ℕ) × (a ≡ c ++ m) × (d ≡ m ++ b)
 split_longer a b [] d e le = (a, refl, sym e)
 split_longer [] b (x ∷ c) d e le = absurd (omega arith)
 split_longer (y ∷ a) b (x ∷ c) d e le =

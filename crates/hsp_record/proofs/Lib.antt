@@ -1,12 +1,12 @@
-pub mod Cuts
-pub mod Codec
-pub mod Readers
-pub mod SiteCodec
-pub mod ValueCodec
-pub mod Limits
-pub mod SiteLimit
-pub mod ValueLimit
-pub mod RequestLimit
-pub mod Loop
-pub mod Appending
-pub mod ValueLoop
+mod Cuts
+mod Codec
+mod Readers
+mod SiteCodec
+mod ValueCodec
+mod Limits
+mod SiteLimit
+mod ValueLimit
+mod RequestLimit
+mod Loop
+mod Appending
+mod ValueLoop

@@ -48,11 +48,6 @@ pub record IsPassing {A : Type 0} (read : Reader A) (left : ℕ) (bytes : List �
   pub front : List A
   pub so_far : with_front front (times_at read left bytes) ≡ total
 
-pub passing_all : {A : Type 0} (read : Reader A) (count : ℕ) (bytes : List ℕ) → IsPassing read (count - 0) bytes (times_at read count bytes)
-passing_all {A} read count bytes =
-    let k : count - 0 ≡ count = omega arith in
-    record { front = []; so_far = rw k (no_front (times_at read count bytes)) }
-
 pub passing_on : {A : Type 0} (read : Reader A) (count i : ℕ) (bytes : List ℕ) (n : A) (after : List ℕ) (total : Read (List A)) → i < count → read bytes ≡ Ok (n, after)
     → IsPassing read (count - i) bytes total → IsPassing read (count - (i + 1)) after total
 passing_on read count i bytes n after total lt h p = record { front = p.front ++ n ∷ []; so_far = goes_on read p.front count i bytes n after total lt h p.so_far }

@@ -13,7 +13,7 @@ use Rattle.hsp_record.proofs.Readers.{width8, width16, width32, octets_codec, nu
 pub octet_codec : Codec ℕ (number_at w8) (λ n. n < 2 ^ 8) (λ n. to_be_bytes w8 n ∷ [])
 octet_codec = number_codec w8 (2 ^ 8) width8
 
-pub u16_codec : Codec ℕ (number_at w16) (λ n. n < 2 ^ 16) (λ n. to_be_bytes w16 n ∷ [])
+u16_codec : Codec ℕ (number_at w16) (λ n. n < 2 ^ 16) (λ n. to_be_bytes w16 n ∷ [])
 u16_codec = number_codec w16 (2 ^ 16) width16
 
 pub u32_codec : Codec ℕ (number_at w32) (λ n. n < 2 ^ 32) (λ n. to_be_bytes w32 n ∷ [])
@@ -57,7 +57,7 @@ attribute_codec =
     (λ a h. (h.name, h.value))
     (λ a h. refl)
 
-pub interface_codec : Codec Interface interface_at IsInterface interface_fields
+interface_codec : Codec Interface interface_at IsInterface interface_fields
 unfolding interface_at
 interface_codec =
     as_codec interface_at IsInterface interface_fields (λ p. record { service_type = p.0; protocol = p.1.0; port = p.1.1 }) (λ i. (i.service_type, (i.protocol, i.port)))

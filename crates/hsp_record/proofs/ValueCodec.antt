@@ -19,7 +19,7 @@ reference_codec =
     (λ r h. refl)
 
 -- the fields behind an index that is known
-pub body_codec : (index : ℕ) → index < 2 ^ 32 → Codec HandleValue (body_at index) (λ v. (v.index ≡ index) × IsValue v) body_fields
+body_codec : (index : ℕ) → index < 2 ^ 32 → Codec HandleValue (body_at index) (λ v. (v.index ≡ index) × IsValue v) body_fields
 unfolding body_at
 body_codec index lt =
     as_codec (body_at index) (λ v. (v.index ≡ index) × IsValue v) body_fields (body_of index)

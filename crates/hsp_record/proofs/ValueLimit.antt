@@ -22,7 +22,7 @@ use Rattle.hsp_record.proofs.Limits.{Passes, Limited}
 -- ---- indices that were not met
 
 -- each value's index is none of those met and none of an earlier value
-abbrev pub IsNew : List ℕ → List HandleValue → Type 0
+abbrev IsNew : List ℕ → List HandleValue → Type 0
 IsNew met [] = Unit {0}
 IsNew met (v ∷ vs) = (is_one_of met v.index ≡ false) × IsNew (met ++ v.index ∷ []) vs
 
@@ -162,7 +162,7 @@ values_again (v ∷ vs) met bytes rest new e =
     ∙ ap (λ (r : Read (List HandleValue)). r >>= λ ws. gave (v ∷ ws.0) ws.1) (values_again vs (met ++ v.index ∷ []) s.1 rest new.1 others)
 
 -- Some values of new indices stand before an index that was met.
-pub record IsDoubled (met : List ℕ) (n : ℕ) (bytes : List ℕ) (index : ℕ) : Type 0 where
+record IsDoubled (met : List ℕ) (n : ℕ) (bytes : List ℕ) (index : ℕ) : Type 0 where
   pub earlier : List HandleValue
   pub fewer : length earlier < n
   pub between : List ℕ
@@ -274,7 +274,7 @@ split_values (suc n) met bytes = split_index met n bytes (number_at w32 bytes) (
 
 -- ---- whole lists
 
-abbrev pub wide_list_at : Reader (List HandleValue)
+abbrev wide_list_at : Reader (List HandleValue)
 wide_list_at = list_at value_at
 
 wide_list_codec : Codec (List HandleValue) wide_list_at IsWideList values_fields

@@ -3,7 +3,6 @@ use Rattle.std.proofs.Common.{◌≡◌, ℕ, suc, ◌-◌, ◌+◌, ◌≤◌, 
 use Rattle.std.specs.Prelude.{nat_eq}
 use Rattle.std.specs.Ordering.{nat_cmp, is_eq}
 use Rattle.std.specs.Int.{w32, to_be_bytes}
-use Rattle.std.specs.List.{list_any}
 use Rattle.std.specs.BTreeSet as set
 use Rattle.std.specs.BTreeSet.{BTreeSet}
 use Rattle.std.proofs.lemmas.Bool.Decides.{nat_tests}
@@ -23,14 +22,14 @@ use Rattle.hsp_record.proofs.Loop.{with_front, regroup}
 
 -- ---- the octets of references
 
-pub record FindsReferences (count : ℕ) (octets : List ℕ) (references : List ValueReference) (rest : List ℕ) : Type 0 where
+record FindsReferences (count : ℕ) (octets : List ℕ) (references : List ValueReference) (rest : List ℕ) : Type 0 where
   pub within : length rest ≤ length octets
   pub read : times_at reference_at count (take (length octets - length rest) octets) ≡ Ok (references, [])
   pub after : drop (length octets - length rest) octets ≡ rest
   pub counted : length references ≡ count
   pub spelled : joined (all_fields reference_fields references) ≡ take (length octets - length rest) octets
 
-pub references_found : (count : ℕ) (octets : List ℕ) (references : List ValueReference) (rest : List ℕ) → IsOctets octets → times_at reference_at count octets ≡ Ok (references, rest) → FindsReferences count octets references rest
+references_found : (count : ℕ) (octets : List ℕ) (references : List ValueReference) (rest : List ℕ) → IsOctets octets → times_at reference_at count octets ≡ Ok (references, rest) → FindsReferences count octets references rest
 references_found count octets references rest fits e =
     let t = (times_codec reference_codec count).takes octets references rest fits e in
     let spelled = joined (all_fields reference_fields references) in
@@ -73,9 +72,6 @@ references_within bytes count octets references rest fits e h =
 -- The set has the indices of the values.
 abbrev pub HasIndices : BTreeSet ℕ → List HandleValue → Type 0
 HasIndices met values = (q : ℕ) → set.contains nat_cmp met q ≡ is_one_of (indices values) q
-
-pub HasIndices-none : (met : BTreeSet ℕ) → set.IsEmpty met → HasIndices met []
-HasIndices-none met none q = ap (list_any (λ k. is_eq (nat_cmp q k))) none
 
 same_test : (k q : ℕ) (b : Bool) → cond (is_eq (nat_cmp k q)) true b ≡ (b || (nat_eq q k || false))
 same_test k q b = grind (arith, nat_tests)

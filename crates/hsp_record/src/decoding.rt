@@ -17,7 +17,7 @@ use crate::values::ValueList;
 use crate::values_decoding::read_value_list;
 use std::alloc::Global;
 
-/// The fault of so many octets, at which reading failed so.
+// The fault of so many octets, at which reading failed so.
 fn fault_at(len: usize, e: ReadError) -> RecordFault
     requires { LeavesWithin len e }
     ensures { result ≡ fault_of len e }
@@ -30,7 +30,7 @@ fn fault_at(len: usize, e: ReadError) -> RecordFault
     }
 }
 
-/// That nothing is left of so many octets.
+// That nothing is left of so many octets.
 fn check_end(len: usize, rest: &[u8]) -> Result<(), RecordFault>
     requires { length rest.now ≤ len }
     ensures ok { OnOk result (rest.now ≡ []) }

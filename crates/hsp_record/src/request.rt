@@ -31,7 +31,7 @@ impl<'a> Request<'a> {
     }
 }
 
-/// What follows that many indices.
+// What follows that many indices.
 fn skip_indices(count: u32, bytes: &[u8]) -> Result<&[u8], Stop>
     ensures { Finds (λ rest read. read.1 ≡ rest.now) result (times_at (number_at w32) count bytes.now) }
 {
@@ -43,7 +43,7 @@ fn skip_indices(count: u32, bytes: &[u8]) -> Result<&[u8], Stop>
     Ok(rest)
 }
 
-/// What follows that many types.
+// What follows that many types.
 fn skip_types(count: u32, bytes: &[u8]) -> Result<&[u8], Stop>
     ensures { Finds (λ rest read. read.1 ≡ rest.now) result (times_at run_at count bytes.now) }
 {

@@ -74,6 +74,7 @@ impl ServerRecord {
         &self.key
     }
 
+    /// How many service interfaces the server has.
     pub fn interface_count(&self) -> usize
         ensures { result ≡ length self.now.interfaces }
     {
@@ -114,6 +115,7 @@ impl Model for SiteRecord {
 }
 
 impl SiteRecord {
+    /// The version of the format of HS_SITE data.
     pub fn version(&self) -> u16
         ensures { result ≡ self.now.version }
     {
@@ -156,6 +158,7 @@ impl SiteRecord {
         &self.filter
     }
 
+    /// How many attributes the site has.
     pub fn attribute_count(&self) -> usize
         ensures { result ≡ length self.now.attributes }
     {
@@ -171,6 +174,7 @@ impl SiteRecord {
         (&attribute.name, &attribute.value)
     }
 
+    /// How many servers the site has, at most 1,024.
     pub fn server_count(&self) -> usize
         ensures count { result ≡ length self.now.servers }
         ensures limit { result ≤ 1024 }

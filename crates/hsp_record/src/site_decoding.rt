@@ -26,7 +26,7 @@ fn read_interface(bytes: &[u8]) -> Result<(ServiceInterface, &[u8]), Stop>
     ))
 }
 
-/// What follows that many interfaces.
+// What follows that many interfaces.
 fn skip_interfaces(count: u32, bytes: &[u8]) -> Result<&[u8], Stop>
     ensures { Finds (λ rest read. read.1 ≡ rest.now) result (times_at interface_at count bytes.now) }
 {
@@ -55,7 +55,7 @@ fn read_interfaces(
     Ok((interfaces, rest))
 }
 
-/// A server record that was found whole, lent.
+// A server record that was found whole, lent.
 #[derive(Clone, Copy)]
 struct FoundServer<'a> {
     id: u32,
@@ -66,7 +66,7 @@ struct FoundServer<'a> {
     interfaces: &'a [u8],
 }
 
-/// Finds a server record whole, and takes no room.
+// Finds a server record whole, and takes no room.
 #[tactic(auto, unfolding(crate::specs::Reading::server_at, crate::specs::Reading::list_at))]
 fn find_server(bytes: &[u8]) -> Result<(FoundServer<'_>, &[u8]), Stop>
     ensures { Finds (λ x read. (times_at interface_at x.0.interface_count x.0.interfaces.now ≡ Ok (read.0.interfaces, x.1.now)) × (read ≡ (record { id = x.0.id; address = x.0.address; key = x.0.key.now; interfaces = read.0.interfaces }, x.1.now))) result (server_at bytes.now) }
@@ -150,7 +150,7 @@ fn read_servers(
     Ok((servers, rest))
 }
 
-/// The fields before the number of servers, with the filter lent.
+// The fields before the number of servers, with the filter lent.
 #[derive(Drop)]
 struct Head<'a> {
     version: u16,
@@ -188,7 +188,7 @@ fn read_head(alloc: Global, bytes: &[u8]) -> Result<(Head<'_>, &[u8]), ReadError
     ))
 }
 
-/// The number of servers, which may not be above 1,024.
+// The number of servers, which may not be above 1,024.
 #[tactic(auto, unfolding(crate::specs::Reading::server_count_at))]
 fn read_server_count(bytes: &[u8]) -> Result<(u32, &[u8]), Stop>
     ensures { Reads (λ x. (x.0, x.1.now)) result (server_count_at bytes.now) }

@@ -70,7 +70,7 @@ fn put_servers(out: &mut Vec<u8>, servers: &[ServerRecord]) -> Result<(), AllocE
     Ok(())
 }
 
-/// Appends the fields before the number of servers.
+// Appends the fields before the number of servers.
 fn put_head(out: &mut Vec<u8>, site: &SiteRecord) -> Result<(), AllocError>
     ensures { OnOk result (out.new.items ≡ out.old.items ++ joined (head_fields site.now)) }
 {

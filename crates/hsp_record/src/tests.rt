@@ -32,17 +32,41 @@ fn joined(alloc: Global, parts: &[&[u8]]) -> Result<Vec<u8>, AllocError> {
     Ok(octets)
 }
 
+// A call that tells want of memory is made once more: where one growth is refused, the second answer is that of ample memory.
+fn site_of(alloc: Global, octets: &[u8]) -> Result<SiteRecord, RecordFault> {
+    match decode_site(alloc, octets) {
+        Err(RecordFault::OutOfMemory) => decode_site(alloc, octets),
+        answer => answer,
+    }
+}
+
+fn list_of<'a>(alloc: Global, octets: &'a [u8]) -> Result<ValueList<'a>, RecordFault> {
+    match decode_values(alloc, octets) {
+        Err(RecordFault::OutOfMemory) => decode_values(alloc, octets),
+        answer => answer,
+    }
+}
+
+fn site_spelling(alloc: Global, site: &SiteRecord) -> Result<Vec<u8>, AllocError> {
+    match encode_site(alloc, site) {
+        Err(_) => encode_site(alloc, site),
+        answer => answer,
+    }
+}
+
+fn list_spelling(alloc: Global, list: &ValueList) -> Result<Vec<u8>, AllocError> {
+    match encode_values(alloc, list) {
+        Err(_) => encode_values(alloc, list),
+        answer => answer,
+    }
+}
+
 fn site_fault(alloc: Global, octets: &[u8]) -> Option<RecordFault> {
-    decode_site(alloc, octets).err()
+    site_of(alloc, octets).err()
 }
 
 fn values_fault(alloc: Global, octets: &[u8]) -> Option<RecordFault> {
-    decode_values(alloc, octets).err()
-}
-
-/// What is wanted, or that memory ran out.
-fn is_or_memory(fault: Option<RecordFault>, wanted: Option<RecordFault>) -> bool {
-    fault == wanted || fault == Some(RecordFault::OutOfMemory)
+    list_of(alloc, octets).err()
 }
 
 #[test]
@@ -59,26 +83,16 @@ fn sites_come_back(rt: HostRuntime) -> Result<(), Fail> {
         no_server.as_slice(),
         third_option.as_slice(),
     ] {
-        match decode_site(rt.alloc(), octets) {
-            Ok(site) => match encode_site(rt.alloc(), &site) {
-                Ok(spelled) => assert_eq!(rt; spelled.as_slice(), octets),
-                Err(e) => assert_eq!(rt; e, AllocError),
-            },
-            Err(fault) => assert_eq!(rt; fault, RecordFault::OutOfMemory),
-        }
+        let site = site_of(rt.alloc(), octets).ok().ok_or("no record")?;
+        let spelled = site_spelling(rt.alloc(), &site).ok().ok_or("no spelling")?;
+        assert_eq!(rt; spelled.as_slice(), octets);
     }
     Ok(())
 }
 
 #[test]
 fn fields_are_read(rt: HostRuntime) -> Result<(), Fail> {
-    let site = match decode_site(rt.alloc(), FULL_SITE) {
-        Ok(site) => site,
-        Err(fault) => {
-            assert_eq!(rt; fault, RecordFault::OutOfMemory);
-            return Ok(());
-        }
-    };
+    let site = site_of(rt.alloc(), FULL_SITE).ok().ok_or("no record")?;
     assert_eq!(rt; site.version(), 4);
     assert_eq!(rt; site.protocol(), (2, 1));
     assert_eq!(rt; site.serial(), 5);
@@ -103,11 +117,9 @@ fn fields_are_read(rt: HostRuntime) -> Result<(), Fail> {
 fn site_faults_are_told(rt: HostRuntime) {
     let mut octets = [0; 49];
     octets[..48].copy_from_slice(&SITE);
-    assert!(rt;
-        is_or_memory(
-            site_fault(rt.alloc(), &octets),
-            Some(RecordFault::Trailing { at: 48 })
-        )
+    assert_eq!(rt;
+        site_fault(rt.alloc(), &octets),
+        Some(RecordFault::Trailing { at: 48 })
     );
     assert_eq!(rt;
         site_fault(rt.alloc(), &SITE[..47]),
@@ -139,11 +151,9 @@ fn every_cut_is_told(rt: HostRuntime) {
                 at = field;
             }
         }
-        assert!(rt;
-            is_or_memory(
-                site_fault(rt.alloc(), &TWO_SERVERS[..n]),
-                Some(RecordFault::Truncated { at })
-            ),
+        assert_eq!(rt;
+            site_fault(rt.alloc(), &TWO_SERVERS[..n]),
+            Some(RecordFault::Truncated { at }),
             "at {n}"
         );
     }
@@ -155,12 +165,12 @@ fn forged_counts_take_no_memory(rt: HostRuntime) {
         let mut octets = SITE;
         octets[place..place + 4].copy_from_slice(&[255; 4]);
         assert_eq!(rt;
-            site_fault(rt.alloc(), &octets[..len]),
+            decode_site(rt.alloc(), &octets[..len]).err(),
             Some(RecordFault::Truncated { at })
         );
     }
     assert_eq!(rt;
-        values_fault(rt.alloc(), &[255; 4]),
+        decode_values(rt.alloc(), &[255; 4]).err(),
         Some(RecordFault::Truncated { at: 4 })
     );
 }
@@ -172,27 +182,19 @@ fn value_lists_come_back(rt: HostRuntime) -> Result<(), Fail> {
     };
     assert_eq!(rt; octets.len(), 89);
     let (_, cut) = octets.split_last().ok_or("no octets")?;
-    assert!(rt;
-        is_or_memory(
-            values_fault(rt.alloc(), cut),
-            Some(RecordFault::Truncated { at: 85 })
-        )
+    assert_eq!(rt;
+        values_fault(rt.alloc(), cut),
+        Some(RecordFault::Truncated { at: 85 })
     );
-    match decode_values(rt.alloc(), &octets) {
-        Ok(list) => {
-            assert_eq!(rt; list.len(), 1);
-            assert!(rt; list.find(2).is_none());
-            let value = list.find(1).ok_or("no value of index 1")?;
-            assert_eq!(rt; value.index(), 1);
-            assert_eq!(rt; value.type_octets(), b"HS_SITE".as_slice());
-            assert_eq!(rt; value.octets(), SITE.as_slice());
-            match encode_values(rt.alloc(), &list) {
-                Ok(spelled) => assert_eq!(rt; spelled.as_slice(), octets.as_slice()),
-                Err(e) => assert_eq!(rt; e, AllocError),
-            }
-        }
-        Err(fault) => assert_eq!(rt; fault, RecordFault::OutOfMemory),
-    }
+    let list = list_of(rt.alloc(), &octets).ok().ok_or("no list")?;
+    assert_eq!(rt; list.len(), 1);
+    assert!(rt; list.find(2).is_none());
+    let value = list.find(1).ok_or("no value of index 1")?;
+    assert_eq!(rt; value.index(), 1);
+    assert_eq!(rt; value.type_octets(), b"HS_SITE".as_slice());
+    assert_eq!(rt; value.octets(), SITE.as_slice());
+    let spelled = list_spelling(rt.alloc(), &list).ok().ok_or("no spelling")?;
+    assert_eq!(rt; spelled.as_slice(), octets.as_slice());
     Ok(())
 }
 
@@ -208,17 +210,11 @@ fn references_and_no_values_come_back(rt: HostRuntime) -> Result<(), Fail> {
         return Ok(());
     };
     for (octets, len) in [([0; 4].as_slice(), 0), (referring.as_slice(), 1)] {
-        match decode_values(rt.alloc(), octets) {
-            Ok(list) => {
-                assert_eq!(rt; list.len(), len);
-                assert_eq!(rt; list.is_empty(), len == 0);
-                match encode_values(rt.alloc(), &list) {
-                    Ok(spelled) => assert_eq!(rt; spelled.as_slice(), octets),
-                    Err(e) => assert_eq!(rt; e, AllocError),
-                }
-            }
-            Err(fault) => assert_eq!(rt; fault, RecordFault::OutOfMemory),
-        }
+        let list = list_of(rt.alloc(), octets).ok().ok_or("no list")?;
+        assert_eq!(rt; list.len(), len);
+        assert_eq!(rt; list.is_empty(), len == 0);
+        let spelled = list_spelling(rt.alloc(), &list).ok().ok_or("no spelling")?;
+        assert_eq!(rt; spelled.as_slice(), octets);
     }
     Ok(())
 }
@@ -229,24 +225,18 @@ fn value_faults_are_told(rt: HostRuntime) {
     octets[3] = 2;
     octets[7] = 1;
     octets[37] = 1;
-    assert!(rt;
-        is_or_memory(
-            values_fault(rt.alloc(), &octets),
-            Some(RecordFault::IndexTwice { index: 1 })
-        )
+    assert_eq!(rt;
+        values_fault(rt.alloc(), &octets),
+        Some(RecordFault::IndexTwice { index: 1 })
     );
-    assert!(rt;
-        is_or_memory(
-            values_fault(rt.alloc(), &octets[..37]),
-            Some(RecordFault::Truncated { at: 34 })
-        )
+    assert_eq!(rt;
+        values_fault(rt.alloc(), &octets[..37]),
+        Some(RecordFault::Truncated { at: 34 })
     );
     octets[3] = 1;
-    assert!(rt;
-        is_or_memory(
-            values_fault(rt.alloc(), &octets),
-            Some(RecordFault::Trailing { at: 34 })
-        )
+    assert_eq!(rt;
+        values_fault(rt.alloc(), &octets),
+        Some(RecordFault::Trailing { at: 34 })
     );
 }
 

@@ -25,7 +25,7 @@ impl<'a> Model for References<'a> {
 }
 
 impl<'a> References<'a> {
-    /// The same references.
+    // The same references.
     fn lent(&self) -> References<'a>
         ensures { result ≡ self.now }
     {
@@ -58,6 +58,7 @@ impl<'a> Model for Value<'a> {
 }
 
 impl<'a> Value<'a> {
+    /// The value's index, which no other value of its list has.
     pub fn index(&self) -> u32
         ensures { result ≡ self.now.index }
     {
@@ -78,7 +79,7 @@ impl<'a> Value<'a> {
         self.octets
     }
 
-    /// The same value.
+    // The same value.
     fn lent(&self) -> Value<'a>
         ensures { result ≡ self.now }
     {
@@ -113,12 +114,14 @@ impl<'a> Model for ValueList<'a> {
 }
 
 impl<'a> ValueList<'a> {
+    /// How many values the list has.
     pub fn len(&self) -> usize
         ensures { result ≡ length self.now }
     {
         self.values.len()
     }
 
+    /// Whether the list has no value.
     pub fn is_empty(&self) -> bool
         ensures { IsTrue result ↔ (self.now ≡ []) }
     {

@@ -9,7 +9,7 @@ use crate::values::{References, Value, ValueList};
 use std::alloc::Global;
 use std::collections::BTreeSet;
 
-/// A reference to a value of another handle: that handle, and the value's index.
+// A reference to a value of another handle: that handle, and the value's index.
 #[tactic(auto, unfolding(crate::specs::Reading::reference_at))]
 fn read_reference(bytes: &[u8]) -> Result<((&[u8], u32), &[u8]), Stop>
     ensures { Reads (λ x. (record { handle = x.0.0.now; index = x.0.1 }, x.1.now)) result (reference_at bytes.now) }
@@ -19,7 +19,7 @@ fn read_reference(bytes: &[u8]) -> Result<((&[u8], u32), &[u8]), Stop>
     Ok(((handle, index), rest))
 }
 
-/// What follows that many references.
+// What follows that many references.
 fn skip_references(count: u32, bytes: &[u8]) -> Result<&[u8], Stop>
     ensures { Finds (λ rest read. read.1 ≡ rest.now) result (times_at reference_at count bytes.now) }
 {
@@ -41,7 +41,7 @@ fn read_references(bytes: &[u8]) -> Result<(References<'_>, &[u8]), Stop>
     Ok((References { count, octets }, rest))
 }
 
-/// The fields behind an index.
+// The fields behind an index.
 #[tactic(auto, unfolding(crate::specs::Reading::body_at))]
 fn read_body(index: u32, bytes: &[u8]) -> Result<(Value<'_>, &[u8]), Stop>
     ensures { Reads (λ x. (x.0, x.1.now)) result (body_at index bytes.now) }

@@ -16,7 +16,7 @@ ascii : IsNumeralModel (λ ds. all_ascii_digits ds ≡ true) (digits_value 10)
 ascii = numerals_by_value (λ ds. all_ascii_digits ds ≡ true) tells_all_ascii_digits
 
 -- more digits make no smaller number
-pub number_grows : (n : ℕ) (ds : List ℕ) → n ≤ digits_value_after 10 n ds
+number_grows : (n : ℕ) (ds : List ℕ) → n ≤ digits_value_after 10 n ds
 number_grows n [] = omega arith
 number_grows n (d ∷ ds) = omega (arith, number_grows (n * 10 + digit_value d) ds)
 
@@ -29,11 +29,11 @@ pub last_digit : (n : ℕ) → 10 ≤ n → n < 2 ^ 64 → (decimal n ≡ decima
 last_digit n low high = let e = decimal_step n low high in (e, ap length e ∙ length-append (decimal (n / 10)) ((48 + n % 10) ∷ []))
 
 -- a number above the limit is too large
-pub above_limit : (max : ℕ) (text : List ℕ) → is_whole text ≡ true → max < digits_value 10 text → whole_within max text ≡ Err TooLarge
+above_limit : (max : ℕ) (text : List ℕ) → is_whole text ≡ true → max < digits_value 10 text → whole_within max text ≡ Err TooLarge
 above_limit max text w h = rw (w, lt-leb (digits_value 10 text) max h) refl
 
 -- digits that have passed the limit are those of a number above it
-pub passes_limit : (max n : ℕ) (text rest : List ℕ) → is_whole text ≡ true → digits_value_after 10 n rest ≡ digits_value 10 text → max < n → whole_within max text ≡ Err TooLarge
+passes_limit : (max n : ℕ) (text rest : List ℕ) → is_whole text ≡ true → digits_value_after 10 n rest ≡ digits_value 10 text → max < n → whole_within max text ≡ Err TooLarge
 passes_limit max n text rest w e h = above_limit max text w (let g = number_grows n rest in omega (arith, e, g))
 
 pub passes_limit_at : (max n i : ℕ) (whole : Bool) (text : List ℕ) → whole ≡ is_whole text → whole ≡ true → i < length text → all_ascii_digits (drop i text) ≡ true →
@@ -61,7 +61,7 @@ parts (d ∷ ds) w =
 whole_is_decimal : (text : List ℕ) → is_whole text ≡ true → digits_value 10 text < 2 ^ 64 → text ≡ decimal (digits_value 10 text)
 whole_is_decimal text w h = let p = parts text w in sym (decimal-digits_value ascii text p.1 p.0 p.2 h)
 
-pub whole_from_parts : (text : List ℕ) → 0 < length text → all_ascii_digits text ≡ true → (get_or text 0 0 ≡ 48 → length text ≡ 1) → is_whole text ≡ true
+whole_from_parts : (text : List ℕ) → 0 < length text → all_ascii_digits text ≡ true → (get_or text 0 0 ≡ 48 → length text ≡ 1) → is_whole text ≡ true
 whole_from_parts [] h w z = absurd (omega arith)
 whole_from_parts (d ∷ ds) h w z =
     and_from (all_ascii_digits (d ∷ ds)) (not (d == 48) || length ds == 0) w (elim (cases_eq d 48) [
