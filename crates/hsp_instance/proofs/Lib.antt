@@ -8,3 +8,4 @@ pub mod SitesInTurn
 pub mod RowPlaces
 pub mod TableChecks
 pub mod NewRows
+pub mod BuiltParts

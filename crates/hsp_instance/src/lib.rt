@@ -10,6 +10,7 @@ mod fault;
 mod group_numbers;
 mod grouping;
 mod instance;
+pub mod laws;
 mod region_costs;
 mod rows;
 mod server_building;
