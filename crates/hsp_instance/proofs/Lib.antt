@@ -9,3 +9,4 @@ pub mod RowPlaces
 pub mod TableChecks
 pub mod NewRows
 pub mod Reading
+pub mod BuiltParts

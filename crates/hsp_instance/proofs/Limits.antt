@@ -1,35 +1,34 @@
 -- What is built is within the limits of an instance.
-use Rattle.std.proofs.Common.{◌≡◌, ◌∙◌, ◌≤◌, ◌<◌, ◌+◌, ℕ, false, List, [], ◌∷◌, Option, Some, None, Ok, length, map, refl, ap, sym, arith, zero-add}
+use Rattle.std.proofs.Common.{◌≡◌, ◌∙◌, ◌≤◌, ◌+◌, ℕ, false, List, [], ◌∷◌, Option, Some, None, Ok, length, map, refl, ap, sym, arith, zero-add}
 use Rattle.std.specs.Prelude.{⊤}
 use Rattle.std.proofs.lemmas.List.{length-map}
 use Rattle.std.proofs.lemmas.Nat.{mod_below}
 use Rattle.std.specs.List.{AllByRecursion, IsDistinct, slice_get}
 use Rattle.hsp_hash.specs.Place.{server_place}
-use Rattle.hsp_tables.specs.Capacities.{AreCapacities}
+use Rattle.hsp_tables.specs.Capacities.{AreCapacities, CapacityEntry}
 use Rattle.hsp_tables.specs.Costs.{AreCosts, CostEntry, IsCostEntry}
 use Rattle.hsp_tables.specs.Demand.{AreDemand, DemandEntry, IsDemandEntry, same_demand}
 use Rattle.hsp_tables.specs.Settings.{AreSettings, IsHostEntry}
 use Rattle.hsp_instance.specs.Building.{Inputs, arc_to, arcs_from, cost_of, host_of_entry, is_cost_of, row_of, servers_from}
 use Rattle.hsp_instance.specs.Instance.{AreArcs, AreRows, AreSites, HasServer, Host, IsArc, IsCounted, IsInstance, IsLimited, Row, Server, Site, same_keys}
 use Rattle.hsp_instance.proofs.ArcLists.{arcs_ascending, arcs_few}
-use Rattle.hsp_instance.proofs.Lists.{all_append, all_map, back_at, found_within, front_at}
-use Rattle.hsp_instance.proofs.ServerLists.{AreFrom, from_count, from_made, from_servers, own_at_place, own_count}
+use Rattle.hsp_instance.proofs.Lists.{all_append, all_map, back_at, found_within, front_at, there}
+use Rattle.hsp_instance.proofs.ServerLists.{AreFrom, are_from, from_count, from_servers, own_at, own_count}
 
 -- a cost is within its limit
 cost_within : (rows : List CostEntry) (region name : List ℕ) (c : ℕ) → AllByRecursion IsCostEntry rows → cost_of rows region name ≡ Some c → c ≤ 1000000
-cost_within [] region name c all e = let none : ◌≡◌ {A = Option ℕ} None (Some c) = e in cc
-cost_within (row ∷ rows) region name c all e = found_within 1000000 (is_cost_of region name row) row.cost (cost_of rows region name) c all.0.cost (cost_within rows region name c all.1) e
+cost_within rows region name c all e = found_within IsCostEntry 1000000 (λ (row : CostEntry). row.cost) (is_cost_of region name) rows c (λ row is. is.cost) all e
 
 -- each arc goes to a server of its site
-module _ (servers : List Server) (table : List CostEntry) (each : AllByRecursion IsCostEntry table) (row : Row) where
-  arcs_are : (hosts n first : ℕ) (sites : List Site) (mine : List Server) → AllByRecursion HasServer sites → AreFrom hosts n sites mine
+module _ (servers : List Server) (capacities : List CapacityEntry) (hosts : List Host) (table : List CostEntry) (each : AllByRecursion IsCostEntry table) (row : Row) where
+  arcs_are : (n first : ℕ) (sites : List Site) (mine : List Server) → AllByRecursion HasServer sites → AreFrom capacities hosts n sites mine
       → ((k : ℕ) → slice_get servers (first + k) ≡ slice_get mine k) → AllByRecursion (IsArc servers) (arcs_from table row n first sites)
-  arcs_are hosts n first [] mine have are same = tt
-  arcs_are hosts n first (site ∷ more) mine have are same = all_append (IsArc servers) (arc_to row.handle n first site (cost_of table row.region site.name)) _ (to (cost_of table row.region site.name) refl)
-      (arcs_are hosts (n + 1) (first + length site.servers) more are.1 have.1 are.4 rest)
+  arcs_are n first [] mine have are same = tt
+  arcs_are n first (site ∷ more) mine have are same = all_append (IsArc servers) (arc_to row.handle n first site (cost_of table row.region site.name)) _ (to (cost_of table row.region site.name) refl)
+      (arcs_are (n + 1) (first + length site.servers) more are.1 have.1 are.4 rest)
     where
       count : length are.0 ≡ length site.servers
-      count = own_count hosts n 0 site.servers are.0 are.3
+      count = own_count capacities hosts n site.name 0 site.servers are.0 are.3
 
       rest : (k : ℕ) → slice_get servers (first + length site.servers + k) ≡ slice_get are.1 k
       rest k =
@@ -40,12 +39,12 @@ module _ (servers : List Server) (table : List CostEntry) (each : AllByRecursion
       to None is = tt
       to (Some c) is =
           let place = server_place site.option row.handle (length site.servers) in
-          let below : place < length site.servers = mod_below _ (length site.servers) have.0 in
-          let s = own_at_place hosts n 0 site.servers are.0 place are.3 below in (
+          let own = there site.servers place (mod_below _ (length site.servers) have.0) in
+          let s = own_at capacities hosts n site.name 0 site.servers are.0 place own.0 are.3 own.1 in (
             record {
               server = s.0;
               is_server = same place ∙ ap (λ list. slice_get list place) are.2 ∙ front_at are.0 are.1 place s.0 s.1;
-              same_site = sym s.2;
+              same_site = sym s.2.site;
               cost = cost_within table row.region site.name c each is;
             },
             tt,
@@ -76,18 +75,17 @@ pub are_instance : (inputs : Inputs) (sites : List Site) (servers : List Server)
     })
 are_instance inputs sites servers settings demand costs capacities are built =
     let hosts : List Host = map host_of_entry inputs.settings.hosts in
-    let made = from_made inputs.capacities hosts capacities.keyed.each 0 [] sites servers built in
-    let from : AreFrom (length hosts) 0 sites servers = rw made.1 made.2 in
+    let from = are_from inputs.capacities hosts sites servers built in
     let all_rows : AllByRecursion (λ (row : Row). ⊤) (map row_of inputs.demand) = all_map IsDemandEntry (λ (row : Row). ⊤) row_of inputs.demand (λ row is. tt) demand.keyed.each in
     record {
       rows = rows_are inputs.demand demand;
       sites = are;
       hosts = record { few = rw length-map settings.hosts.few; each = all_map IsHostEntry IsLimited host_of_entry inputs.settings.hosts (λ host is. is.limit) settings.hosts.each };
-      servers = record { few = rw (from_count (length hosts) 0 sites servers from) are.servers; each = from_servers sites (length hosts) 0 sites servers (λ k. rw zero-add refl) from };
+      servers = record { few = rw (from_count inputs.capacities hosts 0 sites servers from) are.servers; each = from_servers inputs.capacities hosts capacities.keyed.each sites 0 sites servers (λ k. rw zero-add refl) from };
       one_list_a_row = length-map (map row_of inputs.demand) (λ row. arcs_from inputs.costs row 0 0 sites);
       arcs = all_map (λ (row : Row). ⊤) (AreArcs servers) (λ row. arcs_from inputs.costs row 0 0 sites) (map row_of inputs.demand) (λ row any. record {
         few = let less = arcs_few inputs.costs row 0 0 sites in let most = are.few in omega arith;
-        each = arcs_are servers inputs.costs costs.keyed.each row (length hosts) 0 0 sites servers are.each from (λ k. rw zero-add refl);
+        each = arcs_are servers inputs.capacities hosts inputs.costs costs.keyed.each row 0 0 sites servers are.each from (λ k. rw zero-add refl);
         ascending = arcs_ascending inputs.costs row 0 0 sites;
       }) all_rows;
     }

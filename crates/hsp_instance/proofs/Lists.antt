@@ -1,6 +1,7 @@
 -- Elements of lists, and what holds of all.
-use Rattle.std.proofs.Common.{◌≡◌, ◌⊎◌, inl, inr, ◌≤◌, Bool, true, false, cond, ℕ, zero, suc, ◌+◌, List, [], ◌∷◌, ◌++◌, Option, Some, None, drop, length, map, take, refl, ap, sym, add-one, arith}
-use Rattle.std.specs.List.{AllByRecursion, slice_get}
+use Rattle.std.proofs.Common.{◌≡◌, ◌⊎◌, inl, inr, ◌≤◌, ◌<◌, Bool, true, false, cond, ℕ, zero, suc, ◌+◌, List, [], ◌∷◌, ◌++◌, Option, Some, None, drop, length, map, option_map, take, refl, ap, sym, add-one, arith}
+use Rattle.std.proofs.Math.Seq.{take-length}
+use Rattle.std.specs.List.{AllByRecursion, find, slice_get}
 
 drop_suc : {A : Type 0} (xs : List A) (i : ℕ) (x : A) → slice_get xs i ≡ Some x → drop i xs ≡ x ∷ drop (suc i) xs
 drop_suc {A} [] i x e = let none : ◌≡◌ {A = Option A} None (Some x) = e in cc
@@ -22,6 +23,12 @@ all_at {A} P [] i x all e = let none : ◌≡◌ {A = Option A} None (Some x) = 
 all_at P (y ∷ xs) zero x all e = let same : y ≡ x = cc (e) in rw same at all.0
 all_at P (y ∷ xs) (suc i) x all e = all_at P xs i x all.1 e
 
+-- each place below the length has an element
+pub there : {A : Type 0} (xs : List A) (i : ℕ) → i < length xs → (x : A) × (slice_get xs i ≡ Some x)
+there [] i less = absurd (omega arith)
+there (x ∷ xs) zero less = (x, refl)
+there (x ∷ xs) (suc i) less = there xs i (omega arith)
+
 map_take_suc : {A B : Type 0} (f : A → B) (xs : List A) (i : ℕ) (x : A) → slice_get xs i ≡ Some x → map f (take (suc i) xs) ≡ map f (take i xs) ++ f x ∷ []
 map_take_suc {A} f [] i x e = let none : ◌≡◌ {A = Option A} None (Some x) = e in cc
 map_take_suc f (y ∷ xs) zero x e = let same : y ≡ x = cc (e) in ap (λ t. f t ∷ []) same
@@ -33,8 +40,7 @@ map_take_next f xs i x e = rw add-one (map_take_suc f xs i x e)
 
 -- as many elements as there are are all
 pub take_whole : {A : Type 0} (xs : List A) → take (length xs) xs ≡ xs
-take_whole [] = refl
-take_whole (x ∷ xs) = ap (λ t. x ∷ t) (take_whole xs)
+take_whole = take-length
 
 -- what holds of all of two lists holds of both in a row
 pub all_append : {A : Type 0} (P : A → Type 0) (xs ys : List A) → AllByRecursion P xs → AllByRecursion P ys → AllByRecursion P (xs ++ ys)
@@ -61,10 +67,14 @@ pub map_twice : {A B C : Type 0} (f : A → B) (g : B → C) (xs : List A) → m
 map_twice f g [] = refl
 map_twice f g (x ∷ xs) = ap (λ t. g (f x) ∷ t) (map_twice f g xs)
 
--- the first that is found, or else one of the rest, is within a limit that all keep
-pub found_within : (most : ℕ) (found : Bool) (x : ℕ) (rest : Option ℕ) (c : ℕ) → x ≤ most → (rest ≡ Some c → c ≤ most) → cond found (Some x) rest ≡ Some c → c ≤ most
-found_within most true x rest c within more e = let same : x ≡ c = cc (e) in rw same at within
-found_within most false x rest c within more e = more e
+-- the number of what is found is within a limit that all keep
+pub found_within : {A : Type 0} (P : A → Type 0) (most : ℕ) (f : A → ℕ) (test : A → Bool) (xs : List A) (n : ℕ) → ((x : A) → P x → f x ≤ most) → AllByRecursion P xs → option_map f (find test xs) ≡ Some n → n ≤ most
+found_within P most f test [] n each all e = let none : ◌≡◌ {A = Option ℕ} None (Some n) = e in cc
+found_within {A} P most f test (x ∷ xs) n each all e = by (test x) e (found_within P most f test xs n each all.1)
+  where
+    by : (here : Bool) → option_map f (cond here (Some x) (find test xs)) ≡ Some n → (option_map f (find test xs) ≡ Some n → n ≤ most) → n ≤ most
+    by true e later = let same : f x ≡ n = cc (e) in rw same at (each x all.0)
+    by false e later = later e
 
 -- what holds at each place holds of all
 pub all_from : {A : Type 0} (P : A → Type 0) (xs : List A) → ((i : ℕ) (x : A) → slice_get xs i ≡ Some x → P x) → AllByRecursion P xs

@@ -1,6 +1,6 @@
 -- The instance of five inputs, or their first fault: settings, values, demand, costs and capacities.
-use Rattle.std.specs.Prelude.{◌≡◌, ◌≢◌, ◌+◌, ◌⊎◌, ◌==◌, ◌&&◌, ⊤, Bool, true, false, ℕ, List, [], ◌∷◌, ◌++◌, codes, is_some, length, map, nat_lt, Option, Some, None, Result, Ok, Err, if◌then◌else◌}
-use Rattle.std.specs.List.{find}
+use Rattle.std.specs.Prelude.{◌≡◌, ◌≢◌, ◌+◌, ◌⊎◌, ◌==◌, ◌&&◌, ◌||◌, ⊤, Bool, false, ℕ, List, [], ◌∷◌, ◌++◌, codes, is_some, length, map, nat_lt, Option, Some, None, option_map, Result, Ok, Err, if◌then◌else◌}
+use Rattle.std.specs.List.{find, list_any, position_from}
 use Rattle.std.specs.Str.{bytes_eq}
 use Rattle.hsp_hash.specs.Option.{option_of}
 use Rattle.hsp_hash.specs.Place.{server_place}
@@ -76,13 +76,12 @@ server_of_record server = record { id = server.id; address = server.address }
 
 -- an identifier is one of those of servers
 abbrev pub has_id : ℕ → List SiteServer → Bool
-has_id id [] = false
-has_id id (server ∷ servers) = if server.id == id then true else has_id id servers
+has_id id servers = list_any (λ (server : SiteServer). server.id == id) servers
 
 -- two of the servers have one identifier
 abbrev pub has_id_twice : List SiteServer → Bool
 has_id_twice [] = false
-has_id_twice (server ∷ servers) = if has_id server.id servers then true else has_id_twice servers
+has_id_twice (server ∷ servers) = has_id server.id servers || has_id_twice servers
 
 -- site `n` of the name, option and servers, after sites of `before` servers
 abbrev pub checked_site : ℕ → ℕ → Site → Result Site BuildFault
@@ -159,18 +158,16 @@ is_capacity_of name id row = bytes_eq row.site name && (row.server_id == id)
 
 -- the capacity of a site's name and an identifier
 abbrev pub capacity_of : List CapacityEntry → List ℕ → ℕ → Option ℕ
-capacity_of [] name id = None
-capacity_of (row ∷ rows) name id = if is_capacity_of name id row then Some row.capacity else capacity_of rows name id
+capacity_of rows name id = option_map (λ (row : CapacityEntry). row.capacity) (find (is_capacity_of name id) rows)
 
--- the number of the host of an address, where the hosts are numbered from `n` on
-abbrev pub host_at : ℕ → List Host → List ℕ → Option ℕ
-host_at n [] address = None
-host_at n (host ∷ hosts) address = if bytes_eq host.address address then Some n else host_at (n + 1) hosts address
+-- a host has the address
+abbrev pub is_at : List ℕ → Host → Bool
+is_at address host = bytes_eq host.address address
 
 -- the server at a place of site `n`, or that it has no capacity
 abbrev pub server_at : List CapacityEntry → List Host → ℕ → List ℕ → ℕ → SiteServer → Result Server BuildFault
 server_at rows hosts n name place own = or_fault (NoCapacity n own.id) (capacity_of rows name own.id) >>= λ capacity.
-    Ok (record { site = n; place = place; id = own.id; capacity = capacity; host = host_at 0 hosts own.address })
+    Ok (record { site = n; place = place; id = own.id; capacity = capacity; host = position_from (is_at own.address) 0 hosts })
 
 -- the servers of site `n` from a place on, after those before them, or the first that has no capacity
 abbrev pub servers_at : List CapacityEntry → List Host → ℕ → List ℕ → ℕ → List Server → List SiteServer → Result (List Server) BuildFault
@@ -190,8 +187,7 @@ is_cost_of region name row = bytes_eq row.region region && bytes_eq row.site nam
 
 -- what a query from a region costs at a site
 abbrev pub cost_of : List CostEntry → List ℕ → List ℕ → Option ℕ
-cost_of [] region name = None
-cost_of (row ∷ rows) region name = if is_cost_of region name row then Some row.cost else cost_of rows region name
+cost_of rows region name = option_map (λ (row : CostEntry). row.cost) (find (is_cost_of region name) rows)
 
 -- the arc to site `n`, whose servers are numbered from `first` on, where a query has a cost there
 abbrev pub arc_to : List ℕ → ℕ → ℕ → Site → Option ℕ → List Arc

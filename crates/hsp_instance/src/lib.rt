@@ -11,6 +11,7 @@ mod fault;
 mod group_numbers;
 mod grouping;
 mod instance;
+pub mod laws;
 mod region_costs;
 mod rows;
 mod server_building;

@@ -16,16 +16,16 @@ use std::marker::Model;
 
 // The region and the handle by which a row is found.
 #[derive(Debug, PartialEq, Eq, Hash, Drop)]
-pub(crate) struct RowKey {
-    pub(crate) region: Vec<u8>,
-    pub(crate) handle: Vec<u8>,
+struct RowKey {
+    region: Vec<u8>,
+    handle: Vec<u8>,
 }
 
 // The same, lent.
 #[derive(Clone, Copy, Debug, PartialEq, Eq, Hash)]
-pub(crate) struct LentKey<'a> {
-    pub(crate) region: &'a [u8],
-    pub(crate) handle: &'a [u8],
+struct LentKey<'a> {
+    region: &'a [u8],
+    handle: &'a [u8],
 }
 
 impl Equivalent<RowKey> for LentKey<'_> {

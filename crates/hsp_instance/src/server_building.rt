@@ -1,10 +1,11 @@
 // The hosts and the servers of an instance.
 
-ghost use Rattle.std.specs.Prelude.{◌≡◌, ◌≤◌, ◌<◌, ◌+◌, ◌⊎◌, ◌∷◌, ◌++◌, [], Ok, Err, Some, length, map, option_map, position, slice_get, OnOk, IfOk, IfErr};
+ghost use Rattle.std.specs.Prelude.{◌≡◌, ◌≤◌, ◌<◌, ◌+◌, ◌⊎◌, ◌∷◌, ◌++◌, [], Ok, Err, Some, length, map, option_map, slice_get, OnOk, IfOk, IfErr};
+ghost use Rattle.std.specs.List.{position_from};
 ghost use Rattle.hsp_tables.specs.Rows.{capacity_shown};
 ghost use Rattle.hsp_tables.specs.Settings.{AreSettings};
 ghost use Rattle.hsp_instance.specs.declared.fault.BuildFault.TheVariants.{OutOfMemory};
-ghost use Rattle.hsp_instance.specs.Building.{GivesExactly, capacity_of, host_at, host_of_entry, is_capacity_of, server_at, servers_at, servers_from};
+ghost use Rattle.hsp_instance.specs.Building.{GivesExactly, capacity_of, host_of_entry, is_at, is_capacity_of, server_at, servers_at, servers_from};
 ghost use Rattle.hsp_instance.specs.Instance.{AreSites};
 
 use crate::fault::BuildFault;
@@ -20,8 +21,6 @@ pub(crate) fn hosts_of(alloc: Global, settings: &Settings) -> Result<Vec<Host>, 
     // The settings are within their limits.
     ensures within { AreSettings settings.now }
 {
-    // `len` says that they are.
-    let _sites = settings.len();
     let mut hosts = Vec::new(alloc);
     for number in 0..settings.host_count() {
         let (address, limit) = settings.host(number);
@@ -53,7 +52,7 @@ fn capacity_of(capacities: &Capacities, name: &[u8], id: u32) -> Option<u64>
 // The number of the host of an address.
 fn host_of(hosts: &[Host], address: &[u8; 16]) -> Option<u32>
     requires { length hosts.now ≤ 1024 }
-    ensures { result ≡ host_at 0 hosts.now address.now }
+    ensures { result ≡ position_from (is_at address.now) 0 hosts.now }
 {
     for (number, host) in hosts.iter().enumerate() {
         if host.address.as_slice() == address.as_slice() {

@@ -87,7 +87,6 @@ impl Sites {
     }
 
     /// How many servers the site of a number below [`Sites::len`] has.
-
     pub fn server_count(&self, site: u32) -> u32
         requires { site < length self.now }
         ensures { option_map (λ s. length s.servers) (slice_get self.now site) ≡ Some result }
@@ -95,6 +94,7 @@ impl Sites {
         let site = &self.sites[site as usize];
         site.servers.len() as u32
     }
+
     /// The identifier of the server at a place of the site of a number below [`Sites::len`]. The place is below
     /// [`Sites::server_count`].
     pub fn server_id(&self, site: u32, place: u32) -> u32

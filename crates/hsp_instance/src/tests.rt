@@ -338,63 +338,73 @@ fn servers_stand_on_hosts(rt: HostRuntime) -> Result<(), Fail> {
     Ok(())
 }
 
+// Costs whose first row names a site that is not there.
+const UNKNOWN_COST: &[u8] = b"region,site,cost\nr1,X,1\nr1,E,1\nr1,W,4\nr2,E,2\nr2,W,3\n";
+
+// Capacities whose second row does.
+const UNKNOWN_CAPACITY: &[u8] = b"site,server_id,capacity\nE,7,10\nX,7,10\n";
+
+fn unknown_site(table: Table, row: u32) -> BuildFault {
+    BuildFault::UnknownSite { table, row }
+}
+
 #[test]
-fn the_first_fault_of_the_tables_is_answered(rt: HostRuntime) -> Result<(), Fail> {
+fn a_site_of_the_costs_that_is_not_there_is_told(rt: HostRuntime) -> Result<(), Fail> {
     let alloc = rt.alloc();
-    let unknown_cost = b"region,site,cost\nr1,X,1\nr1,E,1\nr1,W,4\nr2,E,2\nr2,W,3\n";
-    let late_cost = b"region,site,cost\nr1,E,1\nr2,X,1\n";
-    let unknown_site = b"site,server_id,capacity\nE,7,10\nX,7,10\n";
-    let unknown_server = b"site,server_id,capacity\nE,5,1\nE,7,10\nE,3,6\nW,1,2\nW,2,10\nW,9,10\n";
+    let late: &[u8] = b"region,site,cost\nr1,E,1\nr2,X,1\n";
+    for (costs, row) in [(UNKNOWN_COST, 0), (late, 1)] {
+        let tables = (DEMAND, costs, CAPACITY);
+        has_fault(
+            &rt,
+            alloc,
+            SETTINGS,
+            tables,
+            unknown_site(Table::Costs, row),
+        );
+    }
+    Ok(())
+}
+
+#[test]
+fn a_site_or_server_of_the_capacities_that_is_not_there_is_told(
+    rt: HostRuntime,
+) -> Result<(), Fail> {
+    let alloc = rt.alloc();
+    let unknown_server: &[u8] =
+        b"site,server_id,capacity\nE,5,1\nE,7,10\nE,3,6\nW,1,2\nW,2,10\nW,9,10\n";
+    let cases = [
+        (UNKNOWN_CAPACITY, unknown_site(Table::Capacity, 1)),
+        (unknown_server, BuildFault::UnknownServer { row: 0 }),
+    ];
+    for (capacity, fault) in cases {
+        has_fault(&rt, alloc, SETTINGS, (DEMAND, COSTS, capacity), fault);
+    }
+    Ok(())
+}
+
+#[test]
+fn a_server_without_capacity_is_told(rt: HostRuntime) -> Result<(), Fail> {
     let lacking = b"site,server_id,capacity\nE,7,10\nE,3,6\nW,1,2\nW,2,10\n";
-    let of_costs = |row: u32| BuildFault::UnknownSite {
-        table: Table::Costs,
-        row,
-    };
-    let of_capacity = BuildFault::UnknownSite {
-        table: Table::Capacity,
-        row: 1,
-    };
-    let no_capacity = BuildFault::NoCapacity {
+    let fault = BuildFault::NoCapacity {
         site: 1,
         server_id: 9,
     };
-    let no_server = BuildFault::NoServer { site: 0 };
-    has_fault(
-        &rt,
-        alloc,
-        SETTINGS,
-        (DEMAND, unknown_cost, CAPACITY),
-        of_costs(0),
-    );
-    has_fault(
-        &rt,
-        alloc,
-        SETTINGS,
-        (DEMAND, late_cost, unknown_site),
-        of_costs(1),
-    );
-    has_fault(
-        &rt,
-        alloc,
-        SETTINGS,
-        (DEMAND, COSTS, unknown_site),
-        of_capacity,
-    );
-    has_fault(
-        &rt,
-        alloc,
-        SETTINGS,
-        (DEMAND, COSTS, unknown_server),
-        BuildFault::UnknownServer { row: 0 },
-    );
-    has_fault(&rt, alloc, SETTINGS, (DEMAND, COSTS, lacking), no_capacity);
+    has_fault(&rt, rt.alloc(), SETTINGS, (DEMAND, COSTS, lacking), fault);
+    Ok(())
+}
+
+#[test]
+fn sites_are_tried_before_costs_and_these_before_capacities(rt: HostRuntime) -> Result<(), Fail> {
+    let alloc = rt.alloc();
+    let tables = (DEMAND, UNKNOWN_COST, UNKNOWN_CAPACITY);
     has_fault(
         &rt,
         alloc,
         NO_SERVER,
-        (DEMAND, unknown_cost, CAPACITY),
-        no_server,
+        tables,
+        BuildFault::NoServer { site: 0 },
     );
+    has_fault(&rt, alloc, SETTINGS, tables, unknown_site(Table::Costs, 0));
     Ok(())
 }
 

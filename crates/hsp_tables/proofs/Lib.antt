@@ -9,3 +9,4 @@ pub mod Documents
 pub mod SettingsLists
 pub mod TableReading
 pub mod TableKinds
+pub mod KeyedReading

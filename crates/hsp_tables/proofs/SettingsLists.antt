@@ -1,9 +1,9 @@
 -- The sites and the hosts of settings that are read: within their limits, each as it should be, and distinct.
 use Rattle.std.proofs.Common.{◌≡◌, ◌∙◌, ◌≤◌, ℕ, ℤ, pos, negsuc, Bool, true, false, cond, List, [], ◌∷◌, ◌++◌, length, Option, Some, None, Result, Ok, Err, nat_le, codes, refl, sym, arith, rules}
-use Rattle.std.proofs.lemmas.Bool.{leb-false, leb-true}
+use Rattle.std.proofs.lemmas.Bool.{leb-true}
 use Rattle.std.specs.Cmp.{IsEquivalence}
 use Rattle.std.specs.Cmp.Rules.{comparing}
-use Rattle.std.specs.List.{list_all, list_any}
+use Rattle.std.specs.List.{list_all}
 use Rattle.hex.specs.Hex.{decode_sized}
 use Rattle.hex.specs.declared.error.FromHexError.{FromHexError}
 use Rattle.hex.proofs.HexLemmas.{decode_of-ok, decode_sized-ok, decode_sized-twice}
@@ -12,9 +12,10 @@ use Rattle.hsp_text.specs.Name.{is_name}
 use Rattle.hsp_tables.specs.declared.fault.TableFault.{TableFault}
 use Rattle.hsp_tables.specs.declared.fault.TableFault.TheVariants as fault
 use Rattle.hsp_tables.specs.Answers.{◌>>=◌, or_fault}
-use Rattle.hsp_tables.specs.InTurn.{AreKeyed}
-use Rattle.hsp_tables.specs.Settings.{HostEntry, IsHostEntry, IsSiteEntry, IsSource, SiteEntry, SiteSource, decoded, elements_in, host_address, host_after, host_in, host_limit, index, index_source, integer_of, is_host_key, is_site_key, keys_in, listed, new_host, new_site, number_up_to, octets, record_source, same_address, same_name, site_after, site_in, site_name, site_source, text_of}
-use Rattle.hsp_tables.proofs.TurnLaws.{first_step, keyed_and_one, none_keyed, rows_keep, test_held, test_passed}
+use Rattle.hsp_tables.specs.InTurn.{AreKeyed, ReadsAsSpelled}
+use Rattle.hsp_tables.specs.Settings.{HostEntry, IsHostEntry, IsSiteEntry, IsSource, SiteEntry, SiteSource, decoded, elements_in, host_address, host_after, host_at, host_in, host_limit, index, index_source, integer_of, is_host_key, is_site_key, keys_in, listed, number_up_to, octets, record_source, same_address, same_name, site_after, site_at, site_in, site_name, site_source, text_of}
+use Rattle.hsp_tables.proofs.KeyedReading.{keyed_row, reads_as_spelled}
+use Rattle.hsp_tables.proofs.TurnLaws.{first_step, keyed_and_one, none_keyed, rows_keep, test_held}
 
 -- an integer that is taken is within its limit
 number_within : (fault : TableFault) (most : ℕ) (i : ℤ) (n : ℕ) → number_up_to fault most i ≡ Ok n → n ≤ most
@@ -99,22 +100,22 @@ host_keys = search (rules, comparing)
 -- one more site
 site_keeps : (earlier : List SiteEntry) (value : Data) (site : SiteEntry) → AreKeyed 32 IsSiteEntry same_name earlier → site_after earlier value ≡ Ok site → AreKeyed 32 IsSiteEntry same_name (earlier ++ site ∷ [])
 site_keeps earlier value site are e =
-    let few = test_passed (nat_le 32 (length earlier)) _ _ site e in
-    let spelled = first_step (or_fault (fault.BadSite (length earlier)) (as_table value) >>= site_in (length earlier)) (new_site earlier) site few.1 in
-    let table = first_step (or_fault (fault.BadSite (length earlier)) (as_table value)) (site_in (length earlier)) spelled.0 spelled.1 in
-    let new = test_passed (list_any (same_name spelled.0) earlier) _ _ site spelled.2 in
-    let same : spelled.0 ≡ site = cc (new.1) in
-    keyed_and_one 32 IsSiteEntry same_name site_keys earlier site are (leb-false 32 (length earlier) few.0) (rw same at (site_is (length earlier) table.0 spelled.0 table.2)) (rw same at new.0)
+    let row = keyed_row Data SiteEntry 32 fault.TooManySites site_at same_name fault.SiteTwice earlier value site e in
+    let table = first_step (or_fault (fault.BadSite (length earlier)) (as_table value)) (site_in (length earlier)) site row.1 in
+    keyed_and_one 32 IsSiteEntry same_name site_keys earlier site are row.0 (site_is (length earlier) table.0 site table.2) row.2
 
 -- one more host
 host_keeps : (earlier : List HostEntry) (value : Data) (host : HostEntry) → AreKeyed 1024 IsHostEntry same_address earlier → host_after earlier value ≡ Ok host → AreKeyed 1024 IsHostEntry same_address (earlier ++ host ∷ [])
 host_keeps earlier value host are e =
-    let few = test_passed (nat_le 1024 (length earlier)) _ _ host e in
-    let spelled = first_step (or_fault (fault.BadHost (length earlier)) (as_table value) >>= host_in (length earlier)) (new_host earlier) host few.1 in
-    let table = first_step (or_fault (fault.BadHost (length earlier)) (as_table value)) (host_in (length earlier)) spelled.0 spelled.1 in
-    let new = test_passed (list_any (same_address spelled.0) earlier) _ _ host spelled.2 in
-    let same : spelled.0 ≡ host = cc (new.1) in
-    keyed_and_one 1024 IsHostEntry same_address host_keys earlier host are (leb-false 1024 (length earlier) few.0) (rw same at (host_is (length earlier) table.0 spelled.0 table.2)) (rw same at new.0)
+    let row = keyed_row Data HostEntry 1024 fault.TooManyHosts host_at same_address fault.HostTwice earlier value host e in
+    let table = first_step (or_fault (fault.BadHost (length earlier)) (as_table value)) (host_in (length earlier)) host row.1 in
+    keyed_and_one 1024 IsHostEntry same_address host_keys earlier host are row.0 (host_is (length earlier) table.0 host table.2) row.2
+
+pub sites_read_as_spelled : ReadsAsSpelled 32 site_at same_name site_after
+sites_read_as_spelled = reads_as_spelled Data SiteEntry 32 fault.TooManySites site_at same_name fault.SiteTwice site_keys
+
+pub hosts_read_as_spelled : ReadsAsSpelled 1024 host_at same_address host_after
+hosts_read_as_spelled = reads_as_spelled Data HostEntry 1024 fault.TooManyHosts host_at same_address fault.HostTwice host_keys
 
 -- the sites that are listed
 pub sites_are : (value : Option Data) (rows : List SiteEntry) → listed (fault.BadSite 0) site_after value ≡ Ok rows → AreKeyed 32 IsSiteEntry same_name rows

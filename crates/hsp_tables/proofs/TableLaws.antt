@@ -11,7 +11,7 @@ use Rattle.hsp_tables.specs.InTurn.{rows_after, with_row}
 use Rattle.hsp_tables.specs.Table.{AreRows, Table, most_regions, new_row, row_after, table_of}
 use Rattle.hsp_tables.proofs.TurnLaws.{first_step, keyed_and_one, none_keyed, rows_keep, test_passed}
 
-nat_le-over : (m n : ℕ) → n < m → nat_le m n ≡ false
+pub nat_le-over : (m n : ℕ) → n < m → nat_le m n ≡ false
 nat_le-over m n below = grind (arith, nat_tests)
 
 nat_lt-below : (m n : ℕ) → m < n → nat_lt m n ≡ true

@@ -42,7 +42,7 @@ middle P [] row b all = all.0
 middle P (x ∷ a) row b all = middle P a row b all.1
 
 -- among distinct keys a row has no key of an earlier row
-new_among : {Row : Type 0} (same : Row → Row → Bool) → IsEquivalence same → (earlier : List Row) (row : Row) (rest : List Row) → IsDistinct same (earlier ++ row ∷ rest) → list_any (same row) earlier ≡ false
+pub new_among : {Row : Type 0} (same : Row → Row → Bool) → IsEquivalence same → (earlier : List Row) (row : Row) (rest : List Row) → IsDistinct same (earlier ++ row ∷ rest) → list_any (same row) earlier ≡ false
 unfolding IsDistinct
 new_among same laws [] row rest apart = refl
 new_among same laws (x ∷ earlier) row rest apart =

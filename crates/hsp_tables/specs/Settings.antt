@@ -1,6 +1,6 @@
 -- The settings: the sites and the hosts that a TOML document lists, or the first fault.
 use Rattle.std.specs.Prelude.{◌≡◌, ◌≤◌, ◌||◌, ⊤, Bool, true, ℕ, ℤ, pos, negsuc, List, [], ◌∷◌, length, nat_le, Option, Some, None, option_and_then, Result, Ok, Err, codes, if◌then◌else◌}
-use Rattle.std.specs.List.{list_all, list_any}
+use Rattle.std.specs.List.{list_all}
 use Rattle.std.specs.Str.{bytes_eq, is_utf8}
 use Rattle.hex.specs.Hex.{decode_of, decode_sized}
 use Rattle.hex.specs.declared.error.FromHexError.{FromHexError}
@@ -10,7 +10,7 @@ use Rattle.hsp_text.specs.Name.{is_name}
 use Rattle.hsp_tables.specs.declared.fault.TableFault.{TableFault}
 use Rattle.hsp_tables.specs.declared.fault.TableFault.TheVariants as fault
 use Rattle.hsp_tables.specs.Answers.{◌>>=◌, or_fault}
-use Rattle.hsp_tables.specs.InTurn.{AreKeyed, Reading, rows_after}
+use Rattle.hsp_tables.specs.InTurn.{AreKeyed, Reading, keyed_after, rows_after}
 
 -- what a site is read from: the octets of a record, or the index of a value in the value list
 pub data SiteSource : Type 0 where
@@ -99,14 +99,13 @@ site_in n members =
 abbrev pub same_name : SiteEntry → SiteEntry → Bool
 same_name a b = bytes_eq a.name b.name
 
-abbrev pub new_site : List SiteEntry → SiteEntry → Result SiteEntry TableFault
-new_site earlier site = if list_any (same_name site) earlier then Err (fault.SiteTwice (length earlier)) else Ok site
+-- site `n`, by its element
+abbrev pub site_at : ℕ → Data → Result SiteEntry TableFault
+site_at n value = or_fault (fault.BadSite n) (as_table value) >>= site_in n
 
 -- the site of an element after the sites before it, or its first fault
 abbrev pub site_after : Reading Data SiteEntry
-site_after earlier value =
-    if nat_le 32 (length earlier) then Err fault.TooManySites
-    else or_fault (fault.BadSite (length earlier)) (as_table value) >>= site_in (length earlier) >>= new_site earlier
+site_after earlier value = keyed_after 32 fault.TooManySites site_at same_name fault.SiteTwice earlier value
 
 -- the address of host `n`: 32 hexadecimal digits
 abbrev pub host_address : ℕ → Option Data → Result (List ℕ) TableFault
@@ -132,14 +131,13 @@ host_in n members =
 abbrev pub same_address : HostEntry → HostEntry → Bool
 same_address a b = bytes_eq a.address b.address
 
-abbrev pub new_host : List HostEntry → HostEntry → Result HostEntry TableFault
-new_host earlier host = if list_any (same_address host) earlier then Err (fault.HostTwice (length earlier)) else Ok host
+-- host `n`, by its element
+abbrev pub host_at : ℕ → Data → Result HostEntry TableFault
+host_at n value = or_fault (fault.BadHost n) (as_table value) >>= host_in n
 
 -- the host of an element after the hosts before it, or its first fault
 abbrev pub host_after : Reading Data HostEntry
-host_after earlier value =
-    if nat_le 1024 (length earlier) then Err fault.TooManyHosts
-    else or_fault (fault.BadHost (length earlier)) (as_table value) >>= host_in (length earlier) >>= new_host earlier
+host_after earlier value = keyed_after 1024 fault.TooManyHosts host_at same_address fault.HostTwice earlier value
 
 -- the rows that an array lists, and none where there is no array
 abbrev pub listed : {Row : Type 0} → TableFault → Reading Data Row → Option Data → Result (List Row) TableFault

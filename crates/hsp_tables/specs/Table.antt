@@ -1,5 +1,5 @@
 -- A table: the records of a text as rows under a header, or the first fault.
-use Rattle.std.specs.Prelude.{◌≡◌, ◌≢◌, ◌≤◌, ◌+◌, ◌↔◌, ◌⊎◌, ⊤, Bool, ℕ, List, [], ◌∷◌, ◌++◌, length, fold, nat_le, nat_lt, Result, Ok, Err, if◌then◌else◌}
+use Rattle.std.specs.Prelude.{◌≡◌, ◌≢◌, ◌≤◌, ◌↔◌, ◌⊎◌, Bool, ℕ, List, [], ◌∷◌, ◌++◌, length, fold, nat_le, nat_lt, Result, Ok, Err, if◌then◌else◌}
 use Rattle.std.specs.List.{IsDistinct, list_any}
 use Rattle.std.specs.Str.{bytes_eq}
 use Rattle.indexmap.specs.IndexSet.{insert_key}
@@ -8,7 +8,7 @@ use Rattle.hsp_tables.specs.declared.fault.TableFault.{TableFault}
 use Rattle.hsp_tables.specs.declared.fault.TableFault.TheVariants.{Header, RowTwice, TooManyRows, TooManyRegions}
 use Rattle.hsp_tables.specs.Answers.{◌>>=◌}
 use Rattle.hsp_tables.specs.Fields.{same_fields}
-use Rattle.hsp_tables.specs.InTurn.{AreKeyed, Reading, rows_after}
+use Rattle.hsp_tables.specs.InTurn.{AreKeyed, Reading, SpellInTurn, rows_after}
 
 -- a kind of table: its header, the limit of its rows, the row that the fields of a record spell by its number, when two rows
 -- have one key, and the regions of its rows, each once
@@ -52,10 +52,7 @@ pub record AreRows {Row : Type 0} (table : Table Row) (Is : Row → Type 0) (row
 
 -- records under the header spell rows, each by its number
 abbrev pub SpellRows : {Row : Type 0} → Table Row → ℕ → List Fields → List Row → Type 0
-SpellRows table number [] [] = ⊤
-SpellRows table number [] (row ∷ rows) = ⊥
-SpellRows table number (fields ∷ body) [] = ⊥
-SpellRows table number (fields ∷ body) (row ∷ rows) = (table.row_in number fields ≡ Ok row) × SpellRows table (number + 1) body rows
+SpellRows table number body rows = SpellInTurn table.row_in number body rows
 
 -- as a relation: the records are the header and those that spell the rows, which are within the limits, no two with one key
 pub record IsTable {Row : Type 0} (table : Table Row) (records : List Fields) (rows : List Row) : Type 0 where

@@ -16,7 +16,7 @@ use std::marker::Model;
 
 // The two names by which a row is found.
 #[derive(Debug, PartialEq, Eq, Hash, Drop)]
-pub(crate) struct PairKey {
+struct PairKey {
     first: Vec<u8>,
     second: Vec<u8>,
 }
@@ -105,7 +105,7 @@ impl PairRows {
 
 // The site and the identifier by which a server is found.
 #[derive(Debug, PartialEq, Eq, Hash, Drop)]
-pub(crate) struct ServerKey {
+struct ServerKey {
     site: Vec<u8>,
     server_id: u32,
 }

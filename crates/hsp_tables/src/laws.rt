@@ -3,8 +3,8 @@
 ghost use Rattle.hsp_tables.specs.Capacities.{capacity_table};
 ghost use Rattle.hsp_tables.specs.Costs.{cost_table};
 ghost use Rattle.hsp_tables.specs.Demand.{demand_table};
-ghost use Rattle.hsp_tables.specs.InTurn.{FaultStays};
-ghost use Rattle.hsp_tables.specs.Settings.{host_after, site_after};
+ghost use Rattle.hsp_tables.specs.InTurn.{FaultStays, ReadsAsSpelled};
+ghost use Rattle.hsp_tables.specs.Settings.{host_after, host_at, same_address, same_name, site_after, site_at};
 ghost use Rattle.hsp_tables.specs.Table.{KeepsFirstFault, ReadsAsItsRelation};
 
 /// What a table reads as is its relation: just the rows that its records spell under the header, where they are within the limits
@@ -22,6 +22,13 @@ pub fn fault_is_first()
     ensures demand { KeepsFirstFault demand_table }
     ensures costs { KeepsFirstFault cost_table }
     ensures capacity { KeepsFirstFault capacity_table }
+{}
+
+/// What the sites and the hosts of the settings read as is their relation: just those that the elements spell, each by its number,
+/// where they are within their limits and no two sites have one name and no two hosts one address.
+pub fn settings_are_as_spelled()
+    ensures sites { ReadsAsSpelled 32 site_at same_name site_after }
+    ensures hosts { ReadsAsSpelled 1024 host_at same_address host_after }
 {}
 
 /// A fault of a site or a host is decided by the elements up to it: it stays, whatever elements follow in the array.

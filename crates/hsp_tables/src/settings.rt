@@ -69,7 +69,9 @@ impl Settings {
 
     /// How many hosts there are.
     pub fn host_count(&self) -> u32
-        ensures { result ≡ length self.now.hosts }
+        ensures count { result ≡ length self.now.hosts }
+        // The settings are within their limits, as [`Settings::len`] has it.
+        ensures settings { AreSettings self.now }
     {
         self.hosts.len() as u32
     }
