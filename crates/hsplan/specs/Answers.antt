@@ -1,5 +1,5 @@
 -- What the results of runs are told as.
-use Rattle.std.specs.Prelude.{◌≡◌, ◌⊎◌, ⊤, ℕ, List, Vec, Result, Ok, Err, if◌then◌else◌}
+use Rattle.std.specs.Prelude.{◌≡◌, ◌⊎◌, ⊤, ℕ, Bool, true, false, List, Vec, Result, Ok, Err}
 use Rattle.std.specs.declared.alloc.Global.{Global}
 use Rattle.hsp_check.specs.declared.verdict.Verdict.{Verdict}
 use Rattle.hsp_runs.specs.Plan.{Printed}
@@ -21,9 +21,13 @@ text_told text = record { text = text; status = 0 }
 abbrev pub fields_told : Vec ℕ Global → Told
 fields_told text = text_told text.items
 
--- 3 for a shortage
+-- 3 after a shortage
+abbrev pub plan_status : Bool → ℕ
+plan_status true = 3
+plan_status false = 0
+
 abbrev pub plan_told : Printed → Told
-plan_told plan = record { text = plan.octets; status = if plan.is_short then 3 else 0 }
+plan_told plan = record { text = plan.octets; status = plan_status plan.is_short }
 
 abbrev pub verdict_told : Verdict → Told
 verdict_told verdict = record { text = verdict_text verdict; status = verdict_status verdict }

@@ -1,11 +1,11 @@
 // What the runs answer, as the program prints it.
 
-ghost use Rattle.std.specs.Prelude.{option_map};
+ghost use Rattle.std.specs.Prelude.{◌≡◌, option_map};
 ghost use Rattle.hsp_runs.specs.Check.{IsChecked};
 ghost use Rattle.hsp_runs.specs.Locate.{IsLocated};
 ghost use Rattle.hsp_runs.specs.Plan.{IsPlanned};
 ghost use Rattle.hsp_runs.specs.SiteText.{IsSiteRun};
-ghost use Rattle.hsplan.specs.Answers.{Answers, fields_told, plan_told, text_told, verdict_told};
+ghost use Rattle.hsplan.specs.Answers.{Answers, fields_told, plan_status, plan_told, text_told, verdict_told};
 
 use crate::failure::Failure;
 use hsp_runs::{
@@ -36,6 +36,13 @@ pub fn site_answer(alloc: Global, octets: &[u8], index: Option<&[u8]>) -> Result
     Ok(Answer { text, status: 0 })
 }
 
+// The status after the text of a plan, or of a shortage.
+fn plan_status(is_short: bool) -> u8
+    ensures { result ≡ plan_status is_short }
+{
+    if is_short { 3 } else { 0 }
+}
+
 /// The text of a plan, or of a shortage with status 3.
 pub fn plan_answer(alloc: Global, inputs: &Inputs) -> Result<Answer, Failure>
     ensures { Answers plan_told (IsPlanned inputs.now) result }
@@ -43,7 +50,7 @@ pub fn plan_answer(alloc: Global, inputs: &Inputs) -> Result<Answer, Failure>
     let plan = plan_run(alloc, inputs)?;
     Ok(Answer {
         text: Vec::from_slice(alloc, plan.bytes())?,
-        status: if plan.is_short() { 3 } else { 0 },
+        status: plan_status(plan.is_short()),
     })
 }
 
