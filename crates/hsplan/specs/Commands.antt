@@ -1,5 +1,5 @@
 -- What a command answers: to which words, and from which files.
-use Rattle.std.specs.Prelude.{◌≡◌, ◌⊎◌, ⊤, ℕ, List, Option, Some, None, Result, Ok, Err, IsErrAnd, option_map}
+use Rattle.std.specs.Prelude.{◌≡◌, ◌⊎◌, ⊤, ℕ, List, Option, Some, None, Result, Err, IsErrAnd, option_map}
 use Rattle.hsp_command.specs.Commands.{hsplan_app}
 use Rattle.clap.specs.Words.{subcommand_of}
 use Rattle.hsp_command.specs.Orders.{IsOrderOf}
