@@ -1,4 +1,4 @@
--- Dual prices of a plan: no reduced cost is negative, and slack goes with price 0 (complementary slackness, Network Flows, section 9.4).
+-- Dual prices of a plan: no reduced cost is negative, and slack goes with price 0 (complementary slackness, Network Flows, section 9.3).
 use Rattle.std.specs.Prelude.{◌≡◌, ℕ, ◌+◌, ◌<◌, ◌≤◌, List, length, All, slice_index, Option, Some, None}
 use Rattle.hsp_check.specs.Network.{Network}
 use Rattle.hsp_check.specs.Plan.{Plan, planned, load, host_load}

@@ -3,7 +3,7 @@
 ghost use Rattle.hsp_check.specs.Claims.{PricesShowBest, ShortShowsNone};
 
 /// A feasible plan with prices is best, and the prices add up to its total: weak duality with complementary slackness
-/// (Network Flows, sections 9.4 and 16.4).
+/// (Network Flows, sections 9.3 and 9.4).
 pub fn prices_show_best()
     ensures { PricesShowBest }
 {}

@@ -1,7 +1,6 @@
 -- Lists that are read one element a turn.
-use Rattle.std.proofs.Common.{◌≡◌, ℕ, ◌+◌, ◌∙◌, List, [], ◌∷◌, ◌++◌, Some, take, map, slice_get, option_map, ap, subst, sym}
-use Rattle.std.specs.List.{AllByRecursion}
-use Rattle.std.proofs.lemmas.List.Elements.{All-from_recursion}
+use Rattle.std.proofs.Common.{◌≡◌, ℕ, ◌+◌, ◌∙◌, List, [], ◌∷◌, ◌++◌, Some, take, map, slice_get, option_map, ap, sym}
+pub use Rattle.hsp_instance.proofs.Lists.{all_at as at_read}
 use Rattle.std.proofs.lemmas.List.{take_more}
 use Rattle.std.proofs.lemmas.Option.{slice_get-map, slice_get_within, get_or_from_slice_get}
 
@@ -12,7 +11,3 @@ read_more f xs i y ys read so_far =
     let there : slice_get (map f xs) i ≡ Some y = slice_get-map f xs i ∙ read in
     let inside = slice_get_within (map f xs) i y there in
     rw so_far (sym (take_more (map f xs) i y inside ∙ ap (λ z. take i (map f xs) ++ z ∷ []) (get_or_from_slice_get (map f xs) i y y there)))
-
--- what holds of each element holds of the one that was read
-pub at_read : {A : Type 0} (P : A → Type 0) (xs : List A) (i : ℕ) (x : A) → AllByRecursion P xs → slice_get xs i ≡ Some x → P x
-at_read P xs i x all read = subst P (get_or_from_slice_get xs i x x read) (All-from_recursion P xs all i x (slice_get_within xs i x read))

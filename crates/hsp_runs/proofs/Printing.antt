@@ -1,25 +1,20 @@
 -- Lists printed element by element, and answers that are passed on.
-use Rattle.std.proofs.Common.{◌≡◌, ◌++◌, ◌∷◌, ◌+◌, ◌∙◌, ℕ, zero, suc, List, [], drop, ap, sym, true, Option, Some, None, Result, Ok, Err, append_assoc, arith, refl}
+use Rattle.std.proofs.Common.{◌≡◌, ◌++◌, ◌+◌, ◌∙◌, ℕ, List, drop, sym, true, Option, Some, None, Result, Ok, Err, append_assoc, refl}
 use Rattle.std.specs.Prelude.{slice_get, option_map, Vec}
 use Rattle.std.specs.declared.alloc.Global.{Global}
 use Rattle.hsp_record.specs.Site.{Server}
 use Rattle.hsp_record.specs.Values.{HandleValue}
 use Rattle.hsp_instance.specs.Instance.{Site}
+use Rattle.hsp_instance.proofs.Lists.{drop_at}
 use Rattle.hsp_runs.specs.Locate.{site_line, site_lines}
 use Rattle.hsp_runs.specs.declared.fault.Fault.{Fault}
 use Rattle.hsp_runs.specs.declared.fault.Fault.TheVariants as fault
 use Rattle.hsp_runs.specs.SiteText.{server_line, server_lines, is_site_value, IsFound, IsRecordRun, IsValueRun}
 
--- the list from a place on begins with the element there
-pub drop_from : {A : Type 0} (xs : List A) (i : ℕ) (x : A) → slice_get xs i ≡ Some x → drop i xs ≡ x ∷ drop (i + 1) xs
-drop_from [] i x e = absurd cc
-drop_from (y ∷ ys) zero x e = let same : y ≡ x = cc in ap (λ z. z ∷ ys) same
-drop_from (y ∷ ys) (suc i) x e = let more : suc i + 1 ≡ suc (i + 1) = omega arith in rw more (drop_from ys i x e)
-
 -- one server more is printed
 pub server_more : (out out' all : List ℕ) (i : ℕ) (ss : List Server) (s : Server) → slice_get ss i ≡ Some s → out' ≡ out ++ server_line i s →
     out ++ server_lines i (drop i ss) ≡ all → out' ++ server_lines (i + 1) (drop (i + 1) ss) ≡ all
-server_more out out' all i ss s at e told = rw e (append_assoc out (server_line i s) (server_lines (i + 1) (drop (i + 1) ss)) ∙ rw (drop_from ss i s at) at told)
+server_more out out' all i ss s at e told = rw e (append_assoc out (server_line i s) (server_lines (i + 1) (drop (i + 1) ss)) ∙ rw (drop_at ss i s at) at told)
 
 -- the line of one site more is printed
 site_more_at : (out out' all handle : List ℕ) (i : ℕ) (ss : List Site) (found : Option Site) → slice_get ss i ≡ found →
@@ -27,7 +22,7 @@ site_more_at : (out out' all handle : List ℕ) (i : ℕ) (ss : List Site) (foun
 site_more_at out out' all handle i ss None at e told = absurd cc
 site_more_at out out' all handle i ss (Some s) at e told =
     let same : out ++ site_line handle s ≡ out' = cc in
-    rw (sym same) (append_assoc out (site_line handle s) (site_lines handle (drop (i + 1) ss)) ∙ rw (drop_from ss i s at) at told)
+    rw (sym same) (append_assoc out (site_line handle s) (site_lines handle (drop (i + 1) ss)) ∙ rw (drop_at ss i s at) at told)
 
 pub site_more : (out out' all handle : List ℕ) (i : ℕ) (ss : List Site) → option_map (λ site. out ++ site_line handle site) (slice_get ss i) ≡ Some out' →
     out ++ site_lines handle (drop i ss) ≡ all → out' ++ site_lines handle (drop (i + 1) ss) ≡ all

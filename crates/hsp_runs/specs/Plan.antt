@@ -1,7 +1,7 @@
 -- What planning answers.
 use Rattle.std.specs.Prelude.{◌≡◌, ℕ, Bool, true, false, List, Result, Ok, Err}
 use Rattle.hsp_instance.specs.Instance.{Instance}
-use Rattle.hsp_cert.specs.Certificate.{Claim}
+use Rattle.hsp_cert.specs.Certificate.{Claim, IsCertificate}
 use Rattle.hsp_cert.specs.Certificate.Claim.{best, short}
 use Rattle.hsp_cert.specs.Text.{text_of}
 use Rattle.hsp_check.specs.Instance.{network_of}
@@ -23,9 +23,9 @@ is_shortage (short c) = true
 abbrev pub printed : Claim → Printed
 printed claim = record { octets = text_of claim; is_short = is_shortage claim }
 
--- the text of a claim that is valid for the instance
+-- the text of a certificate that is valid for the instance
 abbrev pub IsPlanText : Instance → Result Printed Fault → Type 0
-IsPlanText instance (Ok text) = (claim : Claim) × IsValid (network_of instance) claim × (text ≡ printed claim)
+IsPlanText instance (Ok text) = (claim : Claim) × IsCertificate claim × IsValid (network_of instance) claim × (text ≡ printed claim)
 IsPlanText instance (Err e) = ⊥
 
 -- first the inputs are read, and then it is planned

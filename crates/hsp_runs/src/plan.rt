@@ -1,6 +1,7 @@
 // Plans, as the program prints them.
 
 ghost use Rattle.std.specs.Prelude.{◌≡◌, IfOk};
+ghost use Rattle.hsp_cert.specs.Certificate.{IsCertificate};
 ghost use Rattle.hsp_runs.specs.Check.{Shows, ShowsOf};
 ghost use Rattle.hsp_runs.specs.Plan.{IsPlanText, IsPlanned, printed};
 ghost use Rattle.hsp_runs.specs.Readings.{Stands};
@@ -47,12 +48,15 @@ impl PlanText {
 
 // The text of a certificate.
 fn text_of(alloc: Global, certificate: &Certificate) -> Result<PlanText, AllocError>
-    ensures { IfOk result (λ text. text ≡ printed certificate.now) }
+    ensures text { IfOk result (λ text. text ≡ printed certificate.now) }
+    ensures ranges { IfOk result (λ _. IsCertificate certificate.now) }
 {
-    Ok(PlanText {
-        bytes: write_cert(alloc, certificate)?,
-        is_short: certificate.as_short().is_some(),
-    })
+    let is_short = match certificate.as_best() {
+        Some(_) => false,
+        None => certificate.as_short().is_some(),
+    };
+    let bytes = write_cert(alloc, certificate)?;
+    Ok(PlanText { bytes, is_short })
 }
 
 // The text of a valid certificate for the instance.
@@ -60,6 +64,7 @@ fn planned(alloc: Global, instance: &Instance) -> Result<PlanText, Fault>
     ensures text { Stands (λ text. text) (IsPlanText instance.now) result }
     ensures shows { IfOk result (λ text. Shows text.octets instance.now) }
 {
+    // Every instance is within its limits.
     let _ = instance.rows();
     let certificate = solve(alloc, instance)?;
     Ok(text_of(alloc, &certificate)?)

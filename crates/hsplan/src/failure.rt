@@ -1,9 +1,12 @@
 // Commands that end without an answer.
 
+ghost use Rattle.std.specs.Prelude.{◌≡◌};
+ghost use Rattle.hsplan.specs.declared.failure.Failure.TheVariants.{Memory, Refused};
+ghost use Rattle.hsplan.specs.Failing.{failure_of};
+
 use hsp_command::CommandFault;
-use hsp_runs::{Fault, fault_line, status_of};
-use std::alloc::{AllocError, Global};
-use std::io::{self, Write};
+use hsp_runs::Fault;
+use std::alloc::AllocError;
 
 /// Why a command has no answer.
 #[derive(Debug, Drop)]
@@ -21,12 +24,16 @@ pub enum Failure {
 }
 
 impl From<AllocError> for Failure {
+    ghost from_gives = { λ _ failure. failure ≡ Memory };
+
     fn from(_error: AllocError) -> Failure {
         Failure::Memory
     }
 }
 
 impl From<CommandFault> for Failure {
+    ghost from_gives = { λ fault failure. failure ≡ failure_of fault };
+
     fn from(fault: CommandFault) -> Failure {
         match fault {
             CommandFault::Usage => Failure::Usage,
@@ -36,29 +43,9 @@ impl From<CommandFault> for Failure {
 }
 
 impl From<Fault> for Failure {
+    ghost from_gives = { λ fault failure. failure ≡ Refused fault };
+
     fn from(fault: Fault) -> Failure {
         Failure::Refused(fault)
-    }
-}
-
-// Writes a line, and gives the status, which becomes 5 where the write failed.
-fn write_line<E: Print>(errors: &E, line: &[u8], status: u8) -> u8 {
-    match io::writer(errors).write_all(line) {
-        Ok(()) => status,
-        Err(_) => 5,
-    }
-}
-
-/// Tells of the failure on standard error, and gives the status that the program ends with.
-pub fn tell<E: Print>(alloc: Global, errors: &E, failure: &Failure) -> u8 {
-    match failure {
-        Failure::Usage => write_line(errors, b"hsplan: Usage\n", 2),
-        Failure::Memory => write_line(errors, b"hsplan: OutOfMemory\n", 4),
-        Failure::Read => write_line(errors, b"hsplan: read failed\n", 5),
-        Failure::Write => write_line(errors, b"hsplan: write failed\n", 5),
-        Failure::Refused(fault) => match fault_line(alloc, fault) {
-            Ok(line) => write_line(errors, line.as_slice(), status_of(fault)),
-            Err(_) => write_line(errors, b"hsplan: OutOfMemory\n", 4),
-        },
     }
 }

@@ -2,27 +2,35 @@
 #![tactic(auto)]
 
 mod answer;
+mod commands;
+mod ending;
 mod failure;
 mod files;
 mod words;
 
-use answer::{carry_out, print};
-use failure::tell;
+use answer::Answer;
+use commands::obey;
+use ending::end_with;
+use failure::Failure;
+use std::io;
 use std::process::ExitCode;
 use std::rt::{Env, Files};
+use words::take_words;
 
-// Carries out one command, and says with which status the program ends.
-fn run<R: Env + Files + Input + AllocGlobal + Print, E: Print>(rt: &R, errors: &E) -> u8 {
-    let failure = match carry_out(rt) {
-        Ok(answer) => match print(rt, answer.text.as_slice()) {
-            Ok(()) => return answer.status,
-            Err(failure) => failure,
-        },
-        Err(failure) => failure,
-    };
-    tell(rt.alloc(), errors, &failure)
+// The answer to the command that the words give.
+fn carry_out<R: Env + Files + Input + AllocGlobal>(rt: &R) -> Result<Answer, Failure> {
+    let words = take_words(rt)?;
+    obey(rt.alloc(), rt, words.as_slice())
 }
 
 fn main(rt: HostRuntime) -> ExitCode {
-    ExitCode::from(run(&rt, &rt.stderr()))
+    let answered = carry_out(&rt);
+    let errors = rt.stderr();
+    let status = end_with(
+        rt.alloc(),
+        &mut io::writer(&rt),
+        &mut io::writer(&errors),
+        &answered,
+    );
+    ExitCode::from(status)
 }

@@ -6,4 +6,5 @@ use Rattle.hsp_runs.proofs.plan.planned.Goals as goal
 pub returns-clause-shows : goal.returns-clause-shows
 returns-clause-shows c =
     let claim = c.in_ok-certificate.certificate in
-    (claim, ap (λ (t : Printed). t.octets) c.in_ok-text_of.ensures, valid_holds c.args.instance.now claim c.rows.ensures.within c.in_ok-certificate.ensures.valid)
+    let holds = valid_holds c.args.instance.now claim c.rows.ensures.within c.in_ok-certificate.ensures.valid in
+    (claim, c.in_ok-text_of.ensures.ranges, ap (λ (t : Printed). t.octets) c.in_ok-text_of.ensures.text, holds)

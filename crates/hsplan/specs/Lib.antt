@@ -1,0 +1,5 @@
+pub mod Failing
+pub mod Answers
+pub mod Commands
+pub mod Ending
+pub mod Words
