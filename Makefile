@@ -11,6 +11,7 @@ demo:
 
 test:
 	rt ci
+	tools/check_docs.py
 	tools/check_growth.py
 	tools/check_program.py
 
