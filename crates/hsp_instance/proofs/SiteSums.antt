@@ -48,3 +48,14 @@ servers_of-first (first ∷ sites) (suc i) = let less = servers_of-first sites i
 pub site_with : (o : Option Site) (count : ℕ) → option_map (λ (s : Site). length s.servers) o ≡ Some count → (site : Site) × (o ≡ Some site) × (length site.servers ≡ count)
 site_with None count e = cc (e)
 site_with (Some site) count e = (site, refl, cc (e))
+
+-- the servers of one more of the first sites, by the number of its own
+pub next_first : (sites : List Site) (i count : ℕ) → AreSites sites → option_map (λ (s : Site). length s.servers) (slice_get sites i) ≡ Some count
+    → (servers_of (take (i + 1) sites) ≡ servers_of (take i sites) + count) × (servers_of (take (i + 1) sites) ≤ 1024)
+next_first sites i count are counted =
+    let s = site_with (slice_get sites i) count counted in
+    let more = servers_of-taken sites i s.0 s.1 in
+    let own = s.2 in
+    let less = servers_of-first sites (i + 1) in
+    let most = are.servers in
+    (omega arith, omega arith)
