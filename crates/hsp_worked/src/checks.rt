@@ -1,8 +1,5 @@
 // Certificates judged.
-use crate::inputs::{
-    BASE, CAPACITY, CROWDED, HOSTED, Numbers, ONE_SERVER, SETTINGS, Texts, instance_of, plan,
-    shortage,
-};
+use crate::inputs::{BASE, EIGHT, Numbers, ONE_SERVER, TWO, Texts, instance_of, plan, shortage};
 use hsp_cert::Certificate;
 use hsp_check::{Reason, Verdict, check};
 use hsp_instance::Instance;
@@ -203,10 +200,9 @@ fn the_empty_short_set_is_not_short(rt: HostRuntime) {
 fn each_of_several_best_plans_is_valid(rt: HostRuntime) {
     let alloc = rt.alloc();
     let texts = Texts {
-        settings: SETTINGS,
         demand: b"region,handle,count\nr1,10/1,2\n",
         costs: b"region,site,cost\nr1,E,1\nr1,W,1\n",
-        capacity: CAPACITY,
+        ..BASE
     };
     let Some(instance) = instance_of(alloc, texts) else {
         return;
@@ -280,7 +276,7 @@ fn a_row_without_costs_is_short_where_it_asks(rt: HostRuntime) {
 fn hosts_have_limits_and_prices(rt: HostRuntime) {
     let alloc = rt.alloc();
     let hosted = Texts {
-        settings: HOSTED,
+        hosts: EIGHT,
         ..BASE
     };
     let numbers = Numbers {
@@ -318,7 +314,7 @@ fn hosts_have_limits_and_prices(rt: HostRuntime) {
 fn a_host_is_counted_once(rt: HostRuntime) {
     let alloc = rt.alloc();
     let texts = Texts {
-        settings: CROWDED,
+        hosts: TWO,
         costs: b"region,site,cost\nr1,E,1\nr2,E,2\n",
         ..BASE
     };
@@ -365,10 +361,11 @@ fn handles_of_one_hash_share_a_server(rt: HostRuntime) {
 fn the_greatest_sums_are_judged(rt: HostRuntime) {
     let alloc = rt.alloc();
     let texts = Texts {
-        settings: ONE_SERVER,
+        sites: ONE_SERVER,
         demand: TWENTY_ROWS,
         costs: b"region,site,cost\nr1,X,1000000\n",
         capacity: b"site,server_id,capacity\nX,7,20000000\n",
+        ..BASE
     };
     let Some(instance) = instance_of(alloc, texts) else {
         return;

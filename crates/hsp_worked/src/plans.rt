@@ -2,7 +2,7 @@
 
 ghost use Rattle.std.specs.Prelude.{None, slice_index_or, vec_len};
 
-use crate::inputs::{BASE, CAPACITY, HOSTED, ONE_SERVER, ROOMY, SETTINGS, Texts, instance_of};
+use crate::inputs::{BASE, EIGHT, MOST, ONE_SERVER, Texts, instance_of};
 use hsp_cert::{Certificate, UseLine};
 use hsp_check::{Verdict, check};
 use hsp_flow::{Frontier, HeapFrontier, ScanFrontier, solve, solve_with};
@@ -133,10 +133,9 @@ fn a_row_without_costs_falls_short_where_it_asks(rt: HostRuntime) {
 #[test]
 fn sites_of_one_cost_are_planned(rt: HostRuntime) {
     let texts = Texts {
-        settings: SETTINGS,
         demand: b"region,handle,count\nr1,10/1,2\n",
         costs: b"region,site,cost\nr1,E,1\nr1,W,1\n",
-        capacity: CAPACITY,
+        ..BASE
     };
     plans(&rt, rt.alloc(), texts, 2, None);
 }
@@ -154,12 +153,12 @@ fn handles_of_one_hash_are_planned(rt: HostRuntime) {
 #[test]
 fn hosts_are_planned_for(rt: HostRuntime) {
     let hosted = Texts {
-        settings: HOSTED,
+        hosts: EIGHT,
         ..BASE
     };
     plans(&rt, rt.alloc(), hosted, 23, None);
     let roomy = Texts {
-        settings: ROOMY,
+        hosts: MOST,
         ..BASE
     };
     let uses = [used(0, 0, 5), used(1, 0, 4), used(2, 0, 1), used(2, 1, 2)];
@@ -217,10 +216,11 @@ impl Frontier for Narrow {
 #[test]
 fn rows_of_one_kind_are_one_node(rt: HostRuntime) {
     let texts = Texts {
-        settings: ONE_SERVER,
+        sites: ONE_SERVER,
         demand: TWENTY_ROWS_OF_ONE,
         costs: b"region,site,cost\nr1,X,1\n",
         capacity: b"site,server_id,capacity\nX,7,20\n",
+        ..BASE
     };
     // Where memory ran out once, it is there at the second call.
     let first = planned::<Narrow>(&rt, rt.alloc(), texts);
@@ -252,10 +252,11 @@ const TWENTY_ROWS_OF_ONE: &[u8] =
 #[test]
 fn one_server_takes_all(rt: HostRuntime) {
     let texts = Texts {
-        settings: ONE_SERVER,
+        sites: ONE_SERVER,
         demand: b"region,handle,count\nr1,10/1,7\nr1,10/2,13\n",
         costs: b"region,site,cost\nr1,X,1\n",
         capacity: b"site,server_id,capacity\nX,7,20\n",
+        ..BASE
     };
     plans(&rt, rt.alloc(), texts, 20, None);
 }
