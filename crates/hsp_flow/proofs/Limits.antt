@@ -13,7 +13,7 @@ use Rattle.hsp_check.specs.declared.arc.NetworkArc.{NetworkArc}
 use Rattle.hsp_check.specs.Instance.{arc_of, arcs_from, network_of}
 use Rattle.hsp_check.specs.Plan.{Plan, Feasible, planned, served, total}
 use Rattle.hsp_check.specs.Sums as check
-use Rattle.hsp_instance.proofs.Reading.{at_read}
+use Rattle.hsp_instance.proofs.Lists.{all_at}
 use Rattle.hsp_check.proofs.Summing.{sum_by_le_all, by_key}
 use Rattle.hsp_flow.specs.Layout.{IsSmall}
 use Rattle.hsp_flow.specs.Network.{IsNetwork, host_of}
@@ -63,7 +63,7 @@ module _ (it : Instance) (is : IsInstance it) where
 
   fits_one : (i : ℕ) (a : Arc) → IsArc it.servers a → Fits it (arc_of i a)
   fits_one i a h =
-      let own = at_read (IsServer it.sites (length it.hosts)) it.servers a.server h.server is.servers.each h.is_server in
+      let own = all_at (IsServer it.sites (length it.hosts)) it.servers a.server h.server is.servers.each h.is_server in
       let there = slice_get_within it.sites h.server.site own.place.site own.place.is_site in
       record { server = slice_get_within it.servers a.server h.server h.is_server; site = omega (arith, h.same_site, there, is.sites.few); cost = h.cost }
 

@@ -1,6 +1,5 @@
 -- Lists that are read one element a turn.
 use Rattle.std.proofs.Common.{◌≡◌, ℕ, ◌+◌, ◌∙◌, List, [], ◌∷◌, ◌++◌, Some, take, map, slice_get, option_map, ap, sym}
-pub use Rattle.hsp_instance.proofs.Lists.{all_at as at_read}
 use Rattle.std.proofs.lemmas.List.{take_more}
 use Rattle.std.proofs.lemmas.Option.{slice_get-map, slice_get_within, get_or_from_slice_get}
 

@@ -2,7 +2,7 @@ use Rattle.std.proofs.Common.{◌≡◌, ◌<◌, ◌∙◌, ap, length, slice_i
 use Rattle.std.proofs.lemmas.List.{length-map}
 use Rattle.std.proofs.lemmas.Option.{get_or_from_slice_get}
 use Rattle.hsp_instance.specs.Instance.{AreArcs}
-use Rattle.hsp_instance.proofs.Reading.{at_read}
+use Rattle.hsp_instance.proofs.Lists.{all_at}
 use Rattle.hsp_flow.specs.Grouping.{arcs_at, group_of, lists_at, offset}
 use Rattle.hsp_flow.proofs.GroupFacts.{run_none, run_more, lists_low}
 use Rattle.hsp_flow.proofs.Offsets.{offset_low}
@@ -15,7 +15,7 @@ pub push_run-requires : goal.push_run-requires
 push_run-requires c =
     let inside : c.of.result < length c.args.firsts.now = omega (arith, c.of.ensures.within, c.requires.firsts.many) in
     let low = offset_low (lists_at c.args.instance.now c.args.firsts.now) c.of.result (lists_low c.args.instance.now c.requires.within c.args.firsts.now) in
-    let row = at_read (AreArcs c.args.instance.now.servers) c.args.instance.now.arcs c.loop-row.row c.arcs.result.now c.requires.within.arcs c.arcs.ensures in
+    let row = all_at (AreArcs c.args.instance.now.servers) c.args.instance.now.arcs c.loop-row.row c.arcs.result.now c.requires.within.arcs c.arcs.ensures in
     omega (arith, c.requires.starts c.of.result inside, low, row.few, length-map c.args.firsts.now (arcs_at c.args.instance.now), c.requires.firsts.many, c.requires.firsts.few, c.requires.groups.one_a_row, c.requires.within.rows.few)
 
 pub loop-row-preserved : goal.loop-row-preserved

@@ -4,7 +4,7 @@ use Rattle.std.proofs.lemmas.List.{length-map, get_or_append_left, get_or-append
 use Rattle.std.proofs.lemmas.Option.{get_or_from_slice_get}
 use Rattle.hsp_instance.specs.Instance.{AreArcs}
 use Rattle.hsp_instance.specs.declared.arc.Arc.{Arc}
-use Rattle.hsp_instance.proofs.Reading.{at_read}
+use Rattle.hsp_instance.proofs.Lists.{all_at}
 use Rattle.hsp_flow.specs.Grouping.{arcs_at, lists_at, offset}
 use Rattle.hsp_flow.proofs.GroupFacts.{group_read}
 use Rattle.hsp_flow.proofs.Offsets.{list_at, offset_more}
@@ -16,7 +16,7 @@ loop-group-preserved c =
     let gl = lists_at c.args.instance.now c.args.firsts.now in
     let read = group_read c.args.instance.now c.args.firsts.now c.loop-group.group c.arcs.result.now c.loop-group-test.true c.arcs.ensures in
     let own : list_at gl c.loop-group.group ≡ c.arcs.result.now = get_or_from_slice_get gl c.loop-group.group c.arcs.result.now [] read in
-    let row = at_read (AreArcs c.args.instance.now.servers) c.args.instance.now.arcs (slice_index c.args.firsts.now c.loop-group.group) c.arcs.result.now c.requires.within.arcs c.arcs.ensures in
+    let row = all_at (AreArcs c.args.instance.now.servers) c.args.instance.now.arcs (slice_index c.args.firsts.now c.loop-group.group) c.arcs.result.now c.requires.within.arcs c.arcs.ensures in
     let next = offset_more gl c.loop-group.group (omega (arith, c.loop-group-test.true, length-map c.args.firsts.now (arcs_at c.args.instance.now))) in
     rw c.in_ok-push.ensures.items
     (record {
