@@ -10,7 +10,6 @@ use Rattle.hsp_cert.specs.declared.use_line.UseLine.{UseLine}
 use Rattle.hsp_check.specs.declared.arc.NetworkArc.{NetworkArc}
 use Rattle.hsp_check.specs.Plan as plans
 use Rattle.hsp_check.specs.Network.{Network}
-use Rattle.hsp_check.specs.Sums as check
 use Rattle.hsp_check.specs.Uses.{table}
 use Rattle.hsp_check.proofs.Summing.{sum_below_same, sum_below_zero, sum_below_one, by_place}
 use Rattle.hsp_flow.specs.Sums.{sum_below, only}
@@ -18,15 +17,10 @@ use Rattle.hsp_flow.specs.Ordered.{AreOrdered}
 use Rattle.hsp_flow.specs.Planning.{use_of, uses_of, cost_of}
 use Rattle.hsp_flow.proofs.Ordering.{no_arc, one_place}
 
--- the sums of both crates are the same
-pub same_sum : (n : ℕ) (f : ℕ → ℕ) → sum_below n f ≡ check.sum_below n f
-same_sum zero f = refl
-same_sum (suc n) f = ap (λ s. s + f n) (same_sum n f)
-
 -- the first term apart from the others
-pub first_apart : (n : ℕ) (f : ℕ → ℕ) → check.sum_below (suc n) f ≡ f 0 + check.sum_below n (λ k. f (suc k))
+pub first_apart : (n : ℕ) (f : ℕ → ℕ) → sum_below (suc n) f ≡ f 0 + sum_below n (λ k. f (suc k))
 first_apart zero f = omega arith
-first_apart (suc n) f = let rest : check.sum_below (suc n) f ≡ f 0 + check.sum_below n (λ k. f (suc k)) = first_apart n f in omega arith
+first_apart (suc n) f = let rest : sum_below (suc n) f ≡ f 0 + sum_below n (λ k. f (suc k)) = first_apart n f in omega arith
 
 abbrev pub arc : List NetworkArc → ℕ → NetworkArc
 arc arcs k = slice_index_or arcs k no_arc
@@ -47,7 +41,7 @@ one_use a flow i s = elim (cases_eq flow 0) [
 
 -- what the uses give a row and a site
 pub table_is : (arcs : List NetworkArc) (flows : List ℕ) (i s : ℕ) → length flows ≡ length arcs →
-    table (uses_of arcs flows) i s ≡ check.sum_below (length arcs) (λ k. if leads i s (arc arcs k) then slice_index flows k else 0)
+    table (uses_of arcs flows) i s ≡ sum_below (length arcs) (λ k. if leads i s (arc arcs k) then slice_index flows k else 0)
 table_is [] flows i s many = refl
 table_is (a ∷ arcs) [] i s many = absurd (omega arith)
 table_is (a ∷ arcs) (flow ∷ flows) i s many =
@@ -87,7 +81,6 @@ module _ (arcs : List NetworkArc) (flows : List ℕ) (many : length flows ≡ le
       by_place (λ a. if end a == v then table (uses_of arcs flows) a.row a.site else 0) no_arc arcs
       ∙ sum_below_same (length arcs) _ _ (λ k l.
       ap₂ (λ e n. if e == v then n else 0) (sym (get_or-map end arcs k no_arc 0 l)) (planned_is ordered k l))
-      ∙ sym (same_sum (length arcs) (λ k. only (slice_index (map end arcs) k) v (slice_index flows k)))
       ∙ ap (λ n. sum_below n (λ k. only (slice_index (map end arcs) k) v (slice_index flows k))) (sym (length-map arcs tail))
 
   -- what the plan costs
@@ -97,7 +90,6 @@ module _ (arcs : List NetworkArc) (flows : List ℕ) (many : length flows ≡ le
       by_place (λ a. a.cost * table (uses_of arcs flows) a.row a.site) no_arc arcs
       ∙ sum_below_same (length arcs) _ _ (λ k l.
       ap₂ (λ c n. c * n) (sym (get_or-map cost_of arcs k no_arc 0 l)) (planned_is ordered k l))
-      ∙ sym (same_sum (length arcs) (λ k. slice_index (map cost_of arcs) k * slice_index flows k))
 
 -- the sums of the definitions, written out for the table of uses
 pub served_sum : (n : Network) (uses : List UseLine) (i : ℕ) → plans.served n (table uses) i ≡ sum_by (λ (a : NetworkArc). if a.row == i then table uses a.row a.site else 0) n.arcs

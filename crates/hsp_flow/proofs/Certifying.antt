@@ -22,7 +22,7 @@ use Rattle.hsp_flow.specs.Network.{IsFeasible, HasPrices, HasLowPrices, at_host,
 use Rattle.hsp_flow.specs.Ordered.{AreOrdered}
 use Rattle.hsp_flow.specs.Planning.{transport_of, uses_of, row_of, server_of, cost_of}
 use Rattle.hsp_flow.proofs.Ordering.{no_arc, each_weaker, all_ordered}
-use Rattle.hsp_flow.proofs.Bridging.{arc, leads, same_sum, sum_at, total_at, planned_is, none_planned, served_sum, load_sum, total_sum, planned_at}
+use Rattle.hsp_flow.proofs.Bridging.{arc, leads, sum_at, total_at, planned_is, none_planned, served_sum, load_sum, total_sum, planned_at}
 
 pub same_on : (o : Option ℕ) (h : ℕ) → plans.is_on o h ≡ is_on o h
 same_on None h = refl
@@ -66,7 +66,6 @@ module _ (it : Instance) (is : IsInstance it) (flows u p q : List ℕ) (most : �
   host_is h =
       sum_below_same (length (map (λ s. s.capacity) it.servers)) _ _
       (λ j l. ap₂ (λ b n. if b then n else 0) (same_on (host_of (transport_of it) j) h) (load_is j))
-      ∙ sym (same_sum (length (map (λ s. s.capacity) it.servers)) (λ j. if is_on (host_of (transport_of it) j) h then load (transport_of it) (λ k. slice_index flows k) j else 0))
 
   pub plan_feasible : Feasible (network_of it) (table (uses_of (arcs_from 0 it.arcs) flows))
   plan_feasible = record {

@@ -15,7 +15,7 @@ use Rattle.hsp_flow.specs.Spreads.{Spread}
 use Rattle.hsp_flow.specs.Sums.{sum_below, only, any_below}
 use Rattle.hsp_flow.specs.declared.network.Plan.{Plan}
 use Rattle.hsp_flow.proofs.Sums.{sum_below_same, only_here, only_there}
-use Rattle.hsp_flow.proofs.Totals.{sum_zero, by_key}
+use Rattle.hsp_flow.proofs.Totals.{sum_below_zero, by_key}
 use Rattle.hsp_flow.proofs.SpreadFlows as spread
 use Rattle.hsp_flow.specs.Layout.{IsSmall}
 use Rattle.hsp_flow.specs.declared.group_lists.GroupLists.{GroupLists}
@@ -163,7 +163,7 @@ module _ (it : Instance) (is : IsInstance it) (gs : Groups) (ag : AreGroups it g
 
     sum_when : (b : Bool) (n : ℕ) (f : ℕ → ℕ) → (if b then sum_below n f else 0) ≡ sum_below n (λ i. if b then f i else 0)
     sum_when true n f = refl
-    sum_when false n f = sym (sum_zero n (λ i. 0) (λ i l. refl))
+    sum_when false n f = sym (sum_below_zero n (λ i. 0) (λ i l. refl))
 
     demand_is : demand_of rows chosen ≡ demand_of net groups
     demand_is =

@@ -7,12 +7,12 @@ use Rattle.std.proofs.lemmas.List.{length-map, get_or-map, get_or_past}
 use Rattle.std.proofs.lemmas.List.Elements.{All-from_get_or}
 use Rattle.std.proofs.lemmas.Option.{slice_get_within}
 use Rattle.std.proofs.lemmas.Bool.{cases_lt}
+use Rattle.hsp_flow.specs.Sums.{sum_below}
 use Rattle.hsp_instance.specs.declared.arc.Arc.{Arc}
 use Rattle.hsp_instance.specs.Instance.{Instance, Row, Server, Host, IsInstance, IsArc, AreArcs, IsCounted, IsServer, IsLimited, IsHostOf}
 use Rattle.hsp_check.specs.declared.arc.NetworkArc.{NetworkArc}
 use Rattle.hsp_check.specs.Instance.{arc_of, arcs_from, network_of}
 use Rattle.hsp_check.specs.Plan.{Plan, Feasible, planned, served, total}
-use Rattle.hsp_check.specs.Sums as check
 use Rattle.hsp_instance.proofs.Lists.{all_at}
 use Rattle.hsp_check.proofs.Summing.{sum_by_le_all, by_key}
 use Rattle.hsp_flow.specs.Layout.{IsSmall}
@@ -105,10 +105,10 @@ module _ (it : Instance) (is : IsInstance it) where
       sum_by_le_all (λ (a : NetworkArc). a.cost * planned x a) (λ (a : NetworkArc). 1000000 * planned x a) (arcs_from 0 it.arcs)
       (All-from_get_or (λ (a : NetworkArc). a.cost * planned x a ≤ 1000000 * planned x a) (arcs_from 0 it.arcs) no_arc (λ k l. mul-le-mul_right (planned x (arc (arcs_from 0 it.arcs) k)) (fits_at k l).cost)) in
       let many : length (transport_of it).demands ≡ length it.rows = length-map it.rows (λ (r : Row). r.count) in
-      let keyed : sum_by (λ (a : NetworkArc). 1000000 * planned x a) (arcs_from 0 it.arcs) ≡ check.sum_below (length (transport_of it).demands) (λ k. 1000000 * served (network_of it) x k) =
+      let keyed : sum_by (λ (a : NetworkArc). 1000000 * planned x a) (arcs_from 0 it.arcs) ≡ sum_below (length (transport_of it).demands) (λ k. 1000000 * served (network_of it) x k) =
       by_key (λ (a : NetworkArc). a.row) (λ (a : NetworkArc). planned x a) (λ _. 1000000) (length (transport_of it).demands) (arcs_from 0 it.arcs)
       (All-from_get_or (λ (a : NetworkArc). a.row < length (transport_of it).demands) (arcs_from 0 it.arcs) no_arc (λ k l. omega (arith, row_at k l, many))) in
-      let low : check.sum_below (length (transport_of it).demands) (λ k. 1000000 * served (network_of it) x k) ≤ length (transport_of it).demands * 1000000000000 =
+      let low : sum_below (length (transport_of it).demands) (λ k. 1000000 * served (network_of it) x k) ≤ length (transport_of it).demands * 1000000000000 =
       sum_below_low (length (transport_of it).demands) (λ k. 1000000 * served (network_of it) x k) 1000000000000 (λ k l. omega (arith, feasible.met k l, counts_low k l)) in
       omega (arith, dear, keyed, low, many, is.rows.few)
 

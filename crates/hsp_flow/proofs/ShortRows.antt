@@ -17,7 +17,7 @@ use Rattle.hsp_flow.specs.Sums.{sum_below, any_below}
 use Rattle.hsp_flow.specs.Network.{Transport, IsShort, reaches, reached_capacity, capacity_of, demand_of, on_host, is_on, host_of}
 use Rattle.hsp_flow.specs.Planning.{transport_of, flagged_from, row_of, server_of}
 use Rattle.hsp_flow.proofs.Ordering.{no_arc, each_weaker}
-use Rattle.hsp_flow.proofs.Bridging.{arc, same_sum}
+use Rattle.hsp_flow.proofs.Bridging.{arc}
 use Rattle.hsp_flow.proofs.Sums as flow_sums
 use Rattle.hsp_flow.proofs.Certifying.{same_on}
 
@@ -113,19 +113,15 @@ module _ (it : Instance) (set : List Bool) (many : length set ≡ length it.rows
   pub demand_is : shorts.demand_of (network_of it) rows ≡ demand_of (transport_of it) chosen
   demand_is =
       sum_below_same (length (transport_of it).demands) _ _ (λ i l. ap (λ b. if b then slice_index (transport_of it).demands i else 0) (chosen_is i))
-      ∙ sym (same_sum (length (transport_of it).demands) (λ i. if chosen i then slice_index (transport_of it).demands i else 0))
 
   host_room : (h : ℕ) → plans.on_host (network_of it) (shorts.room_of (network_of it) rows) h ≡ on_host (transport_of it) (λ j. reached_capacity (transport_of it) chosen j) h
   host_room h =
       sum_below_same (length (transport_of it).capacities) _ _ (λ j l. ap₂ (λ b n. if b then n else 0) (same_on (host_of (transport_of it) j) h) (room_is j))
-      ∙ sym (same_sum (length (transport_of it).capacities) (λ j. if is_on (host_of (transport_of it) j) h then reached_capacity (transport_of it) chosen j else 0))
 
   pub capacity_is : shorts.capacity_of (network_of it) rows ≡ capacity_of (transport_of it) chosen
   capacity_is =
-      let free = sum_below_same (length (transport_of it).capacities) _ _ (λ j l. ap (λ n. if is_none (host_of (transport_of it) j) then n else 0) (room_is j))
-      ∙ sym (same_sum (length (transport_of it).capacities) (λ j. if is_none (host_of (transport_of it) j) then reached_capacity (transport_of it) chosen j else 0)) in
-      let hosted = sum_below_same (length (transport_of it).limits) _ _ (λ h l. ap (λ n. min (slice_index (transport_of it).limits h) n) (host_room h))
-      ∙ sym (same_sum (length (transport_of it).limits) (λ h. min (slice_index (transport_of it).limits h) (on_host (transport_of it) (λ j. reached_capacity (transport_of it) chosen j) h))) in
+      let free = sum_below_same (length (transport_of it).capacities) _ _ (λ j l. ap (λ n. if is_none (host_of (transport_of it) j) then n else 0) (room_is j)) in
+      let hosted = sum_below_same (length (transport_of it).limits) _ _ (λ h l. ap (λ n. min (slice_index (transport_of it).limits h) n) (host_room h)) in
       ap₂ (λ m n. m + n) free hosted
 
   pub set_valid : (demand capacity : ℕ) → demand ≡ demand_of (transport_of it) chosen → capacity ≡ capacity_of (transport_of it) chosen → IsShort (transport_of it) chosen →

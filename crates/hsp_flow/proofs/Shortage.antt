@@ -7,7 +7,7 @@ use Rattle.hsp_flow.specs.Layout.{LinksOf, IsSmall, base_of, first_of, hosts_of,
 use Rattle.hsp_flow.specs.Residual.{Sound}
 use Rattle.hsp_flow.specs.Search.{Closed}
 use Rattle.hsp_flow.proofs.Sums.{only_here, only_there, sum_below_same, sum_below_le, sum_below_lt}
-use Rattle.hsp_flow.proofs.Totals.{by_key, by_host, sum_zero, any_at}
+use Rattle.hsp_flow.proofs.Totals.{by_key, by_host, sum_below_zero, any_at}
 use Rattle.hsp_flow.proofs.Modelling.{server_flow, host_flow, source_flow, arc_room}
 
 node_of : (o : Option ℕ) (h : ℕ) → is_on o h ≡ true → host_node o ≡ 1 + h
@@ -170,7 +170,7 @@ module _ (net : Transport) (whole : IsNetwork net) (small : IsSmall net) (tails 
       | inl e ↦ let in-set : set (slice_index net.sources k) ≡ true = rw e inside in ap (λ n. only (slice_index net.sources k) i n) (rw in-set refl)
       | inr ne ↦ only_there (slice_index net.sources k) i (part k) ne ∙ sym (only_there (slice_index net.sources k) i (flow k) ne)
     ]))
-    | inr outside ↦ rw outside (sum_zero (length net.sources) _ (λ k l. elim (cases_eq (slice_index net.sources k) i) [
+    | inr outside ↦ rw outside (sum_below_zero (length net.sources) _ (λ k l. elim (cases_eq (slice_index net.sources k) i) [
       | inl e ↦ let out : set (slice_index net.sources k) ≡ false = rw e outside in
           only_here (slice_index net.sources k) i (part k) e ∙ rw out refl
       | inr ne ↦ only_there (slice_index net.sources k) i (part k) ne

@@ -4,7 +4,7 @@ use Rattle.std.proofs.lemmas.Bool.{cases_eq}
 use Rattle.hsp_flow.specs.Sums.{sum_below, only}
 use Rattle.hsp_flow.specs.Spreads.{Spread}
 use Rattle.hsp_flow.proofs.Sums.{sum_below_same, term_within, only_here, only_there, only_split}
-use Rattle.hsp_flow.proofs.Totals.{sum_zero, sum_one, sum_add}
+use Rattle.hsp_flow.proofs.Totals.{sum_below_zero, sum_below_one, sum_below_add}
 
 only_zero : (w v : ℕ) → only w v 0 ≡ 0
 only_zero w v = elim (cases_eq w v) [
@@ -15,16 +15,16 @@ only_zero w v = elim (cases_eq w v) [
 -- what is summed by a key, summed again by a key of the key
 pub by_keys : (outer key f : ℕ → ℕ) (n m g : ℕ) → ((k : ℕ) → k < m → key k < n) →
     sum_below n (λ v. only (outer v) g (sum_below m (λ k. only (key k) v (f k)))) ≡ sum_below m (λ k. only (outer (key k)) g (f k))
-by_keys outer key f n zero g inside = sum_zero n (λ v. only (outer v) g 0) (λ v l. only_zero (outer v) g)
+by_keys outer key f n zero g inside = sum_below_zero n (λ v. only (outer v) g 0) (λ v l. only_zero (outer v) g)
 by_keys outer key f n (suc m) g inside =
     let rest = by_keys outer key f n m g (λ k l. inside k (omega arith)) in
     let term : sum_below n (λ v. only (outer v) g (only (key m) v (f m))) ≡ only (outer (key m)) g (only (key m) (key m) (f m)) =
-    sum_one n (λ v. only (outer v) g (only (key m) v (f m))) (key m) (inside m (omega arith))
+    sum_below_one n (λ v. only (outer v) g (only (key m) v (f m))) (key m) (inside m (omega arith))
     (λ v l ne. ap (only (outer v) g) (only_there (key m) v (f m) (λ e. ne (sym e))) ∙ only_zero (outer v) g) in
     let here : only (outer (key m)) g (only (key m) (key m) (f m)) ≡ only (outer (key m)) g (f m) = ap (only (outer (key m)) g) (only_here (key m) (key m) (f m) refl) in
     let split : sum_below n (λ v. only (outer v) g (sum_below (suc m) (λ k. only (key k) v (f k)))) ≡ sum_below n (λ v. only (outer v) g (sum_below m (λ k. only (key k) v (f k))) + only (outer v) g (only (key m) v (f m))) =
     sum_below_same n _ _ (λ v l. only_split (outer v) g (sum_below m (λ k. only (key k) v (f k))) (only (key m) v (f m))) in
-    split ∙ sum_add n (λ v. only (outer v) g (sum_below m (λ k. only (key k) v (f k)))) (λ v. only (outer v) g (only (key m) v (f m))) ∙ ap₂ (λ a b. a + b) rest (term ∙ here)
+    split ∙ sum_below_add n (λ v. only (outer v) g (sum_below m (λ k. only (key k) v (f k)))) (λ v. only (outer v) g (only (key m) v (f m))) ∙ ap₂ (λ a b. a + b) rest (term ∙ here)
 
 -- a sum that is 0 has no other terms
 pub none_left : (n : ℕ) (f : ℕ → ℕ) → sum_below n f ≡ 0 → (k : ℕ) → k < n → f k ≡ 0
@@ -76,10 +76,10 @@ module _ (rows many groups_many most : ℕ) (count row home x f need left group 
   even g inside =
       let by_flow : sum_below groups_many (λ e. only (end e) g (f e)) ≡ sum_below groups_many (λ e. only (end e) g (left e)) + sum_below groups_many (λ e. only (end e) g (sum_below many (λ k. only (home k) e (x k)))) =
       sum_below_same groups_many _ _ (λ e l. ap (only (end e) g) (sym (s.flow e l)) ∙ only_split (end e) g (left e) (sum_below many (λ k. only (home k) e (x k))))
-      ∙ sum_add groups_many (λ e. only (end e) g (left e)) (λ e. only (end e) g (sum_below many (λ k. only (home k) e (x k)))) in
+      ∙ sum_below_add groups_many (λ e. only (end e) g (left e)) (λ e. only (end e) g (sum_below many (λ k. only (home k) e (x k)))) in
       let by_need : sum_below rows (λ i. only (group i) g (count i)) ≡ sum_below rows (λ i. only (group i) g (need i)) + sum_below rows (λ i. only (group i) g (sum_below many (λ k. only (row k) i (x k)))) =
       sum_below_same rows _ _ (λ i l. ap (only (group i) g) (sym (s.needs i l)) ∙ only_split (group i) g (need i) (sum_below many (λ k. only (row k) i (x k))))
-      ∙ sum_add rows (λ i. only (group i) g (need i)) (λ i. only (group i) g (sum_below many (λ k. only (row k) i (x k)))) in
+      ∙ sum_below_add rows (λ i. only (group i) g (need i)) (λ i. only (group i) g (sum_below many (λ k. only (row k) i (x k)))) in
       let spread_flow = by_keys end home x groups_many many g homes_in in
       let spread_need = by_keys group row x rows many g rows_in in
       let alike : sum_below many (λ k. only (end (home k)) g (x k)) ≡ sum_below many (λ k. only (group (row k)) g (x k)) =
@@ -93,7 +93,7 @@ module _ (rows many groups_many most : ℕ) (count row home x f need left group 
     | inr unmet ↦
         let g = group i in
         let spent : sum_below groups_many (λ e. only (end e) g (left e)) ≡ 0 =
-        sum_zero groups_many (λ e. only (end e) g (left e)) (λ e m. elim (cases_eq (end e) g) [
+        sum_below_zero groups_many (λ e. only (end e) g (left e)) (λ e m. elim (cases_eq (end e) g) [
           | inl at ↦
               let c = covered i e l m at in
               let row_is : row c.0 ≡ i = c.2 in
@@ -114,7 +114,7 @@ module _ (rows many groups_many most : ℕ) (count row home x f need left group 
   pub all_spent : (e : ℕ) → e < groups_many → left e ≡ 0
   all_spent e l =
       let g = end e in
-      let none : sum_below rows (λ i. only (group i) g (need i)) ≡ 0 = sum_zero rows (λ i. only (group i) g (need i)) (λ i m. ap (only (group i) g) (all_met i m) ∙ only_zero (group i) g) in
+      let none : sum_below rows (λ i. only (group i) g (need i)) ≡ 0 = sum_below_zero rows (λ i. only (group i) g (need i)) (λ i m. ap (only (group i) g) (all_met i m) ∙ only_zero (group i) g) in
       let term = term_within groups_many (λ k. only (end k) g (left k)) e l in
       omega (arith, even g (end_in e l), none, term, only_here (end e) g (left e) refl)
 

@@ -5,7 +5,7 @@ use Rattle.hsp_flow.specs.Sums.{only, through}
 use Rattle.hsp_flow.specs.Index.{ByHead, Carries}
 use Rattle.hsp_flow.specs.Residual.{Graph, Sound, width, gives, takes}
 use Rattle.hsp_flow.proofs.Sums.{only_here, only_there}
-use Rattle.hsp_flow.proofs.Totals.{sum_zero, through_is}
+use Rattle.hsp_flow.proofs.Totals.{sum_below_zero, through_is}
 
 nothing : (w v n : ℕ) → n ≡ 0 → only w v n ≡ 0
 nothing w v n z = elim (cases_eq w v) [ inl e ↦ only_here w v n e ∙ z | inr ne ↦ only_there w v n ne ]
@@ -17,7 +17,7 @@ module _ (nodes : ℕ) (tails heads costs capacities supplies flows room price u
     (price-zero : (v : ℕ) → v < nodes → slice_index price v ≡ 0)
     (unmet-all : (v : ℕ) → v < nodes → slice_index unmet v ≡ slice_index supplies v) (some : 0 < nodes) where
   through_none : (ends : List ℕ) (v : ℕ) → through ends flows v ≡ 0
-  through_none ends v = through_is ends flows v ∙ sum_zero (length flows) (λ k. only (slice_index ends k) v (slice_index flows k))
+  through_none ends v = through_is ends flows v ∙ sum_below_zero (length flows) (λ k. only (slice_index ends k) v (slice_index flows k))
       (λ k l. nothing (slice_index ends k) v (slice_index flows k) (flows-zero k (omega arith)))
 
   pub sound_start : Sound nodes tails heads costs capacities supplies flows room (λ v. slice_index price v) unmet

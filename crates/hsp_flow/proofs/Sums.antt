@@ -1,12 +1,8 @@
 -- Sums over numbers, and what a change of one arc's flow does to them.
-use Rattle.std.proofs.Common.{◌≡◌, ◌≢◌, ℕ, zero, suc, ◌+◌, ◌-◌, ◌<◌, ◌≤◌, ◌==◌, inl, inr, true, false, List, length, slice_index, set, if◌then◌else◌, refl, ap, ap₂, arith, eq-eqb, ne_eqb, length-set, get_or-set_same, get_or-set_other}
+use Rattle.std.proofs.Common.{◌≡◌, ◌≢◌, ℕ, zero, suc, ◌+◌, ◌-◌, ◌<◌, ◌≤◌, ◌==◌, inl, inr, true, false, List, length, slice_index, set, if◌then◌else◌, refl, ap, arith, eq-eqb, ne_eqb, length-set, get_or-set_same, get_or-set_other}
 use Rattle.std.proofs.lemmas.Bool.{cases_eq}
+pub use Rattle.hsp_check.proofs.Summing.{sum_below_same, sum_below_le}
 use Rattle.hsp_flow.specs.Sums.{sum_below, through, only}
-
-pub sum_below_same : (n : ℕ) (f g : ℕ → ℕ) → ((k : ℕ) → k < n → f k ≡ g k) → sum_below n f ≡ sum_below n g
-sum_below_same zero f g h = refl
-sum_below_same (suc n) f g h =
-    ap₂ (λ a b. a + b) (sum_below_same n f g (λ k l. h k (omega arith))) (h n (omega arith))
 
 -- sums that differ in one term
 pub sum_below_change : (n : ℕ) (f g : ℕ → ℕ) (i : ℕ) → i < n → ((k : ℕ) → k < n → k ≢ i → f k ≡ g k) → sum_below n f + g i ≡ sum_below n g + f i
@@ -71,13 +67,6 @@ module _ (ends flows : List ℕ) (e y v : ℕ) (l : e < length flows) where
       let split = only_split (slice_index ends e) v (slice_index flows e - y) y in
       let whole : only (slice_index ends e) v (slice_index flows e - y + y) ≡ only (slice_index ends e) v (slice_index flows e) = ap (only (slice_index ends e) v) q in
       omega (arith, through_set ends flows e (slice_index flows e - y) v l)
-
-pub sum_below_le : (n : ℕ) (f g : ℕ → ℕ) → ((k : ℕ) → k < n → f k ≤ g k) → sum_below n f ≤ sum_below n g
-sum_below_le zero f g h = omega arith
-sum_below_le (suc n) f g h =
-    let a : sum_below n f ≤ sum_below n g = sum_below_le n f g (λ k l. h k (omega arith)) in
-    let b : f n ≤ g n = h n (omega arith) in
-    omega arith
 
 -- one term is larger by one at least
 pub sum_below_lt : (n : ℕ) (f g : ℕ → ℕ) (i : ℕ) → i < n → f i < g i → ((k : ℕ) → k < n → f k ≤ g k) → sum_below n f < sum_below n g

@@ -4,6 +4,7 @@ use Rattle.std.proofs.lemmas.Bool.{cases_eq, or_cases}
 use Rattle.hsp_flow.specs.Sums.{any_below, only, sum_below, through}
 use Rattle.hsp_flow.specs.Network.{is_on}
 use Rattle.hsp_flow.proofs.Sums.{only_here, only_there}
+pub use Rattle.hsp_check.proofs.Summing.{sum_below_zero, sum_below_one, sum_below_add}
 
 pub sum_split : (a n : ℕ) (f : ℕ → ℕ) → sum_below (a + n) f ≡ sum_below a f + sum_below n (λ k. f (a + k))
 sum_split a zero f =
@@ -16,46 +17,28 @@ sum_split a (suc n) f =
     let b = sum_split a n f in
     omega arith
 
-pub sum_zero : (n : ℕ) (f : ℕ → ℕ) → ((k : ℕ) → k < n → f k ≡ 0) → sum_below n f ≡ 0
-sum_zero zero f h = refl
-sum_zero (suc n) f h = omega (arith, sum_zero n f (λ k l. h k (omega arith)), h n (omega arith))
-
-pub sum_one : (n : ℕ) (f : ℕ → ℕ) (i : ℕ) → i < n → ((k : ℕ) → k < n → k ≢ i → f k ≡ 0) → sum_below n f ≡ f i
-sum_one zero f i l h = absurd (omega arith)
-sum_one (suc n) f i l h = elim (cases_eq n i) [
-  | inl e ↦
-      let z : sum_below n f ≡ 0 = sum_zero n f (λ k m. h k (omega arith) (λ q. omega arith)) in
-      let s : f n ≡ f i = ap f e in
-      omega arith
-  | inr ne ↦ omega (arith, sum_one n f i (omega arith) (λ k m. h k (omega arith)), h n (omega arith) ne)
-]
-
-pub sum_add : (n : ℕ) (f g : ℕ → ℕ) → sum_below n (λ k. f k + g k) ≡ sum_below n f + sum_below n g
-sum_add zero f g = refl
-sum_add (suc n) f g = omega (arith, sum_add n f g)
-
 -- each term counts at its key
 pub by_key : (key f : ℕ → ℕ) (n m : ℕ) → ((k : ℕ) → k < m → key k < n) → sum_below m f ≡ sum_below n (λ v. sum_below m (λ k. only (key k) v (f k)))
-by_key key f n zero h = sym (sum_zero n (λ v. 0) (λ v l. refl))
+by_key key f n zero h = sym (sum_below_zero n (λ v. 0) (λ v l. refl))
 by_key key f n (suc m) h =
     let a = by_key key f n m (λ k l. h k (omega arith)) in
     let b : sum_below n (λ v. only (key m) v (f m)) ≡ only (key m) (key m) (f m) =
-    sum_one n (λ v. only (key m) v (f m)) (key m) (h m (omega arith)) (λ v l ne. only_there (key m) v (f m) (λ e. ne (sym e))) in
-    omega (arith, sum_add n (λ v. sum_below m (λ k. only (key k) v (f k))) (λ v. only (key m) v (f m)), only_here (key m) (key m) (f m) refl)
+    sum_below_one n (λ v. only (key m) v (f m)) (key m) (h m (omega arith)) (λ v l ne. only_there (key m) v (f m) (λ e. ne (sym e))) in
+    omega (arith, sum_below_add n (λ v. sum_below m (λ k. only (key k) v (f k))) (λ v. only (key m) v (f m)), only_here (key m) (key m) (f m) refl)
 
 -- servers on no host, and those on each host
 pub by_host : (host : ℕ → Option ℕ) (g : ℕ → ℕ) (n m : ℕ) → ((j h : ℕ) → j < n → host j ≡ Some h → h < m) →
     sum_below n g ≡ sum_below n (λ j. if is_none (host j) then g j else 0) + sum_below m (λ h. sum_below n (λ j. if is_on (host j) h then g j else 0))
-by_host host g zero m inside = omega (arith, sum_zero m (λ h. 0) (λ h l. refl))
+by_host host g zero m inside = omega (arith, sum_below_zero m (λ h. 0) (λ h l. refl))
 by_host host g (suc n) m inside =
     let a = by_host host g n m (λ j h l. inside j h (omega arith)) in
     let b = one (host n) (g n) (λ h. inside n h (omega arith)) in
-    omega (arith, sum_add m (λ h. sum_below n (λ j. if is_on (host j) h then g j else 0)) (λ h. if is_on (host n) h then g n else 0))
+    omega (arith, sum_below_add m (λ h. sum_below n (λ j. if is_on (host j) h then g j else 0)) (λ h. if is_on (host n) h then g n else 0))
   where
     one : (o : Option ℕ) (x : ℕ) → ((h : ℕ) → o ≡ Some h → h < m) → x ≡ (if is_none o then x else 0) + sum_below m (λ h. if is_on o h then x else 0)
-    one None x in' = omega (arith, sum_zero m (λ h. 0) (λ h l. refl))
+    one None x in' = omega (arith, sum_below_zero m (λ h. 0) (λ h l. refl))
     one (Some g) x in' =
-        omega (arith, sum_one m (λ h. if g == h then x else 0) g (in' g refl) (λ h l ne. only_there g h x (λ e. ne (sym e))), only_here g g x refl)
+        omega (arith, sum_below_one m (λ h. if g == h then x else 0) g (in' g refl) (λ h l ne. only_there g h x (λ e. ne (sym e))), only_here g g x refl)
 
 pub through_is : (ends flows : List ℕ) (v : ℕ) → through ends flows v ≡ sum_below (length flows) (λ k. only (slice_index ends k) v (slice_index flows k))
 unfolding through
@@ -77,7 +60,7 @@ any_at (suc n) test h = elim (or_cases (any_below n test) (test n) h) [
 
 -- no arc, or one, has that end
 pub none_ends : (n : ℕ) (end f : ℕ → ℕ) (v : ℕ) → ((k : ℕ) → k < n → end k ≢ v) → sum_below n (λ k. only (end k) v (f k)) ≡ 0
-none_ends n end f v h = sum_zero n (λ k. only (end k) v (f k)) (λ k l. only_there (end k) v (f k) (h k l))
+none_ends n end f v h = sum_below_zero n (λ k. only (end k) v (f k)) (λ k l. only_there (end k) v (f k) (h k l))
 
 pub one_ends : (n : ℕ) (end f : ℕ → ℕ) (v i : ℕ) → i < n → end i ≡ v → ((k : ℕ) → k < n → k ≢ i → end k ≢ v) → sum_below n (λ k. only (end k) v (f k)) ≡ f i
-one_ends n end f v i l e h = sum_one n (λ k. only (end k) v (f k)) i l (λ k m ne. only_there (end k) v (f k) (h k m ne)) ∙ only_here (end i) v (f i) e
+one_ends n end f v i l e h = sum_below_one n (λ k. only (end k) v (f k)) i l (λ k m ne. only_there (end k) v (f k) (h k m ne)) ∙ only_here (end i) v (f i) e

@@ -1,10 +1,6 @@
 -- Sums over numbers, and the part of a flow that goes through one end of its arcs.
-use Rattle.std.specs.Prelude.{ℕ, suc, zero, ◌+◌, ◌==◌, ◌||◌, Bool, false, List, length, slice_index, if◌then◌else◌}
-
--- f 0 + f 1 + .. + f (n - 1)
-abbrev pub sum_below : ℕ → (ℕ → ℕ) → ℕ
-sum_below zero f = 0
-sum_below (suc n) f = sum_below n f + f n
+use Rattle.std.specs.Prelude.{ℕ, suc, zero, ◌==◌, ◌||◌, Bool, false, List, length, slice_index, if◌then◌else◌}
+pub use Rattle.hsp_check.specs.Sums.{sum_below}
 
 -- n where the two numbers are one, else 0
 abbrev pub only : ℕ → ℕ → ℕ → ℕ
