@@ -2,7 +2,7 @@
 use Rattle.std.specs.Prelude.{◌≡◌, ◌⊎◌, ⊤, ℕ, List, Option, Some, None, Result, Err, IsErrAnd, option_map}
 use Rattle.hsp_command.specs.Commands.{hsplan_app}
 use Rattle.clap.specs.Words.{subcommand_of}
-use Rattle.hsp_command.specs.Orders.{IsOrderOf}
+use Rattle.hsp_command.specs.Orders.{IsOrderOf, IsUsage}
 use Rattle.hsp_command.specs.declared.order.InputFiles.{InputFiles}
 use Rattle.hsp_command.specs.declared.order.Order.{Order}
 use Rattle.hsp_command.specs.declared.order.Order.TheVariants as order
@@ -67,6 +67,6 @@ AnswersTo Holds (order.Check inputs plan) answer = AnswersCheck Holds inputs pla
 
 -- the answer to words: to the order that they give, or that they give none, or that memory ran out
 abbrev pub Obeys : Holding → List (List ℕ) → Result Answer Failure → Type 0
-Obeys Holds words (Err Usage) = ⊤
+Obeys Holds words (Err Usage) = IsUsage words
 Obeys Holds words (Err Memory) = ⊤
 Obeys Holds words answer = (o : Order) × IsOrderOf o (subcommand_of hsplan_app words) × AnswersTo Holds o answer
