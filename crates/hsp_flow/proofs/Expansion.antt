@@ -31,6 +31,14 @@ count_kept held held' key key' top nodes still =
       | inr f ↦ rw f (omega arith)
     ])
 
+-- an offer that is no shorter than what the node has changes nothing
+pub declined : (held : ℕ → Option ℕ) (key via amount depth : List ℕ) (link from to offer much : ℕ) → slice_index key to ≤ offer →
+    Offered held held key key via via amount amount depth depth link from to offer much
+declined held key via amount depth link from to offer much more = record {
+  kept = λ _. (refl, refl, refl, refl, refl);
+  took = λ less. absurd (omega arith);
+}
+
 -- one place more of a list
 pub among_next : (list : List ℕ) (p : ℕ) (j : ℕ) → Among list (p + 1) j → (j ≡ slice_index list p) ⊎ Among list p j
 among_next list p j a = elim (cases_eq a.place p) [

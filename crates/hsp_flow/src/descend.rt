@@ -4,7 +4,7 @@ ghost use Rattle.hsp_flow.specs.Descent.{IsWay};
 
 use crate::frontier::Frontier;
 use crate::links::{Flow, Links, Offer, SearchTree, Visit};
-use crate::relax::relax;
+use crate::relax::take_way;
 use std::alloc::AllocError;
 
 /// The links that lead from a node straight down to the sink.
@@ -74,19 +74,21 @@ fn step_down<F: Frontier>(
     ensures priced { OnOk result ((up down : ℕ) → IsPriced links.now flow.now tree.old at.root up down → IsPriced links.now flow.now tree.new at.root up down) }
     ensures count { F.node_count frontier.new ≡ F.node_count frontier.old }
 {
-    let from = links.tails[link];
-    let much = tree.amount[from as usize].min(flow.room[link]);
-    relax(
-        frontier,
-        tree,
-        Offer {
-            link,
-            from,
-            to: links.heads[link],
-            key: at.near,
-            much,
-        },
-    )?;
+    let (from, to) = (links.tails[link], links.heads[link]);
+    if at.near < tree.key[to as usize] {
+        let much = tree.amount[from as usize].min(flow.room[link]);
+        take_way(
+            frontier,
+            tree,
+            Offer {
+                link,
+                from,
+                to,
+                key: at.near,
+                much,
+            },
+        )?;
+    }
     Ok(())
 }
 

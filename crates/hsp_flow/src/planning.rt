@@ -141,35 +141,95 @@ fn short_rows(
     Ok(flags)
 }
 
-// The certificate by the lists of the rows' network and of the groups'.
-fn solve_lists<F: Frontier>(
+// What becomes of the rows' network, by the groups'.
+fn solve_spread<F: Frontier>(
     alloc: Global,
     instance: &Instance,
-    arcs: &[NetworkArc],
     groups: &Groups,
     firsts: &[u32],
     rows: &NetworkLists,
     lists: &GroupLists,
     effort: &mut Effort,
-) -> Result<Certificate, AllocError>
+) -> Result<Outcome, AllocError>
     requires within { IsInstance instance.now }
-    requires arcs { arcs.now ≡ arcs_from 0 instance.now.arcs }
     requires groups { AreGroups instance.now groups.now }
     requires firsts { AreFirsts groups.now firsts.now }
     requires rows { transport_in rows.now ≡ transport_of instance.now }
     requires lists { AreGroupLists instance.now groups.now firsts.now lists.now }
-    ensures valid { IfOk result (IsValid (network_of instance.now)) }
-    ensures low { IfOk result (HasLimitedPrices (network_of instance.now)) }
+    ensures { IfOk result (Answers (transport_of instance.now)) }
 {
     match solve_groups::<F>(alloc, instance, groups, firsts, rows, lists, effort)? {
         Outcome::Met(plan) => {
             let plan = spread_plan(alloc, instance, groups, firsts, rows, lists, plan)?;
-            plan_certificate(alloc, instance, arcs, &rows.costs, plan)
+            Ok(Outcome::Met(plan))
         }
         Outcome::Short(set) => {
             let set = short_rows(alloc, instance, groups, firsts, lists, &set)?;
-            certify_short(alloc, instance, rows, &set)
+            Ok(Outcome::Short(set))
         }
+    }
+}
+
+// What becomes of the rows' network, where some rows are of one group.
+fn solve_grouped<F: Frontier>(
+    alloc: Global,
+    instance: &Instance,
+    groups: &Groups,
+    rows: &NetworkLists,
+    effort: &mut Effort,
+) -> Result<Outcome, AllocError>
+    requires within { IsInstance instance.now }
+    requires groups { AreGroups instance.now groups.now }
+    requires rows { transport_in rows.now ≡ transport_of instance.now }
+    ensures { IfOk result (Answers (transport_of instance.now)) }
+{
+    let firsts = firsts_of(alloc, instance, groups)?;
+    let lists = group_lists(alloc, instance, groups, &firsts)?;
+    solve_spread::<F>(alloc, instance, groups, &firsts, rows, &lists, effort)
+}
+
+// What becomes of the rows' network, each row a source of its own.
+fn solve_rows<F: Frontier>(
+    alloc: Global,
+    instance: &Instance,
+    rows: &NetworkLists,
+    effort: &mut Effort,
+) -> Result<Outcome, AllocError>
+    requires within { IsInstance instance.now }
+    requires rows { transport_in rows.now ≡ transport_of instance.now }
+    ensures { IfOk result (Answers (transport_of instance.now)) }
+{
+    let _ = instance;
+    let network = Network {
+        demands: &rows.demands,
+        capacities: &rows.capacities,
+        limits: &rows.limits,
+        hosts: &rows.hosts,
+        sources: &rows.sources,
+        servers: &rows.servers,
+        costs: &rows.costs,
+    };
+    solve_network::<F>(alloc, &network, effort)
+}
+
+// The certificate of what becomes of the rows' network.
+fn certify(
+    alloc: Global,
+    instance: &Instance,
+    arcs: &[NetworkArc],
+    rows: &NetworkLists,
+    outcome: Outcome,
+) -> Result<Certificate, AllocError>
+    requires within { IsInstance instance.now }
+    requires arcs { arcs.now ≡ arcs_from 0 instance.now.arcs }
+    requires rows { transport_in rows.now ≡ transport_of instance.now }
+    requires answers { Answers (transport_of instance.now) outcome }
+    ensures valid { IfOk result (IsValid (network_of instance.now)) }
+    ensures low { IfOk result (HasLimitedPrices (network_of instance.now)) }
+{
+    match outcome {
+        Outcome::Met(plan) => plan_certificate(alloc, instance, arcs, &rows.costs, plan),
+        Outcome::Short(set) => certify_short(alloc, instance, rows, &set),
     }
 }
 
@@ -182,15 +242,16 @@ pub fn solve_counted<F: Frontier>(
     ensures valid { IfOk result (IsValid (network_of instance.now)) }
     ensures low { IfOk result (HasLimitedPrices (network_of instance.now)) }
 {
-    let _ = instance.rows();
+    let many = instance.rows();
     let arcs = arcs_of(alloc, instance)?;
     let rows = lists_of(alloc, instance, &arcs)?;
     let groups = groups(alloc, instance)?;
-    let firsts = firsts_of(alloc, instance, &groups)?;
-    let lists = group_lists(alloc, instance, &groups, &firsts)?;
-    solve_lists::<F>(
-        alloc, instance, &arcs, &groups, &firsts, &rows, &lists, effort,
-    )
+    let outcome = if groups.len() == many {
+        solve_rows::<F>(alloc, instance, &rows, effort)?
+    } else {
+        solve_grouped::<F>(alloc, instance, &groups, &rows, effort)?
+    };
+    certify(alloc, instance, &arcs, &rows, outcome)
 }
 
 /// A valid certificate for the instance: a plan that meets every row within all capacities and limits at the least cost, with

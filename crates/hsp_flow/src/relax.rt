@@ -6,7 +6,7 @@ use crate::links::{Offer, SearchTree};
 use std::alloc::AllocError;
 
 /// Lets a node take a way that is shorter than the one that it has.
-fn take_way<F: Frontier>(
+pub fn take_way<F: Frontier>(
     frontier: &mut F,
     tree: &mut SearchTree,
     offer: Offer,
