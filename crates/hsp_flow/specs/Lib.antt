@@ -9,6 +9,7 @@ pub mod Search
 pub mod Shapes
 pub mod Descent
 pub mod Sums
+pub mod Opening
 pub mod Planning
 pub mod Ordered
 pub mod Lists

@@ -17,6 +17,7 @@ mod heap;
 mod index;
 mod links;
 mod network;
+mod opening;
 mod phase;
 mod planning;
 mod raise;

@@ -10,6 +10,7 @@ use crate::frontier::Frontier;
 use crate::index::{count_heads, fill_order, head_places, link_starts};
 use crate::links::{Effort, Flow, Links, SearchTree};
 use crate::network::{Network, Outcome};
+use crate::opening::first_prices;
 use crate::phase::meet_all;
 use crate::tables::{link_capacities, link_costs, link_heads, link_tails, node_supplies};
 use std::alloc::{AllocError, Global};
@@ -28,7 +29,7 @@ fn greatest(costs: &[u64]) -> u64
     most
 }
 
-/// Runs the solver from a flow without prices.
+/// Runs the solver from a flow with its prices.
 fn solve_from<F: Frontier>(
     alloc: Global,
     network: &Network,
@@ -84,7 +85,7 @@ fn solve_indexed<F: Frontier>(
     let nodes = links.supplies.len();
     let mut flows = vec![in alloc; 0; links.tails.len()]?;
     let mut room = links.capacities.to_vec(alloc)?;
-    let mut price = vec![in alloc; 0; nodes]?;
+    let mut price = first_prices(alloc, links)?;
     let mut unmet = links.supplies.to_vec(alloc)?;
     let mut ends = links.places[..nodes].to_vec(alloc)?;
     let mut flow = Flow {
