@@ -41,7 +41,7 @@ pub const ONE_SERVER: &[u8] =
     b"[[site]]\nname = \"X\"\nrecord = \"000102000001000100000000000000000000000100000007000000000000000000000000000000010000000000000000\"\n";
 
 /// The instance of the texts.
-pub fn instance_of(alloc: Global, texts: Texts) -> Option<Instance> {
+pub(crate) fn instance_of(alloc: Global, texts: Texts) -> Option<Instance> {
     let mut settings = Vec::from_slice(alloc, texts.sites).ok()?;
     settings.extend_from_slice(texts.hosts).ok()?;
     let settings = read_settings(alloc, settings.as_slice()).ok()?;
@@ -62,7 +62,7 @@ pub struct Numbers {
 }
 
 /// The certificate of a plan.
-pub fn plan(alloc: Global, numbers: Numbers) -> Option<Certificate> {
+pub(crate) fn plan(alloc: Global, numbers: Numbers) -> Option<Certificate> {
     let mut uses = Vec::new(alloc);
     for (row, site, count) in numbers.uses {
         uses.push(UseLine {
@@ -79,6 +79,11 @@ pub fn plan(alloc: Global, numbers: Numbers) -> Option<Certificate> {
 }
 
 /// The certificate of a short set.
-pub fn shortage(alloc: Global, rows: &[u32], demand: u64, capacity: u64) -> Option<Certificate> {
+pub(crate) fn shortage(
+    alloc: Global,
+    rows: &[u32],
+    demand: u64,
+    capacity: u64,
+) -> Option<Certificate> {
     Certificate::short(Vec::from_slice(alloc, rows).ok()?, demand, capacity)
 }

@@ -48,7 +48,7 @@ fn words_from<I: Read + Drop>(
 }
 
 /// The words of the command: the arguments or, without any, those of the first line of standard input.
-pub fn take_words<R: Env + Input + AllocGlobal>(rt: &R) -> Result<Vec<String>, Failure> {
+pub(crate) fn take_words<R: Env + Input + AllocGlobal>(rt: &R) -> Result<Vec<String>, Failure> {
     let arguments = arguments(rt)?;
     words_from(rt.alloc(), arguments, rt.reader())
 }
