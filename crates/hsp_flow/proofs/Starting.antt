@@ -64,7 +64,7 @@ module _ (first nodes : ℕ) (tails heads costs capacities supplies starts price
 
   pub first_sink : 0 < nodes → slice_index price 0 ≡ 0
   first_sink some = elim (prices.each 0 some).attained [
-    | inl none ↦ none
+    | inl none ↦ none.1
     | inr it ↦
         let l : it.0 < length tails = omega (arith, it.2, by.within 0 some) in
         absurd (omega (arith, by.own 0 it.0 some it.1 it.2, graph.down it.0 l))
@@ -74,7 +74,7 @@ module _ (first nodes : ℕ) (tails heads costs capacities supplies starts price
   first_limit v l =
       let one : 1 * most ≤ nodes * most = let h : 1 ≤ nodes = omega arith in mul-le-mul_right most h in
       elim (prices.each v l).attained [
-        | inl none ↦ omega (arith, none)
+        | inl none ↦ omega (arith, none.1)
         | inr it ↦
             let inside : it.0 < length tails = omega (arith, it.2, by.within v l) in
             omega (arith, it.3, scale.dear it.0 inside, scale.limit_is, one)

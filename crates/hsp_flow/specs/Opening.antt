@@ -4,7 +4,7 @@ use Rattle.std.specs.Prelude.{◌≡◌, ◌⊎◌, ℕ, ◌+◌, ◌<◌, ◌�
 -- the least of the costs from `start` up to `end`, 0 where there is none
 pub record LeastCost (costs : List ℕ) (start end least : ℕ) : Type 0 where
   pub below : (k : ℕ) → start ≤ k → k < end → least ≤ slice_index costs k
-  pub attained : (least ≡ 0) ⊎ ((k : ℕ) × (start ≤ k) × (k < end) × (slice_index costs k ≡ least))
+  pub attained : ((end ≤ start) × (least ≡ 0)) ⊎ ((k : ℕ) × (start ≤ k) × (k < end) × (slice_index costs k ≡ least))
 
 -- each node's price is the least cost of a link that leaves it
 pub record FirstPrices (nodes : ℕ) (costs starts price : List ℕ) : Type 0 where
