@@ -1,5 +1,5 @@
 -- The rows of the three tables, by what their fields spell.
-use Rattle.std.proofs.Common.{◌≡◌, ◌∙◌, ◌≤◌, inl, inr, ℕ, Bool, true, false, cond, List, [], ◌∷◌, length, map, zero, suc, Option, None, Some, not, Result, Ok, Err, nat_le, nat_lt, refl, sym, ap, arith, rules}
+use Rattle.std.proofs.Common.{◌≡◌, ◌∙◌, ◌≤◌, inl, inr, ℕ, Bool, true, false, cond, List, [], ◌∷◌, length, map, zero, suc, Option, None, Some, not, Result, Ok, Err, nat_le, nat_lt, refl, ap, arith, rules}
 use Rattle.std.proofs.lemmas.Bool.{cases_Bool, leb-true}
 use Rattle.std.specs.Cmp.{IsEquivalence}
 use Rattle.std.specs.Cmp.Rules.{comparing}
@@ -134,20 +134,12 @@ row_is [] place pair all e = let none : ◌≡◌ {A = Option PairEntry} None (S
 row_is (p ∷ pairs) zero pair all e = let same : p ≡ pair = cc (e) in rw same at all.0
 row_is (p ∷ pairs) (suc place) pair all e = row_is pairs place pair all.1 e
 
--- the handle of a row that is kept is read again as itself
-pub handle_again : (pairs : List PairEntry) (place : ℕ) (pair : PairEntry) → AreDemand (map demand_entry pairs) → slice_get pairs place ≡ Some pair → names.handle_in pair.second ≡ Ok pair.second
-handle_again pairs place pair are e = (row_is pairs place pair are.keyed.each e).handle
+-- the handle of a row that is kept was read
+pub handle_was_read : (pairs : List PairEntry) (place : ℕ) (pair : PairEntry) → AreDemand (map demand_entry pairs) → slice_get pairs place ≡ Some pair → names.handle_in pair.second ≡ Ok pair.second
+handle_was_read pairs place pair are e = (row_is pairs place pair are.keyed.each e).handle
 
-row_at : (pairs : List PairEntry) (place : ℕ) (pair : PairEntry) → slice_get pairs place ≡ Some pair → slice_get (map demand_entry pairs) place ≡ Some (demand_entry pair)
+-- a row that is kept, as one of demand
+pub row_at : (pairs : List PairEntry) (place : ℕ) (pair : PairEntry) → slice_get pairs place ≡ Some pair → slice_get (map demand_entry pairs) place ≡ Some (demand_entry pair)
 row_at [] place pair e = let none : ◌≡◌ {A = Option PairEntry} None (Some pair) = e in cc
 row_at (p ∷ pairs) zero pair e = let same : p ≡ pair = cc (e) in ap (λ (t : PairEntry). Some (demand_entry t)) same
 row_at (p ∷ pairs) (suc place) pair e = row_at pairs place pair e
-
--- a row that is shown with the handle that was read is the row that is kept
-pub shown_row : (pairs : List PairEntry) (place : ℕ) (pair : PairEntry) (handle : List ℕ) → AreDemand (map demand_entry pairs) → slice_get pairs place ≡ Some pair → names.handle_in pair.second ≡ Ok handle
-    → slice_get (map demand_entry pairs) place ≡ Some (record { region = pair.first; handle = handle; count = pair.number })
-shown_row pairs place pair handle are e read =
-    let again = handle_again pairs place pair are e in
-    let ok : ◌≡◌ {A = Result (List ℕ) HandleFault} (Ok pair.second) (Ok handle) = sym again ∙ read in
-    let same : pair.second ≡ handle = cc (ok) in
-    row_at pairs place pair e ∙ ap (λ (h : List ℕ). let row : DemandEntry = record { region = pair.first; handle = h; count = pair.number } in Some row) same

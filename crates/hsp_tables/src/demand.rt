@@ -76,14 +76,10 @@ impl Demand {
         ensures { slice_get self.now number ≡ Some (demand_shown result) }
     {
         let row = self.rows.row(number as usize);
-        match HandleRef::parse(row.second) {
-            Ok(handle) => DemandRow {
-                region: row.first,
-                handle,
-                count: row.number,
-            },
-            // The handle was read once before.
-            Err(_) => unreachable!(),
+        DemandRow {
+            region: row.first,
+            handle: HandleRef::accepted(row.second),
+            count: row.number,
         }
     }
 }
