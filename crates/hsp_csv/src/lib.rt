@@ -6,9 +6,11 @@
 #![tactic(auto)]
 
 mod fault;
+mod header;
 mod records;
 
 pub use fault::RecordsFault;
+pub use header::{is_header, take_header};
 pub use records::{read_records, take_record};
 
 #[cfg(test)]

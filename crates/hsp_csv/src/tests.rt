@@ -122,3 +122,37 @@ fn a_reader_that_gives_little_or_fails(rt: HostRuntime) -> Result<(), Fail> {
     }
     Ok(())
 }
+
+#[test]
+fn headers_are_told(rt: HostRuntime) {
+    let header: [&[u8]; 2] = [b"a", b"b"];
+    let cases: [(&[u8], bool); 6] = [
+        (b"a,b\nc\n", true),
+        (b"\xEF\xBB\xBFa,b", true),
+        (b"a,c\n", false),
+        (b"a\n", false),
+        (b"a,b,c\n", false),
+        (b"", false),
+    ];
+    for (text, wanted) in cases {
+        let reader = OneByOne { text, good: 100 };
+        let mut found = headed(rt.alloc(), reader, &header);
+        // Where a growth is refused, the second reading finds memory.
+        if found == Err(RecordsFault::OutOfMemory) {
+            let reader = OneByOne { text, good: 100 };
+            found = headed(rt.alloc(), reader, &header);
+        }
+        assert_eq!(rt; found, Ok(wanted));
+    }
+}
+
+// Whether a text has a header, read to its end.
+fn headed<R: Read + Drop>(alloc: Global, text: R, header: &[&[u8]]) -> Result<bool, RecordsFault> {
+    let mut reader = read_records(alloc, text);
+    let mut record = ByteRecord::new(alloc);
+    let found = take_header(&mut reader, &mut record, header)?;
+    if found != is_header(&record, header) {
+        return Ok(!found);
+    }
+    Ok(found)
+}

@@ -3,7 +3,7 @@ use Rattle.std.proofs.Common.{◌≡◌, ◌<◌, ◌≤◌, ◌*◌, ◌+◌, �
 use Rattle.std.specs.Prelude.{◌||◌}
 use Rattle.std.specs.Str.{all_ascii_digits}
 use Rattle.std.specs.Str.Parse.{digits_value, digits_value_after}
-use Rattle.std.proofs.lemmas.Fmt.{decimal_is_IsNumeral, decimal-digits_value, decimal_digit, decimal_step, first_decimal, length-decimal-le}
+use Rattle.std.proofs.lemmas.Fmt.{decimal_is_IsNumeral, decimal-digits_value, decimal_digit, decimal_step, first_decimal, length-decimal-le, decimal_step_wide, length-decimal-le_wide}
 use Rattle.std.proofs.lemmas.Str.Parse.{IsNumeralModel, numerals_by_value, tells_all_ascii_digits}
 use Rattle.std.proofs.lemmas.Str.{digit_value_digit}
 use Rattle.std.proofs.Math.Seq.{drop-cons}
@@ -27,6 +27,14 @@ at_most_twenty n h = length-decimal-le 20 n (omega arith) (omega arith) h
 -- the last digit stands behind those of the tenth
 pub last_digit : (n : ℕ) → 10 ≤ n → n < 2 ^ 64 → (decimal n ≡ decimal (n / 10) ++ (48 + n % 10) ∷ []) × (length (decimal n) ≡ length (decimal (n / 10)) + 1)
 last_digit n low high = let e = decimal_step n low high in (e, ap length e ∙ length-append (decimal (n / 10)) ((48 + n % 10) ∷ []))
+
+-- a number of 128 bits has at most 39 digits, and its last digit stands behind those of the tenth
+pub at_most_39 : (n : ℕ) → n < 2 ^ 128 → length (decimal n) ≤ 39
+at_most_39 n h = length-decimal-le_wide 39 n (omega arith) (omega arith) (omega arith)
+
+pub last_digit_wide : (n : ℕ) → 10 ≤ n → n < 2 ^ 128 → (decimal n ≡ decimal (n / 10) ++ (48 + n % 10) ∷ []) × (length (decimal n) ≡ length (decimal (n / 10)) + 1)
+last_digit_wide n low high =
+    let e = decimal_step_wide n low (omega arith) in (e, ap length e ∙ length-append (decimal (n / 10)) ((48 + n % 10) ∷ []))
 
 -- a number above the limit is too large
 above_limit : (max : ℕ) (text : List ℕ) → is_whole text ≡ true → max < digits_value 10 text → whole_within max text ≡ Err TooLarge

@@ -1,3 +1,5 @@
+pub mod Answers
 pub mod Whole
 pub mod Name
 pub mod Lines
+pub mod Writing

@@ -1,6 +1,7 @@
 -- Names of regions and sites.
 use Rattle.std.specs.Prelude.{◌==◌, ◌&&◌, ◌||◌, not, Bool, ℕ, List, length, nat_le}
 use Rattle.std.specs.List.{list_all}
+use Rattle.hsp_text.specs.declared.limits.TheConstants.{LONGEST_NAME}
 
 abbrev pub is_between : ℕ → ℕ → ℕ → Bool
 is_between low high n = nat_le low n && nat_le n high
@@ -11,4 +12,4 @@ is_name_octet o = (is_between 65 90 o || is_between 97 122 o || is_between 48 57
 
 -- 1 to 64 of these
 abbrev pub is_name : List ℕ → Bool
-is_name text = not (length text == 0) && nat_le (length text) 64 && list_all is_name_octet text
+is_name text = not (length text == 0) && nat_le (length text) LONGEST_NAME && list_all is_name_octet text

@@ -3,8 +3,7 @@
 ghost use Rattle.std.specs.Prelude.{◌≡◌};
 ghost use Rattle.hsp_text.specs.Name.{is_name, is_name_octet};
 
-// The length of the longest name, in octets.
-const LONGEST_NAME: usize = 64;
+use crate::limits::LONGEST_NAME;
 
 // Whether a name may hold the octet.
 fn is_name_octet(octet: u8) -> bool

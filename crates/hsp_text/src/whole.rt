@@ -55,9 +55,9 @@ pub fn read_whole(text: &[u8], max: u64) -> Result<u64, WholeFault>
     Ok(number)
 }
 
-// Appends the decimal digits of a number, for which there is room.
+/// Appends the decimal digits of a number, for which there is room.
 #[tactic(auto, using(std::proofs::lemmas::Fmt::decimal_step, std::proofs::lemmas::Fmt::decimal_digit))]
-fn put_digits(out: &mut Vec<u8>, number: u64)
+pub fn put_digits(out: &mut Vec<u8>, number: u64)
     requires { vec_len out.old + length (decimal number) ≤ vec_capacity out.old }
     ensures digits { out.new.items ≡ out.old.items ++ decimal number }
     ensures len { vec_len out.new ≡ vec_len out.old + length (decimal number) }
