@@ -42,7 +42,7 @@ abbrev Refused : List ℕ → HandleFault → Type 0
 Refused h fault = ◌≡◌ {A = Result (List ℕ) HandleFault} (Err fault) (Ok h)
 
 -- what is read has passed each test
-reads : (h : List ℕ) → handle_in h ≡ Ok h → is_handle h ≡ true
+pub reads : (h : List ℕ) → handle_in h ≡ Ok h → is_handle h ≡ true
 reads h e = elim (cases_Bool (nat_lt 4096 (length h))) [
   | inl long ↦ let f : Refused h TooLong = rw long at e in absurd cc
   | inr short ↦ elim (cases_Bool (is_utf8 h)) [
@@ -56,6 +56,12 @@ reads h e = elim (cases_Bool (nat_lt 4096 (length h))) [
     ]
   ]
 ]
+
+-- what is read has a slash
+pub read_has_slash : (h : List ℕ) → handle_in h ≡ Ok h → has_slash h ≡ true
+read_has_slash h e =
+    let last = and_parts (nat_le (length h) 4096 && is_utf8 h && has_slash h) (has_segments (naming_authority h)) (reads h e) in
+    (and_parts (nat_le (length h) 4096 && is_utf8 h) (has_slash h) last.0).1
 
 -- each test passes for a handle
 passes : (h n l : List ℕ) → IsHandle h n l → handle_in h ≡ Ok h

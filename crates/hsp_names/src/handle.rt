@@ -1,6 +1,6 @@
 // A handle and its parts, lent from the octets that spell it.
 
-ghost use Rattle.std.specs.Prelude.{◌≡◌, ◌<◌, length, IsTrue, IfOk, IfErr, IfNone, IfSome, OnSome, true, false, position};
+ghost use Rattle.std.specs.Prelude.{◌≡◌, ◌<◌, length, IsTrue, Ok, IfOk, IfErr, IfNone, IfSome, OnSome, true, false, position};
 ghost use Rattle.std.specs.List.{position_or_len};
 ghost use Rattle.std.specs.Str.{is_utf8};
 ghost use Rattle.hsp_names.specs.Handle.{is_slash, has_slash, is_handle, has_segments, naming_authority, local_name, segments, handle_in, IsHandle, IsFault};
@@ -86,6 +86,16 @@ impl<'a> HandleRef<'a> {
             return Err(HandleFault::EmptySegment);
         }
         Ok(HandleRef { octets, slash })
+    }
+
+    /// The handle that octets spell which were read as one before. They are not tested again: only the slash is sought.
+    #[tactic(auto, using(crate::proofs::Reading::reads, crate::proofs::Reading::read_has_slash))]
+    pub fn accepted(octets: &'a [u8]) -> HandleRef<'a>
+        requires { handle_in octets.now ≡ Ok octets.now }
+        ensures { octets_of result ≡ octets.now }
+    {
+        let slash = slash_in(octets).unwrap();
+        HandleRef { octets, slash }
     }
 
     /// The octets of the whole handle.

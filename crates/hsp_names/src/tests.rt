@@ -48,3 +48,20 @@ fn parts_are_lent(rt: HostRuntime) -> Result<(), Fail> {
     assert_eq!(rt; segments.next(), None);
     Ok(())
 }
+
+// The handle of octets that are read and then accepted.
+fn accepted_after_reading(octets: &[u8]) -> Option<HandleRef<'_>> {
+    match HandleRef::parse(octets) {
+        Ok(_) => Some(HandleRef::accepted(octets)),
+        Err(_) => None,
+    }
+}
+
+#[test]
+fn accepted_handles_have_the_same_parts(rt: HostRuntime) -> Result<(), Fail> {
+    let handle = accepted_after_reading(b"10.abc/a/b").ok_or("no handle")?;
+    assert_eq!(rt; handle.bytes(), b"10.abc/a/b".as_slice());
+    assert_eq!(rt; handle.naming_authority(), b"10.abc".as_slice());
+    assert_eq!(rt; handle.local_name(), b"a/b".as_slice());
+    Ok(())
+}

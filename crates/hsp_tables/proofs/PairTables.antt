@@ -5,12 +5,13 @@ use Rattle.std.specs.List.{list_any}
 use Rattle.std.specs.Str.{bytes_eq}
 use Rattle.indexmap.specs.IndexSet.{insert_key}
 use Rattle.hsp_csv.specs.Records.{Fields}
+use Rattle.hsp_text.specs.declared.limits.TheConstants.{MOST_REGIONS}
 use Rattle.hsp_tables.specs.declared.fault.TableFault.TheVariants.{RowTwice, TooManyRegions}
 use Rattle.hsp_tables.specs.Costs.{CostEntry, cost_regions, cost_table, same_cost}
 use Rattle.hsp_tables.specs.Demand.{DemandEntry, demand_regions, demand_table, same_demand}
 use Rattle.hsp_tables.specs.InTurn.{with_row}
 use Rattle.hsp_tables.specs.Keyed.{PairEntry, cost_entry, demand_entry, same_pair}
-use Rattle.hsp_tables.specs.Table.{Table, most_regions, row_after}
+use Rattle.hsp_tables.specs.Table.{Table, row_after}
 use Rattle.hsp_tables.proofs.TableLaws.{region_is_too_many, row_is_next, row_is_twice}
 use Rattle.hsp_tables.proofs.SeenNames.{first_seen-append}
 
@@ -56,7 +57,7 @@ pair_is_twice table entry pairs fields pair number new keeps is old =
 
 -- its region is one too many
 pub pair_region_is_too_many : {Row : Type 0} (table : Table Row) (entry : PairEntry → Row) (pairs : List PairEntry) (fields : Fields) (pair : PairEntry) (number : ℕ) (new : Bool) (seen : List (List ℕ))
-    → KeepsPairs table entry → SpellsPair table entry pairs fields pair number new → new ≡ true → seen ≡ table.regions_of (map entry pairs ++ entry pair ∷ []) → most_regions < length seen
+    → KeepsPairs table entry → SpellsPair table entry pairs fields pair number new → new ≡ true → seen ≡ table.regions_of (map entry pairs ++ entry pair ∷ []) → MOST_REGIONS < length seen
     → with_row (row_after table) (map entry pairs) fields ≡ Err TooManyRegions
 pair_region_is_too_many table entry pairs fields pair number new seen keeps is fresh regions many =
     let same : number ≡ length (map entry pairs) = is.numbered ∙ sym (length-map pairs entry) in
@@ -66,7 +67,7 @@ pair_region_is_too_many table entry pairs fields pair number new seen keeps is f
 
 -- or it gives the next row
 pub pair_is_next : {Row : Type 0} (table : Table Row) (entry : PairEntry → Row) (pairs : List PairEntry) (fields : Fields) (pair : PairEntry) (number : ℕ) (new : Bool) (seen : List (List ℕ)) (kept : List PairEntry)
-    → KeepsPairs table entry → SpellsPair table entry pairs fields pair number new → new ≡ true → seen ≡ table.regions_of (map entry pairs ++ entry pair ∷ []) → length seen ≤ most_regions → kept ≡ pairs ++ pair ∷ []
+    → KeepsPairs table entry → SpellsPair table entry pairs fields pair number new → new ≡ true → seen ≡ table.regions_of (map entry pairs ++ entry pair ∷ []) → length seen ≤ MOST_REGIONS → kept ≡ pairs ++ pair ∷ []
     → with_row (row_after table) (map entry pairs) fields ≡ Ok (map entry kept)
 pair_is_next table entry pairs fields pair number new seen kept keeps is fresh regions few joined =
     let same : number ≡ length (map entry pairs) = is.numbered ∙ sym (length-map pairs entry) in

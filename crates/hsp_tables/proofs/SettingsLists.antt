@@ -9,9 +9,11 @@ use Rattle.hex.specs.declared.error.FromHexError.{FromHexError}
 use Rattle.hex.proofs.HexLemmas.{decode_of-ok, decode_sized-ok, decode_sized-twice}
 use Rattle.toml.specs.Data.{Data, Members, as_array, as_table, get_member}
 use Rattle.hsp_text.specs.Name.{is_name}
+use Rattle.hsp_text.specs.declared.limits.TheConstants.{GREATEST_LIMIT, MOST_HOSTS, MOST_SITES}
 use Rattle.hsp_tables.specs.declared.fault.TableFault.{TableFault}
 use Rattle.hsp_tables.specs.declared.fault.TableFault.TheVariants as fault
-use Rattle.hsp_tables.specs.Answers.{◌>>=◌, or_fault}
+use Rattle.hsp_text.specs.Answers.{◌>>=◌, or_fault}
+use Rattle.hsp_tables.specs.Fields.{greatest_of_32_bits}
 use Rattle.hsp_tables.specs.InTurn.{AreKeyed, ReadsAsSpelled}
 use Rattle.hsp_tables.specs.Settings.{HostEntry, IsHostEntry, IsSiteEntry, IsSource, SiteEntry, SiteSource, decoded, elements_in, host_address, host_after, host_at, host_in, host_limit, index, index_source, integer_of, is_host_key, is_site_key, keys_in, listed, number_up_to, octets, record_source, same_address, same_name, site_after, site_at, site_in, site_name, site_source, text_of}
 use Rattle.hsp_tables.proofs.KeyedReading.{keyed_row, reads_as_spelled}
@@ -40,9 +42,9 @@ record_source_is n value source e =
 index_source_is : (n : ℕ) (value : Data) (source : SiteSource) → index_source n value ≡ Ok source → IsSource source
 index_source_is n value source e =
     let number = first_step (integer_of (fault.BadSite n) (Some value)) _ source e in
-    let i = first_step (number_up_to (fault.BadSite n) 4294967295 number.0) (λ i. Ok (index i)) source number.2 in
+    let i = first_step (number_up_to (fault.BadSite n) greatest_of_32_bits number.0) (λ i. Ok (index i)) source number.2 in
     let same : index i.0 ≡ source = cc (i.2) in
-    rw (← same) (number_within (fault.BadSite n) 4294967295 number.0 i.0 i.1)
+    rw (← same) (number_within (fault.BadSite n) greatest_of_32_bits number.0 i.0 i.1)
 
 site_source_is : (n : ℕ) (a b : Option Data) (source : SiteSource) → site_source n a b ≡ Ok source → IsSource source
 site_source_is n (Some value) None source e = record_source_is n value source e
@@ -89,7 +91,7 @@ host_is n ms host e =
     let steps = two_steps address_of limit_of made host (under_test (list_all is_host_key (keys_in ms)) fault.UnknownKey _ host e) in
     let text = first_step (text_of (fault.BadHost n) (get_member (codes "address") ms)) _ steps.0 steps.2 in
     let number = first_step (integer_of (fault.BadHost n) (get_member (codes "limit") ms)) _ steps.1 steps.3 in
-    rw (← steps.4) (record { address = decoded_length (fault.BadHost n) text.0 steps.0 text.2; limit = number_within (fault.BadHost n) 1000000000000 number.0 steps.1 number.2 })
+    rw (← steps.4) (record { address = decoded_length (fault.BadHost n) text.0 steps.0 text.2; limit = number_within (fault.BadHost n) GREATEST_LIMIT number.0 steps.1 number.2 })
 
 site_keys : IsEquivalence same_name
 site_keys = search (rules, comparing)
@@ -98,35 +100,35 @@ host_keys : IsEquivalence same_address
 host_keys = search (rules, comparing)
 
 -- one more site
-site_keeps : (earlier : List SiteEntry) (value : Data) (site : SiteEntry) → AreKeyed 32 IsSiteEntry same_name earlier → site_after earlier value ≡ Ok site → AreKeyed 32 IsSiteEntry same_name (earlier ++ site ∷ [])
+site_keeps : (earlier : List SiteEntry) (value : Data) (site : SiteEntry) → AreKeyed MOST_SITES IsSiteEntry same_name earlier → site_after earlier value ≡ Ok site → AreKeyed MOST_SITES IsSiteEntry same_name (earlier ++ site ∷ [])
 site_keeps earlier value site are e =
-    let row = keyed_row Data SiteEntry 32 fault.TooManySites site_at same_name fault.SiteTwice earlier value site e in
+    let row = keyed_row Data SiteEntry MOST_SITES fault.TooManySites site_at same_name fault.SiteTwice earlier value site e in
     let table = first_step (or_fault (fault.BadSite (length earlier)) (as_table value)) (site_in (length earlier)) site row.1 in
-    keyed_and_one 32 IsSiteEntry same_name site_keys earlier site are row.0 (site_is (length earlier) table.0 site table.2) row.2
+    keyed_and_one MOST_SITES IsSiteEntry same_name site_keys earlier site are row.0 (site_is (length earlier) table.0 site table.2) row.2
 
 -- one more host
-host_keeps : (earlier : List HostEntry) (value : Data) (host : HostEntry) → AreKeyed 1024 IsHostEntry same_address earlier → host_after earlier value ≡ Ok host → AreKeyed 1024 IsHostEntry same_address (earlier ++ host ∷ [])
+host_keeps : (earlier : List HostEntry) (value : Data) (host : HostEntry) → AreKeyed MOST_HOSTS IsHostEntry same_address earlier → host_after earlier value ≡ Ok host → AreKeyed MOST_HOSTS IsHostEntry same_address (earlier ++ host ∷ [])
 host_keeps earlier value host are e =
-    let row = keyed_row Data HostEntry 1024 fault.TooManyHosts host_at same_address fault.HostTwice earlier value host e in
+    let row = keyed_row Data HostEntry MOST_HOSTS fault.TooManyHosts host_at same_address fault.HostTwice earlier value host e in
     let table = first_step (or_fault (fault.BadHost (length earlier)) (as_table value)) (host_in (length earlier)) host row.1 in
-    keyed_and_one 1024 IsHostEntry same_address host_keys earlier host are row.0 (host_is (length earlier) table.0 host table.2) row.2
+    keyed_and_one MOST_HOSTS IsHostEntry same_address host_keys earlier host are row.0 (host_is (length earlier) table.0 host table.2) row.2
 
-pub sites_read_as_spelled : ReadsAsSpelled 32 site_at same_name site_after
-sites_read_as_spelled = reads_as_spelled Data SiteEntry 32 fault.TooManySites site_at same_name fault.SiteTwice site_keys
+pub sites_read_as_spelled : ReadsAsSpelled MOST_SITES site_at same_name site_after
+sites_read_as_spelled = reads_as_spelled Data SiteEntry MOST_SITES fault.TooManySites site_at same_name fault.SiteTwice site_keys
 
-pub hosts_read_as_spelled : ReadsAsSpelled 1024 host_at same_address host_after
-hosts_read_as_spelled = reads_as_spelled Data HostEntry 1024 fault.TooManyHosts host_at same_address fault.HostTwice host_keys
+pub hosts_read_as_spelled : ReadsAsSpelled MOST_HOSTS host_at same_address host_after
+hosts_read_as_spelled = reads_as_spelled Data HostEntry MOST_HOSTS fault.TooManyHosts host_at same_address fault.HostTwice host_keys
 
 -- the sites that are listed
-pub sites_are : (value : Option Data) (rows : List SiteEntry) → listed (fault.BadSite 0) site_after value ≡ Ok rows → AreKeyed 32 IsSiteEntry same_name rows
-sites_are None rows e = let same : [] ≡ rows = cc (e) in rw (← same) (none_keyed 32 IsSiteEntry same_name)
+pub sites_are : (value : Option Data) (rows : List SiteEntry) → listed (fault.BadSite 0) site_after value ≡ Ok rows → AreKeyed MOST_SITES IsSiteEntry same_name rows
+sites_are None rows e = let same : [] ≡ rows = cc (e) in rw (← same) (none_keyed MOST_SITES IsSiteEntry same_name)
 sites_are (Some value) rows e =
     let items = first_step (or_fault (fault.BadSite 0) (as_array value)) _ rows e in
-    rows_keep (λ (t : List SiteEntry). AreKeyed 32 IsSiteEntry same_name t) site_after site_keeps (elements_in items.0) [] rows (none_keyed 32 IsSiteEntry same_name) items.2
+    rows_keep (λ (t : List SiteEntry). AreKeyed MOST_SITES IsSiteEntry same_name t) site_after site_keeps (elements_in items.0) [] rows (none_keyed MOST_SITES IsSiteEntry same_name) items.2
 
 -- the hosts that are listed
-pub hosts_are : (value : Option Data) (rows : List HostEntry) → listed (fault.BadHost 0) host_after value ≡ Ok rows → AreKeyed 1024 IsHostEntry same_address rows
-hosts_are None rows e = let same : [] ≡ rows = cc (e) in rw (← same) (none_keyed 1024 IsHostEntry same_address)
+pub hosts_are : (value : Option Data) (rows : List HostEntry) → listed (fault.BadHost 0) host_after value ≡ Ok rows → AreKeyed MOST_HOSTS IsHostEntry same_address rows
+hosts_are None rows e = let same : [] ≡ rows = cc (e) in rw (← same) (none_keyed MOST_HOSTS IsHostEntry same_address)
 hosts_are (Some value) rows e =
     let items = first_step (or_fault (fault.BadHost 0) (as_array value)) _ rows e in
-    rows_keep (λ (t : List HostEntry). AreKeyed 1024 IsHostEntry same_address t) host_after host_keeps (elements_in items.0) [] rows (none_keyed 1024 IsHostEntry same_address) items.2
+    rows_keep (λ (t : List HostEntry). AreKeyed MOST_HOSTS IsHostEntry same_address t) host_after host_keeps (elements_in items.0) [] rows (none_keyed MOST_HOSTS IsHostEntry same_address) items.2

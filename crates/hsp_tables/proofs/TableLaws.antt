@@ -4,11 +4,12 @@ use Rattle.std.proofs.lemmas.Bool.{leb-false, ltb-false}
 use Rattle.std.proofs.lemmas.Bool.Decides.{nat_tests}
 use Rattle.std.specs.Cmp.{IsEquivalence}
 use Rattle.std.specs.List.{list_any}
+use Rattle.hsp_csv.specs.Header.{IsHeaded, IsHeadless, same_fields}
 use Rattle.hsp_csv.specs.Records.{Fields}
+use Rattle.hsp_text.specs.declared.limits.TheConstants.{MOST_REGIONS}
 use Rattle.hsp_tables.specs.declared.fault.TableFault.TheVariants.{Header, RowTwice, TooManyRegions}
-use Rattle.hsp_tables.specs.Fields.{IsHeaded, IsHeadless, same_fields}
 use Rattle.hsp_tables.specs.InTurn.{rows_after, with_row}
-use Rattle.hsp_tables.specs.Table.{AreRows, Table, most_regions, new_row, row_after, table_of}
+use Rattle.hsp_tables.specs.Table.{AreRows, Table, new_row, row_after, table_of}
 use Rattle.hsp_tables.proofs.TurnLaws.{first_step, keyed_and_one, none_keyed, rows_keep, test_passed}
 
 pub nat_le-over : (m n : ℕ) → n < m → nat_le m n ≡ false
@@ -37,12 +38,12 @@ row_is_twice table earlier fields row room spells twice = rw (nat_le-over _ _ ro
 
 -- its region is one too many
 pub region_is_too_many : {Row : Type 0} (table : Table Row) (earlier : List Row) (fields : Fields) (row : Row) → length earlier < table.most_rows → table.row_in (length earlier) fields ≡ Ok row
-    → list_any (table.same_key row) earlier ≡ false → most_regions < length (table.regions_of (earlier ++ row ∷ [])) → with_row (row_after table) earlier fields ≡ Err TooManyRegions
+    → list_any (table.same_key row) earlier ≡ false → MOST_REGIONS < length (table.regions_of (earlier ++ row ∷ [])) → with_row (row_after table) earlier fields ≡ Err TooManyRegions
 region_is_too_many table earlier fields row room spells new many = rw (nat_le-over _ _ room, spells, new, nat_lt-below _ _ many) refl
 
 -- or it is the next row
 pub row_is_next : {Row : Type 0} (table : Table Row) (earlier : List Row) (fields : Fields) (row : Row) → length earlier < table.most_rows → table.row_in (length earlier) fields ≡ Ok row
-    → list_any (table.same_key row) earlier ≡ false → length (table.regions_of (earlier ++ row ∷ [])) ≤ most_regions → with_row (row_after table) earlier fields ≡ Ok (earlier ++ row ∷ [])
+    → list_any (table.same_key row) earlier ≡ false → length (table.regions_of (earlier ++ row ∷ [])) ≤ MOST_REGIONS → with_row (row_after table) earlier fields ≡ Ok (earlier ++ row ∷ [])
 row_is_next table earlier fields row room spells new few = rw (nat_le-over _ _ room, spells, new, nat_lt-upto _ _ few) refl
 
 -- one more row of a table
@@ -52,19 +53,19 @@ row_keeps table Is laws spelled earlier fields row are e =
     let few = test_passed (nat_le table.most_rows (length earlier)) _ _ row e in
     let spells = first_step (table.row_in (length earlier) fields) (new_row table earlier) row few.1 in
     let new = test_passed (list_any (table.same_key spells.0) earlier) _ _ row spells.2 in
-    let regions = test_passed (nat_lt most_regions (length (table.regions_of (earlier ++ spells.0 ∷ [])))) _ _ row new.1 in
+    let regions = test_passed (nat_lt MOST_REGIONS (length (table.regions_of (earlier ++ spells.0 ∷ [])))) _ _ row new.1 in
     let same : spells.0 ≡ row = cc (regions.1) in
     let is_new : list_any (table.same_key row) earlier ≡ false = rw same at new.0 in
-    let is_seen : nat_lt most_regions (length (table.regions_of (earlier ++ row ∷ []))) ≡ false = rw same at regions.0 in
+    let is_seen : nat_lt MOST_REGIONS (length (table.regions_of (earlier ++ row ∷ []))) ≡ false = rw same at regions.0 in
     record {
       keyed = keyed_and_one table.most_rows Is table.same_key laws earlier row are.keyed (leb-false table.most_rows (length earlier) few.0)
           (spelled (length earlier) fields row (rw same at spells.1)) is_new;
-      regions = ltb-false most_regions (length (table.regions_of (earlier ++ row ∷ []))) is_seen;
+      regions = ltb-false MOST_REGIONS (length (table.regions_of (earlier ++ row ∷ []))) is_seen;
     }
 
 -- the rows of a table that is read are within its limits, each as it should be, and no two have one key
 pub rows_are : {Row : Type 0} (table : Table Row) (Is : Row → Type 0) → IsEquivalence table.same_key → ((n : ℕ) (fields : Fields) (row : Row) → table.row_in n fields ≡ Ok row → Is row)
-    → length (table.regions_of []) ≤ most_regions → (records : List Fields) (rows : List Row) → table_of table records ≡ Ok rows → AreRows table Is rows
+    → length (table.regions_of []) ≤ MOST_REGIONS → (records : List Fields) (rows : List Row) → table_of table records ≡ Ok rows → AreRows table Is rows
 rows_are table Is laws spelled none [] rows e = cc e
 rows_are {Row = Row} table Is laws spelled none (first ∷ body) rows e = by_header (same_fields first table.header) e
   where

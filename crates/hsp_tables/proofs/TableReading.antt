@@ -6,19 +6,20 @@ use Rattle.std.proofs.lemmas.Slice.Eq.{bytes_eq-Decides}
 use Rattle.std.specs.Cmp.{IsEquivalence}
 use Rattle.std.specs.List.{AllByRecursion, IsDistinct, list_any}
 use Rattle.std.specs.Str.{bytes_eq}
+use Rattle.hsp_csv.specs.Header.{same_fields}
 use Rattle.hsp_csv.specs.Records.{Fields}
+use Rattle.hsp_text.specs.declared.limits.TheConstants.{MOST_REGIONS}
 use Rattle.hsp_tables.specs.declared.fault.TableFault.{TableFault}
 use Rattle.hsp_tables.specs.declared.fault.TableFault.TheVariants.{Header}
-use Rattle.hsp_tables.specs.Fields.{same_fields}
 use Rattle.hsp_tables.specs.InTurn.{rows_after, with_row}
-use Rattle.hsp_tables.specs.Table.{IsRowFault, IsTable, IsTableFault, KeepsFirstFault, LacksHeader, ReadsAsItsRelation, SpellRows, Table, most_regions, new_row, row_after, table_of}
+use Rattle.hsp_tables.specs.Table.{IsRowFault, IsTable, IsTableFault, KeepsFirstFault, LacksHeader, ReadsAsItsRelation, SpellRows, Table, new_row, row_after, table_of}
 use Rattle.hsp_tables.proofs.TableLaws.{row_is_next, rows_are}
 use Rattle.hsp_tables.proofs.TurnLaws.{fault_place, first_step, row_joins, rows_in_parts, test_passed}
 
 -- what a kind of table needs: the keys compare as keys do, and no row takes a region away
 pub record IsKind {Row : Type 0} (table : Table Row) : Type 0 where
   pub keys : IsEquivalence table.same_key
-  pub none : length (table.regions_of []) ≤ most_regions
+  pub none : length (table.regions_of []) ≤ MOST_REGIONS
   pub grow : (a b : List Row) → length (table.regions_of a) ≤ length (table.regions_of (a ++ b))
 
 -- records with the same fields are the same
@@ -51,7 +52,7 @@ new_among same laws (x ∷ earlier) row rest apart =
 
 -- spelled rows within the limits, no two with one key, are all read
 rows_are_read : {Row : Type 0} (table : Table Row) → IsKind table → (number : ℕ) (earlier : List Row) (body : List Fields) (rows : List Row) → number ≡ length earlier → SpellRows table number body rows
-    → length (earlier ++ rows) ≤ table.most_rows → IsDistinct table.same_key (earlier ++ rows) → length (table.regions_of (earlier ++ rows)) ≤ most_regions
+    → length (earlier ++ rows) ≤ table.most_rows → IsDistinct table.same_key (earlier ++ rows) → length (table.regions_of (earlier ++ rows)) ≤ MOST_REGIONS
     → rows_after (row_after table) earlier body ≡ Ok (earlier ++ rows)
 rows_are_read table kind number earlier [] [] numbered spelled few apart regions = rw append-nil refl
 rows_are_read table kind number earlier [] (row ∷ rows) numbered spelled few apart regions = absurd spelled
@@ -62,7 +63,7 @@ rows_are_read table kind number earlier (fields ∷ body) (row ∷ rows) numbere
     let room : length earlier < table.most_rows = omega (arith, longer, few) in
     let here : table.row_in (length earlier) fields ≡ Ok row = rw (← numbered) spelled.0 in
     let more = kind.grow (earlier ++ row ∷ []) rows in
-    let seen : length (table.regions_of (earlier ++ row ∷ [])) ≤ most_regions = omega (arith, rw parts at more, regions) in
+    let seen : length (table.regions_of (earlier ++ row ∷ [])) ≤ MOST_REGIONS = omega (arith, rw parts at more, regions) in
     let next : with_row (row_after table) earlier fields ≡ Ok (earlier ++ row ∷ []) = row_is_next table earlier fields row room here (new_among table.same_key kind.keys earlier row rows apart) seen in
     let one = length-append earlier (row ∷ []) in
     let later : rows_after (row_after table) (earlier ++ row ∷ []) body ≡ Ok ((earlier ++ row ∷ []) ++ rows) =
@@ -85,7 +86,7 @@ read_rows_are_spelled table number earlier (fields ∷ body) all numbered e =
         let room = test_passed (nat_le table.most_rows (length earlier)) _ _ row e in
         let spelled = first_step (table.row_in (length earlier) fields) (new_row table earlier) row room.1 in
         let new = test_passed (list_any (table.same_key spelled.0) earlier) _ _ row spelled.2 in
-        let seen = test_passed (nat_lt most_regions (length (table.regions_of (earlier ++ spelled.0 ∷ [])))) _ _ row new.1 in
+        let seen = test_passed (nat_lt MOST_REGIONS (length (table.regions_of (earlier ++ spelled.0 ∷ [])))) _ _ row new.1 in
         let same : spelled.0 ≡ row = cc (seen.1) in
         rw same at spelled.1
 

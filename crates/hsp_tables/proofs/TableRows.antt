@@ -1,5 +1,5 @@
 -- The rows of the three tables, by what their fields spell.
-use Rattle.std.proofs.Common.{◌≡◌, ◌∙◌, ◌≤◌, inl, inr, ℕ, Bool, true, false, cond, List, [], ◌∷◌, length, map, zero, suc, Option, None, Some, not, Result, Ok, Err, nat_le, nat_lt, refl, sym, ap, arith, rules}
+use Rattle.std.proofs.Common.{◌≡◌, ◌∙◌, ◌≤◌, inl, inr, ℕ, Bool, true, false, cond, List, [], ◌∷◌, length, map, zero, suc, Option, None, Some, not, Result, Ok, Err, nat_le, nat_lt, refl, ap, arith, rules}
 use Rattle.std.proofs.lemmas.Bool.{cases_Bool, leb-true}
 use Rattle.std.specs.Cmp.{IsEquivalence}
 use Rattle.std.specs.Cmp.Rules.{comparing}
@@ -11,15 +11,16 @@ use Rattle.hsp_names.specs.Handle as names
 use Rattle.hsp_names.specs.declared.fault.HandleFault.{HandleFault}
 use Rattle.hsp_text.specs.Name.{is_name}
 use Rattle.hsp_text.specs.Whole.{is_whole, up_to, whole_within}
+use Rattle.hsp_text.specs.declared.limits.TheConstants.{GREATEST_CAPACITY, GREATEST_COST, GREATEST_COUNT}
 use Rattle.hsp_text.specs.declared.whole.WholeFault.{WholeFault}
 use Rattle.hsp_text.specs.declared.whole.WholeFault.TheVariants.{NotWhole, TooLarge}
 use Rattle.hsp_tables.specs.declared.fault.TableFault.{TableFault}
-use Rattle.hsp_tables.specs.Answers.{◌>>=◌}
+use Rattle.hsp_text.specs.Answers.{◌>>=◌}
 use Rattle.hsp_tables.specs.Capacities.{AreCapacities, CapacityEntry, IsCapacityEntry, capacity_in, capacity_table, same_capacity}
 use Rattle.hsp_tables.specs.Costs.{AreCosts, CostEntry, IsCostEntry, cost_in, cost_table, same_cost}
 use Rattle.hsp_tables.specs.Demand.{AreDemand, DemandEntry, IsDemandEntry, demand_in, demand_table, same_demand}
 use Rattle.hsp_tables.specs.Keyed.{PairEntry, demand_entry}
-use Rattle.hsp_tables.specs.Fields.{handle_in, handle_or, name_in, number_in, number_or}
+use Rattle.hsp_tables.specs.Fields.{greatest_of_32_bits, handle_in, handle_or, name_in, number_in, number_or}
 use Rattle.hsp_tables.specs.Table.{table_of}
 use Rattle.hsp_tables.proofs.TableLaws.{rows_are}
 use Rattle.hsp_tables.proofs.TurnLaws.{test_held}
@@ -86,8 +87,8 @@ demand_is row (r ∷ []) demand e = cc e
 demand_is row (r ∷ h ∷ []) demand e = cc e
 demand_is row (r ∷ h ∷ n ∷ []) demand e =
     let made = λ (r : List ℕ) (h : List ℕ) (n : ℕ). let d : DemandEntry = record { region = r; handle = h; count = n } in d in
-    let t = three_steps (name_in row r) (handle_in row h) (number_in row 1000000 n) made demand e in
-    rw (← t.6) (record { region = name_is row r t.0 t.3; handle = handle_is row h t.1 t.4; count = number_within row 1000000 n t.2 t.5 })
+    let t = three_steps (name_in row r) (handle_in row h) (number_in row GREATEST_COUNT n) made demand e in
+    rw (← t.6) (record { region = name_is row r t.0 t.3; handle = handle_is row h t.1 t.4; count = number_within row GREATEST_COUNT n t.2 t.5 })
 demand_is row (r ∷ h ∷ n ∷ x ∷ more) demand e = cc e
 
 cost_is : (row : ℕ) (fields : Fields) (cost : CostEntry) → cost_in row fields ≡ Ok cost → IsCostEntry cost
@@ -96,8 +97,8 @@ cost_is row (r ∷ []) cost e = cc e
 cost_is row (r ∷ s ∷ []) cost e = cc e
 cost_is row (r ∷ s ∷ n ∷ []) cost e =
     let made = λ (r : List ℕ) (s : List ℕ) (n : ℕ). let c : CostEntry = record { region = r; site = s; cost = n } in c in
-    let t = three_steps (name_in row r) (name_in row s) (number_in row 1000000 n) made cost e in
-    rw (← t.6) (record { region = name_is row r t.0 t.3; site = name_is row s t.1 t.4; cost = number_within row 1000000 n t.2 t.5 })
+    let t = three_steps (name_in row r) (name_in row s) (number_in row GREATEST_COST n) made cost e in
+    rw (← t.6) (record { region = name_is row r t.0 t.3; site = name_is row s t.1 t.4; cost = number_within row GREATEST_COST n t.2 t.5 })
 cost_is row (r ∷ s ∷ n ∷ x ∷ more) cost e = cc e
 
 capacity_is : (row : ℕ) (fields : Fields) (capacity : CapacityEntry) → capacity_in row fields ≡ Ok capacity → IsCapacityEntry capacity
@@ -106,8 +107,8 @@ capacity_is row (s ∷ []) capacity e = cc e
 capacity_is row (s ∷ i ∷ []) capacity e = cc e
 capacity_is row (s ∷ i ∷ n ∷ []) capacity e =
     let made = λ (s : List ℕ) (i : ℕ) (n : ℕ). let c : CapacityEntry = record { site = s; server_id = i; capacity = n } in c in
-    let t = three_steps (name_in row s) (number_in row 4294967295 i) (number_in row 1000000000 n) made capacity e in
-    rw (← t.6) (record { site = name_is row s t.0 t.3; server_id = number_within row 4294967295 i t.1 t.4; capacity = number_within row 1000000000 n t.2 t.5 })
+    let t = three_steps (name_in row s) (number_in row greatest_of_32_bits i) (number_in row GREATEST_CAPACITY n) made capacity e in
+    rw (← t.6) (record { site = name_is row s t.0 t.3; server_id = number_within row greatest_of_32_bits i t.1 t.4; capacity = number_within row GREATEST_CAPACITY n t.2 t.5 })
 capacity_is row (s ∷ i ∷ n ∷ x ∷ more) capacity e = cc e
 
 pub demand_keys : IsEquivalence same_demand
@@ -134,20 +135,12 @@ row_is [] place pair all e = let none : ◌≡◌ {A = Option PairEntry} None (S
 row_is (p ∷ pairs) zero pair all e = let same : p ≡ pair = cc (e) in rw same at all.0
 row_is (p ∷ pairs) (suc place) pair all e = row_is pairs place pair all.1 e
 
--- the handle of a row that is kept is read again as itself
-pub handle_again : (pairs : List PairEntry) (place : ℕ) (pair : PairEntry) → AreDemand (map demand_entry pairs) → slice_get pairs place ≡ Some pair → names.handle_in pair.second ≡ Ok pair.second
-handle_again pairs place pair are e = (row_is pairs place pair are.keyed.each e).handle
+-- the handle of a row that is kept was read
+pub handle_was_read : (pairs : List PairEntry) (place : ℕ) (pair : PairEntry) → AreDemand (map demand_entry pairs) → slice_get pairs place ≡ Some pair → names.handle_in pair.second ≡ Ok pair.second
+handle_was_read pairs place pair are e = (row_is pairs place pair are.keyed.each e).handle
 
-row_at : (pairs : List PairEntry) (place : ℕ) (pair : PairEntry) → slice_get pairs place ≡ Some pair → slice_get (map demand_entry pairs) place ≡ Some (demand_entry pair)
+-- a row that is kept, as one of demand
+pub row_at : (pairs : List PairEntry) (place : ℕ) (pair : PairEntry) → slice_get pairs place ≡ Some pair → slice_get (map demand_entry pairs) place ≡ Some (demand_entry pair)
 row_at [] place pair e = let none : ◌≡◌ {A = Option PairEntry} None (Some pair) = e in cc
 row_at (p ∷ pairs) zero pair e = let same : p ≡ pair = cc (e) in ap (λ (t : PairEntry). Some (demand_entry t)) same
 row_at (p ∷ pairs) (suc place) pair e = row_at pairs place pair e
-
--- a row that is shown with the handle that was read is the row that is kept
-pub shown_row : (pairs : List PairEntry) (place : ℕ) (pair : PairEntry) (handle : List ℕ) → AreDemand (map demand_entry pairs) → slice_get pairs place ≡ Some pair → names.handle_in pair.second ≡ Ok handle
-    → slice_get (map demand_entry pairs) place ≡ Some (record { region = pair.first; handle = handle; count = pair.number })
-shown_row pairs place pair handle are e read =
-    let again = handle_again pairs place pair are e in
-    let ok : ◌≡◌ {A = Result (List ℕ) HandleFault} (Ok pair.second) (Ok handle) = sym again ∙ read in
-    let same : pair.second ≡ handle = cc (ok) in
-    row_at pairs place pair e ∙ ap (λ (h : List ℕ). let row : DemandEntry = record { region = pair.first; handle = h; count = pair.number } in Some row) same

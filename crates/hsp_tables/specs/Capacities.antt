@@ -3,10 +3,11 @@ use Rattle.std.specs.Prelude.{◌≡◌, ◌≤◌, ◌==◌, ◌&&◌, Bool, tr
 use Rattle.std.specs.Str.{bytes_eq}
 use Rattle.hsp_csv.specs.Records.{Fields}
 use Rattle.hsp_text.specs.Name.{is_name}
+use Rattle.hsp_text.specs.declared.limits.TheConstants.{GREATEST_CAPACITY, MOST_CAPACITY_ROWS}
 use Rattle.hsp_tables.specs.declared.fault.TableFault.{TableFault}
 use Rattle.hsp_tables.specs.declared.fault.TableFault.TheVariants as fault
-use Rattle.hsp_tables.specs.Answers.{◌>>=◌}
-use Rattle.hsp_tables.specs.Fields.{name_in, number_in}
+use Rattle.hsp_text.specs.Answers.{◌>>=◌}
+use Rattle.hsp_tables.specs.Fields.{greatest_of_32_bits, name_in, number_in}
 use Rattle.hsp_tables.specs.Table.{AreRows, Table}
 
 pub record CapacityEntry : Type 0 where
@@ -22,8 +23,8 @@ capacity_entry site server_id capacity = record { site = site; server_id = serve
 abbrev pub capacity_in : ℕ → Fields → Result CapacityEntry TableFault
 capacity_in row (site ∷ server_id ∷ capacity ∷ []) = do
   s ← name_in row site
-  i ← number_in row 4294967295 server_id
-  c ← number_in row 1000000000 capacity
+  i ← number_in row greatest_of_32_bits server_id
+  c ← number_in row GREATEST_CAPACITY capacity
   Ok (record { site = s; server_id = i; capacity = c })
 capacity_in row _ = Err (fault.Fields row)
 
@@ -38,7 +39,7 @@ no_regions rows = []
 abbrev pub capacity_table : Table CapacityEntry
 capacity_table = record {
   header = codes "site" ∷ codes "server_id" ∷ codes "capacity" ∷ [];
-  most_rows = 1024;
+  most_rows = MOST_CAPACITY_ROWS;
   row_in = capacity_in;
   same_key = same_capacity;
   regions_of = no_regions;
@@ -47,8 +48,8 @@ capacity_table = record {
 -- what each row is
 pub record IsCapacityEntry (row : CapacityEntry) : Type 0 where
   pub site : is_name row.site ≡ true
-  pub server_id : row.server_id ≤ 4294967295
-  pub capacity : row.capacity ≤ 1000000000
+  pub server_id : row.server_id ≤ greatest_of_32_bits
+  pub capacity : row.capacity ≤ GREATEST_CAPACITY
 
 -- what the rows are
 abbrev pub AreCapacities : List CapacityEntry → Type 0

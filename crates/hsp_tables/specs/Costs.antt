@@ -3,9 +3,10 @@ use Rattle.std.specs.Prelude.{◌≡◌, ◌≤◌, ◌&&◌, Bool, true, ℕ, L
 use Rattle.std.specs.Str.{bytes_eq}
 use Rattle.hsp_csv.specs.Records.{Fields}
 use Rattle.hsp_text.specs.Name.{is_name}
+use Rattle.hsp_text.specs.declared.limits.TheConstants.{GREATEST_COST, MOST_COST_ROWS}
 use Rattle.hsp_tables.specs.declared.fault.TableFault.{TableFault}
 use Rattle.hsp_tables.specs.declared.fault.TableFault.TheVariants as fault
-use Rattle.hsp_tables.specs.Answers.{◌>>=◌}
+use Rattle.hsp_text.specs.Answers.{◌>>=◌}
 use Rattle.hsp_tables.specs.Fields.{name_in, number_in}
 use Rattle.hsp_tables.specs.Table.{AreRows, Table, first_seen}
 
@@ -19,7 +20,7 @@ abbrev pub cost_in : ℕ → Fields → Result CostEntry TableFault
 cost_in row (region ∷ site ∷ cost ∷ []) = do
   r ← name_in row region
   s ← name_in row site
-  c ← number_in row 1000000 cost
+  c ← number_in row GREATEST_COST cost
   Ok (record { region = r; site = s; cost = c })
 cost_in row _ = Err (fault.Fields row)
 
@@ -33,7 +34,7 @@ cost_regions rows = first_seen (map (λ (row : CostEntry). row.region) rows)
 abbrev pub cost_table : Table CostEntry
 cost_table = record {
   header = codes "region" ∷ codes "site" ∷ codes "cost" ∷ [];
-  most_rows = 2048;
+  most_rows = MOST_COST_ROWS;
   row_in = cost_in;
   same_key = same_cost;
   regions_of = cost_regions;
@@ -43,7 +44,7 @@ cost_table = record {
 pub record IsCostEntry (row : CostEntry) : Type 0 where
   pub region : is_name row.region ≡ true
   pub site : is_name row.site ≡ true
-  pub cost : row.cost ≤ 1000000
+  pub cost : row.cost ≤ GREATEST_COST
 
 -- what the rows are
 abbrev pub AreCosts : List CostEntry → Type 0

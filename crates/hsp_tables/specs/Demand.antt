@@ -4,9 +4,10 @@ use Rattle.std.specs.Str.{bytes_eq}
 use Rattle.hsp_csv.specs.Records.{Fields}
 use Rattle.hsp_names.specs.Handle as names
 use Rattle.hsp_text.specs.Name.{is_name}
+use Rattle.hsp_text.specs.declared.limits.TheConstants.{GREATEST_COUNT, MOST_DEMAND_ROWS}
 use Rattle.hsp_tables.specs.declared.fault.TableFault.{TableFault}
 use Rattle.hsp_tables.specs.declared.fault.TableFault.TheVariants as fault
-use Rattle.hsp_tables.specs.Answers.{◌>>=◌}
+use Rattle.hsp_text.specs.Answers.{◌>>=◌}
 use Rattle.hsp_tables.specs.Fields.{handle_in, name_in, number_in}
 use Rattle.hsp_tables.specs.Table.{AreRows, Table, first_seen}
 
@@ -20,7 +21,7 @@ abbrev pub demand_in : ℕ → Fields → Result DemandEntry TableFault
 demand_in row (region ∷ handle ∷ count ∷ []) = do
   r ← name_in row region
   h ← handle_in row handle
-  c ← number_in row 1000000 count
+  c ← number_in row GREATEST_COUNT count
   Ok (record { region = r; handle = h; count = c })
 demand_in row _ = Err (fault.Fields row)
 
@@ -34,7 +35,7 @@ demand_regions rows = first_seen (map (λ (row : DemandEntry). row.region) rows)
 abbrev pub demand_table : Table DemandEntry
 demand_table = record {
   header = codes "region" ∷ codes "handle" ∷ codes "count" ∷ [];
-  most_rows = 8192;
+  most_rows = MOST_DEMAND_ROWS;
   row_in = demand_in;
   same_key = same_demand;
   regions_of = demand_regions;
@@ -44,7 +45,7 @@ demand_table = record {
 pub record IsDemandEntry (row : DemandEntry) : Type 0 where
   pub region : is_name row.region ≡ true
   pub handle : names.handle_in row.handle ≡ Ok row.handle
-  pub count : row.count ≤ 1000000
+  pub count : row.count ≤ GREATEST_COUNT
 
 -- what the rows are
 abbrev pub AreDemand : List DemandEntry → Type 0

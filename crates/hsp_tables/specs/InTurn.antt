@@ -2,7 +2,7 @@
 use Rattle.std.specs.Prelude.{◌≡◌, ◌≤◌, ◌+◌, ◌↔◌, ⊤, Bool, ℕ, List, [], ◌∷◌, ◌++◌, length, nat_le, Result, Ok, Err, if◌then◌else◌}
 use Rattle.std.specs.List.{AllByRecursion, IsDistinct, list_any}
 use Rattle.hsp_tables.specs.declared.fault.TableFault.{TableFault}
-use Rattle.hsp_tables.specs.Answers.{◌>>=◌}
+use Rattle.hsp_text.specs.Answers.{◌>>=◌}
 
 -- the row that an item gives after the rows before it, or the first fault that it has there
 abbrev pub Reading : Type 0 → Type 0 → Type 0

@@ -7,9 +7,11 @@ use Rattle.hex.specs.declared.error.FromHexError.{FromHexError}
 use Rattle.toml.specs.Data.{Data, Items, no_items, item, Members, no_members, member, as_array, as_integer, as_str, as_table, get_member}
 use Rattle.toml.specs.Parse.{parse_document}
 use Rattle.hsp_text.specs.Name.{is_name}
+use Rattle.hsp_text.specs.declared.limits.TheConstants.{GREATEST_LIMIT, MOST_HOSTS, MOST_SITES}
 use Rattle.hsp_tables.specs.declared.fault.TableFault.{TableFault}
 use Rattle.hsp_tables.specs.declared.fault.TableFault.TheVariants as fault
-use Rattle.hsp_tables.specs.Answers.{◌>>=◌, or_fault}
+use Rattle.hsp_text.specs.Answers.{◌>>=◌, or_fault}
+use Rattle.hsp_tables.specs.Fields.{greatest_of_32_bits}
 use Rattle.hsp_tables.specs.InTurn.{AreKeyed, Reading, keyed_after, rows_after}
 
 -- what a site is read from: the octets of a record, or the index of a value in the value list
@@ -73,7 +75,7 @@ record_source n value = do
 abbrev pub index_source : ℕ → Data → Result SiteSource TableFault
 index_source n value = do
   number ← integer_of (fault.BadSite n) (Some value)
-  i ← number_up_to (fault.BadSite n) 4294967295 number
+  i ← number_up_to (fault.BadSite n) greatest_of_32_bits number
   Ok (index i)
 
 -- the source of site `n`: exactly one of `record` and `index`
@@ -105,7 +107,7 @@ site_at n value = or_fault (fault.BadSite n) (as_table value) >>= site_in n
 
 -- the site of an element after the sites before it, or its first fault
 abbrev pub site_after : Reading Data SiteEntry
-site_after earlier value = keyed_after 32 fault.TooManySites site_at same_name fault.SiteTwice earlier value
+site_after earlier value = keyed_after MOST_SITES fault.TooManySites site_at same_name fault.SiteTwice earlier value
 
 -- the address of host `n`: 32 hexadecimal digits
 abbrev pub host_address : ℕ → Option Data → Result (List ℕ) TableFault
@@ -113,7 +115,7 @@ host_address n value = text_of (fault.BadHost n) value >>= λ text. decoded (fau
 
 -- the limit of host `n`
 abbrev pub host_limit : ℕ → Option Data → Result ℕ TableFault
-host_limit n value = integer_of (fault.BadHost n) value >>= number_up_to (fault.BadHost n) 1000000000000
+host_limit n value = integer_of (fault.BadHost n) value >>= number_up_to (fault.BadHost n) GREATEST_LIMIT
 
 abbrev pub is_host_key : List ℕ → Bool
 is_host_key key = bytes_eq key (codes "address") || bytes_eq key (codes "limit")
@@ -137,7 +139,7 @@ host_at n value = or_fault (fault.BadHost n) (as_table value) >>= host_in n
 
 -- the host of an element after the hosts before it, or its first fault
 abbrev pub host_after : Reading Data HostEntry
-host_after earlier value = keyed_after 1024 fault.TooManyHosts host_at same_address fault.HostTwice earlier value
+host_after earlier value = keyed_after MOST_HOSTS fault.TooManyHosts host_at same_address fault.HostTwice earlier value
 
 -- the rows that an array lists, and none where there is no array
 abbrev pub listed : {Row : Type 0} → TableFault → Reading Data Row → Option Data → Result (List Row) TableFault
@@ -162,7 +164,7 @@ settings_of text = document_in text >>= settings_in
 
 abbrev pub IsSource : SiteSource → Type 0
 IsSource (octets bytes) = ⊤
-IsSource (index i) = i ≤ 4294967295
+IsSource (index i) = i ≤ greatest_of_32_bits
 
 -- what each site is
 pub record IsSiteEntry (site : SiteEntry) : Type 0 where
@@ -172,9 +174,9 @@ pub record IsSiteEntry (site : SiteEntry) : Type 0 where
 -- what each host is
 pub record IsHostEntry (host : HostEntry) : Type 0 where
   pub address : length host.address ≡ 16
-  pub limit : host.limit ≤ 1000000000000
+  pub limit : host.limit ≤ GREATEST_LIMIT
 
 -- what settings are: within the limits, the names of sites and the addresses of hosts distinct
 pub record AreSettings (settings : SettingsEntries) : Type 0 where
-  pub sites : AreKeyed 32 IsSiteEntry same_name settings.sites
-  pub hosts : AreKeyed 1024 IsHostEntry same_address settings.hosts
+  pub sites : AreKeyed MOST_SITES IsSiteEntry same_name settings.sites
+  pub hosts : AreKeyed MOST_HOSTS IsHostEntry same_address settings.hosts

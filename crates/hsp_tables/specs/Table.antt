@@ -3,11 +3,12 @@ use Rattle.std.specs.Prelude.{◌≡◌, ◌≢◌, ◌≤◌, ◌↔◌, ◌⊎
 use Rattle.std.specs.List.{IsDistinct, list_any}
 use Rattle.std.specs.Str.{bytes_eq}
 use Rattle.indexmap.specs.IndexSet.{insert_key}
+use Rattle.hsp_csv.specs.Header.{same_fields}
 use Rattle.hsp_csv.specs.Records.{Fields}
 use Rattle.hsp_tables.specs.declared.fault.TableFault.{TableFault}
 use Rattle.hsp_tables.specs.declared.fault.TableFault.TheVariants.{Header, RowTwice, TooManyRows, TooManyRegions}
-use Rattle.hsp_tables.specs.Answers.{◌>>=◌}
-use Rattle.hsp_tables.specs.Fields.{same_fields}
+use Rattle.hsp_text.specs.declared.limits.TheConstants.{MOST_REGIONS}
+use Rattle.hsp_text.specs.Answers.{◌>>=◌}
 use Rattle.hsp_tables.specs.InTurn.{AreKeyed, Reading, SpellInTurn, rows_after}
 
 -- a kind of table: its header, the limit of its rows, the row that the fields of a record spell by its number, when two rows
@@ -19,10 +20,6 @@ pub record Table (Row : Type 0) : Type 0 where
   pub same_key : Row → Row → Bool
   pub regions_of : List Row → List (List ℕ)
 
--- the limit of regions in one table
-abbrev pub most_regions : ℕ
-most_regions = 64
-
 -- names in first-seen order, each once
 abbrev pub first_seen : List (List ℕ) → List (List ℕ)
 first_seen names = fold (insert_key bytes_eq) [] names
@@ -31,7 +28,7 @@ first_seen names = fold (insert_key bytes_eq) [] names
 abbrev pub new_row : {Row : Type 0} → Table Row → List Row → Row → Result Row TableFault
 new_row table earlier row =
     if list_any (table.same_key row) earlier then Err (RowTwice (length earlier))
-    else if nat_lt most_regions (length (table.regions_of (earlier ++ row ∷ []))) then Err TooManyRegions
+    else if nat_lt MOST_REGIONS (length (table.regions_of (earlier ++ row ∷ []))) then Err TooManyRegions
     else Ok row
 
 -- the row of a record after the rows before it, or its first fault
@@ -48,7 +45,7 @@ table_of table (first ∷ body) = if same_fields first table.header then rows_af
 -- what the rows of a table are: within its limits, each as it should be, and no two with one key
 pub record AreRows {Row : Type 0} (table : Table Row) (Is : Row → Type 0) (rows : List Row) : Type 0 where
   pub keyed : AreKeyed table.most_rows Is table.same_key rows
-  pub regions : length (table.regions_of rows) ≤ most_regions
+  pub regions : length (table.regions_of rows) ≤ MOST_REGIONS
 
 -- records under the header spell rows, each by its number
 abbrev pub SpellRows : {Row : Type 0} → Table Row → ℕ → List Fields → List Row → Type 0
@@ -61,7 +58,7 @@ pub record IsTable {Row : Type 0} (table : Table Row) (records : List Fields) (r
   pub spelled : SpellRows table 0 body rows
   pub few : length rows ≤ table.most_rows
   pub apart : IsDistinct table.same_key rows
-  pub regions : length (table.regions_of rows) ≤ most_regions
+  pub regions : length (table.regions_of rows) ≤ MOST_REGIONS
 
 -- the first record is not the header, or there is none
 abbrev pub LacksHeader : {Row : Type 0} → Table Row → List Fields → Type 0

@@ -4,28 +4,23 @@ ghost use Rattle.std.specs.Prelude.{◌≡◌, ◌<◌, ◌⊎◌, Some, Ok, Err
 ghost use Rattle.csv.specs.Records.{fields_of};
 ghost use Rattle.hsp_csv.specs.Records.{records_of};
 ghost use Rattle.hsp_tables.specs.declared.fault.TableFault.TheVariants.{OutOfMemory};
-ghost use Rattle.hsp_tables.specs.Answers.{Answers, GivesExactly};
+ghost use Rattle.hsp_text.specs.Answers.{Gives, GivesUnless};
 ghost use Rattle.hsp_tables.specs.InTurn.{with_row};
 ghost use Rattle.hsp_tables.specs.Table.{row_after, table_of};
 ghost use Rattle.hsp_tables.specs.Capacities.{AreCapacities, capacity_in, capacity_table};
 ghost use Rattle.hsp_tables.specs.Rows.{capacity_shown};
 
 use crate::fault::TableFault;
-use crate::fields::{name_in, number_in, take_header, three_fields};
+use crate::fields::{name_in, number_in, three_fields};
 use crate::keyed::ServerRows;
 use csv::ByteRecord;
-use hsp_csv::{read_records, take_record};
+use hsp_csv::{read_records, take_header, take_record};
+use hsp_text::limits::{GREATEST_CAPACITY, MOST_CAPACITY_ROWS};
 use std::alloc::Global;
 use std::marker::Model;
 
-// The greatest number of rows.
-const MOST_ROWS: usize = 1024;
-
-// The greatest identifier.
-const MOST_ID: u64 = 4_294_967_295;
-
-// The greatest capacity.
-const MOST_CAPACITY: u64 = 1_000_000_000;
+// The names of the fields.
+const HEADER: [&[u8]; 3] = [b"site", b"server_id", b"capacity"];
 
 /// The capacities: rows of a site, the identifier of a server and its capacity, each site and identifier once.
 ///
@@ -83,15 +78,15 @@ impl Capacities {
 
 // The row that the fields of a record spell.
 fn capacity_in(number: u32, fields: &ByteRecord) -> Result<CapacityRow<'_>, TableFault>
-    ensures { GivesExactly capacity_shown result (capacity_in number (fields_of fields.now)) }
+    ensures { Gives capacity_shown result (capacity_in number (fields_of fields.now)) }
 {
     let Some((site, server_id, capacity)) = three_fields(fields) else {
         return Err(TableFault::Fields { row: number });
     };
     Ok(CapacityRow {
         site: name_in(number, site)?,
-        server_id: number_in(number, server_id, MOST_ID)? as u32,
-        capacity: number_in(number, capacity, MOST_CAPACITY)?,
+        server_id: number_in(number, server_id, u32::MAX as u64)? as u32,
+        capacity: number_in(number, capacity, GREATEST_CAPACITY)?,
     })
 }
 
@@ -102,7 +97,7 @@ fn add_record(alloc: Global, rows: &mut ServerRows, fields: &ByteRecord) -> Resu
         ⊎ (with_row (row_after capacity_table) rows.old (fields_of fields.now) ≡ Err e)) }
 {
     let number = rows.len();
-    if number >= MOST_ROWS {
+    if number >= MOST_CAPACITY_ROWS {
         return Err(TableFault::TooManyRows);
     }
     let number = number as u32;
@@ -117,19 +112,15 @@ fn add_record(alloc: Global, rows: &mut ServerRows, fields: &ByteRecord) -> Resu
 ///
 /// The header is `site,server_id,capacity`. The order of faults is: Header; then record by record TooManyRows (this record is
 /// one too many), Fields, BadName, BadNumber, RowTwice.
-#[tactic(auto, using(crate::proofs::TableLaws::table_of_headed, crate::proofs::TableLaws::table_of_headless))]
 pub fn read_capacity(alloc: Global, text: &[u8]) -> Result<Capacities, TableFault>
-    ensures { Answers result (table_of capacity_table (records_of text.now)) }
+    ensures { GivesUnless OutOfMemory (λ x. x) result (
+        table_of capacity_table (records_of text.now)) }
 {
     let mut records = read_records(alloc, text);
     let mut fields = ByteRecord::new(alloc);
-    take_header(
-        &mut records,
-        &mut fields,
-        b"site",
-        b"server_id",
-        b"capacity",
-    )?;
+    if !take_header(&mut records, &mut fields, &HEADER)? {
+        return Err(TableFault::Header);
+    }
     let mut rows = ServerRows::new(alloc);
     'rows: while take_record(&mut records, &mut fields)? {
         add_record(alloc, &mut rows, &fields)?;

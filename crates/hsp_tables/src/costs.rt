@@ -4,7 +4,7 @@ ghost use Rattle.std.specs.Prelude.{◌≡◌, ◌<◌, ◌⊎◌, Some, Ok, Err
 ghost use Rattle.csv.specs.Records.{fields_of};
 ghost use Rattle.hsp_csv.specs.Records.{records_of};
 ghost use Rattle.hsp_tables.specs.declared.fault.TableFault.TheVariants.{OutOfMemory};
-ghost use Rattle.hsp_tables.specs.Answers.{Answers, GivesExactly};
+ghost use Rattle.hsp_text.specs.Answers.{Gives, GivesUnless};
 ghost use Rattle.hsp_tables.specs.InTurn.{with_row};
 ghost use Rattle.hsp_tables.specs.Table.{row_after, table_of};
 ghost use Rattle.hsp_tables.specs.Costs.{AreCosts, cost_in, cost_regions, cost_table};
@@ -12,21 +12,16 @@ ghost use Rattle.hsp_tables.specs.Keyed.{cost_entry};
 ghost use Rattle.hsp_tables.specs.Rows.{cost_shown};
 
 use crate::fault::TableFault;
-use crate::fields::{name_in, number_in, take_header, three_fields};
+use crate::fields::{name_in, number_in, three_fields};
 use crate::keyed::{PairRow, PairRows, Regions};
 use csv::ByteRecord;
-use hsp_csv::{read_records, take_record};
+use hsp_csv::{read_records, take_header, take_record};
+use hsp_text::limits::{GREATEST_COST, MOST_COST_ROWS, MOST_REGIONS};
 use std::alloc::Global;
 use std::marker::Model;
 
-// The greatest number of rows.
-const MOST_ROWS: usize = 2048;
-
-// The greatest number of regions.
-const MOST_REGIONS: usize = 64;
-
-// The greatest cost.
-const MOST_COST: u64 = 1_000_000;
+// The names of the fields.
+const HEADER: [&[u8]; 3] = [b"region", b"site", b"cost"];
 
 /// The costs: rows of a region, a site and a cost, each region and site once.
 ///
@@ -85,7 +80,7 @@ impl Costs {
 
 // The row that the fields of a record spell.
 fn cost_in(number: u32, fields: &ByteRecord) -> Result<CostRow<'_>, TableFault>
-    ensures { GivesExactly cost_shown result (cost_in number (fields_of fields.now)) }
+    ensures { Gives cost_shown result (cost_in number (fields_of fields.now)) }
 {
     let Some((region, site, cost)) = three_fields(fields) else {
         return Err(TableFault::Fields { row: number });
@@ -93,7 +88,7 @@ fn cost_in(number: u32, fields: &ByteRecord) -> Result<CostRow<'_>, TableFault>
     Ok(CostRow {
         region: name_in(number, region)?,
         site: name_in(number, site)?,
-        cost: number_in(number, cost, MOST_COST)?,
+        cost: number_in(number, cost, GREATEST_COST)?,
     })
 }
 
@@ -112,7 +107,7 @@ fn add_record(
         ⊎ (with_row (row_after cost_table) (map cost_entry rows.old) (fields_of fields.now) ≡ Err e)) }
 {
     let number = rows.len();
-    if number >= MOST_ROWS {
+    if number >= MOST_COST_ROWS {
         return Err(TableFault::TooManyRows);
     }
     let number = number as u32;
@@ -136,13 +131,15 @@ fn add_record(
 ///
 /// The header is `region,site,cost`. The order of faults is: Header; then record by record TooManyRows (this record is one
 /// too many), Fields, BadName, BadNumber, RowTwice, TooManyRegions.
-#[tactic(auto, using(crate::proofs::TableLaws::table_of_headed, crate::proofs::TableLaws::table_of_headless))]
 pub fn read_costs(alloc: Global, text: &[u8]) -> Result<Costs, TableFault>
-    ensures { Answers result (table_of cost_table (records_of text.now)) }
+    ensures { GivesUnless OutOfMemory (λ x. x) result (
+        table_of cost_table (records_of text.now)) }
 {
     let mut records = read_records(alloc, text);
     let mut fields = ByteRecord::new(alloc);
-    take_header(&mut records, &mut fields, b"region", b"site", b"cost")?;
+    if !take_header(&mut records, &mut fields, &HEADER)? {
+        return Err(TableFault::Header);
+    }
     let mut rows = PairRows::new(alloc);
     let mut regions = Regions::new(alloc);
     'rows: while take_record(&mut records, &mut fields)? {

@@ -4,7 +4,7 @@ ghost use Rattle.std.specs.Prelude.{◌≡◌, ◌<◌, ◌⊎◌, Some, Ok, Err
 ghost use Rattle.csv.specs.Records.{fields_of};
 ghost use Rattle.hsp_csv.specs.Records.{records_of};
 ghost use Rattle.hsp_tables.specs.declared.fault.TableFault.TheVariants.{OutOfMemory};
-ghost use Rattle.hsp_tables.specs.Answers.{Answers, GivesExactly};
+ghost use Rattle.hsp_text.specs.Answers.{Gives, GivesUnless};
 ghost use Rattle.hsp_tables.specs.InTurn.{with_row};
 ghost use Rattle.hsp_tables.specs.Table.{row_after, table_of};
 ghost use Rattle.hsp_tables.specs.Demand.{AreDemand, demand_in, demand_regions, demand_table};
@@ -12,22 +12,17 @@ ghost use Rattle.hsp_tables.specs.Keyed.{demand_entry};
 ghost use Rattle.hsp_tables.specs.Rows.{demand_shown};
 
 use crate::fault::TableFault;
-use crate::fields::{handle_in, name_in, number_in, take_header, three_fields};
+use crate::fields::{handle_in, name_in, number_in, three_fields};
 use crate::keyed::{PairRow, PairRows, Regions};
 use csv::ByteRecord;
-use hsp_csv::{read_records, take_record};
+use hsp_csv::{read_records, take_header, take_record};
 use hsp_names::HandleRef;
+use hsp_text::limits::{GREATEST_COUNT, MOST_DEMAND_ROWS, MOST_REGIONS};
 use std::alloc::Global;
 use std::marker::Model;
 
-// The greatest number of rows.
-const MOST_ROWS: usize = 8192;
-
-// The greatest number of regions.
-const MOST_REGIONS: usize = 64;
-
-// The greatest count of a row.
-const MOST_QUERIES: u64 = 1_000_000;
+// The names of the fields.
+const HEADER: [&[u8]; 3] = [b"region", b"handle", b"count"];
 
 /// The demand: rows of a region, a handle and a count, each region and handle once.
 ///
@@ -76,21 +71,17 @@ impl Demand {
         ensures { slice_get self.now number ≡ Some (demand_shown result) }
     {
         let row = self.rows.row(number as usize);
-        match HandleRef::parse(row.second) {
-            Ok(handle) => DemandRow {
-                region: row.first,
-                handle,
-                count: row.number,
-            },
-            // The handle was read once before.
-            Err(_) => unreachable!(),
+        DemandRow {
+            region: row.first,
+            handle: HandleRef::accepted(row.second),
+            count: row.number,
         }
     }
 }
 
 // The row that the fields of a record spell.
 fn demand_in(number: u32, fields: &ByteRecord) -> Result<DemandRow<'_>, TableFault>
-    ensures { GivesExactly demand_shown result (demand_in number (fields_of fields.now)) }
+    ensures { Gives demand_shown result (demand_in number (fields_of fields.now)) }
 {
     let Some((region, handle, count)) = three_fields(fields) else {
         return Err(TableFault::Fields { row: number });
@@ -98,7 +89,7 @@ fn demand_in(number: u32, fields: &ByteRecord) -> Result<DemandRow<'_>, TableFau
     Ok(DemandRow {
         region: name_in(number, region)?,
         handle: handle_in(number, handle)?,
-        count: number_in(number, count, MOST_QUERIES)?,
+        count: number_in(number, count, GREATEST_COUNT)?,
     })
 }
 
@@ -117,7 +108,7 @@ fn add_record(
         ⊎ (with_row (row_after demand_table) (map demand_entry rows.old) (fields_of fields.now) ≡ Err e)) }
 {
     let number = rows.len();
-    if number >= MOST_ROWS {
+    if number >= MOST_DEMAND_ROWS {
         return Err(TableFault::TooManyRows);
     }
     let number = number as u32;
@@ -141,13 +132,15 @@ fn add_record(
 ///
 /// The header is `region,handle,count`. The order of faults is: Header; then record by record TooManyRows (this record is one
 /// too many), Fields, BadName, BadHandle, BadNumber, RowTwice, TooManyRegions.
-#[tactic(auto, using(crate::proofs::TableLaws::table_of_headed, crate::proofs::TableLaws::table_of_headless))]
 pub fn read_demand(alloc: Global, text: &[u8]) -> Result<Demand, TableFault>
-    ensures { Answers result (table_of demand_table (records_of text.now)) }
+    ensures { GivesUnless OutOfMemory (λ x. x) result (
+        table_of demand_table (records_of text.now)) }
 {
     let mut records = read_records(alloc, text);
     let mut fields = ByteRecord::new(alloc);
-    take_header(&mut records, &mut fields, b"region", b"handle", b"count")?;
+    if !take_header(&mut records, &mut fields, &HEADER)? {
+        return Err(TableFault::Header);
+    }
     let mut rows = PairRows::new(alloc);
     let mut regions = Regions::new(alloc);
     'rows: while take_record(&mut records, &mut fields)? {

@@ -1,16 +1,13 @@
 // The fields of a record, and what each of them spells.
 
-ghost use Rattle.std.specs.Prelude.{◌≡◌, ◌≢◌, ◌≤◌, ◌⊎◌, ◌∷◌, [], length, IfErr, IfNone, IfOk, IfSome, OnOk};
+ghost use Rattle.std.specs.Prelude.{◌≡◌, ◌≢◌, ◌≤◌, ◌∷◌, [], length, IfNone, IfOk, IfSome};
 ghost use Rattle.csv.specs.Records.{fields_of};
-ghost use Rattle.hsp_csv.specs.Records.{IsKnown, IsReading, records_left};
 ghost use Rattle.hsp_names.specs.Lent.{octets_of};
-ghost use Rattle.hsp_tables.specs.declared.fault.TableFault.TheVariants.{Header, OutOfMemory};
-ghost use Rattle.hsp_tables.specs.Answers.{GivesExactly};
-ghost use Rattle.hsp_tables.specs.Fields.{IsHeaded, IsHeadless, handle_in, lent, name_in, number_in, same_fields};
+ghost use Rattle.hsp_text.specs.Answers.{Gives};
+ghost use Rattle.hsp_tables.specs.Fields.{handle_in, name_in, number_in};
 
 use crate::fault::TableFault;
-use csv::{ByteRecord, Reader};
-use hsp_csv::take_record;
+use csv::ByteRecord;
 use hsp_names::HandleRef;
 use hsp_text::{is_name, read_whole};
 
@@ -29,46 +26,9 @@ pub(crate) fn three_fields(fields: &ByteRecord) -> Option<(&[u8], &[u8], &[u8])>
     Some((first, second, third))
 }
 
-// Whether the fields of a record are those of a header of three.
-#[tactic(auto, using(crate::proofs::RecordFields::same_fields_are_as_many))]
-fn is_header(fields: &ByteRecord, first: &[u8], second: &[u8], third: &[u8]) -> bool
-    ensures { result ≡ same_fields (fields_of fields.now) (first.now ∷ second.now ∷ third.now ∷ []) }
-{
-    match three_fields(fields) {
-        Some((one, two, three)) => one == first && two == second && three == third,
-        None => false,
-    }
-}
-
-// Takes the header of a text, which is its first record, into `fields`.
-pub(crate) fn take_header(
-    records: &mut Reader<&[u8]>,
-    fields: &mut ByteRecord,
-    first: &[u8],
-    second: &[u8],
-    third: &[u8],
-) -> Result<(), TableFault>
-    requires reading { IsReading records.old }
-    requires known { IsKnown lent records.old }
-    ensures reading { OnOk result (IsReading records.new) }
-    ensures known { OnOk result (IsKnown lent records.new) }
-    ensures headed { OnOk result (
-        IsHeaded (first.now ∷ second.now ∷ third.now ∷ []) (records_left lent records.old) (records_left lent records.new)) }
-    ensures headless { IfErr result (λ e. (e ≡ OutOfMemory)
-        ⊎ (e ≡ Header) × IsHeadless (first.now ∷ second.now ∷ third.now ∷ []) (records_left lent records.old)) }
-{
-    if !take_record(records, fields)? {
-        return Err(TableFault::Header);
-    }
-    if !is_header(fields, first, second, third) {
-        return Err(TableFault::Header);
-    }
-    Ok(())
-}
-
 // A field that is the name of a region or a site.
 pub(crate) fn name_in(row: u32, octets: &[u8]) -> Result<&[u8], TableFault>
-    ensures { GivesExactly (λ o. o.now) result (name_in row octets.now) }
+    ensures { Gives (λ o. o.now) result (name_in row octets.now) }
 {
     if !is_name(octets) {
         return Err(TableFault::BadName { row });
@@ -78,7 +38,7 @@ pub(crate) fn name_in(row: u32, octets: &[u8]) -> Result<&[u8], TableFault>
 
 // A field that is a handle.
 pub(crate) fn handle_in(row: u32, octets: &[u8]) -> Result<HandleRef<'_>, TableFault>
-    ensures { GivesExactly octets_of result (handle_in row octets.now) }
+    ensures { Gives octets_of result (handle_in row octets.now) }
 {
     match HandleRef::parse(octets) {
         Ok(handle) => Ok(handle),
@@ -88,7 +48,7 @@ pub(crate) fn handle_in(row: u32, octets: &[u8]) -> Result<HandleRef<'_>, TableF
 
 // A field that is a whole number of at most `most`.
 pub(crate) fn number_in(row: u32, octets: &[u8], most: u64) -> Result<u64, TableFault>
-    ensures number { GivesExactly (λ n. n) result (number_in row most octets.now) }
+    ensures number { Gives (λ n. n) result (number_in row most octets.now) }
     ensures within { IfOk result (λ n. n ≤ most) }
 {
     match read_whole(octets, most) {

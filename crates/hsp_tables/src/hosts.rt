@@ -4,7 +4,7 @@ ghost use Rattle.std.specs.Prelude.{◌≡◌, ◌<◌, ◌⊎◌, [], Ok, Err, 
 ghost use Rattle.std.specs.List.{list_any};
 ghost use Rattle.toml.specs.View.{items_view, table_view, view};
 ghost use Rattle.hsp_tables.specs.declared.fault.TableFault.TheVariants.{OutOfMemory};
-ghost use Rattle.hsp_tables.specs.Answers.{Gives, GivesExactly};
+ghost use Rattle.hsp_text.specs.Answers.{Gives, GivesUnless};
 ghost use Rattle.hsp_tables.specs.InTurn.{rows_after, with_row};
 ghost use Rattle.hsp_tables.specs.Settings.{elements_in, host_address, host_after, host_in, host_limit, same_address};
 ghost use Rattle.hsp_tables.specs.SettingsRows.{host_entry};
@@ -12,14 +12,9 @@ ghost use Rattle.hsp_tables.specs.SettingsRows.{host_entry};
 use crate::fault::TableFault;
 use crate::members::{has_host_keys, integer_of, member, text_of};
 use hex::FromHex;
+use hsp_text::limits::{GREATEST_LIMIT, MOST_HOSTS};
 use std::alloc::Global;
 use toml::{Table, Value};
-
-// The greatest number of hosts.
-const MOST_HOSTS: usize = 1024;
-
-// The greatest limit of a host.
-const MOST_LIMIT: u64 = 1_000_000_000_000;
 
 // A host of the settings.
 #[derive(Clone, Copy, Debug)]
@@ -30,7 +25,7 @@ pub(crate) struct Host {
 
 // The address of a host.
 fn host_address(number: u32, value: Option<&Value>) -> Result<[u8; 16], TableFault>
-    ensures { GivesExactly (λ a. a) result (host_address number (option_map (λ v. view v.now) value.entry)) }
+    ensures { Gives (λ a. a) result (host_address number (option_map (λ v. view v.now) value.entry)) }
 {
     let fault = TableFault::BadHost { host: number };
     let text = text_of(fault, value)?;
@@ -42,12 +37,12 @@ fn host_address(number: u32, value: Option<&Value>) -> Result<[u8; 16], TableFau
 
 // The limit of a host.
 fn host_limit(number: u32, value: Option<&Value>) -> Result<u64, TableFault>
-    ensures { GivesExactly (λ n. n) result (host_limit number (option_map (λ v. view v.now) value.entry)) }
+    ensures { Gives (λ n. n) result (host_limit number (option_map (λ v. view v.now) value.entry)) }
 {
     let fault = TableFault::BadHost { host: number };
     match u64::try_from(integer_of(fault, value)?) {
         Ok(limit) => {
-            if limit > MOST_LIMIT {
+            if limit > GREATEST_LIMIT {
                 return Err(fault);
             }
             Ok(limit)
@@ -58,7 +53,7 @@ fn host_limit(number: u32, value: Option<&Value>) -> Result<u64, TableFault>
 
 // The host that a table spells.
 fn host_in(number: u32, table: &Table) -> Result<Host, TableFault>
-    ensures { GivesExactly host_entry result (host_in number (table_view table.now)) }
+    ensures { Gives host_entry result (host_in number (table_view table.now)) }
 {
     if !has_host_keys(table) {
         return Err(TableFault::UnknownKey);
@@ -105,7 +100,8 @@ fn add_host(hosts: &mut Vec<Host>, value: &Value) -> Result<(), TableFault>
 
 // The hosts of the elements of an array.
 pub(crate) fn hosts_in(alloc: Global, values: &[Value]) -> Result<Vec<Host>, TableFault>
-    ensures { Gives (λ v. map host_entry v.items) result (rows_after host_after [] (elements_in (items_view values.now))) }
+    ensures { GivesUnless OutOfMemory (λ v. map host_entry v.items) result (
+        rows_after host_after [] (elements_in (items_view values.now))) }
 {
     let mut hosts = Vec::new(alloc);
     for value in values {

@@ -10,7 +10,7 @@ ghost use Rattle.hsp_tables.specs.Keyed.{same_pair};
 ghost use Rattle.hsp_tables.specs.KeyedRows.{names_in, pair_entry, pair_of, server_entry};
 
 use crate::fault::TableFault;
-use indexmap::{IndexMap, IndexSet};
+use indexmap::IndexMap;
 use std::alloc::Global;
 use std::marker::Model;
 
@@ -193,7 +193,7 @@ impl ServerRows {
 // The regions that were seen, in first-seen order.
 #[derive(Drop)]
 pub(crate) struct Regions {
-    names: IndexSet<Vec<u8>>,
+    names: Vec<Vec<u8>>,
 }
 
 impl Model for Regions {
@@ -202,16 +202,19 @@ impl Model for Regions {
 
     ghost Value = { List (List ℕ) };
 
-    ghost view = { λ t. names_in t.names.keys };
+    ghost view = { λ t. names_in t.names.items };
 }
 
-// Adds a name to those that were seen.
-fn insert_name(alloc: Global, names: &mut IndexSet<Vec<u8>>, name: &[u8]) -> Result<(), TableFault>
-    ensures ok { OnOk result (names_in names.new.keys ≡ insert_key bytes_eq (names_in names.old.keys) name.now) }
-    ensures err { IfErr result (λ e. e ≡ OutOfMemory) }
+// Whether a name is among those that were seen.
+fn has_name(names: &[Vec<u8>], name: &[u8]) -> bool
+    ensures { result ≡ list_any (bytes_eq name.now) (names_in names.now) }
 {
-    names.insert(Vec::from_slice(alloc, name)?)?;
-    Ok(())
+    for seen in names {
+        if name == seen.as_slice() {
+            return true;
+        }
+    }
+    false
 }
 
 impl Regions {
@@ -219,7 +222,7 @@ impl Regions {
         ensures { result ≡ [] }
     {
         Regions {
-            names: IndexSet::new(alloc),
+            names: Vec::new(alloc),
         }
     }
 
@@ -234,6 +237,9 @@ impl Regions {
         ensures ok { OnOk result (self.new ≡ insert_key bytes_eq self.old region.now) }
         ensures err { IfErr result (λ e. e ≡ OutOfMemory) }
     {
-        insert_name(alloc, &mut self.names, region)
+        if !has_name(self.names.as_slice(), region) {
+            self.names.push(Vec::from_slice(alloc, region)?)?;
+        }
+        Ok(())
     }
 }

@@ -1,5 +1,6 @@
 // Laws of the definitions of the three tables and of the settings.
 
+ghost use Rattle.hsp_text.specs.declared.limits.TheConstants.{MOST_HOSTS, MOST_SITES};
 ghost use Rattle.hsp_tables.specs.Capacities.{capacity_table};
 ghost use Rattle.hsp_tables.specs.Costs.{cost_table};
 ghost use Rattle.hsp_tables.specs.Demand.{demand_table};
@@ -27,8 +28,8 @@ pub fn fault_is_first()
 /// What the sites and the hosts of the settings read as is their relation: just those that the elements spell, each by its number,
 /// where they are within their limits and no two sites have one name and no two hosts one address.
 pub fn settings_are_as_spelled()
-    ensures sites { ReadsAsSpelled 32 site_at same_name site_after }
-    ensures hosts { ReadsAsSpelled 1024 host_at same_address host_after }
+    ensures sites { ReadsAsSpelled MOST_SITES site_at same_name site_after }
+    ensures hosts { ReadsAsSpelled MOST_HOSTS host_at same_address host_after }
 {}
 
 /// A fault of a site or a host is decided by the elements up to it: it stays, whatever elements follow in the array.

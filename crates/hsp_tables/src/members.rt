@@ -4,7 +4,8 @@ ghost use Rattle.std.specs.Prelude.{◌≡◌, codes, map, option_map, string_by
 ghost use Rattle.std.specs.List.{list_all};
 ghost use Rattle.toml.specs.Data.{get_member};
 ghost use Rattle.toml.specs.View.{table_view, view};
-ghost use Rattle.hsp_tables.specs.Answers.{Gives, GivesExactly};
+ghost use Rattle.hsp_tables.specs.declared.fault.TableFault.TheVariants.{OutOfMemory};
+ghost use Rattle.hsp_text.specs.Answers.{Gives, GivesUnless};
 ghost use Rattle.hsp_tables.specs.Settings.{document_in, integer_of, is_host_key, is_root_key, is_site_key, keys_in, text_of};
 
 use crate::fault::TableFault;
@@ -14,7 +15,7 @@ use toml::{Table, Value};
 // The document that octets are.
 #[tactic(auto, using(crate::proofs::Documents::document_is, crate::proofs::Documents::document_is_none))]
 pub(crate) fn document_in(alloc: Global, octets: &[u8]) -> Result<Table, TableFault>
-    ensures { Gives (λ t. table_view t) result (document_in octets.now) }
+    ensures { GivesUnless OutOfMemory (λ t. table_view t) result (document_in octets.now) }
 {
     match toml::table_from_slice(alloc, octets) {
         Ok(table) => Ok(table),
@@ -94,7 +95,7 @@ pub(crate) fn has_host_keys(table: &Table) -> bool
 
 // The text of a value, or else the fault.
 pub(crate) fn text_of(fault: TableFault, value: Option<&Value>) -> Result<&str, TableFault>
-    ensures { GivesExactly (λ s. s.now) result (text_of fault (option_map (λ v. view v.now) value.entry)) }
+    ensures { Gives (λ s. s.now) result (text_of fault (option_map (λ v. view v.now) value.entry)) }
 {
     let Some(value) = value else {
         return Err(fault);
@@ -107,7 +108,7 @@ pub(crate) fn text_of(fault: TableFault, value: Option<&Value>) -> Result<&str, 
 
 // The integer of a value, or else the fault.
 pub(crate) fn integer_of(fault: TableFault, value: Option<&Value>) -> Result<i64, TableFault>
-    ensures { GivesExactly (λ n. n) result (integer_of fault (option_map (λ v. view v.now) value.entry)) }
+    ensures { Gives (λ n. n) result (integer_of fault (option_map (λ v. view v.now) value.entry)) }
 {
     let Some(value) = value else {
         return Err(fault);

@@ -3,8 +3,8 @@
 ghost use Rattle.std.specs.Prelude.{◌≡◌, ◌<◌, Some, codes, length, map, option_map, slice_get};
 ghost use Rattle.toml.specs.Data.{get_member};
 ghost use Rattle.toml.specs.View.{table_view, view};
-ghost use Rattle.hsp_tables.specs.declared.fault.TableFault.TheVariants.{BadHost, BadSite};
-ghost use Rattle.hsp_tables.specs.Answers.{Answers, Gives};
+ghost use Rattle.hsp_tables.specs.declared.fault.TableFault.TheVariants.{BadHost, BadSite, OutOfMemory};
+ghost use Rattle.hsp_text.specs.Answers.{GivesUnless};
 ghost use Rattle.hsp_tables.specs.Settings.{AreSettings, host_after, listed, settings_of, site_after};
 ghost use Rattle.hsp_tables.specs.SettingsRows.{host_entry, site_entry, source_shown};
 
@@ -88,7 +88,7 @@ impl Settings {
 
 // The sites of the array `site`, if there is one.
 fn listed_sites(alloc: Global, table: &Table) -> Result<Vec<Site>, TableFault>
-    ensures { Gives (λ v. map site_entry v.items) result (
+    ensures { GivesUnless OutOfMemory (λ v. map site_entry v.items) result (
         listed (BadSite 0) site_after (get_member (codes "site") (table_view table.now))) }
 {
     let Some(value) = member(table, "site") else {
@@ -102,7 +102,7 @@ fn listed_sites(alloc: Global, table: &Table) -> Result<Vec<Site>, TableFault>
 
 // The hosts of the array `host`, if there is one.
 fn listed_hosts(alloc: Global, table: &Table) -> Result<Vec<Host>, TableFault>
-    ensures { Gives (λ v. map host_entry v.items) result (
+    ensures { GivesUnless OutOfMemory (λ v. map host_entry v.items) result (
         listed (BadHost 0) host_after (get_member (codes "host") (table_view table.now))) }
 {
     let Some(value) = member(table, "host") else {
@@ -121,7 +121,7 @@ fn listed_hosts(alloc: Global, table: &Table) -> Result<Vec<Host>, TableFault>
 /// is: NotToml; UnknownKey of the document; BadSite of site 0 where `site` is no array; then site by site TooManySites (this
 /// element is one too many), BadSite where it is no table, UnknownKey, BadSite, SiteTwice; then the same for the hosts.
 pub fn read_settings(alloc: Global, octets: &[u8]) -> Result<Settings, TableFault>
-    ensures { Answers result (settings_of octets.now) }
+    ensures { GivesUnless OutOfMemory (λ x. x) result (settings_of octets.now) }
 {
     let table = document_in(alloc, octets)?;
     if !has_root_keys(&table) {

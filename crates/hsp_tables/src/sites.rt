@@ -4,7 +4,7 @@ ghost use Rattle.std.specs.Prelude.{◌≡◌, ◌<◌, ◌⊎◌, [], Ok, Err, 
 ghost use Rattle.std.specs.List.{list_any};
 ghost use Rattle.toml.specs.View.{items_view, table_view, view};
 ghost use Rattle.hsp_tables.specs.declared.fault.TableFault.TheVariants.{OutOfMemory};
-ghost use Rattle.hsp_tables.specs.Answers.{Gives, GivesExactly};
+ghost use Rattle.hsp_text.specs.Answers.{Gives, GivesUnless};
 ghost use Rattle.hsp_tables.specs.InTurn.{rows_after, with_row};
 ghost use Rattle.hsp_tables.specs.Settings.{elements_in, index_source, record_source, same_name, site_after, site_in, site_name, site_source};
 ghost use Rattle.hsp_tables.specs.SettingsRows.{site_entry, source_entry};
@@ -13,11 +13,9 @@ use crate::fault::TableFault;
 use crate::members::{has_site_keys, integer_of, member, text_of};
 use hex::FromHexError;
 use hsp_text::is_name;
+use hsp_text::limits::MOST_SITES;
 use std::alloc::Global;
 use toml::{Table, Value};
-
-// The greatest number of sites.
-const MOST_SITES: usize = 32;
 
 /// What a site is read from.
 #[derive(Clone, Copy, Debug)]
@@ -44,7 +42,7 @@ pub(crate) struct Site {
 
 // The name of a site.
 fn site_name(number: u32, value: Option<&Value>) -> Result<&[u8], TableFault>
-    ensures { GivesExactly (λ o. o.now) result (site_name number (option_map (λ v. view v.now) value.entry)) }
+    ensures { Gives (λ o. o.now) result (site_name number (option_map (λ v. view v.now) value.entry)) }
 {
     let fault = TableFault::BadSite { site: number };
     let name = text_of(fault, value)?.as_bytes();
@@ -56,7 +54,7 @@ fn site_name(number: u32, value: Option<&Value>) -> Result<&[u8], TableFault>
 
 // The octets of a record.
 fn record_source(alloc: Global, number: u32, value: &Value) -> Result<OwnedSource, TableFault>
-    ensures { Gives source_entry result (record_source number (view value.now)) }
+    ensures { GivesUnless OutOfMemory source_entry result (record_source number (view value.now)) }
 {
     let fault = TableFault::BadSite { site: number };
     let text = text_of(fault, Some(value))?;
@@ -69,7 +67,7 @@ fn record_source(alloc: Global, number: u32, value: &Value) -> Result<OwnedSourc
 
 // The index of a value.
 fn index_source(number: u32, value: &Value) -> Result<OwnedSource, TableFault>
-    ensures { GivesExactly source_entry result (index_source number (view value.now)) }
+    ensures { Gives source_entry result (index_source number (view value.now)) }
 {
     let fault = TableFault::BadSite { site: number };
     let index = integer_of(fault, Some(value))?;
@@ -86,7 +84,7 @@ fn site_source(
     octets: Option<&Value>,
     index: Option<&Value>,
 ) -> Result<OwnedSource, TableFault>
-    ensures { Gives source_entry result (
+    ensures { GivesUnless OutOfMemory source_entry result (
         site_source number (option_map (λ v. view v.now) octets.entry) (option_map (λ v. view v.now) index.entry)) }
 {
     match (octets, index) {
@@ -98,7 +96,7 @@ fn site_source(
 
 // The site that a table spells.
 fn site_in(alloc: Global, number: u32, table: &Table) -> Result<Site, TableFault>
-    ensures { Gives site_entry result (site_in number (table_view table.now)) }
+    ensures { GivesUnless OutOfMemory site_entry result (site_in number (table_view table.now)) }
 {
     if !has_site_keys(table) {
         return Err(TableFault::UnknownKey);
@@ -148,7 +146,8 @@ fn add_site(alloc: Global, sites: &mut Vec<Site>, value: &Value) -> Result<(), T
 
 // The sites of the elements of an array.
 pub(crate) fn sites_in(alloc: Global, values: &[Value]) -> Result<Vec<Site>, TableFault>
-    ensures { Gives (λ v. map site_entry v.items) result (rows_after site_after [] (elements_in (items_view values.now))) }
+    ensures { GivesUnless OutOfMemory (λ v. map site_entry v.items) result (
+        rows_after site_after [] (elements_in (items_view values.now))) }
 {
     let mut sites = Vec::new(alloc);
     for value in values {
