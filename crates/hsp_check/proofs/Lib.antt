@@ -11,3 +11,4 @@ pub mod Ranges
 pub mod PlanSummed
 pub mod InstanceNetwork
 pub mod Validity
+pub mod Reached

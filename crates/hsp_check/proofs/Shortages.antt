@@ -17,7 +17,7 @@ use Rattle.hsp_check.proofs.Summing.{sum_below_same}
 use Rattle.hsp_check.proofs.LaidSums.{on_arcs}
 
 -- a test of the arcs alone
-any_of_arcs : (test : NetworkArc → Bool) (laid : List LaidArc) → list_any test (map (λ l. l.arc) laid) ≡ list_any (λ l. test l.arc) laid
+pub any_of_arcs : (test : NetworkArc → Bool) (laid : List LaidArc) → list_any test (map (λ l. l.arc) laid) ≡ list_any (λ l. test l.arc) laid
 any_of_arcs test [] = refl
 any_of_arcs test (one ∷ laid) = ap (λ b. test one.arc || b) (any_of_arcs test laid)
 
@@ -37,7 +37,7 @@ module _ (lists : NetworkLists) (rows : ℕ → Bool) (rooms hosted : List ℕ)
       (sum_below_same (length lists.limits.now) _ _ (λ h l. ap (λ s. min (slice_index lists.limits.now h) s) (hosts h l ∙ rw (← many) (sum_below_same (length lists.capacities.now) _ _ (λ j m. ap (λ r. if is_on (home_in lists.homes.now j) h then r else 0) (each j m)))))))
 
 -- tests that agree on the elements find the same
-any_same : {A : Type 0} (p q : A → Bool) (xs : List A) → All (λ x. p x ≡ q x) xs → list_any p xs ≡ list_any q xs
+pub any_same : {A : Type 0} (p q : A → Bool) (xs : List A) → All (λ x. p x ≡ q x) xs → list_any p xs ≡ list_any q xs
 any_same p q [] same = refl
 any_same p q (x ∷ xs) same = ap₂ (λ a b. a || b) (All-head (λ y. p y ≡ q y) x xs same) (any_same p q xs (All-tail (λ y. p y ≡ q y) x xs same))
 

@@ -13,3 +13,5 @@ pub mod Instance
 pub mod Verdict
 pub mod Valid
 pub mod Judged
+pub mod Loads
+pub mod PlanSums

@@ -1,6 +1,6 @@
 -- Short sets: rows that ask for more than all that they can reach takes (a cut, Network Flows, section 6.7).
-use Rattle.std.specs.Prelude.{ℕ, ◌+◌, ◌<◌, ◌==◌, ◌&&◌, Bool, length, slice_index, is_none, min, if◌then◌else◌}
-use Rattle.std.specs.List.{list_any}
+use Rattle.std.specs.Prelude.{ℕ, ◌+◌, ◌<◌, ◌==◌, ◌&&◌, Bool, List, length, slice_index, is_none, min, filter, if◌then◌else◌}
+use Rattle.std.specs.List.{list_any, range_with_len}
 use Rattle.hsp_check.specs.Sums.{sum_below}
 use Rattle.hsp_check.specs.Network.{Network}
 use Rattle.hsp_check.specs.Plan.{on_host}
@@ -8,6 +8,10 @@ use Rattle.hsp_check.specs.Plan.{on_host}
 -- whether some row of the set may use the server
 abbrev pub reaches : Network → (ℕ → Bool) → ℕ → Bool
 reaches n rows j = list_any (λ a. rows a.row && a.server == j) n.arcs
+
+-- the servers that some row of the set may use, in ascending order
+abbrev pub reached : Network → (ℕ → Bool) → List ℕ
+reached n rows = filter (reaches n rows) (range_with_len 0 (length n.capacities))
 
 -- what the rows of the set ask for
 abbrev pub demand_of : Network → (ℕ → Bool) → ℕ

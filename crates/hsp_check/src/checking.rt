@@ -11,8 +11,7 @@ ghost use Rattle.hsp_check.specs.Uses.{table};
 ghost use Rattle.hsp_check.specs.Valid.{IsValid};
 ghost use Rattle.hsp_check.specs.Verdict.{IsVerdict, is_one_of};
 
-use crate::indexing::arcs_of;
-use crate::numbers::numbers_of;
+use crate::drawing::{DrawnNetwork, draw};
 use crate::plan_check::check_plan;
 use crate::set_check::check_set;
 use crate::verdict::Verdict;
@@ -41,8 +40,7 @@ pub fn check(
     ensures short { IfOk result (λ verdict. verdict ≡ Yes → IfSome (short_of certificate.now) (λ c. IsShort (network_of instance.now) (is_one_of c.rows))) }
     ensures none { IfOk result (λ verdict. verdict ≡ Yes → IfSome (short_of certificate.now) (λ _. (x : Plan) → Feasible (network_of instance.now) x → ⊥)) }
 {
-    let numbers = numbers_of(alloc, instance)?;
-    let arcs = arcs_of(alloc, instance)?;
+    let DrawnNetwork { numbers, arcs } = draw(alloc, instance)?;
     match certificate.as_best() {
         Some(plan) => check_plan(alloc, &numbers, arcs, &plan),
         None => {

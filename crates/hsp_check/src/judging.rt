@@ -6,30 +6,30 @@ ghost use Rattle.hsp_check.specs.declared.verdict.Reason.TheVariants.{NoSuchUse,
 ghost use Rattle.hsp_check.specs.Plan.{planned};
 ghost use Rattle.hsp_check.specs.Uses.{table};
 ghost use Rattle.hsp_check.specs.Reach.{network_in};
-ghost use Rattle.hsp_check.specs.Judged.{AreSums, claim_of};
+ghost use Rattle.hsp_check.specs.Judged.{claim_of};
+ghost use Rattle.hsp_check.specs.Loads.{AreLoads};
 
 use crate::conditions::{are_met, are_within, idle_are_free};
 use crate::lists::NetworkLists;
+use crate::loads::Loads;
 use crate::prices::PriceLists;
 use crate::sums::total_of;
 use crate::verdict::{Reason, Verdict};
 use hsp_cert::UseLine;
 
-/// A plan that is laid on a network: its cost, its uses and its prices, and what goes to each row, each server and each host.
+/// A plan that is laid on a network: its cost, its uses and its prices, and its loads.
 #[derive(Clone, Copy, Debug)]
 pub(crate) struct LaidPlan<'a, 's> {
     pub(crate) lists: NetworkLists<'a>,
     pub(crate) prices: PriceLists<'a>,
     pub(crate) cost: u64,
     pub(crate) uses: &'a [UseLine],
-    pub(crate) rows: &'s [u128],
-    pub(crate) servers: &'s [u128],
-    pub(crate) hosts: &'s [u128],
+    pub(crate) loads: &'s Loads,
     ghost homes: { prices.homes.now ≡ lists.homes.now },
     ghost rows_many: { length prices.rows.now ≡ length lists.demands.now },
     ghost hosts_many: { length prices.hosts.now ≡ length lists.limits.now },
     ghost laid: { All (λ l. l.flow ≡ planned (table uses.now) l.arc) lists.laid.now },
-    ghost sums: { AreSums (network_in lists) (table uses.now) rows.now servers.now hosts.now },
+    ghost loads_are: { AreLoads (network_in lists) (table uses.now) loads.now },
 }
 
 impl<'a, 's> LaidPlan<'a, 's> {
@@ -39,14 +39,15 @@ impl<'a, 's> LaidPlan<'a, 's> {
     fn meets_rows(self) -> bool
         ensures { IsTrue result ↔ PlanMeets (network_in self.entry.lists) (claim_of self.entry.cost self.entry.uses.now self.entry.prices) RowSum }
     {
-        are_met(self.lists.demands, self.rows)
+        are_met(self.lists.demands, &self.loads.rows)
     }
 
     // Whether no server and no host takes more than it can.
     fn meets_loads(self) -> bool
         ensures { IsTrue result ↔ PlanMeets (network_in self.entry.lists) (claim_of self.entry.cost self.entry.uses.now self.entry.prices) Load }
     {
-        are_within(self.lists.capacities, self.servers) && are_within(self.lists.limits, self.hosts)
+        are_within(self.lists.capacities, &self.loads.servers)
+            && are_within(self.lists.limits, &self.loads.hosts)
     }
 
     // Whether the cost is the plan's.
@@ -74,8 +75,9 @@ impl<'a, 's> LaidPlan<'a, 's> {
     fn meets_idle_prices(self) -> bool
         ensures { IsTrue result ↔ PlanMeets (network_in self.entry.lists) (claim_of self.entry.cost self.entry.uses.now self.entry.prices) IdlePrice }
     {
-        idle_are_free(self.lists.capacities, self.servers, self.prices.servers)
-            && idle_are_free(self.lists.limits, self.hosts, self.prices.hosts)
+        let loads = self.loads;
+        idle_are_free(self.lists.capacities, &loads.servers, self.prices.servers)
+            && idle_are_free(self.lists.limits, &loads.hosts, self.prices.hosts)
     }
 
     /// The verdict on a plan whose uses go where they may.

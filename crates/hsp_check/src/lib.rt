@@ -4,19 +4,26 @@
 mod arc;
 mod checking;
 mod conditions;
+mod drawing;
 mod indexing;
 mod judging;
 pub mod laws;
 mod laying;
 mod lists;
+mod loads;
 mod numbers;
 mod plan_check;
 mod prices;
+mod reaching;
 mod set_check;
 mod shortage;
 mod sums;
+mod tallying;
 mod verdict;
 
 pub use arc::NetworkArc;
 pub use checking::check;
+pub use loads::Loads;
+pub use reaching::reached_servers;
+pub use tallying::{PlanSums, plan_sums};
 pub use verdict::{Reason, Verdict};

@@ -5,44 +5,22 @@ ghost use Rattle.hsp_cert.specs.Certificate.{IsBest};
 ghost use Rattle.hsp_cert.specs.Certificate.Claim.{best};
 ghost use Rattle.hsp_check.specs.declared.verdict.Reason.TheVariants.{Shape, NoSuchUse};
 ghost use Rattle.hsp_check.specs.Network.{IsNetwork};
-ghost use Rattle.hsp_check.specs.Plan.{Plan, planned};
+ghost use Rattle.hsp_check.specs.Plan.{planned};
 ghost use Rattle.hsp_check.specs.Uses.{table};
 ghost use Rattle.hsp_check.specs.Index.{ByRow, flow_at};
 ghost use Rattle.hsp_check.specs.Reach.{network_in, network_with};
-ghost use Rattle.hsp_check.specs.Judged.{AreSums};
 ghost use Rattle.hsp_check.specs.Verdict.{IsVerdict, PlanMeets};
 
 use crate::indexing::IndexedArcs;
 use crate::judging::LaidPlan;
 use crate::laying::lay;
 use crate::lists::NetworkLists;
+use crate::loads::loads_of;
 use crate::numbers::NetworkNumbers;
 use crate::prices::PriceLists;
-use crate::sums::{End, add_hosts, add_up};
 use crate::verdict::{Reason, Verdict};
 use hsp_cert::BestRef;
 use std::alloc::{AllocError, Global};
-
-// What goes to each row, each server and each host.
-#[derive(Drop)]
-struct PlanSums {
-    rows: Vec<u128>,
-    servers: Vec<u128>,
-    hosts: Vec<u128>,
-}
-
-fn sums_of(alloc: Global, lists: NetworkLists<'_>) -> Result<PlanSums, AllocError>
-    ensures { IfOk result (λ sums. (x : Plan) → All (λ l. l.flow ≡ planned x l.arc) lists.entry.laid.now → AreSums (network_in lists.entry) x sums.rows.items sums.servers.items sums.hosts.items) }
-{
-    let rows = add_up(alloc, End::Row, lists.laid, lists.demands.len())?;
-    let servers = add_up(alloc, End::Server, lists.laid, lists.capacities.len())?;
-    let hosts = add_hosts(alloc, lists.homes, &servers, lists.limits.len())?;
-    Ok(PlanSums {
-        rows,
-        servers,
-        hosts,
-    })
-}
 
 // Whether there are as many prices as rows, as servers and as hosts.
 fn is_shaped(numbers: &NetworkNumbers, plan: &BestRef<'_>) -> bool
@@ -65,7 +43,7 @@ fn judge<'a>(
     requires laid { All (λ l. l.flow ≡ planned (table plan.now.uses) l.arc) lists.laid.now }
     ensures { IfOk result (λ verdict. IsVerdict (network_in lists.entry) (best plan.now) verdict) }
 {
-    let sums = sums_of(alloc, lists)?;
+    let loads = loads_of(alloc, lists)?;
     let prices = PriceLists {
         rows: plan.row_prices(),
         servers: plan.server_prices(),
@@ -77,9 +55,7 @@ fn judge<'a>(
         prices,
         cost: plan.cost(),
         uses: plan.uses(),
-        rows: &sums.rows,
-        servers: &sums.servers,
-        hosts: &sums.hosts,
+        loads: &loads,
     };
     Ok(laid.verdict())
 }

@@ -29,8 +29,12 @@ fn flag_rows(flags: &mut [bool], rows: &[u32]) -> bool
     true
 }
 
-// A flag for each row below `count`, set for these, and None where one isn't below it.
-fn flags_of(alloc: Global, rows: &[u32], count: usize) -> Result<Option<Vec<bool>>, AllocError>
+/// A flag for each row below `count`, set for these, and None where one isn't below it.
+pub(crate) fn flags_of(
+    alloc: Global,
+    rows: &[u32],
+    count: usize,
+) -> Result<Option<Vec<bool>>, AllocError>
     ensures there { IfOk result (λ flags. IfSome flags (λ _. All (λ r. r < count) rows.now)) }
     ensures lost { IfOk result (λ flags. IfNone flags (All (λ r. r < count) rows.now → ⊥)) }
     ensures len { IfOk result (λ flags. IfSome flags (λ f. length f.items ≡ count)) }

@@ -87,8 +87,12 @@ fn hosted_room(limits: &[u64], rooms: &[u128]) -> u128
     sum
 }
 
-// The servers that the flagged rows may use.
-fn reached_by(alloc: Global, lists: NetworkLists, rows: &[bool]) -> Result<Vec<bool>, AllocError>
+/// The servers that the flagged rows may use.
+pub(crate) fn reached_by(
+    alloc: Global,
+    lists: NetworkLists,
+    rows: &[bool],
+) -> Result<Vec<bool>, AllocError>
     requires { length rows.now ≡ length lists.demands.now }
     ensures len { IfOk result (λ reached. vec_len reached ≡ length lists.entry.capacities.now) }
     ensures reached { IfOk result (λ reached. (j : ℕ) → j < length lists.entry.capacities.now → flag_at reached.items j ≡ list_any (λ l. flag_at rows.now l.arc.row && l.arc.server == j) lists.entry.laid.now) }

@@ -1,9 +1,10 @@
 // The sums of a plan over its arcs, its servers and its hosts.
 
 ghost use Rattle.std.specs.Prelude.{◌≡◌, ℕ, ◌+◌, ◌*◌, ◌<◌, ◌≤◌, ◌==◌, ◌^◌, length, slice_index, slice_get, sum_by, option_and_then, All, IfOk, Some, vec_len, if◌then◌else◌};
-ghost use Rattle.hsp_check.specs.Sums.{sum_below};
+ghost use Rattle.hsp_check.specs.Sums.{sum_below, times};
 ghost use Rattle.hsp_check.specs.Plan.{is_on};
 ghost use Rattle.hsp_check.specs.Laid.{end_of, home_in};
+ghost use Rattle.hsp_check.specs.Prices.{ArePrices};
 
 use crate::arc::NetworkArc;
 use std::alloc::{AllocError, Global};
@@ -124,6 +125,30 @@ pub(crate) fn total_of(laid: &[LaidArc]) -> u128
     let mut sum: u128 = 0;
     for place in 0..laid.len() {
         sum += cost_of(laid[place]);
+    }
+    sum
+}
+
+// The number at its price.
+fn priced(number: u64, price: u64) -> u128
+    requires { price ≤ 1000000000000 }
+    ensures worth { result ≡ number * price }
+    ensures fits { result ≤ 2 ^ 104 }
+{
+    u128::from(number) * u128::from(price)
+}
+
+/// Numbers at their prices, added up.
+pub(crate) fn worth_of(numbers: &[u64], prices: &[u64]) -> u128
+    requires many { length prices.now ≡ length numbers.now }
+    requires few { length numbers.now < 2 ^ 16 }
+    requires low { ArePrices prices.now }
+    ensures worth { result ≡ times numbers.now prices.now }
+    ensures fits { result ≤ 2 ^ 120 }
+{
+    let mut sum: u128 = 0;
+    for place in 0..numbers.len() {
+        sum += priced(numbers[place], prices[place]);
     }
     sum
 }

@@ -16,7 +16,7 @@ use Rattle.hsp_flow.specs.Answer.{IsMet, BoundsCosts, IsShortSet}
 use Rattle.hsp_flow.specs.Network.{HasLowPrices, capacity_of, demand_of}
 use Rattle.hsp_flow.specs.Planning.{transport_of, uses_of, flagged_from, HasLimitedPrices, row_of, cost_of}
 use Rattle.hsp_flow.specs.Sums.{sum_below, only}
-use Rattle.hsp_flow.specs.declared.network.Plan.{Plan}
+use Rattle.hsp_flow.specs.declared.network.PricedFlow.{PricedFlow}
 use Rattle.hsp_flow.proofs.Sums.{term_within, only_here}
 use Rattle.hsp_flow.proofs.Ordering.{no_arc}
 use Rattle.hsp_flow.proofs.Bridging.{arc, total_sum, total_at}
@@ -25,7 +25,7 @@ use Rattle.hsp_flow.proofs.Ranges.{uses_ascend, uses_fit, prices_fit, flags_asce
 use Rattle.hsp_flow.proofs.ShortRows.{set_valid}
 use Rattle.hsp_flow.proofs.Limits.{counts_low, small_ends, costs_low, total_low, network_is, few_arcs}
 
-module _ (it : Instance) (is : IsInstance it) (plan : Plan) (met : IsMet (transport_of it) plan) where
+module _ (it : Instance) (is : IsInstance it) (plan : PricedFlow) (met : IsMet (transport_of it) plan) where
   limit : ℕ
   limit = (length (transport_of it).demands + length (transport_of it).capacities + length (transport_of it).limits + 1) * 1000000
 
@@ -98,7 +98,7 @@ module _ (it : Instance) (is : IsInstance it) (costs : List ℕ) (same : costs �
   pub costs_cheap : (k : ℕ) → k < length costs → slice_index costs k ≤ 1000000
   costs_cheap = rw same (costs_low it is)
 
-  module _ (plan : Plan) (met : IsMet (transport_of it) plan) (total : ℕ) (sum : total ≡ sum_below (length costs) (λ k. slice_index costs k * slice_index plan.flows.items k)) where
+  module _ (plan : PricedFlow) (met : IsMet (transport_of it) plan) (total : ℕ) (sum : total ≡ sum_below (length costs) (λ k. slice_index costs k * slice_index plan.flows.items k)) where
     many : length costs ≡ length (arcs_from 0 it.arcs)
     many = ap (λ (xs : List ℕ). length xs) same ∙ length-map (arcs_from 0 it.arcs) cost_of
 

@@ -10,7 +10,7 @@ use Rattle.hsp_instance.specs.Instance.{Instance, IsInstance, AreArcs, IsAscendi
 use Rattle.hsp_instance.specs.Groups.{Groups, AreGroups, AreAlike}
 use Rattle.hsp_check.specs.declared.arc.NetworkArc.{NetworkArc}
 use Rattle.hsp_check.specs.Instance.{arc_of, arcs_from}
-use Rattle.hsp_flow.specs.Grouping.{group_of, AreFirsts, arcs_at, lists_at, group_arcs, offset, IsRun, AreHomes}
+use Rattle.hsp_flow.specs.Grouping.{group_of, AreFirsts, arcs_at, lists_at, group_arcs, offset, IsRun, AreGroupPlaces}
 use Rattle.hsp_flow.specs.Layout.{Appends}
 use Rattle.hsp_flow.specs.Planning.{row_of, server_of, cost_of}
 use Rattle.hsp_flow.proofs.Ordering.{no_arc, each_at, rows_between}
@@ -40,15 +40,15 @@ module _ (it : Instance) (is : IsInstance it) (gs : Groups) (ag : AreGroups it g
       let arcs : slice_get it.arcs i ≡ Some (list_at it.arcs i) = slice_get-get_or it.arcs i [] (omega (arith, l, is.one_list_a_row)) in
       first ∙ get_or_from_slice_get it.arcs r (list_at it.arcs i) [] (alike.arcs ∙ arcs)
 
-  module _ (homes : List ℕ) (run : IsRun it.arcs (lists_at it firsts) gs (length it.rows) homes) where
-    -- an arc of a row and its home
+  module _ (group_places : List ℕ) (run : IsRun it.arcs (lists_at it firsts) gs (length it.rows) group_places) where
+    -- an arc of a row and its group's
     record Paired (k : ℕ) : Type 0 where
       row : ℕ
       own : Arc
       row_in : row < length it.rows
-      inside : slice_index homes k < length (group_arcs it firsts)
+      inside : slice_index group_places k < length (group_arcs it firsts)
       arc_is : arc (arcs_from 0 it.arcs) k ≡ arc_of row own
-      home_is : arc (group_arcs it firsts) (slice_index homes k) ≡ arc_of (group_of gs row) own
+      group_place_is : arc (group_arcs it firsts) (slice_index group_places k) ≡ arc_of (group_of gs row) own
 
     pair : (i m : ℕ) → i < length it.rows → m < length (list_at it.arcs i) → Paired (offset it.arcs i + m)
     pair i m l n =
@@ -59,15 +59,15 @@ module _ (it : Instance) (is : IsInstance it) (gs : Groups) (ag : AreGroups it g
         let at_row : Stands 0 it.arcs i m = at_offset 0 it.arcs i m rows n in
         let place : m < length (list_at (lists_at it firsts) g) = rw same n in
         let at_group : Stands 0 (lists_at it firsts) g m = at_offset 0 (lists_at it firsts) g m groups place in
-        let home : slice_index homes (offset it.arcs i + m) ≡ offset (lists_at it firsts) g + m = run.at i m l n in
+        let group_place : slice_index group_places (offset it.arcs i + m) ≡ offset (lists_at it firsts) g + m = run.at i m l n in
         record {
           row = i;
           own = slice_index_or (list_at it.arcs i) m no_own;
           row_in = l;
-          inside = rw home at_group.inside;
+          inside = rw group_place at_group.inside;
           arc_is = at_row.is ∙ ap (λ r. arc_of r (slice_index_or (list_at it.arcs i) m no_own)) (zero-add i);
-          home_is =
-              ap (λ e. arc (group_arcs it firsts) e) home ∙ at_group.is ∙ ap (λ r. arc_of r (slice_index_or (list_at (lists_at it firsts) g) m no_own)) (zero-add g)
+          group_place_is =
+              ap (λ e. arc (group_arcs it firsts) e) group_place ∙ at_group.is ∙ ap (λ r. arc_of r (slice_index_or (list_at (lists_at it firsts) g) m no_own)) (zero-add g)
               ∙ ap (λ (xs : List Arc). arc_of g (slice_index_or xs m no_own)) same;
         }
 
@@ -79,27 +79,27 @@ module _ (it : Instance) (is : IsInstance it) (gs : Groups) (ag : AreGroups it g
     row_at : (k : ℕ) → k < length (arcs_from 0 it.arcs) → slice_index (map row_of (arcs_from 0 it.arcs)) k ≡ (arc (arcs_from 0 it.arcs) k).row
     row_at k l = get_or-map row_of (arcs_from 0 it.arcs) k no_arc 0 l
 
-    pub homes_are : AreHomes it gs (arcs_from 0 it.arcs) (group_arcs it firsts) homes
-    homes_are = record {
+    pub group_places_are : AreGroupPlaces it gs (arcs_from 0 it.arcs) (group_arcs it firsts) group_places
+    group_places_are = record {
       many = run.many ∙ ap (λ n. offset it.arcs n) (sym is.one_list_a_row) ∙ offset_all 0 it.arcs;
       inside = λ k l. (paired k l).inside;
       row = λ k l.
           let p = paired k l in
-          get_or-map row_of (group_arcs it firsts) (slice_index homes k) no_arc 0 p.inside ∙ ap (λ (a : NetworkArc). a.row) p.home_is
+          get_or-map row_of (group_arcs it firsts) (slice_index group_places k) no_arc 0 p.inside ∙ ap (λ (a : NetworkArc). a.row) p.group_place_is
           ∙ ap (group_of gs) (sym (ap (λ (a : NetworkArc). a.row) p.arc_is) ∙ sym (row_at k l));
       server = λ k l.
           let p = paired k l in
-          get_or-map server_of (group_arcs it firsts) (slice_index homes k) no_arc 0 p.inside ∙ ap (λ (a : NetworkArc). a.server) p.home_is
+          get_or-map server_of (group_arcs it firsts) (slice_index group_places k) no_arc 0 p.inside ∙ ap (λ (a : NetworkArc). a.server) p.group_place_is
           ∙ sym (ap (λ (a : NetworkArc). a.server) p.arc_is) ∙ sym (get_or-map server_of (arcs_from 0 it.arcs) k no_arc 0 l);
       cost = λ k l.
           let p = paired k l in
-          get_or-map cost_of (group_arcs it firsts) (slice_index homes k) no_arc 0 p.inside ∙ ap (λ (a : NetworkArc). a.cost) p.home_is
+          get_or-map cost_of (group_arcs it firsts) (slice_index group_places k) no_arc 0 p.inside ∙ ap (λ (a : NetworkArc). a.cost) p.group_place_is
           ∙ sym (ap (λ (a : NetworkArc). a.cost) p.arc_is) ∙ sym (get_or-map cost_of (arcs_from 0 it.arcs) k no_arc 0 l);
       covered = cover;
     }
       where
         cover : (i e : ℕ) → i < length it.rows → e < length (group_arcs it firsts) → slice_index (map row_of (group_arcs it firsts)) e ≡ group_of gs i →
-            (k : ℕ) × (k < length (arcs_from 0 it.arcs)) × (slice_index (map row_of (arcs_from 0 it.arcs)) k ≡ i) × (slice_index homes k ≡ e)
+            (k : ℕ) × (k < length (arcs_from 0 it.arcs)) × (slice_index (map row_of (arcs_from 0 it.arcs)) k ≡ i) × (slice_index group_places k ≡ e)
         cover i e l m same =
             let c : Comes (lists_at it firsts) e = from_offset 0 (lists_at it firsts) e m in
             let s : Stands 0 (lists_at it firsts) c.list c.place = at_offset 0 (lists_at it firsts) c.list c.place c.list_in c.place_in in

@@ -8,12 +8,12 @@ use Rattle.hsp_instance.specs.Instance.{Instance, Row, Server, Host, IsInstance}
 use Rattle.hsp_instance.specs.Groups.{Groups, AreGroups}
 use Rattle.hsp_check.specs.Instance.{arcs_from}
 use Rattle.hsp_flow.specs.Answer.{IsMet, IsShortSet, BoundsCosts}
-use Rattle.hsp_flow.specs.Grouping.{group_of, group_demand, grouped, AreFirsts, AreHomes, AreGroupLists, group_arcs, arcs_at, lists_at}
+use Rattle.hsp_flow.specs.Grouping.{group_of, group_demand, grouped, AreFirsts, AreGroupPlaces, AreGroupLists, group_arcs, arcs_at, lists_at}
 use Rattle.hsp_flow.specs.Network.{Transport, IsNetwork, HasLowPrices, load, host_load, is_on, host_of, reaches, reached_capacity, capacity_of, demand_of}
 use Rattle.hsp_flow.specs.Planning.{transport_of, row_of, server_of, cost_of}
 use Rattle.hsp_flow.specs.Spreads.{Spread}
 use Rattle.hsp_flow.specs.Sums.{sum_below, only, any_below}
-use Rattle.hsp_flow.specs.declared.network.Plan.{Plan}
+use Rattle.hsp_flow.specs.declared.network.PricedFlow.{PricedFlow}
 use Rattle.hsp_flow.proofs.Sums.{sum_below_same, only_here, only_there}
 use Rattle.hsp_flow.proofs.Totals.{sum_below_zero, by_key}
 use Rattle.hsp_flow.proofs.SpreadFlows as spread
@@ -22,11 +22,11 @@ use Rattle.hsp_flow.specs.declared.group_lists.GroupLists.{GroupLists}
 use Rattle.hsp_flow.proofs.Ordering.{no_arc, all_ordered, rows_ordered, arcs_many}
 use Rattle.hsp_flow.proofs.Bridging.{arc}
 use Rattle.hsp_flow.proofs.Limits.{network_is, small_is, costs_low, counts_low}
-use Rattle.hsp_flow.proofs.GroupFacts.{group_in, first_in, homes_are, ends_in, firsts_few, lists_low, lists_ascend}
+use Rattle.hsp_flow.proofs.GroupFacts.{group_in, first_in, group_places_are, ends_in, firsts_few, lists_low, lists_ascend}
 
 module _ (it : Instance) (is : IsInstance it) (gs : Groups) (ag : AreGroups it gs) (firsts : List ℕ) (af : AreFirsts gs firsts)
     (demands : List ℕ) (dm : length demands ≡ gs.count) (dd : (g : ℕ) → g < gs.count → slice_index demands g ≡ group_demand it gs g)
-    (homes : List ℕ) (ah : AreHomes it gs (arcs_from 0 it.arcs) (group_arcs it firsts) homes)
+    (group_places : List ℕ) (ah : AreGroupPlaces it gs (arcs_from 0 it.arcs) (group_arcs it firsts) group_places)
     (ends : (e : ℕ) → e < length (group_arcs it firsts) → slice_index (map row_of (group_arcs it firsts)) e < gs.count) where
   abbrev net : Transport
   net = grouped it firsts demands
@@ -46,20 +46,20 @@ module _ (it : Instance) (is : IsInstance it) (gs : Groups) (ag : AreGroups it g
   row_in : (k : ℕ) → k < length rows.sources → slice_index rows.sources k < length rows.demands
   row_in k l = (network_is it is).sources_in k l
 
-  home_in : (k : ℕ) → k < length rows.sources → slice_index homes k < length net.sources
-  home_in k l = omega (arith, ah.inside k (omega (arith, l, row_arcs_many)), groups_many)
+  group_place_in : (k : ℕ) → k < length rows.sources → slice_index group_places k < length net.sources
+  group_place_in k l = omega (arith, ah.inside k (omega (arith, l, row_arcs_many)), groups_many)
 
-  home_row : (k : ℕ) → k < length rows.sources → slice_index net.sources (slice_index homes k) ≡ group_of gs (slice_index rows.sources k)
-  home_row k l = ah.row k (omega (arith, l, row_arcs_many))
+  group_place_row : (k : ℕ) → k < length rows.sources → slice_index net.sources (slice_index group_places k) ≡ group_of gs (slice_index rows.sources k)
+  group_place_row k l = ah.row k (omega (arith, l, row_arcs_many))
 
   covered : (i e : ℕ) → i < length rows.demands → e < length net.sources → slice_index net.sources e ≡ group_of gs i →
-      (k : ℕ) × (k < length rows.sources) × (slice_index rows.sources k ≡ i) × (slice_index homes k ≡ e)
+      (k : ℕ) × (k < length rows.sources) × (slice_index rows.sources k ≡ i) × (slice_index group_places k ≡ e)
   covered i e l m same =
       let c = ah.covered i e (omega (arith, l, rows_many)) (omega (arith, m, groups_many)) same in
       (c.0, omega (arith, c.1, row_arcs_many), c.2, c.3)
 
-  -- each arc of a group is the home of one of its first row's
-  pub reached : (e : ℕ) → e < length net.sources → (k : ℕ) × (k < length rows.sources) × (slice_index homes k ≡ e)
+  -- each arc of a group is that of one of its first row's
+  pub reached : (e : ℕ) → e < length net.sources → (k : ℕ) × (k < length rows.sources) × (slice_index group_places k ≡ e)
   reached e l =
       let g = slice_index net.sources e in
       let there : g < gs.count = ends e (omega (arith, l, groups_many)) in
@@ -67,8 +67,8 @@ module _ (it : Instance) (is : IsInstance it) (gs : Groups) (ag : AreGroups it g
       let c = covered (slice_index firsts g) e (omega (arith, first, rows_many)) l (sym (af.own g there)) in
       (c.0, c.1, c.3)
 
-  module _ (plan : Plan) (met : IsMet net plan) (need left : ℕ → ℕ) (flows u : List ℕ) (flows_many : length flows ≡ length rows.sources)
-      (s : Spread (length rows.demands) (length rows.sources) (length net.sources) (λ i. slice_index rows.demands i) (λ k. slice_index rows.sources k) (λ k. slice_index homes k)
+  module _ (plan : PricedFlow) (met : IsMet net plan) (need left : ℕ → ℕ) (flows u : List ℕ) (flows_many : length flows ≡ length rows.sources)
+      (s : Spread (length rows.demands) (length rows.sources) (length net.sources) (λ i. slice_index rows.demands i) (λ k. slice_index rows.sources k) (λ k. slice_index group_places k)
       (λ k. slice_index flows k) (λ e. slice_index plan.flows.items e) need left)
       (u_many : length u ≡ length it.rows) (prices : (i : ℕ) → i < length it.rows → slice_index u i ≡ slice_index plan.source_prices.items (group_of gs i)) where
     balanced : (g : ℕ) → g < gs.count → sum_below (length net.sources) (λ e. only (slice_index net.sources e) g (slice_index plan.flows.items e)) ≡ sum_below (length rows.demands) (λ i. only (group_of gs i) g (slice_index rows.demands i))
@@ -82,20 +82,20 @@ module _ (it : Instance) (is : IsInstance it) (gs : Groups) (ag : AreGroups it g
 
     load_is : (j : ℕ) → load rows (λ k. slice_index flows k) j ≡ load net (λ e. slice_index plan.flows.items e) j
     load_is j =
-        spread.spread_sum (length rows.demands) (length rows.sources) (length net.sources) gs.count (λ i. slice_index rows.demands i) (λ k. slice_index rows.sources k) (λ k. slice_index homes k)
-        (λ k. slice_index flows k) (λ e. slice_index plan.flows.items e) need left (group_of gs) (λ e. slice_index net.sources e) s of_group of_end row_in home_in home_row balanced covered
+        spread.spread_sum (length rows.demands) (length rows.sources) (length net.sources) gs.count (λ i. slice_index rows.demands i) (λ k. slice_index rows.sources k) (λ k. slice_index group_places k)
+        (λ k. slice_index flows k) (λ e. slice_index plan.flows.items e) need left (group_of gs) (λ e. slice_index net.sources e) s of_group of_end row_in group_place_in group_place_row balanced covered
         (λ k. slice_index rows.servers k) (λ e. slice_index net.servers e) (λ k l. ah.server k (omega (arith, l, row_arcs_many))) j
 
     host_is : (h : ℕ) → host_load rows (λ k. slice_index flows k) h ≡ host_load net (λ e. slice_index plan.flows.items e) h
     host_is h = sum_below_same (length rows.capacities) _ _ (λ j l. ap (λ n. if is_on (host_of rows j) h then n else 0) (load_is j))
 
-    price_is : (k : ℕ) → k < length rows.sources → slice_index u (slice_index rows.sources k) ≡ slice_index plan.source_prices.items (slice_index net.sources (slice_index homes k))
-    price_is k l = prices (slice_index rows.sources k) (omega (arith, row_in k l, rows_many)) ∙ ap (λ g. slice_index plan.source_prices.items g) (sym (home_row k l))
+    price_is : (k : ℕ) → k < length rows.sources → slice_index u (slice_index rows.sources k) ≡ slice_index plan.source_prices.items (slice_index net.sources (slice_index group_places k))
+    price_is k l = prices (slice_index rows.sources k) (omega (arith, row_in k l, rows_many)) ∙ ap (λ g. slice_index plan.source_prices.items g) (sym (group_place_row k l))
 
-    server_is : (k : ℕ) → k < length rows.sources → slice_index net.servers (slice_index homes k) ≡ slice_index rows.servers k
+    server_is : (k : ℕ) → k < length rows.sources → slice_index net.servers (slice_index group_places k) ≡ slice_index rows.servers k
     server_is k l = ah.server k (omega (arith, l, row_arcs_many))
 
-    cost_is : (k : ℕ) → k < length rows.sources → slice_index net.costs (slice_index homes k) ≡ slice_index rows.costs k
+    cost_is : (k : ℕ) → k < length rows.sources → slice_index net.costs (slice_index group_places k) ≡ slice_index rows.costs k
     cost_is k l = ah.cost k (omega (arith, l, row_arcs_many))
 
     -- the bound on the groups' prices is within that on the rows'
@@ -118,13 +118,13 @@ module _ (it : Instance) (is : IsInstance it) (gs : Groups) (ag : AreGroups it g
           hosts = λ j l. omega (arith, h.hosts j l, limit_rises most);
         }
 
-    pub met_rows : (made : Plan) → made.flows.items ≡ flows → made.source_prices.items ≡ u → made.server_prices.items ≡ plan.server_prices.items → made.host_prices.items ≡ plan.host_prices.items → IsMet rows made
+    pub met_rows : (made : PricedFlow) → made.flows.items ≡ flows → made.source_prices.items ≡ u → made.server_prices.items ≡ plan.server_prices.items → made.host_prices.items ≡ plan.host_prices.items → IsMet rows made
     met_rows made f a b c = record {
       many = ap (λ (xs : List ℕ). length xs) f ∙ flows_many;
       feasible = rw f (record {
         met = λ i l.
-            spread.spread_needs (length rows.demands) (length rows.sources) (length net.sources) gs.count (λ i. slice_index rows.demands i) (λ k. slice_index rows.sources k) (λ k. slice_index homes k)
-            (λ k. slice_index flows k) (λ e. slice_index plan.flows.items e) need left (group_of gs) (λ e. slice_index net.sources e) s of_group of_end row_in home_in home_row balanced covered i l;
+            spread.spread_needs (length rows.demands) (length rows.sources) (length net.sources) gs.count (λ i. slice_index rows.demands i) (λ k. slice_index rows.sources k) (λ k. slice_index group_places k)
+            (λ k. slice_index flows k) (λ e. slice_index plan.flows.items e) need left (group_of gs) (λ e. slice_index net.sources e) s of_group of_end row_in group_place_in group_place_row balanced covered i l;
         within = λ j l. rw (load_is j) (met.feasible.within j l);
         hosted = λ h l. rw (host_is h) (met.feasible.hosted h l);
       });
@@ -132,11 +132,11 @@ module _ (it : Instance) (is : IsInstance it) (gs : Groups) (ag : AreGroups it g
         sources_many = u_many ∙ sym rows_many;
         servers_many = met.prices.servers_many;
         hosts_many = met.prices.hosts_many;
-        below = λ k l. rw (price_is k l, sym (cost_is k l), sym (server_is k l)) (met.prices.below (slice_index homes k) (home_in k l));
+        below = λ k l. rw (price_is k l, sym (cost_is k l), sym (server_is k l)) (met.prices.below (slice_index group_places k) (group_place_in k l));
         used = λ k l some. rw (price_is k l, sym (cost_is k l), sym (server_is k l))
-            (met.prices.used (slice_index homes k) (home_in k l)
-            (spread.spread_used (length rows.demands) (length rows.sources) (length net.sources) gs.count (λ i. slice_index rows.demands i) (λ k. slice_index rows.sources k) (λ k. slice_index homes k)
-            (λ k. slice_index flows k) (λ e. slice_index plan.flows.items e) need left (group_of gs) (λ e. slice_index net.sources e) s of_group of_end row_in home_in home_row balanced covered k l some));
+            (met.prices.used (slice_index group_places k) (group_place_in k l)
+            (spread.spread_used (length rows.demands) (length rows.sources) (length net.sources) gs.count (λ i. slice_index rows.demands i) (λ k. slice_index rows.sources k) (λ k. slice_index group_places k)
+            (λ k. slice_index flows k) (λ e. slice_index plan.flows.items e) need left (group_of gs) (λ e. slice_index net.sources e) s of_group of_end row_in group_place_in group_place_row balanced covered k l some));
         idle = λ j l less. met.prices.idle j l (rw (sym (load_is j)) less);
         idle_host = λ h l less. met.prices.idle_host h l (rw (sym (host_is h)) less);
       });
@@ -195,15 +195,15 @@ module _ (it : Instance) (is : IsInstance it) (gs : Groups) (ag : AreGroups it g
     any_none (suc n) test h = rw (any_none n test (λ k l. h k (omega arith)), h n (omega arith)) refl
 
     test_is : (j k : ℕ) → k < length rows.sources →
-        (chosen (slice_index rows.sources k) && (slice_index rows.servers k == j)) ≡ (groups (slice_index net.sources (slice_index homes k)) && (slice_index net.servers (slice_index homes k) == j))
+        (chosen (slice_index rows.sources k) && (slice_index rows.servers k == j)) ≡ (groups (slice_index net.sources (slice_index group_places k)) && (slice_index net.servers (slice_index group_places k) == j))
     test_is j k l =
-        ap₂ (λ b s. b && (s == j)) (same (slice_index rows.sources k) (omega (arith, row_in k l, rows_many)) ∙ ap groups (sym (home_row k l))) (sym (ah.server k (omega (arith, l, row_arcs_many))))
+        ap₂ (λ b s. b && (s == j)) (same (slice_index rows.sources k) (omega (arith, row_in k l, rows_many)) ∙ ap groups (sym (group_place_row k l))) (sym (ah.server k (omega (arith, l, row_arcs_many))))
 
     reach_is : (j : ℕ) → reaches rows chosen j ≡ reaches net groups j
     reach_is j = elim (cases_Bool (reaches net groups j)) [
       | inl yes' ↦ reach_up yes' (length net.sources) (omega arith) yes'
       | inr no' ↦
-          any_none (length rows.sources) _ (λ k l. test_is j k l ∙ none_of (length net.sources) (λ e. groups (slice_index net.sources e) && (slice_index net.servers e == j)) no' (slice_index homes k) (home_in k l)) ∙ sym no'
+          any_none (length rows.sources) _ (λ k l. test_is j k l ∙ none_of (length net.sources) (λ e. groups (slice_index net.sources e) && (slice_index net.servers e == j)) no' (slice_index group_places k) (group_place_in k l)) ∙ sym no'
     ]
       where
         none_of : (n : ℕ) (test : ℕ → Bool) → any_below n test ≡ false → (k : ℕ) → k < n → test k ≡ false
@@ -217,7 +217,7 @@ module _ (it : Instance) (is : IsInstance it) (gs : Groups) (ag : AreGroups it g
         reach_up all (suc n) le some = elim (cases_Bool (groups (slice_index net.sources n) && (slice_index net.servers n == j))) [
           | inl here ↦
               let r = reached n (omega arith) in
-              let at : (groups (slice_index net.sources (slice_index homes r.0)) && (slice_index net.servers (slice_index homes r.0) == j)) ≡ true = rw r.2 here in
+              let at : (groups (slice_index net.sources (slice_index group_places r.0)) && (slice_index net.servers (slice_index group_places r.0) == j)) ≡ true = rw r.2 here in
               any_at (length rows.sources) (λ k. chosen (slice_index rows.sources k) && (slice_index rows.servers k == j)) r.0 r.1 (test_is j r.0 r.1 ∙ at) ∙ sym all
           | inr not-here ↦ reach_up all n (omega arith) (drop_last (any_below n (λ e. groups (slice_index net.sources e) && (slice_index net.servers e == j))) (groups (slice_index net.sources n) && (slice_index net.servers n == j)) not-here some)
         ]
@@ -242,40 +242,40 @@ module _ (it : Instance) (is : IsInstance it) (gs : Groups) (ag : AreGroups it g
 -- ---- the same for lists that are equal to those
 
 module _ (it : Instance) (is : IsInstance it) (gs : Groups) (ag : AreGroups it gs) (firsts : List ℕ) (af : AreFirsts gs firsts) (lists : GroupLists) (al : AreGroupLists it gs firsts lists) where
-  homes_hold : AreHomes it gs (arcs_from 0 it.arcs) (group_arcs it firsts) lists.homes.items
-  homes_hold = homes_are it is gs ag firsts af lists.homes.items al.homes
+  group_places_hold : AreGroupPlaces it gs (arcs_from 0 it.arcs) (group_arcs it firsts) lists.group_places.items
+  group_places_hold = group_places_are it is gs ag firsts af lists.group_places.items al.group_places
 
-  pub homes_many : (sources : List ℕ) → sources ≡ (transport_of it).sources → length lists.homes.items ≡ length sources
-  homes_many sources same = homes_hold.many ∙ sym (ap (λ (xs : List ℕ). length xs) same ∙ length-map (arcs_from 0 it.arcs) row_of)
+  pub group_places_many : (sources : List ℕ) → sources ≡ (transport_of it).sources → length lists.group_places.items ≡ length sources
+  group_places_many sources same = group_places_hold.many ∙ sym (ap (λ (xs : List ℕ). length xs) same ∙ length-map (arcs_from 0 it.arcs) row_of)
 
   pub sources_low : (sources demands : List ℕ) → sources ≡ (transport_of it).sources → demands ≡ (transport_of it).demands → (k : ℕ) → k < length sources → slice_index sources k < length demands
   sources_low sources demands s d = rw (s, d) ((network_is it is).sources_in)
 
-  pub homes_low : (plan : Plan) → IsMet (grouped it firsts lists.demands.items) plan → (sources : List ℕ) → sources ≡ (transport_of it).sources → (k : ℕ) → k < length sources → slice_index lists.homes.items k < length plan.flows.items
-  homes_low plan met sources s k l =
-      omega (arith, homes_hold.inside k (omega (arith, l, ap (λ (xs : List ℕ). length xs) s, length-map (arcs_from 0 it.arcs) row_of)), met.many, length-map (group_arcs it firsts) row_of)
+  pub group_places_low : (plan : PricedFlow) → IsMet (grouped it firsts lists.demands.items) plan → (sources : List ℕ) → sources ≡ (transport_of it).sources → (k : ℕ) → k < length sources → slice_index lists.group_places.items k < length plan.flows.items
+  group_places_low plan met sources s k l =
+      omega (arith, group_places_hold.inside k (omega (arith, l, ap (λ (xs : List ℕ). length xs) s, length-map (arcs_from 0 it.arcs) row_of)), met.many, length-map (group_arcs it firsts) row_of)
 
-  spread_at : (plan : Plan) (met : IsMet (grouped it firsts lists.demands.items) plan) (flows u : List ℕ) → length flows ≡ length (transport_of it).sources →
-      ((need : List ℕ) × (left : List ℕ) × Spread (length (transport_of it).demands) (length (transport_of it).sources) (length plan.flows.items) (λ i. slice_index (transport_of it).demands i) (λ k. slice_index (transport_of it).sources k) (λ k. slice_index lists.homes.items k)
+  spread_at : (plan : PricedFlow) (met : IsMet (grouped it firsts lists.demands.items) plan) (flows u : List ℕ) → length flows ≡ length (transport_of it).sources →
+      ((need : List ℕ) × (left : List ℕ) × Spread (length (transport_of it).demands) (length (transport_of it).sources) (length plan.flows.items) (λ i. slice_index (transport_of it).demands i) (λ k. slice_index (transport_of it).sources k) (λ k. slice_index lists.group_places.items k)
       (λ k. slice_index flows k) (λ e. slice_index plan.flows.items e) (λ i. slice_index need i) (λ e. slice_index left e)) →
       length u ≡ length it.rows → ((i : ℕ) → i < length it.rows → slice_index u i ≡ slice_index plan.source_prices.items (group_of gs i)) →
-      (made : Plan) → made.flows.items ≡ flows → made.source_prices.items ≡ u → made.server_prices.items ≡ plan.server_prices.items → made.host_prices.items ≡ plan.host_prices.items → IsMet (transport_of it) made
+      (made : PricedFlow) → made.flows.items ≡ flows → made.source_prices.items ≡ u → made.server_prices.items ≡ plan.server_prices.items → made.host_prices.items ≡ plan.host_prices.items → IsMet (transport_of it) made
   spread_at plan met flows u many s u_many prices made f a b c =
-      met_rows it is gs ag firsts af lists.demands.items al.demands_many al.demands lists.homes.items homes_hold (ends_in it gs firsts af) plan met (λ i. slice_index s.0 i) (λ e. slice_index s.1 e) flows u many
+      met_rows it is gs ag firsts af lists.demands.items al.demands_many al.demands lists.group_places.items group_places_hold (ends_in it gs firsts af) plan met (λ i. slice_index s.0 i) (λ e. slice_index s.1 e) flows u many
       (rw met.many at s.2) u_many prices made f a b c
 
-  pub spread_met : (plan : Plan) (met : IsMet (grouped it firsts lists.demands.items) plan) (counts sources homes of_groups flows u : List ℕ) → counts ≡ (transport_of it).demands → sources ≡ (transport_of it).sources →
-      homes ≡ lists.homes.items → of_groups ≡ plan.flows.items → length flows ≡ length sources →
-      ((need : List ℕ) × (left : List ℕ) × Spread (length counts) (length sources) (length of_groups) (λ i. slice_index counts i) (λ k. slice_index sources k) (λ k. slice_index homes k)
+  pub spread_met : (plan : PricedFlow) (met : IsMet (grouped it firsts lists.demands.items) plan) (counts sources group_places of_groups flows u : List ℕ) → counts ≡ (transport_of it).demands → sources ≡ (transport_of it).sources →
+      group_places ≡ lists.group_places.items → of_groups ≡ plan.flows.items → length flows ≡ length sources →
+      ((need : List ℕ) × (left : List ℕ) × Spread (length counts) (length sources) (length of_groups) (λ i. slice_index counts i) (λ k. slice_index sources k) (λ k. slice_index group_places k)
       (λ k. slice_index flows k) (λ e. slice_index of_groups e) (λ i. slice_index need i) (λ e. slice_index left e)) →
       length u ≡ length it.rows → ((i : ℕ) → i < length it.rows → slice_index u i ≡ slice_index plan.source_prices.items (group_of gs i)) →
-      (made : Plan) → made.flows.items ≡ flows → made.source_prices.items ≡ u → made.server_prices.items ≡ plan.server_prices.items → made.host_prices.items ≡ plan.host_prices.items → IsMet (transport_of it) made
-  spread_met plan met counts sources homes of_groups flows u d r h g many s = spread_at plan met flows u (many ∙ ap (λ (xs : List ℕ). length xs) r) (rw (d, r, h, g) at s)
+      (made : PricedFlow) → made.flows.items ≡ flows → made.source_prices.items ≡ u → made.server_prices.items ≡ plan.server_prices.items → made.host_prices.items ≡ plan.host_prices.items → IsMet (transport_of it) made
+  spread_met plan met counts sources group_places of_groups flows u d r h g many s = spread_at plan met flows u (many ∙ ap (λ (xs : List ℕ). length xs) r) (rw (d, r, h, g) at s)
 
   pub short_spread : (set flags : List Bool) → IsShortSet (grouped it firsts lists.demands.items) set → length flags ≡ length it.rows →
       ((i : ℕ) → i < length it.rows → slice_index_or flags i false ≡ slice_index_or set (group_of gs i) false) → IsShortSet (transport_of it) flags
   short_spread set flags short many same =
-      short_rows it is gs ag firsts af lists.demands.items al.demands_many al.demands lists.homes.items homes_hold (ends_in it gs firsts af) set flags short many same
+      short_rows it is gs ag firsts af lists.demands.items al.demands_many al.demands lists.group_places.items group_places_hold (ends_in it gs firsts af) set flags short many same
 
   -- the groups' network is one
   pub grouped_is : IsNetwork (grouped it firsts lists.demands.items)
@@ -285,9 +285,9 @@ module _ (it : Instance) (is : IsInstance it) (gs : Groups) (ag : AreGroups it g
     costs_many = length-map (group_arcs it firsts) cost_of ∙ sym (length-map (group_arcs it firsts) row_of);
     sources_in = λ e l. omega (arith, ends_in it gs firsts af e (omega (arith, l, length-map (group_arcs it firsts) row_of)), al.demands_many);
     servers_in = λ e l.
-        let r = reached it is gs ag firsts af lists.demands.items al.demands_many al.demands lists.homes.items homes_hold (ends_in it gs firsts af) e l in
+        let r = reached it is gs ag firsts af lists.demands.items al.demands_many al.demands lists.group_places.items group_places_hold (ends_in it gs firsts af) e l in
         let at : slice_index (map server_of (group_arcs it firsts)) e ≡ slice_index (transport_of it).servers r.0 =
-        ap (λ (m : ℕ). slice_index (map server_of (group_arcs it firsts)) m) (sym r.2) ∙ homes_hold.server r.0 (omega (arith, r.1, length-map (arcs_from 0 it.arcs) row_of)) in
+        ap (λ (m : ℕ). slice_index (map server_of (group_arcs it firsts)) m) (sym r.2) ∙ group_places_hold.server r.0 (omega (arith, r.1, length-map (arcs_from 0 it.arcs) row_of)) in
         omega (arith, at, (network_is it is).servers_in r.0 r.1);
     hosts_in = (network_is it is).hosts_in;
     ordered = λ j k le l.
@@ -312,10 +312,10 @@ module _ (it : Instance) (is : IsInstance it) (gs : Groups) (ag : AreGroups it g
         few = omega (arith, nodes);
         few_links = omega (arith, hosts, servers, is.hosts.few, is.servers.few, arcs, many, groups, length-map firsts (arcs_at it));
         cheap = λ e l.
-            let r = reached it is gs ag firsts af lists.demands.items al.demands_many al.demands lists.homes.items homes_hold (ends_in it gs firsts af) e l in
+            let r = reached it is gs ag firsts af lists.demands.items al.demands_many al.demands lists.group_places.items group_places_hold (ends_in it gs firsts af) e l in
             let inside : r.0 < length (arcs_from 0 it.arcs) = omega (arith, r.1, length-map (arcs_from 0 it.arcs) row_of) in
             let at : slice_index (map cost_of (group_arcs it firsts)) e ≡ slice_index (transport_of it).costs r.0 =
-            ap (λ (m : ℕ). slice_index (map cost_of (group_arcs it firsts)) m) (sym r.2) ∙ homes_hold.cost r.0 inside in
+            ap (λ (m : ℕ). slice_index (map cost_of (group_arcs it firsts)) m) (sym r.2) ∙ group_places_hold.cost r.0 inside in
             let low = costs_low it is r.0 (omega (arith, inside, length-map (arcs_from 0 it.arcs) cost_of)) in
             let one : n * slice_index (map cost_of (group_arcs it firsts)) e ≤ 10242000000 = le_trans (mul-le-mul_right (slice_index (map cost_of (group_arcs it firsts)) e) nodes) (omega (arith, at, low)) in
             let two : n * (n * slice_index (map cost_of (group_arcs it firsts)) e) ≤ 10242 * (n * slice_index (map cost_of (group_arcs it firsts)) e) = mul-le-mul_right (n * slice_index (map cost_of (group_arcs it firsts)) e) nodes in

@@ -33,3 +33,4 @@ pub mod SpreadFlows
 pub mod Offsets
 pub mod GroupFacts
 pub mod GroupsMet
+pub mod NodeCounts

@@ -1,7 +1,7 @@
 -- What becomes of a network.
 use Rattle.std.specs.Prelude.{◌≡◌, ℕ, ◌+◌, ◌*◌, ◌<◌, ◌≤◌, Bool, false, List, length, slice_index, slice_index_or}
 use Rattle.hsp_flow.specs.Network.{Transport, IsFeasible, HasPrices, HasLowPrices, IsShort}
-use Rattle.hsp_flow.specs.declared.network.Plan.{Plan}
+use Rattle.hsp_flow.specs.declared.network.PricedFlow.{PricedFlow}
 use Rattle.hsp_flow.specs.declared.network.Outcome.{Outcome}
 use Rattle.hsp_flow.specs.declared.network.Outcome.TheVariants.{Met, Short}
 
@@ -11,7 +11,7 @@ BoundsCosts net most = (k : ℕ) → k < length net.sources → slice_index net.
 
 -- a flow that meets every source, with prices under which it has complementary slackness; no price is above the greatest cost
 -- for each source, server and host, and once more
-pub record IsMet (net : Transport) (plan : Plan) : Type 0 where
+pub record IsMet (net : Transport) (plan : PricedFlow) : Type 0 where
   pub many : length plan.flows.items ≡ length net.sources
   pub feasible : IsFeasible net (λ k. slice_index plan.flows.items k)
   pub prices : HasPrices net (λ k. slice_index plan.flows.items k) plan.source_prices.items plan.server_prices.items plan.host_prices.items

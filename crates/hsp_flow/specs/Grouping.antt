@@ -55,25 +55,26 @@ grouped it firsts demands = record {
 }
 
 -- Each arc of a row has its arc of the row's group, with the same server and cost, and each arc of the group is that of one of the row.
-pub record AreHomes (it : Instance) (groups : Groups) (arcs of_groups : List NetworkArc) (homes : List ℕ) : Type 0 where
-  pub many : length homes ≡ length arcs
-  pub inside : (k : ℕ) → k < length arcs → slice_index homes k < length of_groups
-  pub row : (k : ℕ) → k < length arcs → slice_index (map row_of of_groups) (slice_index homes k) ≡ group_of groups (slice_index (map row_of arcs) k)
-  pub server : (k : ℕ) → k < length arcs → slice_index (map server_of of_groups) (slice_index homes k) ≡ slice_index (map server_of arcs) k
-  pub cost : (k : ℕ) → k < length arcs → slice_index (map cost_of of_groups) (slice_index homes k) ≡ slice_index (map cost_of arcs) k
+pub record AreGroupPlaces (it : Instance) (groups : Groups) (arcs of_groups : List NetworkArc) (group_places : List ℕ) : Type 0 where
+  pub many : length group_places ≡ length arcs
+  pub inside : (k : ℕ) → k < length arcs → slice_index group_places k < length of_groups
+  pub row : (k : ℕ) → k < length arcs → slice_index (map row_of of_groups) (slice_index group_places k) ≡ group_of groups (slice_index (map row_of arcs) k)
+  pub server : (k : ℕ) → k < length arcs → slice_index (map server_of of_groups) (slice_index group_places k) ≡ slice_index (map server_of arcs) k
+  pub cost : (k : ℕ) → k < length arcs → slice_index (map cost_of of_groups) (slice_index group_places k) ≡ slice_index (map cost_of arcs) k
   pub covered : (i e : ℕ) → i < length it.rows → e < length of_groups → slice_index (map row_of of_groups) e ≡ group_of groups i →
-      (k : ℕ) × (k < length arcs) × (slice_index (map row_of arcs) k ≡ i) × (slice_index homes k ≡ e)
+      (k : ℕ) × (k < length arcs) × (slice_index (map row_of arcs) k ≡ i) × (slice_index group_places k ≡ e)
 
--- the homes of the arcs of the rows before row `end`: an arc at a place of its row has the home at that place of its row's group
-pub record IsRun (lists of_groups : List (List Arc)) (groups : Groups) (end : ℕ) (homes : List ℕ) : Type 0 where
-  pub many : length homes ≡ offset lists end
-  pub at : (i m : ℕ) → i < end → m < length (slice_index_or lists i []) → slice_index homes (offset lists i + m) ≡ offset of_groups (group_of groups i) + m
+-- the places of the groups' arcs for the arcs of the rows before row `end`: an arc at a place of its row has the arc at that place
+-- of its row's group
+pub record IsRun (lists of_groups : List (List Arc)) (groups : Groups) (end : ℕ) (group_places : List ℕ) : Type 0 where
+  pub many : length group_places ≡ offset lists end
+  pub at : (i m : ℕ) → i < end → m < length (slice_index_or lists i []) → slice_index group_places (offset lists i + m) ≡ offset of_groups (group_of groups i) + m
 
 -- the lists of the groups' network
 pub record AreGroupLists (it : Instance) (groups : Groups) (firsts : List ℕ) (lists : GroupLists) : Type 0 where
   pub demands_many : length lists.demands.items ≡ groups.count
   pub demands : (g : ℕ) → g < groups.count → slice_index lists.demands.items g ≡ group_demand it groups g
-  pub homes : IsRun it.arcs (lists_at it firsts) groups (length it.rows) lists.homes.items
+  pub group_places : IsRun it.arcs (lists_at it firsts) groups (length it.rows) lists.group_places.items
   pub sources : lists.sources.items ≡ map row_of (group_arcs it firsts)
   pub servers : lists.servers.items ≡ map server_of (group_arcs it firsts)
   pub costs : lists.costs.items ≡ map cost_of (group_arcs it firsts)

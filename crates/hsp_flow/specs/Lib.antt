@@ -15,3 +15,4 @@ pub mod Ordered
 pub mod Lists
 pub mod Grouping
 pub mod Spreads
+pub mod Nodes

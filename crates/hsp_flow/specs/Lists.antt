@@ -1,9 +1,9 @@
 -- The network that lists hold.
-use Rattle.hsp_flow.specs.declared.amounts.NetworkLists.{NetworkLists}
+use Rattle.hsp_flow.specs.declared.amounts.TransportLists.{TransportLists}
 use Rattle.hsp_flow.specs.Network.{Transport}
 
 -- the network that the lists are
-abbrev pub transport_in : NetworkLists → Transport
+abbrev pub transport_in : TransportLists → Transport
 transport_in lists = record {
   demands = lists.demands.items;
   capacities = lists.capacities.items;

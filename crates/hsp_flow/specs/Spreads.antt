@@ -3,7 +3,7 @@ use Rattle.std.specs.Prelude.{◌≡◌, ◌⊎◌, ℕ, ◌+◌, ◌<◌}
 use Rattle.hsp_flow.specs.Sums.{only, sum_below}
 
 -- Flows `f` of the arcs of groups, spread over those of the rows: what is left of each, and what each row still needs.
-pub record Spread (rows many groups_many : ℕ) (count row home x f need left : ℕ → ℕ) : Type 0 where
-  pub flow : (e : ℕ) → e < groups_many → left e + sum_below many (λ k. only (home k) e (x k)) ≡ f e
+pub record Spread (rows many groups_many : ℕ) (count row group_place x f need left : ℕ → ℕ) : Type 0 where
+  pub flow : (e : ℕ) → e < groups_many → left e + sum_below many (λ k. only (group_place k) e (x k)) ≡ f e
   pub needs : (i : ℕ) → i < rows → need i + sum_below many (λ k. only (row k) i (x k)) ≡ count i
-  pub greedy : (k : ℕ) → k < many → (need (row k) ≡ 0) ⊎ (left (home k) ≡ 0)
+  pub greedy : (k : ℕ) → k < many → (need (row k) ≡ 0) ⊎ (left (group_place k) ≡ 0)

@@ -12,7 +12,7 @@ use std::alloc::{AllocError, Global};
 
 /// The lists of a network: a number for each row, each server, each host, and three for each arc.
 #[derive(Drop)]
-pub(crate) struct NetworkLists {
+pub(crate) struct TransportLists {
     pub(crate) demands: Vec<u64>,
     pub(crate) capacities: Vec<u64>,
     pub(crate) limits: Vec<u64>,
@@ -27,11 +27,11 @@ pub(crate) fn lists_of(
     alloc: Global,
     instance: &Instance,
     arcs: &[NetworkArc],
-) -> Result<NetworkLists, AllocError>
+) -> Result<TransportLists, AllocError>
     requires { arcs.now ≡ arcs_from 0 instance.now.arcs }
     ensures { IfOk result (λ lists. transport_in lists ≡ transport_of instance.now) }
 {
-    Ok(NetworkLists {
+    Ok(TransportLists {
         demands: counts_of(alloc, instance)?,
         capacities: capacities_of(alloc, instance)?,
         limits: limits_of(alloc, instance)?,

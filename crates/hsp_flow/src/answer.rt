@@ -5,7 +5,7 @@ ghost use Rattle.hsp_flow.specs.Problem.{IsLeastBound, IsLinksOf, problem_of};
 ghost use Rattle.hsp_flow.specs.Shapes.{IsClosed, Ready, nodes};
 
 use crate::links::{Flow, Links, SearchTree};
-use crate::network::{Network, Plan};
+use crate::network::{Network, PricedFlow};
 use std::alloc::{AllocError, Global};
 
 /// By how much the price at the tail of each link from `start` up to `end` is above that at its head.
@@ -47,12 +47,12 @@ pub fn copy_range(
 }
 
 /// The flow that meets every source, with its prices.
-pub fn plan_of(
+pub fn priced_flow(
     alloc: Global,
     network: &Network,
     links: &Links,
     flow: &Flow,
-) -> Result<Plan, AllocError>
+) -> Result<PricedFlow, AllocError>
     requires links_of { IsLinksOf network.now links.now }
     requires small { IsSmall (problem_of network.now) }
     requires least { IsLeastBound network.now links.now.most }
@@ -63,7 +63,7 @@ pub fn plan_of(
 {
     let hosts = network.limits.len();
     let base = hosts + network.capacities.len();
-    Ok(Plan {
+    Ok(PricedFlow {
         flows: copy_range(alloc, flow.flows, base, flow.flows.len())?,
         source_prices: copy_range(alloc, flow.price, base + 1, flow.price.len())?,
         server_prices: link_prices(alloc, links, flow.price, hosts, base)?,

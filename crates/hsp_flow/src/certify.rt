@@ -10,7 +10,7 @@ ghost use Rattle.hsp_flow.specs.Answer.{IsMet};
 ghost use Rattle.hsp_flow.specs.Planning.{HasLimitedPrices, cost_of, transport_of, uses_of};
 ghost use Rattle.hsp_flow.specs.Sums.{sum_below};
 
-use crate::network::Plan;
+use crate::network::PricedFlow;
 use hsp_cert::{Certificate, UseLine};
 use hsp_check::NetworkArc;
 use hsp_instance::Instance;
@@ -79,7 +79,7 @@ pub(crate) fn plan_certificate(
     instance: &Instance,
     arcs: &[NetworkArc],
     costs: &[u64],
-    plan: Plan,
+    plan: PricedFlow,
 ) -> Result<Certificate, AllocError>
     requires arcs { arcs.now ≡ arcs_from 0 instance.now.arcs }
     requires costs { costs.now ≡ map cost_of (arcs_from 0 instance.now.arcs) }

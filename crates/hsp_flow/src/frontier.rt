@@ -17,8 +17,12 @@ pub trait Frontier: Sized + Drop {
     /// How many calls are sure not to be refused.
     ghost sure: { Self → ℕ };
 
+    /// How many nodes a map may be asked for.
+    ghost may_have: { ℕ → Type 0 };
+
     /// An empty map for nodes below `nodes`.
     fn with_nodes(alloc: Global, nodes: u32) -> Result<Self, AllocError>
+        requires { may_have nodes }
         ensures empty { IfOk result (λ made. HoldsNone (held made)) }
         ensures nodes { IfOk result (λ made. node_count made ≡ nodes) };
 

@@ -6,18 +6,18 @@ ghost use Rattle.hsp_instance.specs.Instance.{IsInstance};
 ghost use Rattle.hsp_flow.specs.Grouping.{AreFirsts, AreGroupLists};
 
 use crate::arcs::{costs_of, rows_of, servers_of};
-use crate::grouping::{group_arcs_of, group_demands, homes_of, starts_of};
+use crate::grouping::{group_arcs_of, group_demands, group_places_of, starts_of};
 use hsp_instance::{Groups, Instance};
 use std::alloc::{AllocError, Global};
 
-/// A demand for each group, three numbers for each arc of the groups, and for each arc of the rows its arc of the row's group.
+/// A demand for each group, three numbers for each arc of the groups, and for each arc of the rows the place of its group's arc.
 #[derive(Drop)]
 pub(crate) struct GroupLists {
     pub(crate) demands: Vec<u64>,
     pub(crate) sources: Vec<u32>,
     pub(crate) servers: Vec<u32>,
     pub(crate) costs: Vec<u64>,
-    pub(crate) homes: Vec<usize>,
+    pub(crate) group_places: Vec<usize>,
 }
 
 /// The lists of the groups' network.
@@ -34,12 +34,12 @@ pub(crate) fn group_lists(
 {
     let arcs = group_arcs_of(alloc, instance, firsts)?;
     let starts = starts_of(alloc, instance, firsts)?;
-    let homes = homes_of(alloc, instance, groups, firsts, &starts)?;
+    let group_places = group_places_of(alloc, instance, groups, firsts, &starts)?;
     Ok(GroupLists {
         demands: group_demands(alloc, instance, groups)?,
         sources: rows_of(alloc, &arcs)?,
         servers: servers_of(alloc, &arcs)?,
         costs: costs_of(alloc, &arcs)?,
-        homes,
+        group_places,
     })
 }

@@ -4,7 +4,7 @@ ghost use Rattle.std.specs.Prelude.{◌≡◌, ℕ, ◌+◌, ◌<◌, ◌≤◌,
 ghost use Rattle.hsp_instance.specs.Groups.{AreGroups};
 ghost use Rattle.hsp_instance.specs.Instance.{IsInstance};
 ghost use Rattle.hsp_check.specs.Instance.{arcs_from};
-ghost use Rattle.hsp_flow.specs.Grouping.{AreFirsts, AreHomes, IsRun, arcs_at, group_arcs, group_demand, group_of, lists_at, offset};
+ghost use Rattle.hsp_flow.specs.Grouping.{AreFirsts, AreGroupPlaces, IsRun, arcs_at, group_arcs, group_demand, group_of, lists_at, offset};
 ghost use Rattle.hsp_flow.specs.Layout.{Appends};
 
 use crate::arcs::push_arcs;
@@ -108,8 +108,8 @@ fn push_run(numbers: &mut Vec<usize>, first: usize, count: usize) -> Result<(), 
     Ok(())
 }
 
-/// For each arc of the rows its arc of the row's group.
-pub(crate) fn homes_of(
+/// For each arc of the rows the place of its group's arc.
+pub(crate) fn group_places_of(
     alloc: Global,
     instance: &Instance,
     groups: &Groups,
@@ -121,12 +121,12 @@ pub(crate) fn homes_of(
     requires firsts { AreFirsts groups.now firsts.now }
     requires many { length starts.now ≡ length firsts.now }
     requires starts { (g : ℕ) → g < length firsts.now → slice_index starts.now g ≡ offset (lists_at instance.now firsts.now) g }
-    ensures { IfOk result (λ homes. IsRun instance.now.arcs (lists_at instance.now firsts.now) groups.now (length instance.now.rows) homes.items) }
+    ensures { IfOk result (λ group_places. IsRun instance.now.arcs (lists_at instance.now firsts.now) groups.now (length instance.now.rows) group_places.items) }
 {
-    let mut homes = Vec::new(alloc);
+    let mut group_places = Vec::new(alloc);
     for row in 0..instance.rows() {
         let start = starts[groups.of(row) as usize];
-        push_run(&mut homes, start, instance.arcs(row).len())?;
+        push_run(&mut group_places, start, instance.arcs(row).len())?;
     }
-    Ok(homes)
+    Ok(group_places)
 }

@@ -1,4 +1,4 @@
-ghost use Rattle.std.specs.Prelude.{◌≡◌, ℕ, ◌<◌, ◌≤◌, ◌-◌, ◌↔◌, IsTrue, true, Option, Some, None, slice_index_or, length, vec_len};
+ghost use Rattle.std.specs.Prelude.{◌≡◌, ℕ, ◌<◌, ◌≤◌, ◌-◌, ◌↔◌, IsTrue, ⊤, true, Option, Some, None, slice_index_or, length, vec_len};
 ghost use Rattle.std.specs.List.{list_any};
 ghost use Rattle.std.specs.BinaryHeap.{heap_capacity, heap_items, heap_len, IsHeap, IsHeap-prop};
 ghost use Rattle.hsp_flow.specs.Frontier.{Pairs, is_pair, later_pair};
@@ -25,6 +25,8 @@ impl Frontier for HeapFrontier {
     ghost node_count = { λ f. vec_len f.keys };
 
     ghost sure = { λ f. heap_capacity f.pairs - heap_len f.pairs };
+
+    ghost may_have = { λ _. ⊤ };
 
     fn with_nodes(alloc: Global, nodes: u32) -> Result<HeapFrontier, AllocError> {
         let keys = vec![in alloc; None; nodes as usize]?;

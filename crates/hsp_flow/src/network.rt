@@ -19,7 +19,7 @@ pub struct Network<'a> {
 /// A flow that meets every source: what flows on each arc, and the prices of sources, servers and hosts that show it to
 /// be a cheapest one.
 #[derive(Drop)]
-pub struct Plan {
+pub struct PricedFlow {
     pub flows: Vec<u64>,
     pub source_prices: Vec<u64>,
     pub server_prices: Vec<u64>,
@@ -30,7 +30,7 @@ pub struct Plan {
 #[derive(Drop)]
 pub enum Outcome {
     /// Every source is met, at the least cost.
-    Met(Plan),
+    Met(PricedFlow),
     /// Some sources demand more than the servers that they may use can take: whether each source is one of them.
     Short(Vec<bool>),
 }

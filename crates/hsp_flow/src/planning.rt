@@ -1,6 +1,6 @@
 // The planner: for every instance a certificate that is valid.
 
-ghost use Rattle.std.specs.Prelude.{◌≡◌, IfOk};
+ghost use Rattle.std.specs.Prelude.{◌≡◌, IfOk, length};
 ghost use Rattle.hsp_instance.specs.Groups.{AreGroups};
 ghost use Rattle.hsp_instance.specs.Instance.{IsInstance};
 ghost use Rattle.hsp_check.specs.Instance.{arcs_from, network_of};
@@ -8,9 +8,10 @@ ghost use Rattle.hsp_check.specs.Valid.{IsValid};
 ghost use Rattle.hsp_flow.specs.Answer.{Answers, IsMet, IsShortSet};
 ghost use Rattle.hsp_flow.specs.Grouping.{AreFirsts, AreGroupLists, grouped};
 ghost use Rattle.hsp_flow.specs.Lists.{transport_in};
+ghost use Rattle.hsp_flow.specs.Nodes.{MayHaveNodesOf, MayHaveUpTo, nodes_by};
 ghost use Rattle.hsp_flow.specs.Planning.{HasLimitedPrices, transport_of};
 
-use crate::amounts::{NetworkLists, lists_of};
+use crate::amounts::{TransportLists, lists_of};
 use crate::arcs::arcs_of;
 use crate::certify::plan_certificate;
 use crate::frontier::Frontier;
@@ -18,7 +19,7 @@ use crate::group_lists::{GroupLists, group_lists};
 use crate::grouping::firsts_of;
 use crate::heap::HeapFrontier;
 use crate::links::Effort;
-use crate::network::{Network, Outcome, Plan};
+use crate::network::{Network, Outcome, PricedFlow};
 use crate::shortfall::short_certificate;
 use crate::solving::solve_network;
 use crate::spreading::{spread_flags, spread_flows, spread_prices};
@@ -33,7 +34,7 @@ fn solve_groups<'a, F: Frontier>(
     instance: &Instance,
     groups: &Groups,
     firsts: &[u32],
-    rows: &'a NetworkLists,
+    rows: &'a TransportLists,
     lists: &'a GroupLists,
     effort: &mut Effort,
 ) -> Result<Outcome, AllocError>
@@ -42,6 +43,7 @@ fn solve_groups<'a, F: Frontier>(
     requires firsts { AreFirsts groups.now firsts.now }
     requires rows { transport_in rows.now ≡ transport_of instance.now }
     requires lists { AreGroupLists instance.now groups.now firsts.now lists.now }
+    requires nodes { MayHaveUpTo F.may_have (nodes_by instance.now groups.now.count) }
     ensures { IfOk result (Answers (grouped instance.now firsts.now lists.now.demands.items)) }
 {
     let _ = instance;
@@ -65,10 +67,10 @@ fn spread_plan(
     instance: &Instance,
     groups: &Groups,
     firsts: &[u32],
-    rows: &NetworkLists,
+    rows: &TransportLists,
     lists: &GroupLists,
-    plan: Plan,
-) -> Result<Plan, AllocError>
+    plan: PricedFlow,
+) -> Result<PricedFlow, AllocError>
     requires within { IsInstance instance.now }
     requires groups { AreGroups instance.now groups.now }
     requires firsts { AreFirsts groups.now firsts.now }
@@ -82,11 +84,11 @@ fn spread_plan(
         alloc,
         &rows.demands,
         &rows.sources,
-        &lists.homes,
+        &lists.group_places,
         &plan.flows,
     )?;
     let source_prices = spread_prices(alloc, groups, instance.rows(), &plan.source_prices)?;
-    Ok(Plan {
+    Ok(PricedFlow {
         flows,
         source_prices,
         server_prices: plan.server_prices,
@@ -98,7 +100,7 @@ fn spread_plan(
 fn certify_short(
     alloc: Global,
     instance: &Instance,
-    rows: &NetworkLists,
+    rows: &TransportLists,
     set: &[bool],
 ) -> Result<Certificate, AllocError>
     requires within { IsInstance instance.now }
@@ -147,7 +149,7 @@ fn solve_spread<F: Frontier>(
     instance: &Instance,
     groups: &Groups,
     firsts: &[u32],
-    rows: &NetworkLists,
+    rows: &TransportLists,
     lists: &GroupLists,
     effort: &mut Effort,
 ) -> Result<Outcome, AllocError>
@@ -156,6 +158,7 @@ fn solve_spread<F: Frontier>(
     requires firsts { AreFirsts groups.now firsts.now }
     requires rows { transport_in rows.now ≡ transport_of instance.now }
     requires lists { AreGroupLists instance.now groups.now firsts.now lists.now }
+    requires nodes { MayHaveUpTo F.may_have (nodes_by instance.now groups.now.count) }
     ensures { IfOk result (Answers (transport_of instance.now)) }
 {
     match solve_groups::<F>(alloc, instance, groups, firsts, rows, lists, effort)? {
@@ -175,12 +178,13 @@ fn solve_grouped<F: Frontier>(
     alloc: Global,
     instance: &Instance,
     groups: &Groups,
-    rows: &NetworkLists,
+    rows: &TransportLists,
     effort: &mut Effort,
 ) -> Result<Outcome, AllocError>
     requires within { IsInstance instance.now }
     requires groups { AreGroups instance.now groups.now }
     requires rows { transport_in rows.now ≡ transport_of instance.now }
+    requires nodes { MayHaveUpTo F.may_have (nodes_by instance.now groups.now.count) }
     ensures { IfOk result (Answers (transport_of instance.now)) }
 {
     let firsts = firsts_of(alloc, instance, groups)?;
@@ -192,11 +196,12 @@ fn solve_grouped<F: Frontier>(
 fn solve_rows<F: Frontier>(
     alloc: Global,
     instance: &Instance,
-    rows: &NetworkLists,
+    rows: &TransportLists,
     effort: &mut Effort,
 ) -> Result<Outcome, AllocError>
     requires within { IsInstance instance.now }
     requires rows { transport_in rows.now ≡ transport_of instance.now }
+    requires nodes { MayHaveUpTo F.may_have (nodes_by instance.now (length instance.now.rows)) }
     ensures { IfOk result (Answers (transport_of instance.now)) }
 {
     let _ = instance;
@@ -217,7 +222,7 @@ fn certify(
     alloc: Global,
     instance: &Instance,
     arcs: &[NetworkArc],
-    rows: &NetworkLists,
+    rows: &TransportLists,
     outcome: Outcome,
 ) -> Result<Certificate, AllocError>
     requires within { IsInstance instance.now }
@@ -239,6 +244,7 @@ pub fn solve_counted<F: Frontier>(
     instance: &Instance,
     effort: &mut Effort,
 ) -> Result<Certificate, AllocError>
+    requires nodes { MayHaveNodesOf F.may_have instance.now }
     ensures valid { IfOk result (IsValid (network_of instance.now)) }
     ensures low { IfOk result (HasLimitedPrices (network_of instance.now)) }
 {
@@ -263,6 +269,7 @@ pub fn solve_with<F: Frontier>(
     alloc: Global,
     instance: &Instance,
 ) -> Result<Certificate, AllocError>
+    requires nodes { MayHaveNodesOf F.may_have instance.now }
     ensures valid { IfOk result (IsValid (network_of instance.now)) }
     ensures low { IfOk result (HasLimitedPrices (network_of instance.now)) }
 {

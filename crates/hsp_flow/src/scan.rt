@@ -1,4 +1,4 @@
-ghost use Rattle.std.specs.Prelude.{◌≡◌, ℕ, ◌<◌, ◌≤◌, Option, None, slice_index_or, vec_len};
+ghost use Rattle.std.specs.Prelude.{◌≡◌, ℕ, ◌<◌, ◌≤◌, ⊤, Option, None, slice_index_or, vec_len};
 
 use crate::frontier::Frontier;
 use std::alloc::{AllocError, Global};
@@ -16,6 +16,8 @@ impl Frontier for ScanFrontier {
     ghost node_count = { λ f. vec_len f.keys };
 
     ghost sure = { λ _. 18446744073709551615 };
+
+    ghost may_have = { λ _. ⊤ };
 
     fn with_nodes(alloc: Global, nodes: u32) -> Result<ScanFrontier, AllocError> {
         let keys = vec![in alloc; None; nodes as usize]?;

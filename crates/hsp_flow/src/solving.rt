@@ -2,10 +2,11 @@ ghost use Rattle.std.specs.Prelude.{◌≡◌, ℕ, ◌+◌, ◌*◌, ◌<◌, �
 ghost use Rattle.hsp_flow.specs.Answer.{Answers};
 ghost use Rattle.hsp_flow.specs.Index.{ByHead, Places};
 ghost use Rattle.hsp_flow.specs.Layout.{IsSmall, LinksOf};
+ghost use Rattle.hsp_flow.specs.Nodes.{MayHaveUpTo, nodes_of};
 ghost use Rattle.hsp_flow.specs.Problem.{IsLeastBound, IsLinksOf, problem_of};
 ghost use Rattle.hsp_flow.specs.Shapes.{Ready, nodes};
 
-use crate::answer::{plan_of, short_set};
+use crate::answer::{priced_flow, short_set};
 use crate::frontier::Frontier;
 use crate::index::{count_heads, fill_order, head_places, link_starts};
 use crate::links::{Effort, Flow, Links, SearchTree};
@@ -42,6 +43,7 @@ fn solve_from<F: Frontier>(
     requires least { IsLeastBound network.now links.now.most }
     requires first { links.now.first ≡ 1 + length network.now.limits.now + length network.now.capacities.now }
     requires ready { Ready links.now flow.old }
+    requires nodes { MayHaveUpTo F.may_have (nodes links.now) }
     ensures { IfOk result (Answers (problem_of network.now)) }
 {
     let nodes = links.supplies.len();
@@ -61,7 +63,7 @@ fn solve_from<F: Frontier>(
     let unmet = meet_all(&mut frontier, links, flow, &mut tree)?;
     *effort = tree.effort;
     match unmet {
-        None => Ok(Outcome::Met(plan_of(alloc, network, links, flow)?)),
+        None => Ok(Outcome::Met(priced_flow(alloc, network, links, flow)?)),
         Some(root) => Ok(Outcome::Short(short_set(alloc, network, links, flow, &tree, root)?)),
     }
 }
@@ -80,6 +82,7 @@ fn solve_indexed<F: Frontier>(
     requires least { IsLeastBound network.now links.now.most }
     requires first { links.now.first ≡ 1 + length network.now.limits.now + length network.now.capacities.now }
     requires by_head { ByHead (nodes links.now) links.now.heads.now order.old links.now.places.now slots.old }
+    requires nodes { MayHaveUpTo F.may_have (nodes links.now) }
     ensures { IfOk result (Answers (problem_of network.now)) }
 {
     let nodes = links.supplies.len();
@@ -112,6 +115,7 @@ fn solve_ordered<F: Frontier>(
     requires least { IsLeastBound network.now links.now.most }
     requires first { links.now.first ≡ 1 + length network.now.limits.now + length network.now.capacities.now }
     requires placed { Places (nodes links.now) links.now.heads.now links.now.places.now }
+    requires nodes { MayHaveUpTo F.may_have (nodes links.now) }
     ensures { IfOk result (Answers (problem_of network.now)) }
 {
     let many = links.heads.len();
@@ -147,6 +151,7 @@ fn solve_links<F: Frontier>(
 ) -> Result<Outcome, AllocError>
     requires small { IsSmall (problem_of network.now) }
     requires links_of { LinksOf (problem_of network.now) tails.now heads.now costs.now capacities.now supplies.now }
+    requires nodes { MayHaveUpTo F.may_have (nodes_of (problem_of network.now)) }
     ensures { IfOk result (Answers (problem_of network.now)) }
 {
     let nodes = supplies.len();
@@ -178,6 +183,7 @@ pub fn solve_network<F: Frontier>(
     effort: &mut Effort,
 ) -> Result<Outcome, AllocError>
     requires small { IsSmall (problem_of network.now) }
+    requires nodes { MayHaveUpTo F.may_have (nodes_of (problem_of network.now)) }
     ensures { IfOk result (Answers (problem_of network.now)) }
 {
     let tails = link_tails(alloc, network)?;

@@ -17,27 +17,27 @@ fn served(need: u64, left: u64) -> u64
     if need < left { need } else { left }
 }
 
-// Gives each arc of a row as much of its home's flow as the row still needs.
+// Gives each arc of a row as much of the flow of its group's arc as the row still needs.
 fn spread_each(
     alloc: Global,
     rows: &[u32],
-    homes: &[usize],
+    group_places: &[usize],
     need: &mut [u64],
     left: &mut [u64],
 ) -> Result<Vec<u64>, AllocError>
-    requires many { length homes.now ≡ length rows.now }
+    requires many { length group_places.now ≡ length rows.now }
     requires rows { (k : ℕ) → k < length rows.now → slice_index rows.now k < length need.old }
-    requires homes { (k : ℕ) → k < length rows.now → slice_index homes.now k < length left.old }
+    requires group_places { (k : ℕ) → k < length rows.now → slice_index group_places.now k < length left.old }
     ensures many { IfOk result (λ flows. length flows.items ≡ length rows.now) }
-    ensures spread { IfOk result (λ flows. Spread (length need.old) (length rows.now) (length left.old) (λ i. slice_index need.old i) (λ k. slice_index rows.now k) (λ k. slice_index homes.now k) (λ k. slice_index flows.items k) (λ e. slice_index left.old e) (λ i. slice_index need.new i) (λ e. slice_index left.new e)) }
+    ensures spread { IfOk result (λ flows. Spread (length need.old) (length rows.now) (length left.old) (λ i. slice_index need.old i) (λ k. slice_index rows.now k) (λ k. slice_index group_places.now k) (λ k. slice_index flows.items k) (λ e. slice_index left.old e) (λ i. slice_index need.new i) (λ e. slice_index left.new e)) }
 {
     let mut flows = Vec::new(alloc);
     for arc in 0..rows.len() {
         let row = rows[arc] as usize;
-        let home = homes[arc];
-        let flow = served(need[row], left[home]);
+        let group_place = group_places[arc];
+        let flow = served(need[row], left[group_place]);
         need[row] -= flow;
-        left[home] -= flow;
+        left[group_place] -= flow;
         flows.push(flow)?;
     }
     Ok(flows)
@@ -48,18 +48,18 @@ pub(crate) fn spread_flows(
     alloc: Global,
     counts: &[u64],
     rows: &[u32],
-    homes: &[usize],
+    group_places: &[usize],
     flows: &[u64],
 ) -> Result<Vec<u64>, AllocError>
-    requires many { length homes.now ≡ length rows.now }
+    requires many { length group_places.now ≡ length rows.now }
     requires rows { (k : ℕ) → k < length rows.now → slice_index rows.now k < length counts.now }
-    requires homes { (k : ℕ) → k < length rows.now → slice_index homes.now k < length flows.now }
+    requires group_places { (k : ℕ) → k < length rows.now → slice_index group_places.now k < length flows.now }
     ensures many { IfOk result (λ spread. length spread.items ≡ length rows.now) }
-    ensures spread { IfOk result (λ spread. (need : List ℕ) × (left : List ℕ) × Spread (length counts.now) (length rows.now) (length flows.now) (λ i. slice_index counts.now i) (λ k. slice_index rows.now k) (λ k. slice_index homes.now k) (λ k. slice_index spread.items k) (λ e. slice_index flows.now e) (λ i. slice_index need i) (λ e. slice_index left e)) }
+    ensures spread { IfOk result (λ spread. (need : List ℕ) × (left : List ℕ) × Spread (length counts.now) (length rows.now) (length flows.now) (λ i. slice_index counts.now i) (λ k. slice_index rows.now k) (λ k. slice_index group_places.now k) (λ k. slice_index spread.items k) (λ e. slice_index flows.now e) (λ i. slice_index need i) (λ e. slice_index left e)) }
 {
     let mut need = counts.to_vec(alloc)?;
     let mut left = flows.to_vec(alloc)?;
-    spread_each(alloc, rows, homes, &mut need, &mut left)
+    spread_each(alloc, rows, group_places, &mut need, &mut left)
 }
 
 /// The price of each row, which is its group's.

@@ -1,7 +1,7 @@
 // Certificates judged.
 use crate::inputs::{BASE, EIGHT, Numbers, ONE_SERVER, TWO, Texts, instance_of, plan, shortage};
 use hsp_cert::Certificate;
-use hsp_check::{Reason, Verdict, check};
+use hsp_check::{PlanSums, Reason, Verdict, check, plan_sums, reached_servers};
 use hsp_instance::Instance;
 use std::alloc::Global;
 use std::process::Abort;
@@ -38,6 +38,77 @@ fn a_best_plan_is_valid(rt: HostRuntime) {
         return;
     };
     judged(&rt, alloc, &base, plan(alloc, BEST), Verdict::Yes);
+}
+
+// The sums of a plan that is valid.
+fn summed(alloc: Global, instance: &Instance, certificate: &Certificate) -> Option<PlanSums> {
+    let verdict = check(alloc, instance, certificate).ok()?;
+    if verdict != Verdict::Yes {
+        return None;
+    }
+    match certificate.as_best() {
+        Some(plan) => plan_sums(alloc, instance, &plan).ok(),
+        None => None,
+    }
+}
+
+#[test]
+fn a_best_plan_is_summed(rt: HostRuntime) {
+    let alloc = rt.alloc();
+    let Some(base) = instance_of(alloc, BASE) else {
+        return;
+    };
+    let Some(certificate) = plan(alloc, BEST) else {
+        return;
+    };
+    // Where memory ran out once, it is there at the second call.
+    let first = summed(alloc, &base, &certificate);
+    let second = summed(alloc, &base, &certificate);
+    assert!(rt; first.is_some() || second.is_some());
+    let Some(sums) = first.or(second) else {
+        return;
+    };
+    assert_eq!(rt; sums.loads.rows.as_slice(), [5, 4, 3].as_slice());
+    assert_eq!(rt; sums.loads.servers.as_slice(), [4, 6, 2, 0, 0].as_slice());
+    assert!(rt; sums.loads.hosts.is_empty());
+    assert_eq!(rt; sums.cost, 17);
+    assert_eq!(rt; sums.demand_worth, 23);
+    assert_eq!(rt; sums.capacity_worth, 6);
+}
+
+// The servers that a short set reaches, where it is valid.
+fn reached(alloc: Global, instance: &Instance, certificate: &Certificate) -> Option<Vec<u32>> {
+    let verdict = check(alloc, instance, certificate).ok()?;
+    if verdict != Verdict::Yes {
+        return None;
+    }
+    match certificate.as_short() {
+        Some(set) => reached_servers(alloc, instance, &set).ok(),
+        None => None,
+    }
+}
+
+#[test]
+fn a_short_set_reaches_its_servers(rt: HostRuntime) {
+    let alloc = rt.alloc();
+    let texts = Texts {
+        demand: b"region,handle,count\nr1,10/1,5\nr1,10/2,4\nr2,10/3,9\n",
+        ..BASE
+    };
+    let Some(instance) = instance_of(alloc, texts) else {
+        return;
+    };
+    let Some(certificate) = shortage(alloc, &[2], 9, 8) else {
+        return;
+    };
+    // Where memory ran out once, it is there at the second call.
+    let first = reached(alloc, &instance, &certificate);
+    let second = reached(alloc, &instance, &certificate);
+    assert!(rt; first.is_some() || second.is_some());
+    let Some(servers) = first.or(second) else {
+        return;
+    };
+    assert_eq!(rt; servers.as_slice(), [1, 2].as_slice());
 }
 
 #[test]

@@ -1,6 +1,6 @@
 // Instances planned.
 
-ghost use Rattle.std.specs.Prelude.{None, slice_index_or, vec_len};
+ghost use Rattle.std.specs.Prelude.{ℕ, ⊤, None, slice_index_or, vec_len};
 
 use crate::inputs::{BASE, EIGHT, MOST, ONE_SERVER, Texts, instance_of};
 use hsp_cert::{Certificate, UseLine};
@@ -10,7 +10,9 @@ use std::alloc::{AllocError, Global};
 use std::process::Abort;
 
 // The planner's certificate over a frontier, which the checker finds valid.
-fn planned<F: Frontier>(rt: &impl Abort, alloc: Global, texts: Texts) -> Option<Certificate> {
+fn planned<F: Frontier>(rt: &impl Abort, alloc: Global, texts: Texts) -> Option<Certificate>
+    requires { (nodes : ℕ) → F.may_have nodes }
+{
     let instance = instance_of(alloc, texts)?;
     let certificate = solve_with::<F>(alloc, &instance).ok()?;
     let verdict = check(alloc, &instance, &certificate).ok()?;
@@ -177,6 +179,8 @@ impl Frontier for Narrow {
     ghost node_count = { λ narrow. vec_len narrow.scan.keys };
 
     ghost sure = { λ _. 18446744073709551615 };
+
+    ghost may_have = { λ _. ⊤ };
 
     fn with_nodes(alloc: Global, nodes: u32) -> Result<Narrow, AllocError> {
         if nodes > 3 {

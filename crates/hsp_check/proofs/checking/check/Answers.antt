@@ -1,51 +1,33 @@
-use Rattle.std.proofs.Common.{◌≤◌, ◌∙◌, subst, sym}
+use Rattle.std.proofs.Common.{◌≡◌, ◌≤◌, ◌∙◌, ap, subst, sym}
 use Rattle.hsp_cert.specs.Certificate.{IsCertificate}
 use Rattle.hsp_cert.specs.Certificate.Claim.{best, short}
 use Rattle.hsp_check.specs.declared.arc.NetworkArc.{NetworkArc}
 use Rattle.hsp_check.specs.declared.sums.LaidArc.{LaidArc}
 use Rattle.hsp_check.specs.declared.verdict.Verdict.{Verdict}
-use Rattle.hsp_check.specs.Network.{IsNetwork}
+use Rattle.hsp_check.specs.Network.{Network}
 use Rattle.hsp_check.specs.Instance.{network_of}
 use Rattle.hsp_check.specs.Reach.{network_in, network_with}
 use Rattle.hsp_check.specs.Verdict.{IsVerdict}
-use Rattle.hsp_check.proofs.InstanceNetwork.{is_network, are_cheap, drawn}
 use Rattle.hsp_check.proofs.LaidSums.{all_of_map}
 use Rattle.hsp_check.proofs.Validity.{Says, says, is_best, is_short, where_ok}
 use Rattle.hsp_check.proofs.checking.check.Goals as goal
 
-pub check_plan-requires-clause-network : goal.check_plan-requires-clause-network
-check_plan-requires-clause-network c =
-    let it = c.args.instance.now in
-    let numbers = c.in_ok-numbers.ensures in
-    let same = drawn it c.in_ok-numbers.numbers c.in_ok-arcs.arcs.laid.items numbers.demands numbers.capacities numbers.limits numbers.homes c.in_ok-arcs.ensures.arcs.arcs in
-    subst (λ n. IsNetwork n) (sym same) (is_network it c.in_ok-arcs.ensures.within)
-
-pub check_plan-requires-clause-cheap : goal.check_plan-requires-clause-cheap
-check_plan-requires-clause-cheap c = rw c.in_ok-arcs.ensures.arcs.arcs (are_cheap c.args.instance.now c.in_ok-arcs.ensures.within)
-
-pub with-requires-clause-network : goal.with-requires-clause-network
-with-requires-clause-network c =
-    let it = c.args.instance.now in
-    let numbers = c.in_ok-numbers.ensures in
-    let same = drawn it c.in_ok-numbers.numbers c.in_ok-arcs.arcs.laid.items numbers.demands numbers.capacities numbers.limits numbers.homes c.in_ok-arcs.ensures.arcs.arcs in
-    rw c.deref.ensures.value (subst (λ n. IsNetwork n) (sym same) (is_network it c.in_ok-arcs.ensures.within))
-
 pub with-requires-clause-cheap : goal.with-requires-clause-cheap
 with-requires-clause-cheap c =
-    rw c.deref.ensures.value
-    (all_of_map (λ (l : LaidArc). l.arc) (λ (a : NetworkArc). a.cost ≤ 1000000) c.in_ok-arcs.arcs.laid.items (rw c.in_ok-arcs.ensures.arcs.arcs (are_cheap c.args.instance.now c.in_ok-arcs.ensures.within)))
+    let drawn = c.in_ok-numbers in
+    let same = (ap (λ (n : Network). n.arcs) drawn.ensures.network) in
+    rw c.deref.ensures.value (all_of_map (λ (l : LaidArc). l.arc) (λ (a : NetworkArc). a.cost ≤ 1000000) drawn.field-0.arcs.laid.items (rw same drawn.ensures.cheap))
 
 pub returns-in-Some : goal.returns-in-Some
 returns-in-Some c =
-    let it = c.args.instance.now in
+    let n = network_of c.args.instance.now in
     let claim = c.args.certificate.now in
-    let numbers = c.in_ok-numbers.ensures in
-    let network = network_with c.in_ok-numbers.numbers c.in_ok-arcs.arcs.laid.items in
-    let same = drawn it c.in_ok-numbers.numbers c.in_ok-arcs.arcs.laid.items numbers.demands numbers.capacities numbers.limits numbers.homes c.in_ok-arcs.ensures.arcs.arcs in
+    let drawn = c.in_ok-numbers in
+    let network = network_with drawn.field-0.numbers drawn.field-0.arcs.laid.items in
     let plan = is_best claim c.in-Some.plan c.in-Some.ensures.plan in
     let ranges : IsCertificate claim = subst (λ c. IsCertificate c) (sym plan) c.in-Some.ensures.ranges in
-    let told : (v : Verdict) → IsVerdict network (best c.in-Some.plan) v → Says (network_of it) claim v = λ v is.
-    says (network_of it) claim v (is_network it c.in_ok-arcs.ensures.within) ranges (subst (λ n. IsVerdict n claim v) same (subst (λ c. IsVerdict network c v) (sym plan) is)) in
+    let told : (v : Verdict) → IsVerdict network (best c.in-Some.plan) v → Says n claim v = λ v is.
+    says n claim v drawn.ensures.is ranges (subst (λ n. IsVerdict n claim v) drawn.ensures.network (subst (λ c. IsVerdict network c v) (sym plan) is)) in
     record {
       verdict = where_ok _ _ c.check_plan.result (λ v is. (told v is).verdict) c.check_plan.ensures;
       valid = where_ok _ _ c.check_plan.result (λ v is. (told v is).valid) c.check_plan.ensures;
@@ -57,15 +39,14 @@ returns-in-Some c =
 
 pub returns : goal.returns
 returns c =
-    let it = c.args.instance.now in
+    let n = network_of c.args.instance.now in
     let claim = c.args.certificate.now in
-    let numbers = c.in_ok-numbers.ensures in
-    let same = drawn it c.in_ok-numbers.numbers c.in_ok-arcs.arcs.laid.items numbers.demands numbers.capacities numbers.limits numbers.homes c.in_ok-arcs.ensures.arcs.arcs in
-    let network = (rw c.deref.ensures.value at c.with.ensures.network) ∙ same in
+    let drawn = c.in_ok-numbers in
+    let network = (rw c.deref.ensures.value at c.with.ensures.network) ∙ drawn.ensures.network in
     let set = is_short claim c.unwrap-set.result (sym c.unwrap-set.ensures ∙ c.as_short.ensures.set) in
     let ranges : IsCertificate claim = subst (λ c. IsCertificate c) (sym set) (rw c.unwrap-set.ensures at c.as_short.ensures.ranges) in
-    let told : (v : Verdict) → IsVerdict (network_in c.with.result) (short c.unwrap-set.result) v → Says (network_of it) claim v = λ v is.
-    says (network_of it) claim v (is_network it c.in_ok-arcs.ensures.within) ranges (subst (λ n. IsVerdict n claim v) network (subst (λ c'. IsVerdict (network_in c.with.result) c' v) (sym set) is)) in
+    let told : (v : Verdict) → IsVerdict (network_in c.with.result) (short c.unwrap-set.result) v → Says n claim v = λ v is.
+    says n claim v drawn.ensures.is ranges (subst (λ n. IsVerdict n claim v) network (subst (λ c'. IsVerdict (network_in c.with.result) c' v) (sym set) is)) in
     record {
       verdict = where_ok _ _ c.check_set.result (λ v is. (told v is).verdict) c.check_set.ensures;
       valid = where_ok _ _ c.check_set.result (λ v is. (told v is).valid) c.check_set.ensures;

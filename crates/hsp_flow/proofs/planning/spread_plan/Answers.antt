@@ -1,12 +1,12 @@
 use Rattle.std.proofs.Common.{◌∙◌, ap, refl}
 use Rattle.hsp_flow.specs.Network.{Transport}
-use Rattle.hsp_flow.proofs.GroupsMet.{homes_many, sources_low, homes_low, spread_met}
+use Rattle.hsp_flow.proofs.GroupsMet.{group_places_many, sources_low, group_places_low, spread_met}
 use Rattle.hsp_flow.proofs.planning.spread_plan.Goals as goal
 
 pub spread_flows-requires-clause-many : goal.spread_flows-requires-clause-many
 spread_flows-requires-clause-many c =
     rw c.deref-3.ensures.value
-    (homes_many c.args.instance.now c.requires.within c.args.groups.now c.requires.groups c.args.firsts.now c.requires.firsts c.args.lists.now c.requires.lists c.deref-2.result.now
+    (group_places_many c.args.instance.now c.requires.within c.args.groups.now c.requires.groups c.args.firsts.now c.requires.firsts c.args.lists.now c.requires.lists c.deref-2.result.now
     (c.deref-2.ensures.value ∙ ap (λ (n : Transport). n.sources) c.requires.rows))
 
 pub spread_flows-requires-clause-rows : goal.spread_flows-requires-clause-rows
@@ -14,10 +14,10 @@ spread_flows-requires-clause-rows c =
     sources_low c.args.instance.now c.requires.within c.args.groups.now c.requires.groups c.args.firsts.now c.requires.firsts c.args.lists.now c.requires.lists c.deref-2.result.now c.deref.result.now
     (c.deref-2.ensures.value ∙ ap (λ (n : Transport). n.sources) c.requires.rows) (c.deref.ensures.value ∙ ap (λ (n : Transport). n.demands) c.requires.rows)
 
-pub spread_flows-requires-clause-homes : goal.spread_flows-requires-clause-homes
-spread_flows-requires-clause-homes c =
+pub spread_flows-requires-clause-group_places : goal.spread_flows-requires-clause-group_places
+spread_flows-requires-clause-group_places c =
     rw (c.deref-3.ensures.value, c.deref-4.ensures.value)
-    (homes_low c.args.instance.now c.requires.within c.args.groups.now c.requires.groups c.args.firsts.now c.requires.firsts c.args.lists.now c.requires.lists c.args.plan c.requires.met c.deref-2.result.now
+    (group_places_low c.args.instance.now c.requires.within c.args.groups.now c.requires.groups c.args.firsts.now c.requires.firsts c.args.lists.now c.requires.lists c.args.plan c.requires.met c.deref-2.result.now
     (c.deref-2.ensures.value ∙ ap (λ (n : Transport). n.sources) c.requires.rows))
 
 pub returns : goal.returns

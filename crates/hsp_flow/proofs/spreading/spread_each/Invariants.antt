@@ -6,6 +6,6 @@ abbrev pub invariant-loop-arc : goal.invariant-loop-arc
 invariant-loop-arc l = record {
   many : length l.flows.items ≡ l.arc;
   rows : length l.need ≡ length l.initial.need;
-  homes : length l.left ≡ length l.initial.left;
-  spread : Spread (length l.initial.need) l.arc (length l.initial.left) (λ i. slice_index l.initial.need i) (λ k. slice_index l.rows k) (λ k. slice_index l.homes k) (λ k. slice_index l.flows.items k) (λ e. slice_index l.initial.left e) (λ i. slice_index l.need i) (λ e. slice_index l.left e);
+  group_places : length l.left ≡ length l.initial.left;
+  spread : Spread (length l.initial.need) l.arc (length l.initial.left) (λ i. slice_index l.initial.need i) (λ k. slice_index l.rows k) (λ k. slice_index l.group_places k) (λ k. slice_index l.flows.items k) (λ e. slice_index l.initial.left e) (λ i. slice_index l.need i) (λ e. slice_index l.left e);
 }

@@ -6,10 +6,10 @@ use Rattle.hsp_instance.proofs.Lists.{all_at}
 use Rattle.hsp_flow.specs.Grouping.{arcs_at, group_of, lists_at, offset}
 use Rattle.hsp_flow.proofs.GroupFacts.{run_none, run_more, lists_low}
 use Rattle.hsp_flow.proofs.Offsets.{offset_low}
-use Rattle.hsp_flow.proofs.grouping.homes_of.Goals as goal
+use Rattle.hsp_flow.proofs.grouping.group_places_of.Goals as goal
 
 pub loop-row-init : goal.loop-row-init
-loop-row-init c = rw c.new-homes.ensures.items (run_none c.args.instance.now.arcs (lists_at c.args.instance.now c.args.firsts.now) c.args.groups.now)
+loop-row-init c = rw c.new-group_places.ensures.items (run_none c.args.instance.now.arcs (lists_at c.args.instance.now c.args.firsts.now) c.args.groups.now)
 
 pub push_run-requires : goal.push_run-requires
 push_run-requires c =
@@ -22,5 +22,5 @@ pub loop-row-preserved : goal.loop-row-preserved
 loop-row-preserved c =
     let inside : c.of.result < length c.args.firsts.now = omega (arith, c.of.ensures.within, c.requires.firsts.many) in
     let group : group_of c.args.groups.now c.loop-row.row ≡ c.of.result = get_or_from_slice_get c.args.groups.now.of_rows c.loop-row.row c.of.result 0 c.of.ensures.group in
-    run_more c.args.instance.now.arcs (lists_at c.args.instance.now c.args.firsts.now) c.args.groups.now c.loop-row.row c.arcs.result.now c.loop-row.homes.items c.push_run.new.numbers.items
+    run_more c.args.instance.now.arcs (lists_at c.args.instance.now c.args.firsts.now) c.args.groups.now c.loop-row.row c.arcs.result.now c.loop-row.group_places.items c.push_run.new.numbers.items
     (slice_index c.args.starts.now c.of.result) c.arcs.ensures (c.requires.starts c.of.result inside ∙ ap (offset (lists_at c.args.instance.now c.args.firsts.now)) (sym group)) c.loop-row.invariant c.in_ok-push_run.ensures

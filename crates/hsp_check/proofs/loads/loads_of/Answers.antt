@@ -1,10 +1,10 @@
 use Rattle.std.proofs.Common.{rules}
-use Rattle.hsp_check.proofs.PlanSummed.{are_sums}
-use Rattle.hsp_check.proofs.plan_check.sums_of.Goals as goal
+use Rattle.hsp_check.proofs.PlanSummed.{are_loads}
+use Rattle.hsp_check.proofs.loads.loads_of.Goals as goal
 
 pub returns : goal.returns
 returns c =
-    are_sums c.args.lists c.in_ok-rows.rows.items c.in_ok-servers.servers.items c.in_ok-hosts.hosts.items c.args.lists.servers_many
+    are_loads c.args.lists (record { rows = c.in_ok-rows.rows; servers = c.in_ok-servers.servers; hosts = c.in_ok-hosts.hosts }) c.args.lists.servers_many
     (record {
       rows_many = search rules;
       rows_are = c.in_ok-rows.ensures.sums;

@@ -3,7 +3,7 @@ use Rattle.hsp_flow.specs.Layout.{base_of, first_of, hosts_of, servers_of, host_
 use Rattle.hsp_flow.specs.Network.{host_of}
 use Rattle.hsp_flow.specs.Problem.{problem_of}
 use Rattle.hsp_flow.proofs.Modelling.{feasible, has_prices, low_prices}
-use Rattle.hsp_flow.proofs.answer.plan_of.Goals as goal
+use Rattle.hsp_flow.proofs.answer.priced_flow.Goals as goal
 
 pub returns : goal.returns
 returns c =

@@ -1,0 +1,32 @@
+// What a plan brings to rows, servers and hosts.
+
+ghost use Rattle.std.specs.Prelude.{◌≡◌, All, IfOk};
+ghost use Rattle.hsp_check.specs.Plan.{Plan, planned};
+ghost use Rattle.hsp_check.specs.Reach.{network_in};
+ghost use Rattle.hsp_check.specs.Loads.{AreLoads};
+
+use crate::lists::NetworkLists;
+use crate::sums::{End, add_hosts, add_up};
+use std::alloc::{AllocError, Global};
+
+/// What each row gets, and what each server and each host takes, in queries.
+#[derive(Debug, Drop)]
+pub struct Loads {
+    pub rows: Vec<u128>,
+    pub servers: Vec<u128>,
+    pub hosts: Vec<u128>,
+}
+
+/// The loads of the plan that is laid on the arcs.
+pub(crate) fn loads_of(alloc: Global, lists: NetworkLists<'_>) -> Result<Loads, AllocError>
+    ensures { IfOk result (λ loads. (x : Plan) → All (λ l. l.flow ≡ planned x l.arc) lists.entry.laid.now → AreLoads (network_in lists.entry) x loads) }
+{
+    let rows = add_up(alloc, End::Row, lists.laid, lists.demands.len())?;
+    let servers = add_up(alloc, End::Server, lists.laid, lists.capacities.len())?;
+    let hosts = add_hosts(alloc, lists.homes, &servers, lists.limits.len())?;
+    Ok(Loads {
+        rows,
+        servers,
+        hosts,
+    })
+}

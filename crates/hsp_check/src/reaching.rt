@@ -1,0 +1,47 @@
+// The servers that a short set of rows may use.
+
+ghost use Rattle.std.specs.Prelude.{◌≡◌, ◌<◌, IfOk, filter, length};
+ghost use Rattle.std.specs.List.{range_with_len};
+ghost use Rattle.hsp_cert.specs.Certificate.Claim.{short};
+ghost use Rattle.hsp_check.specs.Instance.{network_of};
+ghost use Rattle.hsp_check.specs.Laid.{flag_at};
+ghost use Rattle.hsp_check.specs.Short.{reached};
+ghost use Rattle.hsp_check.specs.Valid.{IsValid};
+ghost use Rattle.hsp_check.specs.Verdict.{is_one_of};
+
+use crate::drawing::draw;
+use crate::set_check::flags_of;
+use crate::shortage::reached_by;
+use hsp_cert::ShortRef;
+use hsp_instance::Instance;
+use std::alloc::{AllocError, Global};
+
+// The places of the flags that are set.
+fn flagged(alloc: Global, flags: &[bool]) -> Result<Vec<u32>, AllocError>
+    requires { length flags.now < 4294967296 }
+    ensures { IfOk result (λ places. places.items ≡ filter (flag_at flags.now) (range_with_len 0 (length flags.now))) }
+{
+    let mut places = Vec::new(alloc);
+    for place in 0..flags.len() {
+        if flags[place] {
+            places.push(place as u32)?;
+        }
+    }
+    Ok(places)
+}
+
+/// The servers that the rows of a valid short set may use, each once, in ascending order.
+pub fn reached_servers(
+    alloc: Global,
+    instance: &Instance,
+    set: &ShortRef<'_>,
+) -> Result<Vec<u32>, AllocError>
+    requires { IsValid (network_of instance.now) (short set.now) }
+    ensures { IfOk result (λ servers. servers.items ≡ reached (network_of instance.now) (is_one_of set.now.rows)) }
+{
+    let drawn = draw(alloc, instance)?;
+    let lists = drawn.numbers.with(&drawn.arcs.laid);
+    let rows = flags_of(alloc, set.rows(), lists.demands.len())?.unwrap();
+    let servers = reached_by(alloc, lists, &rows)?;
+    flagged(alloc, &servers)
+}
