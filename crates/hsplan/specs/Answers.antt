@@ -1,8 +1,11 @@
 -- What the results of runs are told as.
-use Rattle.std.specs.Prelude.{◌≡◌, ◌⊎◌, ⊤, ℕ, Bool, true, false, List, Vec, Result, Ok, Err}
+use Rattle.std.specs.Prelude.{◌≡◌, ◌⊎◌, ⊤, ℕ, Bool, true, false, List, Vec, Result, Ok, Err, IfOk}
 use Rattle.std.specs.declared.alloc.Global.{Global}
 use Rattle.hsp_check.specs.declared.verdict.Verdict.{Verdict}
-use Rattle.hsp_runs.specs.Plan.{Printed}
+use Rattle.hsp_check.specs.declared.verdict.Verdict.TheVariants.{Yes}
+use Rattle.hsp_runs.specs.Check.{IsChecked, ShowsOf}
+use Rattle.hsp_runs.specs.Plan.{IsPlanned, Printed}
+use Rattle.hsp_runs.specs.declared.inputs.Inputs.{Inputs}
 use Rattle.hsp_runs.specs.VerdictText.{verdict_status, verdict_text}
 use Rattle.hsp_runs.specs.declared.fault.Fault.{Fault}
 use Rattle.hsp_runs.specs.declared.fault.Fault.TheVariants.{OutOfMemory}
@@ -31,6 +34,14 @@ plan_told plan = record { text = plan.octets; status = plan_status plan.is_short
 
 abbrev pub verdict_told : Verdict → Told
 verdict_told verdict = record { text = verdict_text verdict; status = verdict_status verdict }
+
+-- the plan of the inputs, which is best, or there is no feasible plan
+abbrev pub IsShownPlan : Inputs → Result Printed Fault → Type 0
+IsShownPlan inputs planned = IsPlanned inputs planned × IfOk planned (λ plan. ShowsOf inputs plan.octets)
+
+-- the verdict on a certificate, where Yes says the same of its plan
+abbrev pub IsShownVerdict : Inputs → List ℕ → Result Verdict Fault → Type 0
+IsShownVerdict inputs octets checked = IsChecked inputs octets checked × IfOk checked (λ verdict. verdict ≡ Yes → ShowsOf inputs octets)
 
 abbrev pub IsTold : Told → Answer → Type 0
 IsTold told answer = (answer.text.items ≡ told.text) × (answer.status ≡ told.status)

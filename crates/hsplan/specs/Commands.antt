@@ -1,72 +1,91 @@
 -- What a command answers: to which words, and from which files.
-use Rattle.std.specs.Prelude.{◌≡◌, ◌⊎◌, ⊤, ℕ, List, Option, Some, None, Result, Err, IsErrAnd, option_map}
+use Rattle.std.specs.Prelude.{◌≡◌, ◌⊎◌, ⊤, ℕ, List, Option, Some, None, Result, Ok, Err, IsErrAnd, option_map}
 use Rattle.hsp_command.specs.Commands.{hsplan_app}
 use Rattle.clap.specs.Words.{subcommand_of}
 use Rattle.hsp_command.specs.Orders.{IsOrderOf, IsUsage}
+use Rattle.hsp_command.specs.declared.fault.CommandFault.{CommandFault}
+use Rattle.hsp_command.specs.declared.fault.CommandFault.TheVariants as command_fault
 use Rattle.hsp_command.specs.declared.order.InputFiles.{InputFiles}
 use Rattle.hsp_command.specs.declared.order.Order.{Order}
 use Rattle.hsp_command.specs.declared.order.Order.TheVariants as order
-use Rattle.hsp_runs.specs.Check.{IsChecked}
 use Rattle.hsp_runs.specs.Locate.{AreLocated, placed}
-use Rattle.hsp_runs.specs.Plan.{IsPlanned}
 use Rattle.hsp_runs.specs.SiteText.{IsSiteRun}
 use Rattle.hsp_runs.specs.declared.inputs.Inputs.{Inputs}
 use Rattle.hsplan.specs.declared.answer.Answer.{Answer}
 use Rattle.hsplan.specs.declared.failure.Failure.{Failure}
-use Rattle.hsplan.specs.declared.failure.Failure.TheVariants.{Usage, Memory}
-use Rattle.hsplan.specs.Answers.{Answers, fields_told, plan_told, text_told, verdict_told}
-use Rattle.hsplan.specs.Failing.{IsUnread}
-
--- which octets the file at a path holds
-abbrev pub Holding : Type 1
-Holding = List ℕ → List ℕ → Type 0
+use Rattle.hsplan.specs.Answers.{Answers, IsShownPlan, IsShownVerdict, fields_told, plan_told, text_told, verdict_told}
+use Rattle.hsplan.specs.Failing.{IsUnread, failure_of}
+use Rattle.hsplan.specs.Files.{Disk}
+use Rattle.hsplan.specs.Printing.{Prints}
 
 -- the octets of a file that may be named
-abbrev pub HoldsNamed : Holding → Option (List ℕ) → Option (List ℕ) → Type 0
-HoldsNamed Holds None None = ⊤
-HoldsNamed Holds (Some path) (Some octets) = Holds path octets
-HoldsNamed Holds path octets = ⊥
+abbrev pub HoldsNamed : Disk → Option (List ℕ) → Option (List ℕ) → Type 0
+HoldsNamed disk None None = ⊤
+HoldsNamed disk (Some path) (Some octets) = disk.holds path octets
+HoldsNamed disk path octets = ⊥
+
+-- it may fail to be read
+abbrev pub FailsNamed : Disk → Option (List ℕ) → Type 0
+FailsNamed disk None = ⊥
+FailsNamed disk (Some path) = disk.fails path
 
 -- each input is what its own file holds
-pub record AreHeld (Holds : Holding) (files : InputFiles) (inputs : Inputs) : Type 0 where
-  pub settings : Holds files.settings inputs.settings.items
-  pub values : HoldsNamed Holds files.values (option_map (λ v. v.items) inputs.values)
-  pub demand : Holds files.demand inputs.demand.items
-  pub costs : Holds files.costs inputs.costs.items
-  pub capacity : Holds files.capacity inputs.capacity.items
+pub record AreHeld (disk : Disk) (files : InputFiles) (inputs : Inputs) : Type 0 where
+  pub settings : disk.holds files.settings inputs.settings.items
+  pub values : HoldsNamed disk files.values (option_map (λ v. v.items) inputs.values)
+  pub demand : disk.holds files.demand inputs.demand.items
+  pub costs : disk.holds files.costs inputs.costs.items
+  pub capacity : disk.holds files.capacity inputs.capacity.items
 
--- a file couldn't be read
-abbrev pub LacksFile : Result Answer Failure → Type 0
-LacksFile answer = IsErrAnd answer IsUnread
+-- one of the files of inputs may fail to be read
+abbrev pub OneFails : Disk → InputFiles → Type 0
+OneFails disk files = disk.fails files.settings ⊎ FailsNamed disk files.values ⊎ disk.fails files.demand ⊎ disk.fails files.costs ⊎ disk.fails files.capacity
 
-abbrev pub AnswersSites : Holding → List ℕ → Option (List ℕ) → List ℕ → Result Answer Failure → Type 0
-AnswersSites Holds settings values handle answer =
-    LacksFile answer
-    ⊎ ((s : List ℕ) × (v : Option (List ℕ)) × Holds settings s × HoldsNamed Holds values v × Answers text_told (AreLocated s v handle) answer)
+-- a file, which may fail to be read, wasn't read; or memory ran out
+abbrev pub LacksFile : Type 0 → Result Answer Failure → Type 0
+LacksFile MayFail answer = IsErrAnd answer (IsUnread MayFail)
 
-abbrev pub AnswersSite : Holding → Option (List ℕ) → List ℕ → Result Answer Failure → Type 0
-AnswersSite Holds index file answer =
-    LacksFile answer ⊎ ((octets : List ℕ) × Holds file octets × Answers fields_told (IsSiteRun octets index) answer)
+abbrev pub AnswersSites : Disk → List ℕ → Option (List ℕ) → List ℕ → Result Answer Failure → Type 0
+AnswersSites disk settings values handle answer =
+    LacksFile (disk.fails settings ⊎ FailsNamed disk values) answer
+    ⊎ ((s : List ℕ) × (v : Option (List ℕ)) × disk.holds settings s × HoldsNamed disk values v × Answers text_told (AreLocated s v handle) answer)
 
-abbrev pub AnswersPlan : Holding → InputFiles → Result Answer Failure → Type 0
-AnswersPlan Holds files answer =
-    LacksFile answer ⊎ ((inputs : Inputs) × AreHeld Holds files inputs × Answers plan_told (IsPlanned inputs) answer)
+abbrev pub AnswersSite : Disk → Option (List ℕ) → List ℕ → Result Answer Failure → Type 0
+AnswersSite disk index file answer =
+    LacksFile (disk.fails file) answer ⊎ ((octets : List ℕ) × disk.holds file octets × Answers fields_told (IsSiteRun octets index) answer)
 
-abbrev pub AnswersCheck : Holding → InputFiles → List ℕ → Result Answer Failure → Type 0
-AnswersCheck Holds files plan answer =
-    LacksFile answer
-    ⊎ ((inputs : Inputs) × (octets : List ℕ) × AreHeld Holds files inputs × Holds plan octets × Answers verdict_told (IsChecked inputs octets) answer)
+abbrev pub AnswersPlan : Disk → InputFiles → Result Answer Failure → Type 0
+AnswersPlan disk files answer =
+    LacksFile (OneFails disk files) answer ⊎ ((inputs : Inputs) × AreHeld disk files inputs × Answers plan_told (IsShownPlan inputs) answer)
+
+abbrev pub AnswersCheck : Disk → InputFiles → List ℕ → Result Answer Failure → Type 0
+AnswersCheck disk files plan answer =
+    LacksFile (OneFails disk files ⊎ disk.fails plan) answer
+    ⊎ ((inputs : Inputs) × (octets : List ℕ) × AreHeld disk files inputs × disk.holds plan octets × Answers verdict_told (IsShownVerdict inputs octets) answer)
 
 -- the answer to an order
-abbrev pub AnswersTo : Holding → Order → Result Answer Failure → Type 0
-AnswersTo Holds (order.LocatePlace option servers handle) answer = Answers text_told (λ text. text ≡ placed option servers handle) answer
-AnswersTo Holds (order.LocateSites settings values handle) answer = AnswersSites Holds settings values handle answer
-AnswersTo Holds (order.Site index file) answer = AnswersSite Holds index file answer
-AnswersTo Holds (order.Plan inputs) answer = AnswersPlan Holds inputs answer
-AnswersTo Holds (order.Check inputs plan) answer = AnswersCheck Holds inputs plan answer
+abbrev pub AnswersTo : Disk → Order → Result Answer Failure → Type 0
+AnswersTo disk (order.LocatePlace option servers handle) answer = Answers text_told (λ text. text ≡ placed option servers handle) answer
+AnswersTo disk (order.LocateSites settings values handle) answer = AnswersSites disk settings values handle answer
+AnswersTo disk (order.Site index file) answer = AnswersSite disk index file answer
+AnswersTo disk (order.Plan inputs) answer = AnswersPlan disk inputs answer
+AnswersTo disk (order.Check inputs plan) answer = AnswersCheck disk inputs plan answer
 
--- the answer to words: to the order that they give, or that they give none, or that memory ran out
-abbrev pub Obeys : Holding → List (List ℕ) → Result Answer Failure → Type 0
-Obeys Holds words (Err Usage) = IsUsage words
-Obeys Holds words (Err Memory) = ⊤
-Obeys Holds words answer = (o : Order) × IsOrderOf o (subcommand_of hsplan_app words) × AnswersTo Holds o answer
+-- an order is carried out on an output, whose writes may fail or not: its answer is printed
+abbrev pub CarriesOut : Disk → Type 0 → Order → Option (List ℕ) → Option (List ℕ) → Result ℕ Failure → Type 0
+CarriesOut disk MayFail order old new ended = (answer : Result Answer Failure) × AnswersTo disk order answer × Prints MayFail answer old new ended
+
+-- the order that words give, or that they give none, or that memory ran out
+abbrev pub IsOrdered : List (List ℕ) → Result Order CommandFault → Type 0
+IsOrdered words (Ok order) = IsOrderOf order (subcommand_of hsplan_app words)
+IsOrdered words (Err command_fault.Usage) = IsUsage words
+IsOrdered words (Err command_fault.OutOfMemory) = ⊤
+
+-- it is carried out; where there is none, nothing was written, and the failure is told
+abbrev pub Follows : Disk → Type 0 → Result Order CommandFault → Option (List ℕ) → Option (List ℕ) → Result ℕ Failure → Type 0
+Follows disk MayFail (Ok order) old new ended = CarriesOut disk MayFail order old new ended
+Follows disk MayFail (Err fault) old new ended = (new ≡ old) × (ended ≡ Err (failure_of fault))
+
+-- the words are obeyed
+abbrev pub Obeys : Disk → Type 0 → List (List ℕ) → Option (List ℕ) → Option (List ℕ) → Result ℕ Failure → Type 0
+Obeys disk MayFail words old new ended = (order : Result Order CommandFault) × IsOrdered words order × Follows disk MayFail order old new ended

@@ -1,10 +1,12 @@
 -- How the program ends: what it has written, and with which status.
-use Rattle.std.specs.Prelude.{◌≡◌, ◌⊎◌, ◌++◌, ◌∷◌, [], ℕ, List, Option, Result, Ok, Err, codes}
+use Rattle.std.specs.Prelude.{◌≡◌, ◌⊎◌, ◌++◌, ◌∷◌, [], ℕ, List, Option, Vec, Result, Ok, Err, codes}
+use Rattle.std.specs.declared.alloc.Global.{Global}
+use Rattle.std.specs.declared.alloc.AllocError.{AllocError}
 use Rattle.std.specs.Io.KnownBytes.{Appends}
 use Rattle.hsp_runs.specs.FaultText.{fault_text, status_in}
-use Rattle.hsplan.specs.declared.answer.Answer.{Answer}
 use Rattle.hsplan.specs.declared.failure.Failure.{Failure}
 use Rattle.hsplan.specs.declared.failure.Failure.TheVariants.{Usage, Memory, Read, Write, Refused}
+use Rattle.hsplan.specs.Printing.{IsBegun}
 
 -- the line that tells of a failure
 abbrev pub failure_text : Failure → List ℕ
@@ -22,19 +24,26 @@ failure_status Read = 5
 failure_status Write = 5
 failure_status (Refused fault) = status_in fault
 
--- the line is written and the status is the one that goes with it; or a write failed, and the status is 5
-abbrev pub TellsBy : List ℕ → ℕ → Option (List ℕ) → Option (List ℕ) → ℕ → Type 0
-TellsBy line wanted old new status = (Appends old new line × (status ≡ wanted)) ⊎ (status ≡ 5)
+-- the line that tells of a refused input, where a command ended by one
+abbrev pub refusal_text : Result ℕ Failure → List ℕ
+refusal_text (Err (Refused fault)) = fault_text fault
+refusal_text ended = []
 
--- the failure is told; in place of a fault, whose line takes memory, also that memory ran out
-abbrev pub Tells : Failure → Option (List ℕ) → Option (List ℕ) → ℕ → Type 0
-Tells (Refused fault) old new status =
-    TellsBy (failure_text (Refused fault)) (failure_status (Refused fault)) old new status ⊎ TellsBy (failure_text Memory) (failure_status Memory) old new status
-Tells failure old new status = TellsBy (failure_text failure) (failure_status failure) old new status
+-- the line is written and the status is the one that goes with it; or a write failed, as it may, a beginning of the line was written,
+-- and the status is 5
+abbrev pub TellsBy : Type 0 → List ℕ → ℕ → Option (List ℕ) → Option (List ℕ) → ℕ → Type 0
+TellsBy MayFail line wanted old new status = (Appends old new line × (status ≡ wanted)) ⊎ (MayFail × IsBegun old new line × (status ≡ 5))
 
--- the text of an answer is written on output, nothing on errors, and the status is the answer's; or a write failed; or a failure is
--- told on errors, and nothing is written on output
-abbrev pub Ends : Result Answer Failure → Option (List ℕ) → Option (List ℕ) → Option (List ℕ) → Option (List ℕ) → ℕ → Type 0
-Ends (Ok answer) out_old out_new errors_old errors_new status =
-    (Appends out_old out_new answer.text.items × (errors_new ≡ errors_old) × (status ≡ answer.status)) ⊎ Tells Write errors_old errors_new status
-Ends (Err failure) out_old out_new errors_old errors_new status = (out_new ≡ out_old) × Tells failure errors_old errors_new status
+abbrev pub Line : Type 0
+Line = Result (Vec ℕ Global) AllocError
+
+-- the failure is told; in place of a fault for whose line memory ran out, that it ran out
+abbrev pub Tells : Type 0 → Failure → Line → Option (List ℕ) → Option (List ℕ) → ℕ → Type 0
+Tells MayFail (Refused fault) (Ok line) old new status = TellsBy MayFail line.items (status_in fault) old new status
+Tells MayFail (Refused fault) (Err lacking) old new status = TellsBy MayFail (failure_text Memory) (failure_status Memory) old new status
+Tells MayFail failure line old new status = TellsBy MayFail (failure_text failure) (failure_status failure) old new status
+
+-- nothing is told after an answer, and the status is the answer's; or a failure is told
+abbrev pub Ends : Type 0 → Result ℕ Failure → Line → Option (List ℕ) → Option (List ℕ) → ℕ → Type 0
+Ends MayFail (Ok wanted) line old new status = (new ≡ old) × (status ≡ wanted)
+Ends MayFail (Err failure) line old new status = Tells MayFail failure line old new status

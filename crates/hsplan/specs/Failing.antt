@@ -10,8 +10,8 @@ abbrev pub failure_of : CommandFault → Failure
 failure_of command_fault.Usage = Usage
 failure_of command_fault.OutOfMemory = Memory
 
--- a file can't be read, or memory ran out
-abbrev pub IsUnread : Failure → Type 0
-IsUnread Read = ⊤
-IsUnread Memory = ⊤
-IsUnread failure = ⊥
+-- a file, which may fail to be read, isn't read; or memory ran out
+abbrev pub IsUnread : Type 0 → Failure → Type 0
+IsUnread MayFail Read = MayFail
+IsUnread MayFail Memory = ⊤
+IsUnread MayFail failure = ⊥

@@ -1,10 +1,23 @@
 -- The words of the command.
-use Rattle.std.specs.Prelude.{◌≡◌, ◌∷◌, [], ⊤, ℕ, List, Option, Some, None}
+use Rattle.std.specs.Prelude.{◌≡◌, ◌∷◌, [], ⊤, ℕ, List, Option, Some, None, Result, Ok, Err, IsUtf8}
 use Rattle.hsp_command.specs.Words.{words_of}
-use Rattle.hsp_runs.specs.Input.{first_line_of}
+use Rattle.hsplan.specs.declared.failure.Failure.{Failure}
+use Rattle.hsplan.specs.declared.failure.Failure.TheVariants.{Usage, Memory}
 
--- the arguments or, without any, the words of the first line of the input, where its octets are known
-abbrev pub AreWords : List (List ℕ) → Option (List ℕ) → List (List ℕ) → Type 0
-AreWords (argument ∷ arguments) input words = words ≡ argument ∷ arguments
-AreWords [] (Some text) words = words ≡ words_of (first_line_of text)
-AreWords [] None words = ⊤
+-- an answer with a view of what it gives
+abbrev pub seen : {X Y : Type 0} → (X → Y) → Result X Failure → Result Y Failure
+seen view (Ok x) = Ok (view x)
+seen view (Err failure) = Err failure
+
+-- the words of a line, which is text; none where there is no line or no text
+abbrev pub AreOfLine : Option (List ℕ) → Result (List (List ℕ)) Failure → Type 0
+AreOfLine (Some line) (Ok words) = IsUtf8 line × (words ≡ words_of line)
+AreOfLine (Some line) (Err Usage) = IsUtf8 line → ⊥
+AreOfLine None (Err Usage) = ⊤
+AreOfLine line (Err Memory) = ⊤
+AreOfLine line answer = ⊥
+
+-- the arguments or, without any, the words of the line
+abbrev pub AreWords : List (List ℕ) → Option (List ℕ) → Result (List (List ℕ)) Failure → Type 0
+AreWords [] line answer = AreOfLine line answer
+AreWords (argument ∷ arguments) line answer = answer ≡ Ok (argument ∷ arguments)

@@ -1,13 +1,13 @@
 // What the runs answer, as the program prints it.
 
 ghost use Rattle.std.specs.Prelude.{◌≡◌, option_map};
-ghost use Rattle.hsp_runs.specs.Check.{IsChecked};
 ghost use Rattle.hsp_runs.specs.Locate.{IsLocated};
-ghost use Rattle.hsp_runs.specs.Plan.{IsPlanned};
 ghost use Rattle.hsp_runs.specs.SiteText.{IsSiteRun};
-ghost use Rattle.hsplan.specs.Answers.{Answers, fields_told, plan_status, plan_told, text_told, verdict_told};
+ghost use Rattle.hsplan.specs.Answers.{Answers, IsShownPlan, IsShownVerdict, fields_told, plan_status, plan_told, text_told, verdict_told};
+ghost use Rattle.hsplan.specs.Printing.{Prints};
 
 use crate::failure::Failure;
+use crate::output::Output;
 use hsp_runs::{
     Inputs, Locate, check_run, locate_run, plan_run, site_run, verdict_line, verdict_status,
 };
@@ -45,7 +45,7 @@ fn plan_status(is_short: bool) -> u8
 
 /// The text of a plan, or of a shortage with status 3.
 pub fn plan_answer(alloc: Global, inputs: &Inputs) -> Result<Answer, Failure>
-    ensures { Answers plan_told (IsPlanned inputs.now) result }
+    ensures { Answers plan_told (IsShownPlan inputs.now) result }
 {
     let plan = plan_run(alloc, inputs)?;
     Ok(Answer {
@@ -56,11 +56,22 @@ pub fn plan_answer(alloc: Global, inputs: &Inputs) -> Result<Answer, Failure>
 
 /// The line of a verdict, a No with status 3.
 pub fn check_answer(alloc: Global, inputs: &Inputs, plan: &[u8]) -> Result<Answer, Failure>
-    ensures { Answers verdict_told (IsChecked inputs.now plan.now) result }
+    ensures { Answers verdict_told (IsShownVerdict inputs.now plan.now) result }
 {
     let verdict = check_run(alloc, inputs, plan)?;
     Ok(Answer {
         text: verdict_line(alloc, &verdict)?,
         status: verdict_status(&verdict),
     })
+}
+
+/// Writes the text of an answer, and gives its status.
+pub fn print<O: Output>(out: &mut O, answered: Result<Answer, Failure>) -> Result<u8, Failure>
+    ensures { Prints O.may_fail answered (O.contents out.old) (O.contents out.new) result }
+{
+    let answer = answered?;
+    match out.put(answer.text.as_slice()) {
+        Ok(()) => Ok(answer.status),
+        Err(_) => Err(Failure::Write),
+    }
 }

@@ -1,41 +1,49 @@
 // The answers to commands, from the files that they name.
 
-ghost use Rattle.std.specs.Prelude.{IfErr, IfOk, map, option_map, string_bytes};
-ghost use Rattle.hsplan.specs.Failing.{IsUnread};
-ghost use Rattle.hsplan.specs.Commands.{AnswersCheck, AnswersPlan, AnswersSite, AnswersSites, AnswersTo, AreHeld, HoldsNamed, Obeys};
-ghost use Rattle.hsplan.specs.Answers.{Answers, text_told};
+ghost use Rattle.std.specs.Prelude.{◌≡◌, IfErr, IfOk, map, option_map, string_bytes};
 ghost use Rattle.hsp_runs.specs.Locate.{placed};
-ghost use Rattle.std.specs.Prelude.{◌≡◌};
+ghost use Rattle.hsplan.specs.Answers.{Answers, text_told};
+ghost use Rattle.hsplan.specs.Commands.{AnswersCheck, AnswersPlan, AnswersSite, AnswersSites, AreHeld, CarriesOut, FailsNamed, HoldsNamed, Obeys, OneFails};
+ghost use Rattle.hsplan.specs.Failing.{IsUnread};
 
-use crate::answer::{Answer, check_answer, locate_answer, plan_answer, site_answer};
+use crate::answer::{Answer, check_answer, locate_answer, plan_answer, print, site_answer};
 use crate::failure::Failure;
-use crate::files::FileSource;
+use crate::files::{FileSource, read_whole};
+use crate::output::Output;
 use hsp_command::{InputFiles, Order, Word, read_command};
 use hsp_runs::{Inputs, Locate};
 use std::alloc::Global;
 
 // Every octet of a file that may be named.
-fn read_named<S: FileSource>(files: &S, path: &Option<Word>) -> Result<Option<Vec<u8>>, Failure>
-    ensures octets { IfOk result (λ octets. HoldsNamed (S.holds files.now) path.now (option_map (λ v. v.items) octets)) }
-    ensures unread { IfErr result IsUnread }
+fn read_named<S: FileSource>(
+    alloc: Global,
+    files: &S,
+    path: &Option<Word>,
+) -> Result<Option<Vec<u8>>, Failure>
+    ensures octets { IfOk result (λ octets. HoldsNamed (S.disk files.now) path.now (option_map (λ v. v.items) octets)) }
+    ensures unread { IfErr result (IsUnread (FailsNamed (S.disk files.now) path.now)) }
 {
     match path {
-        Some(path) => Ok(Some(files.read_whole(path)?)),
+        Some(path) => Ok(Some(read_whole(alloc, files, path)?)),
         None => Ok(None),
     }
 }
 
 // The files of inputs, read in their order.
-fn read_inputs<S: FileSource>(files: &S, named: &InputFiles) -> Result<Inputs, Failure>
-    ensures held { IfOk result (λ inputs. AreHeld (S.holds files.now) named.now inputs) }
-    ensures unread { IfErr result IsUnread }
+fn read_inputs<S: FileSource>(
+    alloc: Global,
+    files: &S,
+    named: &InputFiles,
+) -> Result<Inputs, Failure>
+    ensures held { IfOk result (λ inputs. AreHeld (S.disk files.now) named.now inputs) }
+    ensures unread { IfErr result (IsUnread (OneFails (S.disk files.now) named.now)) }
 {
     Ok(Inputs {
-        settings: files.read_whole(&named.settings)?,
-        values: read_named(files, &named.values)?,
-        demand: files.read_whole(&named.demand)?,
-        costs: files.read_whole(&named.costs)?,
-        capacity: files.read_whole(&named.capacity)?,
+        settings: read_whole(alloc, files, &named.settings)?,
+        values: read_named(alloc, files, &named.values)?,
+        demand: read_whole(alloc, files, &named.demand)?,
+        costs: read_whole(alloc, files, &named.costs)?,
+        capacity: read_whole(alloc, files, &named.capacity)?,
     })
 }
 
@@ -59,10 +67,10 @@ fn locate_sites<S: FileSource>(
     values: &Option<Word>,
     handle: &Word,
 ) -> Result<Answer, Failure>
-    ensures { AnswersSites (S.holds files.now) settings.now values.now handle.now result }
+    ensures { AnswersSites (S.disk files.now) settings.now values.now handle.now result }
 {
-    let settings = files.read_whole(settings)?;
-    let values = read_named(files, values)?;
+    let settings = read_whole(alloc, files, settings)?;
+    let values = read_named(alloc, files, values)?;
     locate_answer(
         alloc,
         &Locate::Sites { settings, values },
@@ -76,9 +84,9 @@ fn site<S: FileSource>(
     index: &Option<Word>,
     file: &Word,
 ) -> Result<Answer, Failure>
-    ensures { AnswersSite (S.holds files.now) index.now file.now result }
+    ensures { AnswersSite (S.disk files.now) index.now file.now result }
 {
-    let octets = files.read_whole(file)?;
+    let octets = read_whole(alloc, files, file)?;
     match index {
         Some(index) => site_answer(alloc, &octets, Some(index.as_bytes())),
         None => site_answer(alloc, &octets, None),
@@ -86,9 +94,9 @@ fn site<S: FileSource>(
 }
 
 fn plan<S: FileSource>(alloc: Global, files: &S, named: &InputFiles) -> Result<Answer, Failure>
-    ensures { AnswersPlan (S.holds files.now) named.now result }
+    ensures { AnswersPlan (S.disk files.now) named.now result }
 {
-    let inputs = read_inputs(files, named)?;
+    let inputs = read_inputs(alloc, files, named)?;
     plan_answer(alloc, &inputs)
 }
 
@@ -98,38 +106,49 @@ fn check<S: FileSource>(
     named: &InputFiles,
     plan: &Word,
 ) -> Result<Answer, Failure>
-    ensures { AnswersCheck (S.holds files.now) named.now plan.now result }
+    ensures { AnswersCheck (S.disk files.now) named.now plan.now result }
 {
-    let inputs = read_inputs(files, named)?;
-    let plan = files.read_whole(plan)?;
+    let inputs = read_inputs(alloc, files, named)?;
+    let plan = read_whole(alloc, files, plan)?;
     check_answer(alloc, &inputs, &plan)
 }
 
-// The answer to the order.
-fn answer_to<S: FileSource>(alloc: Global, files: &S, order: &Order) -> Result<Answer, Failure>
-    ensures { AnswersTo (S.holds files.now) order.now result }
+// Carries out the order: prints its answer on `out`, and gives the status to end with.
+fn carry_out<S: FileSource, O: Output>(
+    alloc: Global,
+    files: &S,
+    order: &Order,
+    out: &mut O,
+) -> Result<u8, Failure>
+    ensures { CarriesOut (S.disk files.now) O.may_fail order.now (O.contents out.old) (O.contents out.new) result }
 {
     match order {
         Order::LocatePlace {
             option,
             servers,
             handle,
-        } => locate_place(alloc, option, servers, handle),
+        } => print(out, locate_place(alloc, option, servers, handle)),
         Order::LocateSites {
             settings,
             values,
             handle,
-        } => locate_sites(alloc, files, settings, values, handle),
-        Order::Site { index, file } => site(alloc, files, index, file),
-        Order::Plan { inputs } => plan(alloc, files, inputs),
-        Order::Check { inputs, plan } => check(alloc, files, inputs, plan),
+        } => print(out, locate_sites(alloc, files, settings, values, handle)),
+        Order::Site { index, file } => print(out, site(alloc, files, index, file)),
+        Order::Plan { inputs } => print(out, plan(alloc, files, inputs)),
+        Order::Check { inputs, plan } => print(out, check(alloc, files, inputs, plan)),
     }
 }
 
-/// The answer to the command that the words give.
-pub fn obey<S: FileSource>(alloc: Global, files: &S, words: &[String]) -> Result<Answer, Failure>
-    ensures { Obeys (S.holds files.now) (map string_bytes words.now) result }
+/// Obeys the command that the words give: writes its answer on `out`, and gives the status to end with.
+pub fn obey<S: FileSource, O: Output>(
+    alloc: Global,
+    files: &S,
+    words: &[String],
+    out: &mut O,
+) -> Result<u8, Failure>
+    ensures { Obeys (S.disk files.now) O.may_fail (map string_bytes words.now)
+        (O.contents out.old) (O.contents out.new) result }
 {
     let order = read_command(alloc, words)?;
-    answer_to(alloc, files, &order)
+    carry_out(alloc, files, &order, out)
 }

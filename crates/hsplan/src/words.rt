@@ -1,44 +1,43 @@
 // The words of the command.
 
-ghost use Rattle.std.specs.Prelude.{IfOk, map, string_bytes};
-ghost use Rattle.hsplan.specs.Words.{AreWords};
+ghost use Rattle.std.specs.Prelude.{◌≡◌, drop, map, option_map, string_bytes};
+ghost use Rattle.hsplan.specs.Words.{AreOfLine, AreWords, seen};
 
 use crate::failure::Failure;
 use hsp_command::split_words;
 use hsp_runs::first_line;
 use std::alloc::Global;
-use std::io::Read;
 use std::rt::Env;
 use std::{env, io};
 
-// The words behind the program's name.
+// The words behind the first, which is the program's name.
+fn behind_name(words: Vec<String>) -> Vec<String>
+    ensures { result.items ≡ drop 1 words.items }
+{
+    let mut words = words;
+    if !words.is_empty() {
+        words.remove(0);
+    }
+    words
+}
+
+// The arguments.
 fn arguments<R: Env + AllocGlobal>(rt: &R) -> Result<Vec<String>, Failure> {
     let all = match env::args(rt) {
         Ok(all) => all,
         Err(error) if error.kind() == io::ErrorKind::OutOfMemory => return Err(Failure::Memory),
         Err(_) => return Err(Failure::Usage),
     };
-    let mut words = Vec::new(rt.alloc());
-    for word in all.skip(1) {
-        if words.push(word).is_err() {
-            return Err(Failure::Memory);
-        }
-    }
-    Ok(words)
+    let words: Vec<String> = all.collect(rt.alloc())?;
+    Ok(behind_name(words))
 }
 
-// The arguments or, without any, the words of the first line of the input, which isn't read else.
-fn words_from<I: Read + Drop>(
-    alloc: Global,
-    arguments: Vec<String>,
-    input: I,
-) -> Result<Vec<String>, Failure>
-    ensures { IfOk result (λ words. AreWords (map string_bytes arguments.items) (I.remaining input) (map string_bytes words.items)) }
+// The words of the line that was found.
+fn words_of_line(alloc: Global, line: Option<Vec<u8>>) -> Result<Vec<String>, Failure>
+    ensures { AreOfLine (option_map (λ line. line.items) line)
+        (seen (λ words. map string_bytes words.items) result) }
 {
-    if !arguments.is_empty() {
-        return Ok(arguments);
-    }
-    let Some(line) = first_line(alloc, input)? else {
+    let Some(line) = line else {
         return Err(Failure::Usage);
     };
     match split_words(alloc, line.as_slice())? {
@@ -47,8 +46,29 @@ fn words_from<I: Read + Drop>(
     }
 }
 
-/// The words of the command: the arguments or, without any, those of the first line of standard input.
+// The arguments or, without any, the words of the line that was found.
+fn words_from(
+    alloc: Global,
+    arguments: Vec<String>,
+    line: Option<Vec<u8>>,
+) -> Result<Vec<String>, Failure>
+    ensures { AreWords (map string_bytes arguments.items) (option_map (λ line. line.items) line)
+        (seen (λ words. map string_bytes words.items) result) }
+{
+    if arguments.is_empty() {
+        words_of_line(alloc, line)
+    } else {
+        Ok(arguments)
+    }
+}
+
+/// The words of the command: the arguments or, without any, those of the first line of standard input, which isn't read else.
 pub(crate) fn take_words<R: Env + Input + AllocGlobal>(rt: &R) -> Result<Vec<String>, Failure> {
     let arguments = arguments(rt)?;
-    words_from(rt.alloc(), arguments, rt.reader())
+    let line = if arguments.is_empty() {
+        first_line(rt.alloc(), rt.reader())?
+    } else {
+        None
+    };
+    words_from(rt.alloc(), arguments, line)
 }
