@@ -63,16 +63,6 @@ pub record IsSmall (net : Transport) : Type 0 where
       (first_of net + length net.demands + 1) * ((first_of net + length net.demands + 1) * slice_index net.costs k) < 18446744073709551615
   pub low : (i : ℕ) → i < length net.demands → slice_index net.demands i < 18446744073709551615
 
--- the place parts the links that leave nodes below v from the others
-pub record Parts (tails : List ℕ) (v place : ℕ) : Type 0 where
-  pub within : place ≤ length tails
-  pub below : (k : ℕ) → k < place → slice_index tails k < v
-  pub above : (k : ℕ) → place ≤ k → k < length tails → v ≤ slice_index tails k
-
--- numbers that don't fall
-abbrev pub Ascends : List ℕ → Type 0
-Ascends tails = (j k : ℕ) → j ≤ k → k < length tails → slice_index tails j ≤ slice_index tails k
-
 -- the lists of a network's links
 pub record LinksOf (net : Transport) (tail head cost capacity supply : List ℕ) : Type 0 where
   pub tails : TailsOf net tail
