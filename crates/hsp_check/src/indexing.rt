@@ -6,14 +6,14 @@ ghost use Rattle.hsp_check.specs.Index.{IsIndexed, bare_arc};
 
 use crate::arc::NetworkArc;
 use crate::sums::LaidArc;
-use hsp_instance::{Arc, Instance};
+use hsp_instance::{Arc, Instance, Runs};
 use std::alloc::{AllocError, Global};
 
-/// The arcs of a network, none of them used, and where those of each row begin.
+/// The arcs of a network, none of them used, and the run of each row among them.
 #[derive(Drop)]
 pub(crate) struct IndexedArcs {
     pub(crate) laid: Vec<LaidArc>,
-    pub(crate) starts: Vec<usize>,
+    pub(crate) runs: Runs,
 }
 
 // Appends the arcs of a row.
@@ -34,16 +34,15 @@ fn push_arcs(laid: &mut Vec<LaidArc>, row: u32, arcs: &[Arc]) -> Result<(), Allo
 
 /// The arcs of all rows in turn.
 pub(crate) fn arcs_of(alloc: Global, instance: &Instance) -> Result<IndexedArcs, AllocError>
-    ensures arcs { IfOk result (λ arcs. IsIndexed instance.now.arcs arcs.laid.items arcs.starts.items) }
+    ensures arcs { IfOk result (λ arcs. IsIndexed instance.now.arcs arcs.laid.items arcs.runs) }
     // The instance is within its limits.
     ensures within { IfOk result (λ _. IsInstance instance.now) }
 {
     let mut laid = Vec::new(alloc);
-    let mut starts = Vec::new(alloc);
-    starts.push(0)?;
+    let mut runs = Runs::new(alloc)?;
     for row in 0..instance.rows() {
         push_arcs(&mut laid, row, instance.arcs(row))?;
-        starts.push(laid.len())?;
+        runs.end_at(laid.len())?;
     }
-    Ok(IndexedArcs { laid, starts })
+    Ok(IndexedArcs { laid, runs })
 }

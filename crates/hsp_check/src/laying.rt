@@ -8,18 +8,20 @@ ghost use Rattle.hsp_check.specs.Uses.{table};
 use crate::indexing::IndexedArcs;
 use crate::sums::LaidArc;
 use hsp_cert::UseLine;
+use hsp_instance::Runs;
 
 // The place of the row's arc to the site.
-fn place_of(laid: &[LaidArc], starts: &[usize], row: u32, site: u32) -> Option<usize>
-    requires { (rows : ℕ) × ByRow rows laid.now starts.now }
+fn place_of(laid: &[LaidArc], runs: &Runs, row: u32, site: u32) -> Option<usize>
+    requires { (rows : ℕ) × ByRow rows laid.now runs.now }
     ensures found { IfSome result (λ k. (k < length laid.now) × ((arc_at laid.now k).row ≡ row) × ((arc_at laid.now k).site ≡ site)) }
     ensures none { IfNone result ((k : ℕ) → k < length laid.now → (arc_at laid.now k).row ≡ row → (arc_at laid.now k).site ≡ site → ⊥) }
 {
     let row = row as usize;
-    if row + 1 >= starts.len() {
+    if row >= runs.len() {
         return None;
     }
-    for place in starts[row]..starts[row + 1] {
+    let (begin, end) = runs.run(row);
+    for place in begin..end {
         if laid[place].arc.site == site {
             return Some(place);
         }
@@ -28,8 +30,8 @@ fn place_of(laid: &[LaidArc], starts: &[usize], row: u32, site: u32) -> Option<u
 }
 
 // Adds each use to its arc, up to the first use without one. The flows are 0 at first.
-fn lay_each(laid: &mut [LaidArc], starts: &[usize], uses: &[UseLine]) -> bool
-    requires index { (rows : ℕ) × ByRow rows laid.old starts.now }
+fn lay_each(laid: &mut [LaidArc], runs: &Runs, uses: &[UseLine]) -> bool
+    requires index { (rows : ℕ) × ByRow rows laid.old runs.now }
     requires bare { (k : ℕ) → k < length laid.old → flow_at laid.old k ≡ 0 }
     requires counts { All (λ u. u.count ≤ 1000000) uses.now }
     requires few { length uses.now < 2 ^ 32 }
@@ -40,7 +42,7 @@ fn lay_each(laid: &mut [LaidArc], starts: &[usize], uses: &[UseLine]) -> bool
 {
     for index in 0..uses.len() {
         let one = uses[index];
-        let Some(place) = place_of(laid, starts, one.row, one.site) else {
+        let Some(place) = place_of(laid, runs, one.row, one.site) else {
             return false;
         };
         laid[place].flow += one.count;
@@ -50,7 +52,7 @@ fn lay_each(laid: &mut [LaidArc], starts: &[usize], uses: &[UseLine]) -> bool
 
 /// The arcs with what the uses give them, and None where a use has no arc.
 pub(crate) fn lay(arcs: IndexedArcs, uses: &[UseLine]) -> Option<Vec<LaidArc>>
-    requires index { (rows : ℕ) × ByRow rows arcs.laid.items arcs.starts.items }
+    requires index { (rows : ℕ) × ByRow rows arcs.laid.items arcs.runs }
     requires bare { (k : ℕ) → k < length arcs.laid.items → flow_at arcs.laid.items k ≡ 0 }
     requires counts { All (λ u. u.count ≤ 1000000) uses.now }
     requires few { length uses.now < 2 ^ 32 }
@@ -58,8 +60,8 @@ pub(crate) fn lay(arcs: IndexedArcs, uses: &[UseLine]) -> Option<Vec<LaidArc>>
     ensures each { IfSome result (λ _. All (λ u. has_arc arcs.laid.items u ≡ true) uses.now) }
     ensures lost { IfNone result (All (λ u. has_arc arcs.laid.items u ≡ true) uses.now → ⊥) }
 {
-    let IndexedArcs { mut laid, starts } = arcs;
-    if lay_each(&mut laid, &starts, uses) {
+    let IndexedArcs { mut laid, runs } = arcs;
+    if lay_each(&mut laid, &runs, uses) {
         Some(laid)
     } else {
         None

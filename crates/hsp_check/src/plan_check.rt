@@ -68,7 +68,7 @@ pub(crate) fn check_plan(
     plan: &BestRef<'_>,
 ) -> Result<Verdict, AllocError>
     requires network { IsNetwork (network_with numbers.now arcs.laid.items) }
-    requires index { (rows : ℕ) × ByRow rows arcs.laid.items arcs.starts.items }
+    requires index { (rows : ℕ) × ByRow rows arcs.laid.items arcs.runs }
     requires bare { (k : ℕ) → k < length arcs.laid.items → flow_at arcs.laid.items k ≡ 0 }
     requires cheap { All (λ a. a.cost ≤ 1000000) (network_with numbers.now arcs.laid.items).arcs }
     requires few { length arcs.laid.items < 2 ^ 32 }

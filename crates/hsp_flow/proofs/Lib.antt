@@ -12,7 +12,6 @@ pub mod Modelling
 pub mod Noting
 pub mod Offers
 pub mod Pairing
-pub mod Parting
 pub mod Raising
 pub mod Searching
 pub mod Shortage

@@ -1,14 +1,15 @@
 -- The arcs of a node that a loop over the index has seen.
 use Rattle.std.proofs.Common.{◌≡◌, ℕ, ◌+◌, ◌<◌, ◌≤◌, ◌⊎◌, inl, inr, Bool, true, false, List, length, slice_index, refl, ap, sym, ◌∙◌, arith}
 use Rattle.std.proofs.lemmas.Bool.{cases_eq}
-use Rattle.hsp_flow.specs.Index.{ByTail, ByHead, Carries}
+use Rattle.hsp_instance.specs.Runs.{AreRuns}
+use Rattle.hsp_flow.specs.Index.{ByHead, Carries}
 use Rattle.hsp_flow.specs.Residual.{from, width}
 
 pub not_both : {A : Type 0} → true ≡ false → A
 not_both q = absurd cc
 
 -- the links that leave the node v
-module _ (nodes : ℕ) (tails heads starts : List ℕ) (by : ByTail nodes tails starts) (v : ℕ) (v-in : v < nodes) where
+module _ (nodes : ℕ) (tails heads starts : List ℕ) (by : AreRuns nodes tails starts) (v : ℕ) (v-in : v < nodes) where
   pub none_left : (k : ℕ) (d : Bool) → k < length tails → from tails heads k d ≡ v → (d ≡ true) × (k < slice_index starts v) → ⊥
   none_left k true l here seen =
       let s : slice_index starts (slice_index tails k) ≡ slice_index starts v = ap (λ n. slice_index starts n) here in

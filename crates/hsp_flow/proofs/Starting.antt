@@ -3,7 +3,8 @@ use Rattle.std.proofs.Common.{◌≡◌, ℕ, ◌+◌, ◌*◌, ◌++◌, ◌∷
 use Rattle.std.proofs.lemmas.Bool.{cases_eq, cases_lt}
 use Rattle.std.proofs.lemmas.List.{get_or_append_left, get_or-append-add}
 use Rattle.hsp_flow.specs.Sums.{only, through}
-use Rattle.hsp_flow.specs.Index.{ByHead, ByTail, Carries}
+use Rattle.hsp_instance.specs.Runs.{AreRuns}
+use Rattle.hsp_flow.specs.Index.{ByHead, Carries}
 use Rattle.hsp_flow.specs.Opening.{FirstPrices, LeastCost}
 use Rattle.hsp_flow.specs.Residual.{Graph, Scale, Sound, width, gives, takes}
 use Rattle.hsp_flow.proofs.Sums.{only_here, only_there}
@@ -57,7 +58,7 @@ first_more n costs starts price least prices it = record {
 }
 
 module _ (first nodes : ℕ) (tails heads costs capacities supplies starts price : List ℕ) (most limit step : ℕ)
-    (graph : Graph nodes tails heads costs capacities supplies) (by : ByTail nodes tails starts)
+    (graph : Graph nodes tails heads costs capacities supplies) (by : AreRuns nodes tails starts)
     (scale : Scale first nodes tails heads costs capacities most limit step) (prices : FirstPrices nodes costs starts price) where
   pub first_low : (k : ℕ) → k < length tails → slice_index price (slice_index tails k) ≤ slice_index costs k
   first_low k l = (prices.each (slice_index tails k) (graph.tails_in k l)).below k (by.from k l) (by.upto k l)

@@ -38,6 +38,11 @@ offset [] g = 0
 offset (arcs ∷ rest) zero = 0
 offset (arcs ∷ rest) (suc g) = length arcs + offset rest g
 
+-- where each list begins, and behind the last where it ends
+pub record BeginAt (lists : List (List Arc)) (starts : List ℕ) : Type 0 where
+  pub many : length starts ≡ length lists + 1
+  pub at : (g : ℕ) → g ≤ length lists → slice_index starts g ≡ offset lists g
+
 -- what the rows of a group ask for together
 abbrev pub group_demand : Instance → Groups → ℕ → ℕ
 group_demand it groups g = sum_below (length it.rows) (λ i. only (group_of groups i) g (slice_index (map (λ r. r.count) it.rows) i))

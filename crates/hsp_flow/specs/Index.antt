@@ -2,15 +2,6 @@
 use Rattle.std.specs.Prelude.{◌≡◌, ◌≢◌, ℕ, ◌+◌, ◌<◌, ◌≤◌, List, length, slice_index}
 use Rattle.hsp_flow.specs.Sums.{only, sum_below}
 
--- the links that leave the node v are those from starts[v] up to starts[v + 1]
-pub record ByTail (nodes : ℕ) (tails starts : List ℕ) : Type 0 where
-  pub starts_many : length starts ≡ nodes + 1
-  pub ordered : (v : ℕ) → v < nodes → slice_index starts v ≤ slice_index starts (v + 1)
-  pub within : (v : ℕ) → v < nodes → slice_index starts (v + 1) ≤ length tails
-  pub own : (v k : ℕ) → v < nodes → slice_index starts v ≤ k → k < slice_index starts (v + 1) → slice_index tails k ≡ v
-  pub from : (k : ℕ) → k < length tails → slice_index starts (slice_index tails k) ≤ k
-  pub upto : (k : ℕ) → k < length tails → k < slice_index starts (slice_index tails k + 1)
-
 -- where an entry of the index by heads stands: at its link's slot, among those of the link's head
 pub record Entry (heads slots : List ℕ) (v i k : ℕ) : Type 0 where
   pub link : k < length heads

@@ -1,6 +1,6 @@
 -- The links of a transportation network: node 0 is the sink, then come the hosts, the servers and the sources. The link of a host
 -- leads to the sink, that of a server to its host or to the sink, and each arc from its source to its server.
-use Rattle.std.specs.Prelude.{◌≡◌, ℕ, ◌+◌, ◌*◌, ◌<◌, ◌≤◌, List, length, slice_index, Option, Some, None}
+use Rattle.std.specs.Prelude.{◌≡◌, ℕ, ◌+◌, ◌*◌, ◌<◌, List, length, slice_index, Option, Some, None}
 use Rattle.hsp_flow.specs.Network.{Transport, host_of}
 
 abbrev pub hosts_of : Transport → ℕ
@@ -62,16 +62,6 @@ pub record IsSmall (net : Transport) : Type 0 where
   pub cheap : (k : ℕ) → k < length net.sources →
       (first_of net + length net.demands + 1) * ((first_of net + length net.demands + 1) * slice_index net.costs k) < 18446744073709551615
   pub low : (i : ℕ) → i < length net.demands → slice_index net.demands i < 18446744073709551615
-
--- the place parts the links that leave nodes below v from the others
-pub record Parts (tails : List ℕ) (v place : ℕ) : Type 0 where
-  pub within : place ≤ length tails
-  pub below : (k : ℕ) → k < place → slice_index tails k < v
-  pub above : (k : ℕ) → place ≤ k → k < length tails → v ≤ slice_index tails k
-
--- numbers that don't fall
-abbrev pub Ascends : List ℕ → Type 0
-Ascends tails = (j k : ℕ) → j ≤ k → k < length tails → slice_index tails j ≤ slice_index tails k
 
 -- the lists of a network's links
 pub record LinksOf (net : Transport) (tail head cost capacity supply : List ℕ) : Type 0 where

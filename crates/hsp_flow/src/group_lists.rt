@@ -6,7 +6,7 @@ ghost use Rattle.hsp_instance.specs.Instance.{IsInstance};
 ghost use Rattle.hsp_flow.specs.Grouping.{AreFirsts, AreGroupLists};
 
 use crate::arcs::{costs_of, rows_of, servers_of};
-use crate::grouping::{group_arcs_of, group_demands, group_places_of, starts_of};
+use crate::grouping::{group_arcs_of, group_demands, group_places_of, runs_of};
 use hsp_instance::{Groups, Instance};
 use std::alloc::{AllocError, Global};
 
@@ -33,8 +33,8 @@ pub(crate) fn group_lists(
     ensures { IfOk result (AreGroupLists instance.now groups.now firsts.now) }
 {
     let arcs = group_arcs_of(alloc, instance, firsts)?;
-    let starts = starts_of(alloc, instance, firsts)?;
-    let group_places = group_places_of(alloc, instance, groups, firsts, &starts)?;
+    let runs = runs_of(alloc, instance, firsts)?;
+    let group_places = group_places_of(alloc, instance, groups, firsts, &runs)?;
     Ok(GroupLists {
         demands: group_demands(alloc, instance, groups)?,
         sources: rows_of(alloc, &arcs)?,

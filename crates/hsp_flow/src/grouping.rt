@@ -4,12 +4,12 @@ ghost use Rattle.std.specs.Prelude.{◌≡◌, ℕ, ◌+◌, ◌<◌, ◌≤◌,
 ghost use Rattle.hsp_instance.specs.Groups.{AreGroups};
 ghost use Rattle.hsp_instance.specs.Instance.{IsInstance};
 ghost use Rattle.hsp_check.specs.Instance.{arcs_from};
-ghost use Rattle.hsp_flow.specs.Grouping.{AreFirsts, AreGroupPlaces, IsRun, arcs_at, group_arcs, group_demand, group_of, lists_at, offset};
+ghost use Rattle.hsp_flow.specs.Grouping.{AreFirsts, BeginAt, IsRun, group_arcs, group_demand, lists_at};
 ghost use Rattle.hsp_flow.specs.Layout.{Appends};
 
 use crate::arcs::push_arcs;
 use hsp_check::NetworkArc;
-use hsp_instance::{Groups, Instance};
+use hsp_instance::{Groups, Instance, Runs};
 use std::alloc::{AllocError, Global};
 
 /// The first row of each group.
@@ -47,25 +47,24 @@ pub(crate) fn group_arcs_of(
     Ok(all)
 }
 
-/// Where the arcs of each group begin.
-pub(crate) fn starts_of(
+/// The run of each group among the arcs of the groups.
+pub(crate) fn runs_of(
     alloc: Global,
     instance: &Instance,
     firsts: &[u32],
-) -> Result<Vec<usize>, AllocError>
+) -> Result<Runs, AllocError>
     requires many { length firsts.now ≤ 8192 }
     requires there { (g : ℕ) → g < length firsts.now → slice_index firsts.now g < length instance.now.rows }
     requires within { IsInstance instance.now }
-    ensures many { IfOk result (λ starts. length starts.items ≡ length firsts.now) }
-    ensures starts { IfOk result (λ starts. (g : ℕ) → g < length firsts.now → slice_index starts.items g ≡ offset (lists_at instance.now firsts.now) g) }
+    ensures { IfOk result (BeginAt (lists_at instance.now firsts.now)) }
 {
-    let mut starts = Vec::new(alloc);
+    let mut runs = Runs::new(alloc)?;
     let mut next: usize = 0;
     for group in 0..firsts.len() {
-        starts.push(next)?;
         next += instance.arcs(firsts[group]).len();
+        runs.end_at(next)?;
     }
-    Ok(starts)
+    Ok(runs)
 }
 
 // Adds the counts of the rows to the demands of their groups, which are 0.
@@ -114,19 +113,18 @@ pub(crate) fn group_places_of(
     instance: &Instance,
     groups: &Groups,
     firsts: &[u32],
-    starts: &[usize],
+    runs: &Runs,
 ) -> Result<Vec<usize>, AllocError>
     requires groups { AreGroups instance.now groups.now }
     requires within { IsInstance instance.now }
     requires firsts { AreFirsts groups.now firsts.now }
-    requires many { length starts.now ≡ length firsts.now }
-    requires starts { (g : ℕ) → g < length firsts.now → slice_index starts.now g ≡ offset (lists_at instance.now firsts.now) g }
+    requires runs { BeginAt (lists_at instance.now firsts.now) runs.now }
     ensures { IfOk result (λ group_places. IsRun instance.now.arcs (lists_at instance.now firsts.now) groups.now (length instance.now.rows) group_places.items) }
 {
     let mut group_places = Vec::new(alloc);
     for row in 0..instance.rows() {
-        let start = starts[groups.of(row) as usize];
-        push_run(&mut group_places, start, instance.arcs(row).len())?;
+        let (begin, _) = runs.run(groups.of(row) as usize);
+        push_run(&mut group_places, begin, instance.arcs(row).len())?;
     }
     Ok(group_places)
 }

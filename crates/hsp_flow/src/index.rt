@@ -1,39 +1,7 @@
 ghost use Rattle.std.specs.Prelude.{◌≡◌, ℕ, ◌+◌, ◌<◌, ◌≤◌, IfOk, length, slice_index, vec_len};
-ghost use Rattle.hsp_flow.specs.Index.{ByHead, ByTail, Counts, Places};
-ghost use Rattle.hsp_flow.specs.Layout.{Ascends, Parts};
+ghost use Rattle.hsp_flow.specs.Index.{ByHead, Counts, Places};
 
 use std::alloc::{AllocError, Global};
-
-/// The first place from `start` on whose link doesn't leave a node below `node`.
-pub fn first_from(tails: &[u32], start: usize, node: u32) -> usize
-    requires ascends { Ascends tails.now }
-    requires start_in { start ≤ length tails.now }
-    requires below { (k : ℕ) → k < start → slice_index tails.now k < node }
-    ensures parts { Parts tails.now node result }
-    ensures on { start ≤ result }
-{
-    let mut place = start;
-    while place < tails.len() && tails[place] < node {
-        place += 1;
-    }
-    place
-}
-
-/// Where the links that leave each node begin.
-pub fn link_starts(alloc: Global, tails: &[u32], nodes: u32) -> Result<Vec<usize>, AllocError>
-    requires ascends { Ascends tails.now }
-    requires few { nodes + 1 < 4294967296 }
-    requires inside { (k : ℕ) → k < length tails.now → slice_index tails.now k < nodes }
-    ensures { IfOk result (λ starts. ByTail nodes tails.now starts.items) }
-{
-    let mut starts = Vec::new(alloc);
-    let mut place = 0;
-    for node in 0..nodes + 1 {
-        place = first_from(tails, place, node);
-        starts.push(place)?;
-    }
-    Ok(starts)
-}
 
 /// Counts the links that enter each node.
 pub fn count_heads(heads: &[u32], counts: &mut [usize])

@@ -1,5 +1,5 @@
 ghost use Rattle.std.specs.Prelude.{length};
-ghost use Rattle.hsp_flow.specs.Index.{ByTail};
+ghost use Rattle.hsp_instance.specs.Runs.{AreRuns};
 ghost use Rattle.hsp_flow.specs.Residual.{Graph, Scale};
 
 /// The nodes and links that a flow runs on: each link leads from a node to a lower one, in the order of their tails,
@@ -13,7 +13,7 @@ pub struct Links<'a> {
     pub capacities: &'a [u64],
     /// What each node sends out.
     pub supplies: &'a [u64],
-    /// Where the links that leave a node begin.
+    /// Where the links that leave each node begin, and behind the last where they end.
     pub starts: &'a [usize],
     /// Where the links that enter a node begin in a flow's order of them.
     pub places: &'a [usize],
@@ -21,7 +21,7 @@ pub struct Links<'a> {
     pub limit: u64,
     pub step: u64,
     pub ghost graph: { Graph (length supplies.now) tails.now heads.now costs.now capacities.now supplies.now },
-    pub ghost by_tail: { ByTail (length supplies.now) tails.now starts.now },
+    pub ghost by_tail: { AreRuns (length supplies.now) tails.now starts.now },
     pub ghost scale: { Scale first (length supplies.now) tails.now heads.now costs.now capacities.now most limit step },
 }
 

@@ -8,12 +8,13 @@ ghost use Rattle.hsp_flow.specs.Shapes.{Ready, nodes};
 
 use crate::answer::{priced_flow, short_set};
 use crate::frontier::Frontier;
-use crate::index::{count_heads, fill_order, head_places, link_starts};
+use crate::index::{count_heads, fill_order, head_places};
 use crate::links::{Effort, Flow, Links, SearchTree};
 use crate::network::{Network, Outcome};
 use crate::opening::first_prices;
 use crate::phase::meet_all;
 use crate::tables::{link_capacities, link_costs, link_heads, link_tails, node_supplies};
+use hsp_instance::Runs;
 use std::alloc::{AllocError, Global};
 
 /// The greatest cost, 0 where there is none.
@@ -155,7 +156,7 @@ fn solve_links<F: Frontier>(
     ensures { IfOk result (Answers (problem_of network.now)) }
 {
     let nodes = supplies.len();
-    let starts = link_starts(alloc, tails, nodes as u32)?;
+    let runs = Runs::of(alloc, tails, nodes as u32)?;
     let places = places_of(alloc, heads, nodes)?;
     let most = greatest(network.costs);
     let limit = nodes as u64 * most;
@@ -166,7 +167,7 @@ fn solve_links<F: Frontier>(
         costs,
         capacities,
         supplies,
-        starts: &starts,
+        starts: runs.starts(),
         places: &places,
         most,
         limit,

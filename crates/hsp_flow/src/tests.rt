@@ -1,3 +1,4 @@
+ghost use Rattle.std.specs.Prelude.{ℕ};
 ghost use Rattle.hsp_flow.specs.Layout.{IsSmall};
 ghost use Rattle.hsp_flow.specs.Problem.{problem_of};
 
@@ -12,7 +13,9 @@ use std::process::Abort;
 use std::test::Fail;
 
 /// Four nodes, one of them lowered, come out by their keys.
-fn takes_by_key<F: Frontier>(rt: &impl Abort, alloc: Global) -> Result<(), Fail> {
+fn takes_by_key<F: Frontier>(rt: &impl Abort, alloc: Global) -> Result<(), Fail>
+    requires { (nodes : ℕ) → F.may_have nodes }
+{
     let Ok(mut frontier) = F::with_nodes(alloc, 4) else {
         return Ok(());
     };
@@ -30,7 +33,9 @@ fn takes_by_key<F: Frontier>(rt: &impl Abort, alloc: Global) -> Result<(), Fail>
 }
 
 /// A key that was lowered doesn't come out again, nor does one that was cleared.
-fn forgets_old_keys<F: Frontier>(rt: &impl Abort, alloc: Global) -> Result<(), Fail> {
+fn forgets_old_keys<F: Frontier>(rt: &impl Abort, alloc: Global) -> Result<(), Fail>
+    requires { (nodes : ℕ) → F.may_have nodes }
+{
     let Ok(mut frontier) = F::with_nodes(alloc, 1) else {
         return Ok(());
     };
@@ -82,7 +87,8 @@ fn frontiers_know_their_spare_calls(rt: HostRuntime) -> Result<(), Fail> {
 
 /// Every source is met, and the flows are these.
 fn meets<F: Frontier>(rt: &impl Abort, alloc: Global, network: &Network, flows: &[u64])
-    requires { IsSmall (problem_of network.now) }
+    requires small { IsSmall (problem_of network.now) }
+    requires nodes { (nodes : ℕ) → F.may_have nodes }
 {
     let outcome = solve_network::<F>(alloc, network, &mut Effort::default());
     match &outcome {
@@ -93,7 +99,8 @@ fn meets<F: Frontier>(rt: &impl Abort, alloc: Global, network: &Network, flows: 
 
 /// These sources are short.
 fn lacks<F: Frontier>(rt: &impl Abort, alloc: Global, network: &Network, short: &[bool])
-    requires { IsSmall (problem_of network.now) }
+    requires small { IsSmall (problem_of network.now) }
+    requires nodes { (nodes : ℕ) → F.may_have nodes }
 {
     let outcome = solve_network::<F>(alloc, network, &mut Effort::default());
     match &outcome {

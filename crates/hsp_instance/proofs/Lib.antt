@@ -10,3 +10,4 @@ pub mod TableChecks
 pub mod NewRows
 pub mod Reading
 pub mod BuiltParts
+pub mod Parting

@@ -5,3 +5,4 @@ pub mod Parts
 pub mod LentKeys
 pub mod RegionCosts
 pub mod Groups
+pub mod Runs

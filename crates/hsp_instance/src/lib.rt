@@ -14,6 +14,7 @@ mod instance;
 pub mod laws;
 mod region_costs;
 mod rows;
+mod runs;
 mod server_building;
 mod site_reading;
 mod sites;
@@ -25,6 +26,7 @@ pub use fault::{BuildFault, Table};
 pub use group_numbers::Groups;
 pub use grouping::groups;
 pub use instance::Instance;
+pub use runs::Runs;
 pub use site_reading::build_sites;
 pub use sites::Sites;
 

@@ -3,11 +3,11 @@ use Rattle.hsp_flow.specs.Problem.{problem_of}
 use Rattle.hsp_flow.proofs.Building.{ascends_of, costs_fit, graph_of, scale_of}
 use Rattle.hsp_flow.proofs.solving.solve_links.Goals as goal
 
-pub link_starts-requires-clause-ascends : goal.link_starts-requires-clause-ascends
-link_starts-requires-clause-ascends g c = ascends_of (problem_of c.args.network.now) c.args.network.now.ends c.requires.small _ _ _ _ _ c.requires.links_of
+pub of-requires-clause-ascends : goal.of-requires-clause-ascends
+of-requires-clause-ascends g c = ascends_of (problem_of c.args.network.now) c.args.network.now.ends c.requires.small _ _ _ _ _ c.requires.links_of
 
-pub link_starts-requires-clause-inside : goal.link_starts-requires-clause-inside
-link_starts-requires-clause-inside g c = λ k l. (graph_of (problem_of c.args.network.now) c.args.network.now.ends c.requires.small _ _ _ _ _ c.requires.links_of).tails_in k l
+pub of-requires-clause-inside : goal.of-requires-clause-inside
+of-requires-clause-inside g c = λ k l. (graph_of (problem_of c.args.network.now) c.args.network.now.ends c.requires.small _ _ _ _ _ c.requires.links_of).tails_in k l
 
 pub places_of-requires-clause-inside : goal.places_of-requires-clause-inside
 places_of-requires-clause-inside g c = λ k l.
@@ -23,7 +23,7 @@ invariant_of-links g c =
     omega (arith, add-mul (length c.args.supplies.now) 1 c.greatest-most.result, one-mul c.greatest-most.result) in
     record {
       graph = graph_of (problem_of c.args.network.now) whole c.requires.small _ _ _ _ _ c.requires.links_of;
-      by_tail = rw c.deref.ensures.value c.in_ok-starts.ensures;
+      by_tail = rw c.starts.ensures c.in_ok-runs.ensures;
       scale = scale_of (problem_of c.args.network.now) whole c.requires.small _ _ _ _ _ c.requires.links_of _ _ _ (λ k l. c.greatest-most.ensures.bound k (omega (arith, whole.costs_many))) refl refl
           (rw step fit) (λ k. omega (arith, c.type_inv.capacities k));
     }

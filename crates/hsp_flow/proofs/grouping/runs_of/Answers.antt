@@ -1,0 +1,46 @@
+use Rattle.std.proofs.Common.{◌≡◌, ◌+◌, ◌-◌, ◌∷◌, [], ap, inl, inr, length, slice_index, refl, arith, length-append}
+use Rattle.std.proofs.lemmas.Bool.{cases_lt}
+use Rattle.std.proofs.lemmas.List.{length-map, get_or_append_left, get_or-append_right}
+use Rattle.std.proofs.lemmas.Option.{get_or_from_slice_get}
+use Rattle.hsp_instance.specs.Instance.{AreArcs}
+use Rattle.hsp_instance.specs.declared.arc.Arc.{Arc}
+use Rattle.hsp_instance.proofs.Lists.{all_at}
+use Rattle.hsp_flow.specs.Grouping.{arcs_at, lists_at, offset}
+use Rattle.hsp_flow.proofs.GroupFacts.{group_read}
+use Rattle.hsp_flow.proofs.Offsets.{list_at, offset_more, offset_none}
+use Rattle.hsp_flow.proofs.grouping.runs_of.Goals as goal
+
+pub loop-group-init : goal.loop-group-init
+loop-group-init c =
+    let none = offset_none (lists_at c.args.instance.now c.args.firsts.now) in
+    rw c.in_ok-runs.ensures
+    (record {
+      many = refl;
+      small = omega arith;
+      next = omega (arith, none);
+      at = λ g l. let first : g ≡ 0 = omega arith in rw first (omega (arith, none));
+    })
+
+pub loop-group-preserved : goal.loop-group-preserved
+loop-group-preserved c =
+    let i = c.loop-group.invariant in
+    let gl = lists_at c.args.instance.now c.args.firsts.now in
+    let read = group_read c.args.instance.now c.args.firsts.now c.loop-group.group c.arcs.result.now c.loop-group-test.true c.arcs.ensures in
+    let own : list_at gl c.loop-group.group ≡ c.arcs.result.now = get_or_from_slice_get gl c.loop-group.group c.arcs.result.now [] read in
+    let row = all_at (AreArcs c.args.instance.now.servers) c.args.instance.now.arcs (slice_index c.args.firsts.now c.loop-group.group) c.arcs.result.now c.requires.within.arcs c.arcs.ensures in
+    let many = ap (λ (xs : _). length {A = Arc} xs) own in
+    let next : c.loop-group.next + length c.arcs.result.now ≡ offset gl (c.loop-group.group + 1) =
+    omega (arith, i.next, many, offset_more gl c.loop-group.group (omega (arith, c.loop-group-test.true, length-map c.args.firsts.now (arcs_at c.args.instance.now)))) in
+    rw c.in_ok-end_at.ensures.end
+    (record {
+      many = omega (arith, i.many, length-append c.loop-group.runs ((c.loop-group.next + length c.arcs.result.now) ∷ []));
+      small = omega (arith, i.small, row.few);
+      next = next;
+      at = λ g l. elim (cases_lt g (c.loop-group.group + 1)) [
+        | inl old ↦ omega (arith, get_or_append_left c.loop-group.runs ((c.loop-group.next + length c.arcs.result.now) ∷ []) 0 g (omega (arith, old, i.many)), i.at g (omega arith))
+        | inr new ↦
+            let place : g - length c.loop-group.runs ≡ 0 = omega (arith, l, new, i.many) in
+            let last : g ≡ c.loop-group.group + 1 = omega (arith, l, new) in
+            omega (arith, get_or-append_right c.loop-group.runs ((c.loop-group.next + length c.arcs.result.now) ∷ []) (length c.loop-group.runs) g 0 refl (omega (arith, new, i.many)), ap (λ m. slice_index ((c.loop-group.next + length c.arcs.result.now) ∷ []) m) place, next, ap (offset gl) last)
+      ];
+    })
