@@ -4,7 +4,8 @@ use Rattle.std.proofs.lemmas.Option.{slice_get-map}
 use Rattle.std.specs.List.{AllByRecursion, slice_get}
 use Rattle.hsp_hash.specs.Place.{server_place}
 use Rattle.hsp_tables.specs.Costs.{CostEntry}
-use Rattle.hsp_instance.specs.Building.{AreSitesOf, Inputs, arc_to, arcs_from, capacity_fault, cost_fault, cost_of, host_of_entry, instance_with, row_of, servers_from, unless, ◌>>=◌}
+use Rattle.hsp_text.specs.Answers.{◌>>=◌}
+use Rattle.hsp_instance.specs.Building.{AreSitesOf, Inputs, arc_to, arcs_from, capacity_fault, cost_fault, cost_of, host_of_entry, instance_with, row_of, servers_from, unless}
 use Rattle.hsp_instance.specs.Instance.{Host, Instance, Row, Server, Site, servers_of}
 use Rattle.hsp_instance.specs.Parts.{BuiltHasItsParts, HasPartsOf, IsAmong, IsArcOf, responsible_at}
 use Rattle.hsp_instance.specs.declared.fault.BuildFault.{BuildFault}

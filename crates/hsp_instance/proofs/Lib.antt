@@ -4,6 +4,7 @@ pub mod ServerLists
 pub mod Limits
 pub mod FirstSeen
 pub mod SiteSums
+pub mod SiteNames
 pub mod SitesInTurn
 pub mod RowPlaces
 pub mod TableChecks

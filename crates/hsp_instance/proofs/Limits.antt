@@ -1,23 +1,41 @@
 -- What is built is within the limits of an instance.
-use Rattle.std.proofs.Common.{◌≡◌, ◌∙◌, ◌≤◌, ◌+◌, ℕ, false, List, [], ◌∷◌, Option, Some, None, Ok, length, map, refl, ap, sym, arith, zero-add}
+use Rattle.std.proofs.Common.{◌≡◌, ◌∙◌, ◌≤◌, ◌+◌, ℕ, List, [], ◌∷◌, Option, Some, None, Ok, length, map, refl, ap, sym, arith, zero-add}
 use Rattle.std.specs.Prelude.{⊤}
 use Rattle.std.proofs.lemmas.List.{length-map}
 use Rattle.std.proofs.lemmas.Nat.{mod_below}
-use Rattle.std.specs.List.{AllByRecursion, IsDistinct, slice_get}
+use Rattle.std.specs.List.{AllByRecursion, slice_get}
 use Rattle.hsp_hash.specs.Place.{server_place}
-use Rattle.hsp_tables.specs.Capacities.{AreCapacities, CapacityEntry}
+use Rattle.hsp_tables.specs.Capacities.{AreCapacities, CapacityEntry, IsCapacityEntry}
 use Rattle.hsp_tables.specs.Costs.{AreCosts, CostEntry, IsCostEntry}
 use Rattle.hsp_tables.specs.Demand.{AreDemand, DemandEntry, IsDemandEntry, same_demand}
-use Rattle.hsp_tables.specs.Settings.{AreSettings, IsHostEntry}
+use Rattle.hsp_tables.specs.InTurn.{AreKeyed}
+use Rattle.hsp_tables.specs.Settings.{AreSettings, HostEntry, IsHostEntry, same_address as same_host_address}
+use Rattle.hsp_text.specs.declared.limits.TheConstants.{GREATEST_COST, MOST_HOSTS}
 use Rattle.hsp_instance.specs.Building.{Inputs, arc_to, arcs_from, cost_of, host_of_entry, is_cost_of, row_of, servers_from}
-use Rattle.hsp_instance.specs.Instance.{AreArcs, AreRows, AreSites, HasServer, Host, IsArc, IsCounted, IsInstance, IsLimited, Row, Server, Site, same_keys}
+use Rattle.hsp_instance.specs.Instance.{AreArcs, AreHosts, AreRows, AreServers, AreSites, HasServer, Host, IsAddressed, IsArc, IsCounted, IsInstance, IsLimited, IsNamed, Row, Server, Site, same_address, same_keys}
 use Rattle.hsp_instance.proofs.ArcLists.{arcs_ascending, arcs_few}
-use Rattle.hsp_instance.proofs.Lists.{all_append, all_map, back_at, found_within, front_at, there}
-use Rattle.hsp_instance.proofs.ServerLists.{AreFrom, are_from, from_count, from_servers, own_at, own_count}
+use Rattle.hsp_instance.proofs.Lists.{all_append, all_map, back_at, distinct_map, found_within, front_at, map_twice, there}
+use Rattle.hsp_instance.proofs.ServerLists.{AreFrom, are_from, from_at, from_count, from_number, from_servers, own_at, own_count}
 
 -- a cost is within its limit
-cost_within : (rows : List CostEntry) (region name : List ℕ) (c : ℕ) → AllByRecursion IsCostEntry rows → cost_of rows region name ≡ Some c → c ≤ 1000000
-cost_within rows region name c all e = found_within IsCostEntry 1000000 (λ (row : CostEntry). row.cost) (is_cost_of region name) rows c (λ row is. is.cost) all e
+cost_within : (rows : List CostEntry) (region name : List ℕ) (c : ℕ) → AllByRecursion IsCostEntry rows → cost_of rows region name ≡ Some c → c ≤ GREATEST_COST
+cost_within rows region name c all e = found_within IsCostEntry GREATEST_COST (λ (row : CostEntry). row.cost) (is_cost_of region name) rows c (λ row is. is.cost) all e
+
+-- the servers of the sites are servers of an instance
+servers_are : (rows : List CapacityEntry) (hosts : List Host) → AllByRecursion IsCapacityEntry rows → (sites : List Site) (servers : List Server) → AreSites sites → AreFrom rows hosts 0 sites servers → AreServers sites (length hosts) servers
+servers_are rows hosts each sites servers are from = record {
+  few = rw (from_count rows hosts 0 sites servers from) are.servers;
+  each = from_servers rows hosts each sites 0 sites servers (λ k. rw zero-add refl) from;
+  count = from_count rows hosts 0 sites servers from;
+  at_place = λ n place site at within.
+      let own = there site.servers place within in
+      let found = from_at rows hosts 0 sites servers n place site own.0 from at own.1 in
+      record { server = found.0; is_server = found.1; same_site = rw zero-add at found.2.site; same_place = found.2.place };
+  number = λ i server at.
+      let found = from_number rows hosts 0 sites servers i server from at in
+      let site : server.site ≡ found.0 = rw zero-add at found.1 in
+      rw site found.2;
+}
 
 -- each arc goes to a server of its site
 module _ (servers : List Server) (capacities : List CapacityEntry) (hosts : List Host) (table : List CostEntry) (each : AllByRecursion IsCostEntry table) (row : Row) where
@@ -51,16 +69,22 @@ module _ (servers : List Server) (capacities : List CapacityEntry) (hosts : List
           )
 
 -- rows of demand are rows of an instance
-apart : (demand : List DemandEntry) → IsDistinct same_demand demand → IsDistinct same_keys (map row_of demand)
-unfolding IsDistinct
-apart [] distinct = tt
-apart (row ∷ rows) distinct = (all_map (λ (y : DemandEntry). same_demand row y ≡ false) (λ (y : Row). same_keys (row_of row) y ≡ false) row_of rows (λ y other. other) distinct.0, apart rows distinct.1)
-
 pub rows_are : (demand : List DemandEntry) → AreDemand demand → AreRows (map row_of demand)
 rows_are demand are = record {
   few = rw length-map are.keyed.few;
   each = all_map IsDemandEntry IsCounted row_of demand (λ row is. is.count) are.keyed.each;
-  apart = apart demand are.keyed.apart;
+  apart = distinct_map same_demand same_keys row_of demand (λ x y. refl) are.keyed.apart;
+  named = all_map IsDemandEntry IsNamed row_of demand (λ row is. record { region = is.region; handle = is.handle }) are.keyed.each;
+  regions = rw (map_twice row_of (λ (row : Row). row.region) demand) are.regions;
+}
+
+-- hosts of the settings are hosts of an instance
+hosts_are : (hosts : List HostEntry) → AreKeyed MOST_HOSTS IsHostEntry same_host_address hosts → AreHosts (map host_of_entry hosts)
+hosts_are hosts are = record {
+  few = rw length-map are.few;
+  each = all_map IsHostEntry IsLimited host_of_entry hosts (λ host is. is.limit) are.each;
+  addressed = all_map IsHostEntry IsAddressed host_of_entry hosts (λ host is. is.address) are.each;
+  apart = distinct_map same_host_address same_address host_of_entry hosts (λ x y. refl) are.apart;
 }
 
 -- the parts that are built are an instance
@@ -80,8 +104,8 @@ are_instance inputs sites servers settings demand costs capacities are built =
     record {
       rows = rows_are inputs.demand demand;
       sites = are;
-      hosts = record { few = rw length-map settings.hosts.few; each = all_map IsHostEntry IsLimited host_of_entry inputs.settings.hosts (λ host is. is.limit) settings.hosts.each };
-      servers = record { few = rw (from_count inputs.capacities hosts 0 sites servers from) are.servers; each = from_servers inputs.capacities hosts capacities.keyed.each sites 0 sites servers (λ k. rw zero-add refl) from };
+      hosts = hosts_are inputs.settings.hosts settings.hosts;
+      servers = servers_are inputs.capacities hosts capacities.keyed.each sites servers are from;
       one_list_a_row = length-map (map row_of inputs.demand) (λ row. arcs_from inputs.costs row 0 0 sites);
       arcs = all_map (λ (row : Row). ⊤) (AreArcs servers) (λ row. arcs_from inputs.costs row 0 0 sites) (map row_of inputs.demand) (λ row any. record {
         few = let less = arcs_few inputs.costs row 0 0 sites in let most = are.few in omega arith;

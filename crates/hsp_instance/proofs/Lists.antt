@@ -1,7 +1,7 @@
 -- Elements of lists, and what holds of all.
-use Rattle.std.proofs.Common.{◌≡◌, ◌⊎◌, inl, inr, ◌≤◌, ◌<◌, Bool, true, false, cond, ℕ, zero, suc, ◌+◌, List, [], ◌∷◌, ◌++◌, Option, Some, None, drop, length, map, option_map, take, refl, ap, sym, add-one, arith}
+use Rattle.std.proofs.Common.{◌≡◌, ◌∙◌, ◌||◌, ◌⊎◌, inl, inr, ◌≤◌, ◌<◌, Bool, true, false, cond, ℕ, zero, suc, ◌+◌, List, [], ◌∷◌, ◌++◌, Option, Some, None, drop, length, map, option_map, take, refl, ap, sym, add-one, arith}
 use Rattle.std.proofs.Math.Seq.{take-length}
-use Rattle.std.specs.List.{AllByRecursion, find, slice_get}
+use Rattle.std.specs.List.{AllByRecursion, IsDistinct, find, slice_get}
 
 drop_suc : {A : Type 0} (xs : List A) (i : ℕ) (x : A) → slice_get xs i ≡ Some x → drop i xs ≡ x ∷ drop (suc i) xs
 drop_suc {A} [] i x e = let none : ◌≡◌ {A = Option A} None (Some x) = e in cc
@@ -91,3 +91,25 @@ pushed_at (z ∷ xs) y (suc i) x at = later (pushed_at xs y i x at)
     later : (slice_get xs i ≡ Some x) ⊎ ((i ≡ length xs) × (x ≡ y)) → (slice_get xs i ≡ Some x) ⊎ ((suc i ≡ suc (length xs)) × (x ≡ y))
     later (inl at) = inl at
     later (inr last) = inr (ap suc last.0, last.1)
+
+-- an element of two lists in a row is of the first or of the second
+pub append_at : {A : Type 0} (xs ys : List A) (i : ℕ) (x : A) → slice_get (xs ++ ys) i ≡ Some x → (slice_get xs i ≡ Some x) ⊎ ((j : ℕ) × (i ≡ length xs + j) × (slice_get ys j ≡ Some x))
+append_at [] ys i x at = inr (i, omega arith, at)
+append_at (z ∷ xs) ys zero x at = inl at
+append_at (z ∷ xs) ys (suc i) x at = later (append_at xs ys i x at)
+  where
+    later : (slice_get xs i ≡ Some x) ⊎ ((j : ℕ) × (i ≡ length xs + j) × (slice_get ys j ≡ Some x)) → (slice_get xs i ≡ Some x) ⊎ ((j : ℕ) × (suc i ≡ suc (length xs) + j) × (slice_get ys j ≡ Some x))
+    later (inl at) = inl at
+    later (inr last) = inr (last.0, (let e = last.1 in omega arith), last.2)
+
+-- what a function gives of distinct elements is distinct, where equal keys stay equal
+pub distinct_map : {A B : Type 0} (same : A → A → Bool) (alike : B → B → Bool) (f : A → B) (xs : List A) → ((x y : A) → alike (f x) (f y) ≡ same x y) → IsDistinct same xs → IsDistinct alike (map f xs)
+unfolding IsDistinct
+distinct_map same alike f [] tells apart = tt
+distinct_map {A} {B} same alike f (x ∷ xs) tells apart =
+    (all_map (λ (y : A). same x y ≡ false) (λ (y : B). alike (f x) y ≡ false) f xs (λ y other. tells x y ∙ other) apart.0, distinct_map same alike f xs tells apart.1)
+
+-- neither of two tests holds
+pub neither : (a b : Bool) → (a || b) ≡ false → (a ≡ false) × (b ≡ false)
+neither true b h = cc h
+neither false b h = (refl, h)

@@ -1,5 +1,5 @@
 -- Rows whose regions and handles no row before them has: each stands after the others.
-use Rattle.std.proofs.Common.{◌≡◌, ◌≤◌, ◌∙◌, ◌||◌, ◌&&◌, ℕ, zero, suc, Bool, true, false, List, [], ◌∷◌, ◌++◌, Option, None, Some, length, map, take, refl, ap, arith}
+use Rattle.std.proofs.Common.{◌≡◌, ◌≤◌, ◌∙◌, ◌&&◌, ℕ, zero, suc, false, List, [], ◌∷◌, ◌++◌, Option, None, Some, length, map, take, refl, ap, arith}
 use Rattle.std.proofs.lemmas.List.{map-append}
 use Rattle.std.proofs.lemmas.Cmp.{nat_list_eq_equiv}
 use Rattle.std.proofs.lemmas.Map.Keys.{IsDistinct-head, IsDistinct-tail}
@@ -14,11 +14,7 @@ use Rattle.hsp_instance.specs.Instance.{has_keys}
 use Rattle.hsp_instance.specs.KeyedRows.{row_entry}
 use Rattle.hsp_instance.specs.declared.rows.RowKey.{RowKey}
 use Rattle.hsp_instance.specs.contracts.rows.RowKeyPartialEq.TheImpl.{eq-value as RowKeys}
-use Rattle.hsp_instance.proofs.Lists.{all_at}
-
-neither : (a b : Bool) → (a || b) ≡ false → (a ≡ false) × (b ≡ false)
-neither true b h = cc h
-neither false b h = (refl, h)
+use Rattle.hsp_instance.proofs.Lists.{all_at, neither}
 
 absent : (key : RowKey) (es : List (RowKey × ℕ)) → list_any (has_keys key.region.items key.handle.items) (map row_entry es) ≡ false → lookup (RowKeys.it key) es ≡ None
 absent key [] h = refl

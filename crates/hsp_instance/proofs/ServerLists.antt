@@ -1,16 +1,18 @@
 -- The servers of an instance: those of each site after those of the sites before it.
-use Rattle.std.proofs.Common.{◌≡◌, ◌∙◌, ◌≤◌, ◌<◌, ◌+◌, ℕ, zero, suc, Bool, true, false, cond, List, [], ◌∷◌, ◌++◌, Option, Some, None, Result, Ok, Err, length, refl, ap, sym, subst, arith, append_assoc, add-zero, zero-add, length-append}
+use Rattle.std.proofs.Common.{◌≡◌, ◌∙◌, inl, inr, ◌≤◌, ◌<◌, ◌+◌, ℕ, zero, suc, Bool, true, false, cond, List, [], ◌∷◌, ◌++◌, Option, Some, None, Result, Ok, Err, length, refl, ap, sym, subst, arith, append_assoc, add-zero, zero-add, length-append}
 use Rattle.std.proofs.Math.Seq.{append_snoc}
 use Rattle.std.proofs.lemmas.List.{append-nil}
 use Rattle.std.specs.List.{AllByRecursion, position_from, slice_get}
 use Rattle.std.specs.Str.{bytes_eq}
 use Rattle.hsp_tables.specs.Capacities.{CapacityEntry, IsCapacityEntry}
-use Rattle.hsp_instance.specs.Building.{capacity_of, is_at, is_capacity_of, or_fault, server_at, servers_at, servers_from, ◌>>=◌}
-use Rattle.hsp_instance.specs.Instance.{Host, IsHostOf, IsServer, Server, Site, SiteServer, servers_of}
-use Rattle.hsp_instance.specs.Parts.{IsServerOf, number_at}
+use Rattle.hsp_text.specs.Answers.{◌>>=◌, or_fault}
+use Rattle.hsp_text.specs.declared.limits.TheConstants.{GREATEST_CAPACITY}
+use Rattle.hsp_instance.specs.Building.{capacity_of, is_at, is_capacity_of, server_at, servers_at, servers_from}
+use Rattle.hsp_instance.specs.Instance.{Host, IsHostOf, IsServer, Server, Site, SiteServer, number_at, servers_of}
+use Rattle.hsp_instance.specs.Parts.{IsServerOf}
 use Rattle.hsp_instance.specs.declared.fault.BuildFault.{BuildFault}
 use Rattle.hsp_instance.specs.declared.fault.BuildFault.TheVariants.{NoCapacity}
-use Rattle.hsp_instance.proofs.Lists.{all_append, back_at, found_within, front_at}
+use Rattle.hsp_instance.proofs.Lists.{all_append, append_at, back_at, found_within, front_at}
 
 -- two steps that gave an answer each gave one
 pub both_gave : {A B : Type 0} (r : Result A BuildFault) (f : A → Result B BuildFault) (y : B) → (r >>= f) ≡ Ok y → (x : A) × (r ≡ Ok x) × (f x ≡ Ok y)
@@ -18,8 +20,8 @@ both_gave (Ok x) f y e = (x, refl, e)
 both_gave (Err fault) f y e = cc (e)
 
 -- a capacity is within its limit
-capacity_within : (rows : List CapacityEntry) (name : List ℕ) (id c : ℕ) → AllByRecursion IsCapacityEntry rows → capacity_of rows name id ≡ Some c → c ≤ 1000000000
-capacity_within rows name id c all e = found_within IsCapacityEntry 1000000000 (λ (row : CapacityEntry). row.capacity) (is_capacity_of name id) rows c (λ row is. is.capacity) all e
+capacity_within : (rows : List CapacityEntry) (name : List ℕ) (id c : ℕ) → AllByRecursion IsCapacityEntry rows → capacity_of rows name id ≡ Some c → c ≤ GREATEST_CAPACITY
+capacity_within rows name id c all e = found_within IsCapacityEntry GREATEST_CAPACITY (λ (row : CapacityEntry). row.capacity) (is_capacity_of name id) rows c (λ row is. is.capacity) all e
 
 -- the number of a host is one of theirs
 one_of : (hosts n : ℕ) (found : Bool) (more : Option ℕ) → n < hosts → IsHostOf hosts more → IsHostOf hosts (cond found (Some n) more)
@@ -116,6 +118,29 @@ module _ (rows : List CapacityEntry) (hosts : List Host) where
       let e : n + suc i ≡ n + 1 + i = omega arith in
       let number : number_at (first ∷ more) (suc i) place ≡ length are.0 + number_at more i place = omega arith in
       (found.0, rw (number, are.2, back_at are.0 are.1) found.1, rw e found.2)
+
+  -- a server of site `n`, by where it stands among them
+  own_place : (n : ℕ) (name : List ℕ) (place : ℕ) (owns : List SiteServer) (servers : List Server) (i : ℕ) (server : Server) → AreOwn n name place owns servers → slice_get servers i ≡ Some server
+      → (server.site ≡ n) × (server.place ≡ place + i)
+  own_place n name place [] servers i server are at = let none : ◌≡◌ {A = Option Server} None (Some server) = rw are at at in cc
+  own_place n name place (own ∷ more) [] i server are at = absurd are
+  own_place n name place (own ∷ more) (first ∷ servers) zero server are at = let same : first ≡ server = cc (at) in rw (← same, add-zero) (are.0.site, are.0.place)
+  own_place n name place (own ∷ more) (first ∷ servers) (suc i) server are at =
+      let e : place + suc i ≡ place + 1 + i = omega arith in
+      rw e (own_place n name (place + 1) more servers i server are.1 at)
+
+  -- a server stands at the number of its site and place
+  pub from_number : (n : ℕ) (sites : List Site) (servers : List Server) (i : ℕ) (server : Server) → AreFrom n sites servers → slice_get servers i ≡ Some server
+      → (k : ℕ) × (server.site ≡ n + k) × (i ≡ number_at sites k server.place)
+  from_number n [] servers i server are at = let none : ◌≡◌ {A = Option Server} None (Some server) = rw are at at in cc
+  from_number n (site ∷ more) servers i server are at = elim (append_at are.0 are.1 i server (rw are.2 at at)) [
+    | inl here ↦ (let own = own_place n site.name 0 site.servers are.0 i server are.3 here in (0, omega arith, omega arith))
+    | inr later ↦ (
+        let rest = from_number (n + 1) more are.1 later.0 server are.4 later.2 in
+        let count = own_count n site.name 0 site.servers are.0 are.3 in
+        let number : number_at (site ∷ more) (suc rest.0) server.place ≡ length are.0 + number_at more rest.0 server.place = omega arith in
+        (suc rest.0, omega arith, omega arith))
+  ]
 
 -- each server stands at a place of a site, within the limits
 module _ (rows : List CapacityEntry) (hosts : List Host) (each : AllByRecursion IsCapacityEntry rows) (whole : List Site) where

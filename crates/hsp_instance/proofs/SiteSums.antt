@@ -1,7 +1,8 @@
 -- Sites and the number of their servers.
 use Rattle.std.proofs.Common.{◌≡◌, ◌≤◌, ◌<◌, ◌+◌, ℕ, zero, suc, List, [], ◌∷◌, ◌++◌, Option, Some, None, length, option_map, take, refl, ap, add-one, arith, length-append}
-use Rattle.std.specs.List.{slice_get}
-use Rattle.hsp_instance.specs.Instance.{AreSites, HasServer, Site, servers_of}
+use Rattle.std.specs.List.{IsDistinct, slice_get}
+use Rattle.hsp_text.specs.declared.limits.TheConstants.{MOST_SERVERS, MOST_SITES}
+use Rattle.hsp_instance.specs.Instance.{AreSites, HasServer, IsSite, Site, same_name, servers_of}
 use Rattle.hsp_instance.proofs.Lists.{all_push}
 
 pub servers_of-push : (sites : List Site) (site : Site) → servers_of (sites ++ site ∷ []) ≡ servers_of sites + length site.servers
@@ -17,12 +18,20 @@ servers_within (first ∷ sites) zero site e =
     omega arith
 servers_within (first ∷ sites) (suc i) site e = let less = servers_within sites i site e in omega arith
 
+-- no site is within the limits
+pub no_sites : AreSites []
+unfolding IsDistinct
+no_sites = record { few = omega arith; each = tt; servers = omega arith; are = tt; apart = tt }
+
 -- one more site within the limits
-pub sites_push : (sites : List Site) (site : Site) → AreSites sites → length sites < 32 → 0 < length site.servers → servers_of sites + length site.servers ≤ 1024 → AreSites (sites ++ site ∷ [])
-sites_push sites site are room has few = record {
+pub sites_push : (sites : List Site) (site : Site) → AreSites sites → length sites < MOST_SITES → IsSite site → 0 < length site.servers → servers_of sites + length site.servers ≤ MOST_SERVERS
+    → IsDistinct same_name (sites ++ site ∷ []) → AreSites (sites ++ site ∷ [])
+sites_push sites site are room is has few apart = record {
   few = omega (arith, length-append sites (site ∷ []));
   each = all_push HasServer sites site are.each has;
   servers = rw (servers_of-push sites site) few;
+  are = all_push IsSite sites site are.are is;
+  apart = apart;
 }
 
 taken_suc : (sites : List Site) (i : ℕ) (site : Site) → slice_get sites i ≡ Some site → servers_of (take (suc i) sites) ≡ servers_of (take i sites) + length site.servers
@@ -51,7 +60,7 @@ site_with (Some site) count e = (site, refl, cc (e))
 
 -- the servers of one more of the first sites, by the number of its own
 pub next_first : (sites : List Site) (i count : ℕ) → AreSites sites → option_map (λ (s : Site). length s.servers) (slice_get sites i) ≡ Some count
-    → (servers_of (take (i + 1) sites) ≡ servers_of (take i sites) + count) × (servers_of (take (i + 1) sites) ≤ 1024)
+    → (servers_of (take (i + 1) sites) ≡ servers_of (take i sites) + count) × (servers_of (take (i + 1) sites) ≤ MOST_SERVERS)
 next_first sites i count are counted =
     let s = site_with (slice_get sites i) count counted in
     let more = servers_of-taken sites i s.0 s.1 in

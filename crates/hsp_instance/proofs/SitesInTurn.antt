@@ -1,18 +1,20 @@
 -- Sites in turn: the next one, and the first fault.
-use Rattle.std.proofs.Common.{◌≡◌, inl, inr, ◌≤◌, ◌<◌, ◌+◌, ℕ, Bool, true, false, cond, List, [], ◌∷◌, ◌++◌, Option, Some, None, option_map, Result, Ok, Err, drop, length, map, nat_lt, nat_eq, refl, sym, arith}
+use Rattle.std.proofs.Common.{◌≡◌, inl, inr, ◌≤◌, ◌<◌, ◌+◌, ℕ, Bool, true, false, cond, List, [], ◌∷◌, ◌++◌, Option, Some, None, option_map, Result, Ok, Err, drop, length, map, nat_lt, nat_eq, refl, subst, sym, arith, ◌==◌}
 use Rattle.std.proofs.lemmas.Bool.{eqb-false, ltb-false}
-use Rattle.std.specs.List.{slice_get}
+use Rattle.std.specs.List.{AllByRecursion, IsDistinct, slice_get}
 use Rattle.hsp_record.specs.Values.{HandleValue}
 use Rattle.hsp_record.specs.Site as records
 use Rattle.hsp_record.specs.declared.fault.RecordFault.{RecordFault}
 use Rattle.hsp_hash.specs.Option.{option_of}
 use Rattle.hsp_hash.specs.declared.option.HashOption.{HashOption}
 use Rattle.hsp_tables.specs.Settings.{SiteEntry, SiteSource}
-use Rattle.hsp_instance.specs.Building.{Answers, AreSitesAfter, IsSiteOf, checked_site, has_id_twice, site_octets, site_of_reading, or_fault, server_of_record, ◌>>=◌}
-use Rattle.hsp_instance.specs.Instance.{Site, servers_of}
+use Rattle.hsp_text.specs.Answers.{◌>>=◌, Stands, or_fault}
+use Rattle.hsp_text.specs.declared.limits.TheConstants.{MOST_SERVERS}
+use Rattle.hsp_instance.specs.Building.{AreSitesAfter, IsReading, IsSiteOf, checked_site, has_id, has_id_twice, site_octets, site_of_reading, server_of_record}
+use Rattle.hsp_instance.specs.Instance.{IsSiteServer, Site, SiteServer, same_id, servers_of}
 use Rattle.hsp_instance.specs.declared.fault.BuildFault.{BuildFault}
-use Rattle.hsp_instance.specs.declared.fault.BuildFault.TheVariants.{BadHashOption}
-use Rattle.hsp_instance.proofs.Lists.{drop_at}
+use Rattle.hsp_instance.specs.declared.fault.BuildFault.TheVariants.{BadHashOption, OutOfMemory}
+use Rattle.hsp_instance.proofs.Lists.{all_map, drop_at, neither}
 
 -- an entry by its name and its source
 entry_at : (entries : List SiteEntry) (i : ℕ) (name : List ℕ) (source : SiteSource) → option_map (λ (s : SiteEntry). s.name) (slice_get entries i) ≡ Some name → option_map (λ (s : SiteEntry). s.source) (slice_get entries i) ≡ Some source
@@ -45,7 +47,7 @@ module _ (values : Option (List HandleValue)) (entries : List SiteEntry) (i befo
   next_goes_on site is answer rest = so_far answer (rw left (Ok site, moved (Ok site) is, rest))
 
   -- the fault of a site is the first
-  pub fault_is_first : (fault : BuildFault) → Answers (IsSiteOf i before name (site_octets values i source)) (Err fault) → Answers (AreSitesAfter values [] entries) (Err fault)
+  pub fault_is_first : (fault : BuildFault) → Stands OutOfMemory (λ (s : Site). s) (IsSiteOf i before name (site_octets values i source)) (Err fault) → Stands OutOfMemory (λ (s : List Site). s) (AreSitesAfter values [] entries) (Err fault)
   fault_is_first fault (inl memory) = inl memory
   fault_is_first fault (inr is) = inr (so_far (Err fault) (rw left (Err fault, moved (Err fault) is, refl)))
 
@@ -53,28 +55,47 @@ passed : {A : Type 0} (test : Bool) (fault : BuildFault) (r : Result A BuildFaul
 passed true fault r y e = cc e
 passed false fault r y e = (refl, e)
 
--- a site that passed the checks has a server, and the servers are not too many
-checked_is : (n before : ℕ) (given site : Site) → checked_site n before given ≡ Ok site → (0 < length site.servers) × (before + length site.servers ≤ 1024)
-checked_is n before given site e =
+-- no identifier is told twice, so the servers have distinct ones
+others : (id : ℕ) (servers : List SiteServer) → has_id id servers ≡ false → AllByRecursion (λ (server : SiteServer). (server.id == id) ≡ false) servers
+others id [] e = tt
+others id (server ∷ servers) e = let split = neither (server.id == id) (has_id id servers) e in (split.0, others id servers split.1)
+
+once_each : (servers : List SiteServer) → has_id_twice servers ≡ false → IsDistinct same_id servers
+unfolding IsDistinct
+once_each [] e = tt
+once_each (server ∷ servers) e = let split = neither (has_id server.id servers) (has_id_twice servers) e in (others server.id servers split.0, once_each servers split.1)
+
+-- a site that passed the checks: its name, its servers, and that they are not too many
+pub record IsChecked (before : ℕ) (name : List ℕ) (site : Site) : Type 0 where
+  pub named : site.name ≡ name
+  pub some : 0 < length site.servers
+  pub few : before + length site.servers ≤ MOST_SERVERS
+  pub servers : AllByRecursion IsSiteServer site.servers
+  pub apart : IsDistinct same_id site.servers
+
+checked_is : (n before : ℕ) (given site : Site) → AllByRecursion IsSiteServer given.servers → checked_site n before given ≡ Ok site → IsChecked before given.name site
+checked_is n before given site servers e =
     let some = passed (nat_eq (length given.servers) 0) _ _ site e in
     let once = passed (has_id_twice given.servers) _ _ site some.1 in
-    let few = passed (nat_lt 1024 (before + length given.servers)) _ _ site once.1 in
+    let few = passed (nat_lt MOST_SERVERS (before + length given.servers)) _ _ site once.1 in
     let is : given ≡ site = cc (few.1) in
     let apart = eqb-false (length given.servers) 0 some.0 in
-    let within = ltb-false 1024 (before + length given.servers) few.0 in
-    let positive : 0 < length given.servers = omega arith in
-    rw (← is) (positive, within)
+    let within = ltb-false MOST_SERVERS (before + length given.servers) few.0 in
+    let checked : IsChecked before given.name given = record { named = refl; some = omega arith; few = within; servers = servers; apart = once_each given.servers once.0 } in
+    subst (λ (s : Site). IsChecked before given.name s) is checked
 
 -- the same of the site that octets are
-pub site_is_checked : (n before : ℕ) (name : List ℕ) (from : Result (List ℕ) BuildFault) (site : Site) → IsSiteOf n before name from (Ok site) → (0 < length site.servers) × (before + length site.servers ≤ 1024)
+pub site_is_checked : (n before : ℕ) (name : List ℕ) (from : Result (List ℕ) BuildFault) (site : Site) → IsSiteOf n before name from (Ok site) → IsChecked before name site
 site_is_checked n before name (Err fault) site is = cc (is)
-site_is_checked n before name (Ok bytes) site is = by_reading is.0 is.2
+site_is_checked n before name (Ok bytes) site is = by_reading is.0 is.1 is.2
   where
-    by_option : (o : Option HashOption) (servers : List records.Server) → Ok site ≡ (or_fault (BadHashOption n) o >>= λ option. checked_site n before (record { name = name; option = option; servers = map server_of_record servers }))
-        → (0 < length site.servers) × (before + length site.servers ≤ 1024)
-    by_option None servers e = cc (e)
-    by_option (Some option) servers e = checked_is n before (record { name = name; option = option; servers = map server_of_record servers }) site (sym e)
+    by_option : (o : Option HashOption) (servers : List records.Server) → AllByRecursion records.IsServer servers
+        → Ok site ≡ (or_fault (BadHashOption n) o >>= λ option. checked_site n before (record { name = name; option = option; servers = map server_of_record servers })) → IsChecked before name site
+    by_option None servers are e = cc (e)
+    by_option (Some option) servers are e =
+        checked_is n before (record { name = name; option = option; servers = map server_of_record servers }) site
+        (all_map records.IsServer IsSiteServer server_of_record servers (λ server is. record { id = is.id; address = is.address.0 }) are) (sym e)
 
-    by_reading : (reading : Result records.Site RecordFault) → Ok site ≡ site_of_reading n before name reading → (0 < length site.servers) × (before + length site.servers ≤ 1024)
-    by_reading (Err fault) e = cc (e)
-    by_reading (Ok r) e = by_option (option_of r.option) r.servers e
+    by_reading : (reading : Result records.Site RecordFault) → IsReading bytes reading → Ok site ≡ site_of_reading n before name reading → IsChecked before name site
+    by_reading (Err fault) is e = cc (e)
+    by_reading (Ok r) is e = by_option (option_of r.option) r.servers is.means.0.0.1.1 e

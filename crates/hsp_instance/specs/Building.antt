@@ -1,5 +1,5 @@
 -- The instance of five inputs, or their first fault: settings, values, demand, costs and capacities.
-use Rattle.std.specs.Prelude.{◌≡◌, ◌≢◌, ◌+◌, ◌⊎◌, ◌==◌, ◌&&◌, ◌||◌, ⊤, Bool, false, ℕ, List, [], ◌∷◌, ◌++◌, codes, is_some, length, map, nat_lt, Option, Some, None, option_map, Result, Ok, Err, if◌then◌else◌}
+use Rattle.std.specs.Prelude.{◌≡◌, ◌≢◌, ◌+◌, ◌==◌, ◌&&◌, ◌||◌, ⊤, Bool, false, ℕ, List, [], ◌∷◌, ◌++◌, codes, is_some, length, map, nat_lt, Option, Some, None, option_map, Result, Ok, Err, if◌then◌else◌}
 use Rattle.std.specs.List.{find, list_any, position_from}
 use Rattle.std.specs.Str.{bytes_eq}
 use Rattle.hsp_hash.specs.Option.{option_of}
@@ -14,39 +14,13 @@ use Rattle.hsp_tables.specs.Capacities.{CapacityEntry}
 use Rattle.hsp_tables.specs.Costs.{CostEntry}
 use Rattle.hsp_tables.specs.Demand.{DemandEntry}
 use Rattle.hsp_tables.specs.Settings.{HostEntry, SettingsEntries, SiteEntry, SiteSource, index, octets}
+use Rattle.hsp_text.specs.Answers.{◌>>=◌, Then, or_fault}
+use Rattle.hsp_text.specs.declared.limits.TheConstants.{MOST_SERVERS}
 use Rattle.hsp_instance.specs.Instance.{Host, Instance, Row, Server, Site, SiteServer, servers_of}
 use Rattle.hsp_instance.specs.declared.arc.Arc.{Arc}
 use Rattle.hsp_instance.specs.declared.fault.BuildFault.{BuildFault}
-use Rattle.hsp_instance.specs.declared.fault.BuildFault.TheVariants.{BadHashOption, BadRecord, NoCapacity, NoServer, NoValue, NotSiteValue, OutOfMemory, ServerIdTwice, TooManyServers, UnknownServer, UnknownSite}
+use Rattle.hsp_instance.specs.declared.fault.BuildFault.TheVariants.{BadHashOption, BadRecord, NoCapacity, NoServer, NoValue, NotSiteValue, ServerIdTwice, TooManyServers, UnknownServer, UnknownSite}
 use Rattle.hsp_instance.specs.declared.fault.Table.TheVariants.{Capacity, Costs}
-
--- ---- answers
-
--- the second step with what the first one gave, or the fault of the first
-infixl 10 ◌>>=◌
-abbrev pub ◌>>=◌ : {A B : Type 0} → Result A BuildFault → (A → Result B BuildFault) → Result B BuildFault
-(Ok x) >>= f = f x
-(Err e) >>= f = Err e
-
--- what there is, or else the fault
-abbrev pub or_fault : {A : Type 0} → BuildFault → Option A → Result A BuildFault
-or_fault fault None = Err fault
-or_fault fault (Some x) = Ok x
-
--- an answer that the relation has, or want of memory
-abbrev pub Answers : {A : Type 0} → (Result A BuildFault → Type 0) → Result A BuildFault → Type 0
-Answers Is (Ok x) = Is (Ok x)
-Answers Is (Err fault) = (fault ≡ OutOfMemory) ⊎ Is (Err fault)
-
--- an answer, seen by view, is the reading
-abbrev pub GivesExactly : {X Y : Type 0} → (X → Y) → Result X BuildFault → Result Y BuildFault → Type 0
-GivesExactly view (Ok x) reading = reading ≡ Ok (view x)
-GivesExactly view (Err e) reading = reading ≡ Err e
-
--- an answer is the reading, or memory ran out
-abbrev pub Gives : {A : Type 0} → Result A BuildFault → Result A BuildFault → Type 0
-Gives (Ok x) reading = reading ≡ Ok x
-Gives (Err e) reading = (e ≡ OutOfMemory) ⊎ (reading ≡ Err e)
 
 -- ---- sites
 
@@ -88,7 +62,7 @@ abbrev pub checked_site : ℕ → ℕ → Site → Result Site BuildFault
 checked_site n before site =
     if length site.servers == 0 then Err (NoServer n)
     else if has_id_twice site.servers then Err (ServerIdTwice n)
-    else if nat_lt 1024 (before + length site.servers) then Err TooManyServers
+    else if nat_lt MOST_SERVERS (before + length site.servers) then Err TooManyServers
     else Ok site
 
 -- site `n` by the reading of its octets
@@ -110,16 +84,10 @@ IsSiteOf n before name (Ok bytes) answer = IsSiteIn n before name bytes answer
 abbrev pub IsNextSite : Option (List HandleValue) → List Site → SiteEntry → Result Site BuildFault → Type 0
 IsNextSite values earlier entry answer = IsSiteOf (length earlier) (servers_of earlier) entry.name (site_octets values (length earlier) entry.source) answer
 
--- what follows a site: the rest, or its fault
-abbrev pub Follows : Result Site BuildFault → (Site → Type 0) → Result (List Site) BuildFault → Type 0
-Follows (Ok site) Rest answer = Rest site
-Follows (Err fault) Rest answer = answer ≡ Err fault
-
 -- the sites of entries in turn, after those before them, or the first fault
 abbrev pub AreSitesAfter : Option (List HandleValue) → List Site → List SiteEntry → Result (List Site) BuildFault → Type 0
 AreSitesAfter values earlier [] answer = answer ≡ Ok earlier
-AreSitesAfter values earlier (entry ∷ more) answer = (site : Result Site BuildFault) × IsNextSite values earlier entry site
-    × Follows site (λ s. AreSitesAfter values (earlier ++ s ∷ []) more answer) answer
+AreSitesAfter values earlier (entry ∷ more) answer = Then (IsNextSite values earlier entry) (λ site rest. AreSitesAfter values (earlier ++ site ∷ []) more rest) answer
 
 -- the sites of settings and values, or the first fault
 abbrev pub AreSitesOf : SettingsEntries → Option (List HandleValue) → Result (List Site) BuildFault → Type 0

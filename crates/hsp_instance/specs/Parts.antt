@@ -1,11 +1,11 @@
 -- What the instance of inputs is, part by part: each server by its site and place, each arc by its row and site.
-use Rattle.std.specs.Prelude.{◌≡◌, ◌+◌, ℕ, List, length, map, take, Some, Ok}
+use Rattle.std.specs.Prelude.{◌≡◌, ℕ, List, length, map, Some, Ok}
 use Rattle.std.specs.List.{AllByRecursion, position_from, slice_get}
 use Rattle.hsp_hash.specs.Place.{server_place}
 use Rattle.hsp_tables.specs.Capacities.{CapacityEntry}
 use Rattle.hsp_tables.specs.Costs.{CostEntry}
 use Rattle.hsp_instance.specs.Building.{AreSitesOf, Inputs, IsBuilt, capacity_of, cost_of, host_of_entry, is_at, row_of}
-use Rattle.hsp_instance.specs.Instance.{Host, Instance, Row, Server, Site, SiteServer, servers_of}
+use Rattle.hsp_instance.specs.Instance.{Host, Instance, Row, Server, Site, SiteServer, number_at, servers_of}
 use Rattle.hsp_instance.specs.declared.arc.Arc.{Arc}
 
 -- the server of an identifier and address at a place of site `n`: its capacity is that of the row of the site's name and its
@@ -16,10 +16,6 @@ pub record IsServerOf (capacities : List CapacityEntry) (hosts : List Host) (n :
   pub id : server.id ≡ own.id
   pub capacity : capacity_of capacities name own.id ≡ Some server.capacity
   pub host : server.host ≡ position_from (is_at own.address) 0 hosts
-
--- the number of the server at a place of site `n`: the servers of the sites before it come first
-abbrev pub number_at : List Site → ℕ → ℕ → ℕ
-number_at sites n place = servers_of (take n sites) + place
 
 -- the server at a place of site `n` stands at its number
 pub record HasServerAt (inputs : Inputs) (it : Instance) (n : ℕ) (site : Site) (place : ℕ) (own : SiteServer) : Type 0 where

@@ -2,6 +2,7 @@
 
 ghost use Rattle.std.specs.Prelude.{◌≡◌, ◌≤◌, ◌<◌, ◌+◌, ◌++◌, length, map, OnOk, IfOk};
 ghost use Rattle.hsp_names.specs.Lent.{octets_of};
+ghost use Rattle.hsp_text.specs.declared.limits.TheConstants.{MOST_SERVERS};
 ghost use Rattle.hsp_instance.specs.Building.{arc_to};
 ghost use Rattle.hsp_instance.specs.Instance.{AreSites};
 ghost use Rattle.hsp_instance.specs.RegionCosts.{arcs_by, arcs_of};
@@ -24,9 +25,9 @@ fn push_arc(
     site: &Site,
     cost: Option<u64>,
 ) -> Result<(), AllocError>
-    requires first { first ≤ 1024 }
+    requires first { first ≤ MOST_SERVERS }
     requires some { 0 < length site.now.servers }
-    requires few { length site.now.servers ≤ 1024 }
+    requires few { length site.now.servers ≤ MOST_SERVERS }
     ensures { OnOk result (arcs.new.items ≡ arcs.old.items ++ arc_to (octets_of handle.entry) number first site.now cost) }
 {
     let Some(cost) = cost else {

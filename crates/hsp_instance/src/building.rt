@@ -2,7 +2,9 @@
 
 ghost use Rattle.std.specs.Prelude.{◌≡◌, List, Option, option_map};
 ghost use Rattle.hsp_record.specs.Values.{HandleValue};
-ghost use Rattle.hsp_instance.specs.Building.{Answers, Gives, IsBuilt, instance_with};
+ghost use Rattle.hsp_instance.specs.declared.fault.BuildFault.TheVariants.{OutOfMemory};
+ghost use Rattle.hsp_text.specs.Answers.{GivesUnless, Stands};
+ghost use Rattle.hsp_instance.specs.Building.{IsBuilt, instance_with};
 
 use crate::arc_building::arcs_of;
 use crate::checks::{check_capacities, check_costs};
@@ -25,7 +27,7 @@ fn instance_with(
     costs: &Costs,
     capacity: &Capacities,
 ) -> Result<Instance, BuildFault>
-    ensures { (values : Option (List HandleValue)) → Gives result (instance_with (record { settings = settings.now; values = values; demand = demand.now; costs = costs.now; capacities = capacity.now }) sites) }
+    ensures { (values : Option (List HandleValue)) → GivesUnless OutOfMemory (λ x. x) result (instance_with (record { settings = settings.now; values = values; demand = demand.now; costs = costs.now; capacities = capacity.now }) sites) }
 {
     let list = sites.sites.as_slice();
     check_costs(list, costs)?;
@@ -55,7 +57,7 @@ pub fn build(
     costs: &Costs,
     capacity: &Capacities,
 ) -> Result<Instance, BuildFault>
-    ensures { Answers (IsBuilt (record { settings = settings.now; values = option_map (λ v. v.now) values.entry; demand = demand.now; costs = costs.now; capacities = capacity.now })) result }
+    ensures { Stands OutOfMemory (λ x. x) (IsBuilt (record { settings = settings.now; values = option_map (λ v. v.now) values.entry; demand = demand.now; costs = costs.now; capacities = capacity.now })) result }
 {
     let sites = build_sites(alloc, settings, values)?;
     instance_with(alloc, sites, settings, demand, costs, capacity)

@@ -4,7 +4,8 @@ ghost use Rattle.std.specs.Prelude.{◌≡◌, ◌<◌, ◌≤◌, Some, None, l
 ghost use Rattle.std.specs.List.{find};
 ghost use Rattle.hsp_tables.specs.Capacities.{AreCapacities};
 ghost use Rattle.hsp_tables.specs.Costs.{AreCosts};
-ghost use Rattle.hsp_instance.specs.Building.{GivesExactly, capacity_fault, capacity_row_fault, cost_fault, is_named, unless};
+ghost use Rattle.hsp_text.specs.Answers.{Gives};
+ghost use Rattle.hsp_instance.specs.Building.{capacity_fault, capacity_row_fault, cost_fault, is_named, unless};
 
 use crate::fault::{BuildFault, Table};
 use crate::site_reading::has_id;
@@ -26,7 +27,7 @@ fn site_named<'a>(sites: &'a [Site], name: &[u8]) -> Option<&'a Site>
 // That the sites of all costs are there.
 #[tactic(auto, using(crate::proofs::Lists::drop_at))]
 pub(crate) fn check_costs(sites: &[Site], costs: &Costs) -> Result<(), BuildFault>
-    ensures fault { GivesExactly (λ u. u) result (unless (cost_fault sites.now 0 costs.now)) }
+    ensures fault { Gives (λ u. u) result (unless (cost_fault sites.now 0 costs.now)) }
     // The costs are within their limits.
     ensures within { AreCosts costs.now }
 {
@@ -43,7 +44,7 @@ pub(crate) fn check_costs(sites: &[Site], costs: &Costs) -> Result<(), BuildFaul
 
 // That the site of a row of the capacities is there, and has the row's server.
 fn check_capacity(row: u32, id: u32, site: Option<&Site>) -> Result<(), BuildFault>
-    ensures { GivesExactly (λ u. u) result (unless (capacity_row_fault row id (option_map (λ s. s.now) site.entry))) }
+    ensures { Gives (λ u. u) result (unless (capacity_row_fault row id (option_map (λ s. s.now) site.entry))) }
 {
     let Some(site) = site else {
         return Err(BuildFault::UnknownSite {
@@ -60,7 +61,7 @@ fn check_capacity(row: u32, id: u32, site: Option<&Site>) -> Result<(), BuildFau
 // That the sites and servers of all capacities are there.
 #[tactic(auto, using(crate::proofs::Lists::drop_at))]
 pub(crate) fn check_capacities(sites: &[Site], capacities: &Capacities) -> Result<(), BuildFault>
-    ensures fault { GivesExactly (λ u. u) result (unless (capacity_fault sites.now 0 capacities.now)) }
+    ensures fault { Gives (λ u. u) result (unless (capacity_fault sites.now 0 capacities.now)) }
     // The capacities are within their limits.
     ensures within { AreCapacities capacities.now }
 {

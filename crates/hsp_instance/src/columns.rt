@@ -1,6 +1,7 @@
 // What rows ask for, what servers and hosts can take, and where servers stand, as lists.
 
 ghost use Rattle.std.specs.Prelude.{◌≡◌, ◌≤◌, IfOk, length, map};
+ghost use Rattle.hsp_text.specs.declared.limits.TheConstants.{MOST_DEMAND_ROWS, MOST_HOSTS, MOST_SERVERS};
 
 use crate::instance::Instance;
 use std::alloc::{AllocError, Global};
@@ -8,7 +9,7 @@ use std::alloc::{AllocError, Global};
 /// The count of each row.
 pub fn counts_of(alloc: Global, instance: &Instance) -> Result<Vec<u64>, AllocError>
     ensures counts { IfOk result (λ counts. counts.items ≡ map (λ r. r.count) instance.now.rows) }
-    ensures few { IfOk result (λ counts. length counts.items ≤ 8192) }
+    ensures few { IfOk result (λ counts. length counts.items ≤ MOST_DEMAND_ROWS) }
 {
     let mut counts = Vec::new(alloc);
     for row in 0..instance.rows() {
@@ -21,7 +22,7 @@ pub fn counts_of(alloc: Global, instance: &Instance) -> Result<Vec<u64>, AllocEr
 /// The capacity of each server.
 pub fn capacities_of(alloc: Global, instance: &Instance) -> Result<Vec<u64>, AllocError>
     ensures capacities { IfOk result (λ capacities. capacities.items ≡ map (λ s. s.capacity) instance.now.servers) }
-    ensures few { IfOk result (λ capacities. length capacities.items ≤ 1024) }
+    ensures few { IfOk result (λ capacities. length capacities.items ≤ MOST_SERVERS) }
 {
     let mut capacities = Vec::new(alloc);
     for server in 0..instance.servers() {
@@ -34,7 +35,7 @@ pub fn capacities_of(alloc: Global, instance: &Instance) -> Result<Vec<u64>, All
 /// The host of each server, None where it stands on no listed host.
 pub fn homes_of(alloc: Global, instance: &Instance) -> Result<Vec<Option<u32>>, AllocError>
     ensures homes { IfOk result (λ homes. homes.items ≡ map (λ s. s.host) instance.now.servers) }
-    ensures few { IfOk result (λ homes. length homes.items ≤ 1024) }
+    ensures few { IfOk result (λ homes. length homes.items ≤ MOST_SERVERS) }
 {
     let mut homes = Vec::new(alloc);
     for server in 0..instance.servers() {
@@ -46,7 +47,7 @@ pub fn homes_of(alloc: Global, instance: &Instance) -> Result<Vec<Option<u32>>, 
 /// The limit of each host.
 pub fn limits_of(alloc: Global, instance: &Instance) -> Result<Vec<u64>, AllocError>
     ensures limits { IfOk result (λ limits. limits.items ≡ map (λ h. h.limit) instance.now.hosts) }
-    ensures few { IfOk result (λ limits. length limits.items ≤ 1024) }
+    ensures few { IfOk result (λ limits. length limits.items ≤ MOST_HOSTS) }
 {
     let mut limits = Vec::new(alloc);
     for host in 0..instance.hosts() {

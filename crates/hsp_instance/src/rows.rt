@@ -3,6 +3,7 @@
 ghost use Rattle.std.specs.Prelude.{◌≡◌, ◌<◌, ◌∷◌, ◌++◌, [], Some, length, map, position, slice_get, OnOk, IfOk, IfErr, false};
 ghost use Rattle.std.specs.List.{list_any};
 ghost use Rattle.hsp_tables.specs.Demand.{AreDemand};
+ghost use Rattle.hsp_text.specs.declared.limits.TheConstants.{MOST_DEMAND_ROWS};
 ghost use Rattle.hsp_instance.specs.declared.fault.BuildFault.TheVariants.{OutOfMemory};
 ghost use Rattle.hsp_instance.specs.Building.{row_of};
 ghost use Rattle.hsp_instance.specs.Instance.{has_keys};
@@ -62,8 +63,9 @@ impl Model for Rows {
     ghost view = { λ r. map row_entry r.rows.entries };
 
     ghost use Rattle.std.specs.Prelude.{◌≤◌, length};
+    ghost use Rattle.hsp_text.specs.declared.limits.TheConstants.{MOST_DEMAND_ROWS};
 
-    ghost invariant = { λ r. length r.rows.entries ≤ 8192 };
+    ghost invariant = { λ r. length r.rows.entries ≤ MOST_DEMAND_ROWS };
 }
 
 impl Rows {
@@ -106,7 +108,7 @@ impl Rows {
         handle: &[u8],
         count: u64,
     ) -> Result<(), BuildFault>
-        requires room { length self.old < 8192 }
+        requires room { length self.old < MOST_DEMAND_ROWS }
         requires new { list_any (has_keys region.now handle.now) self.old ≡ false }
         ensures ok { OnOk result (self.new ≡ self.old ++ record { region = region.now; handle = handle.now; count = count } ∷ []) }
         ensures err { IfErr result (λ e. e ≡ OutOfMemory) }

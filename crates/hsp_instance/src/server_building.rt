@@ -4,8 +4,10 @@ ghost use Rattle.std.specs.Prelude.{◌≡◌, ◌≤◌, ◌<◌, ◌+◌, ◌�
 ghost use Rattle.std.specs.List.{position_from};
 ghost use Rattle.hsp_tables.specs.Rows.{capacity_shown};
 ghost use Rattle.hsp_tables.specs.Settings.{AreSettings};
+ghost use Rattle.hsp_text.specs.declared.limits.TheConstants.{MOST_HOSTS, MOST_SERVERS};
 ghost use Rattle.hsp_instance.specs.declared.fault.BuildFault.TheVariants.{OutOfMemory};
-ghost use Rattle.hsp_instance.specs.Building.{GivesExactly, capacity_of, host_of_entry, is_at, is_capacity_of, server_at, servers_at, servers_from};
+ghost use Rattle.hsp_text.specs.Answers.{Gives};
+ghost use Rattle.hsp_instance.specs.Building.{capacity_of, host_of_entry, is_at, is_capacity_of, server_at, servers_at, servers_from};
 ghost use Rattle.hsp_instance.specs.Instance.{AreSites};
 
 use crate::fault::BuildFault;
@@ -51,7 +53,7 @@ fn capacity_of(capacities: &Capacities, name: &[u8], id: u32) -> Option<u64>
 
 // The number of the host of an address.
 fn host_of(hosts: &[Host], address: &[u8; 16]) -> Option<u32>
-    requires { length hosts.now ≤ 1024 }
+    requires { length hosts.now ≤ MOST_HOSTS }
     ensures { result ≡ position_from (is_at address.now) 0 hosts.now }
 {
     for (number, host) in hosts.iter().enumerate() {
@@ -71,8 +73,8 @@ fn server_at(
     place: u32,
     own: &SiteServer,
 ) -> Result<Server, BuildFault>
-    requires { length hosts.now ≤ 1024 }
-    ensures { GivesExactly (λ s. s) result (server_at capacities.now hosts.now site name.now place own.now) }
+    requires { length hosts.now ≤ MOST_HOSTS }
+    ensures { Gives (λ s. s) result (server_at capacities.now hosts.now site name.now place own.now) }
 {
     let Some(capacity) = capacity_of(capacities, name, own.id) else {
         return Err(BuildFault::NoCapacity {
@@ -97,8 +99,8 @@ fn push_servers(
     number: u32,
     site: &Site,
 ) -> Result<(), BuildFault>
-    requires hosts { length hosts.now ≤ 1024 }
-    requires few { length site.now.servers ≤ 1024 }
+    requires hosts { length hosts.now ≤ MOST_HOSTS }
+    requires few { length site.now.servers ≤ MOST_SERVERS }
     ensures ok { OnOk result (servers_at capacities.now hosts.now number site.now.name 0 servers.old.items site.now.servers ≡ Ok servers.new.items) }
     ensures err { IfErr result (λ e. (e ≡ OutOfMemory) ⊎ (servers_at capacities.now hosts.now number site.now.name 0 servers.old.items site.now.servers ≡ Err e)) }
 {
@@ -117,7 +119,7 @@ pub(crate) fn servers_of(
     capacities: &Capacities,
     hosts: &[Host],
 ) -> Result<Vec<Server>, BuildFault>
-    requires hosts { length hosts.now ≤ 1024 }
+    requires hosts { length hosts.now ≤ MOST_HOSTS }
     requires sites { AreSites sites.now }
     ensures ok { IfOk result (λ v. servers_from capacities.now hosts.now 0 [] sites.now ≡ Ok v.items) }
     ensures err { IfErr result (λ e. (e ≡ OutOfMemory) ⊎ (servers_from capacities.now hosts.now 0 [] sites.now ≡ Err e)) }

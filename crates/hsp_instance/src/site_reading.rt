@@ -2,24 +2,24 @@
 
 ghost use Rattle.std.specs.Prelude.{◌≡◌, ◌≤◌, ◌<◌, ◌+◌, ◌⊎◌, Ok, Err, Some, length, map, option_map, slice_get, take, OnOk, IfOk, IfErr};
 ghost use Rattle.hsp_tables.specs.SettingsRows.{source_shown};
-ghost use Rattle.hsp_instance.specs.Building.{Answers, AreSitesOf, Gives, GivesExactly, IsSiteIn, IsSiteOf, checked_site, has_id, has_id_twice, server_of_record, site_octets, site_of_reading, site_value};
+ghost use Rattle.hsp_instance.specs.declared.fault.BuildFault.TheVariants.{OutOfMemory};
+ghost use Rattle.hsp_text.specs.Answers.{Gives, GivesUnless, Stands};
+ghost use Rattle.hsp_instance.specs.Building.{AreSitesOf, IsSiteIn, IsSiteOf, checked_site, has_id, has_id_twice, server_of_record, site_octets, site_of_reading, site_value};
 
 use crate::fault::BuildFault;
 use crate::sites::{Site, SiteServer, Sites};
 use hsp_hash::HashOption;
 use hsp_record::{RecordFault, SiteRecord, Value, ValueList, decode_site};
 use hsp_tables::{Settings, Source};
+use hsp_text::limits::MOST_SERVERS;
 use std::alloc::{AllocError, Global};
 
 // The type of a value that is a site record.
 const SITE_TYPE: &[u8] = b"HS_SITE";
 
-// The greatest number of servers of all sites.
-const MOST_SERVERS: u32 = 1024;
-
 // The octets of a value that is a site record.
 fn site_value<'a>(number: u32, value: Option<Value<'a>>) -> Result<&'a [u8], BuildFault>
-    ensures { GivesExactly (λ o. o.now) result (site_value number value.entry) }
+    ensures { Gives (λ o. o.now) result (site_value number value.entry) }
 {
     let Some(value) = value else {
         return Err(BuildFault::NoValue { site: number });
@@ -36,7 +36,7 @@ fn site_octets<'a>(
     number: u32,
     source: Source<'a>,
 ) -> Result<&'a [u8], BuildFault>
-    ensures { GivesExactly (λ o. o.now) result (site_octets (option_map (λ v. v.now) values.entry) number (source_shown source.entry)) }
+    ensures { Gives (λ o. o.now) result (site_octets (option_map (λ v. v.now) values.entry) number (source_shown source.entry)) }
 {
     match (source, values) {
         (Source::Octets(octets), _) => Ok(octets),
@@ -49,7 +49,7 @@ fn site_octets<'a>(
 #[tactic(auto, using(crate::proofs::Lists::map_take_next, crate::proofs::Lists::take_whole))]
 fn servers_of_record(alloc: Global, decoded: &SiteRecord) -> Result<Vec<SiteServer>, AllocError>
     ensures servers { IfOk result (λ v. v.items ≡ map server_of_record decoded.now.servers) }
-    ensures limit { IfOk result (λ v. length v.items ≤ 1024) }
+    ensures limit { IfOk result (λ v. length v.items ≤ MOST_SERVERS) }
 {
     let mut servers = Vec::new(alloc);
     for place in 0..decoded.server_count() {
@@ -90,9 +90,9 @@ fn has_id_twice(servers: &[SiteServer]) -> bool
 
 // A site of so many servers after those before it, if it is as it should be.
 fn checked_site(number: u32, before: u32, site: Site) -> Result<Site, BuildFault>
-    requires start { before ≤ 1024 }
-    requires few { length site.servers ≤ 1024 }
-    ensures { GivesExactly (λ s. s) result (checked_site number before site) }
+    requires start { before ≤ MOST_SERVERS }
+    requires few { length site.servers ≤ MOST_SERVERS }
+    ensures { Gives (λ s. s) result (checked_site number before site) }
 {
     let count = site.servers.len() as u32;
     if count == 0 {
@@ -101,7 +101,7 @@ fn checked_site(number: u32, before: u32, site: Site) -> Result<Site, BuildFault
     if has_id_twice(site.servers.as_slice()) {
         return Err(BuildFault::ServerIdTwice { site: number });
     }
-    if before + count > MOST_SERVERS {
+    if before + count > MOST_SERVERS as u32 {
         return Err(BuildFault::TooManyServers);
     }
     Ok(site)
@@ -115,8 +115,8 @@ fn site_of_record(
     name: &[u8],
     decoded: &SiteRecord,
 ) -> Result<Site, BuildFault>
-    requires { before ≤ 1024 }
-    ensures { Gives result (site_of_reading number before name.now (Ok decoded.now)) }
+    requires { before ≤ MOST_SERVERS }
+    ensures { GivesUnless OutOfMemory (λ x. x) result (site_of_reading number before name.now (Ok decoded.now)) }
 {
     let Some(option) = HashOption::of_octet(decoded.option_octet()) else {
         return Err(BuildFault::BadHashOption { site: number });
@@ -139,8 +139,8 @@ fn site_in(
     name: &[u8],
     octets: &[u8],
 ) -> Result<Site, BuildFault>
-    requires { before ≤ 1024 }
-    ensures { Answers (IsSiteIn number before name.now octets.now) result }
+    requires { before ≤ MOST_SERVERS }
+    ensures { Stands OutOfMemory (λ x. x) (IsSiteIn number before name.now octets.now) result }
 {
     match decode_site(alloc, octets) {
         Ok(decoded) => site_of_record(alloc, number, before, name, &decoded),
@@ -161,8 +161,8 @@ fn site_of(
     name: &[u8],
     source: Source<'_>,
 ) -> Result<Site, BuildFault>
-    requires { before ≤ 1024 }
-    ensures { Answers (IsSiteOf number before name.now (site_octets (option_map (λ v. v.now) values.entry) number (source_shown source.entry))) result }
+    requires { before ≤ MOST_SERVERS }
+    ensures { Stands OutOfMemory (λ x. x) (IsSiteOf number before name.now (site_octets (option_map (λ v. v.now) values.entry) number (source_shown source.entry))) result }
 {
     let octets = site_octets(values, number, source)?;
     site_in(alloc, number, before, name, octets)
@@ -177,7 +177,7 @@ pub fn build_sites(
     settings: &Settings,
     values: Option<&ValueList<'_>>,
 ) -> Result<Sites, BuildFault>
-    ensures { Answers (AreSitesOf settings.now (option_map (λ v. v.now) values.entry)) result }
+    ensures { Stands OutOfMemory (λ x. x) (AreSitesOf settings.now (option_map (λ v. v.now) values.entry)) result }
 {
     let mut sites: Vec<Site> = Vec::new(alloc);
     let mut before: u32 = 0;

@@ -1,6 +1,7 @@
 // The sites of an instance, by their records.
 
 ghost use Rattle.std.specs.Prelude.{◌≡◌, ◌<◌, ◌≤◌, Some, length, option_map, slice_get, take};
+ghost use Rattle.hsp_text.specs.declared.limits.TheConstants.{MOST_SERVERS};
 ghost use Rattle.hsp_instance.specs.Instance.{AreSites, servers_of};
 
 use hsp_hash::HashOption;
@@ -111,7 +112,7 @@ impl Sites {
     pub fn first_server(&self, site: u32) -> u32
         requires { site < length self.now }
         ensures first { result ≡ servers_of (take site self.now) }
-        ensures within { result ≤ 1024 }
+        ensures within { result ≤ MOST_SERVERS }
     {
         let _ = &self.sites;
         let mut first: u32 = 0;

@@ -1,9 +1,10 @@
-use Rattle.std.proofs.Common.{◌≡◌, ◌∙◌, ap, arith, length, length-append, option_map}
+use Rattle.std.proofs.Common.{◌≡◌, ◌∙◌, ◌∷◌, refl, ◌++◌, [], Some, ap, arith, length, length-append, option_map, sym}
 use Rattle.std.proofs.lemmas.Result.{err_from_is_err_and}
 use Rattle.hsp_tables.specs.SettingsRows.{source_shown}
 use Rattle.hsp_instance.specs.Building.{site_octets}
-use Rattle.hsp_instance.specs.Instance.{Site}
-use Rattle.hsp_instance.proofs.SiteSums.{servers_of-push, sites_push}
+use Rattle.hsp_instance.specs.Instance.{IsSite, Site}
+use Rattle.hsp_instance.proofs.SiteNames.{named_push, names_apart, next_is_name}
+use Rattle.hsp_instance.proofs.SiteSums.{no_sites, servers_of-push, sites_push}
 use Rattle.hsp_instance.proofs.SitesInTurn.{fault_is_first, next_goes_on, site_is_checked}
 use Rattle.hsp_instance.proofs.site_reading.build_sites.Goals as goal
 
@@ -19,10 +20,18 @@ sites-preserved c =
     let checked = site_is_checked c.sites.number c.sites.before c.name-name.result.now (site_octets (option_map (λ v. v.now) c.args.values) c.sites.number (source_shown c.source-source.result)) site c.in_ok-site.ensures in
     let long : c.len.result ≡ length site.servers = c.len.ensures ∙ c.site.inside.servers.ok.0 ∙ ap (λ (s : Site). length s.servers) c.site.view_is in
     let sum = c.sites.invariant.before in
+    let settings = c.len-number-end.ensures.settings.sites in
+    let next = c.name-name.ensures ∙ ap Some (sym checked.named) in
+    let named = named_push c.args.settings.now.sites c.sites.sites.items site c.sites.invariant.named (rw c.sites.invariant.count next) in
+    let is : IsSite site = record { name = next_is_name c.args.settings.now.sites c.sites.number site.name settings.each next; servers = checked.servers; apart = checked.apart } in
     record {
       count = rw (c.in_ok-push.ensures.items, length-append) (omega arith);
       before = rw (c.in_ok-push.ensures.items, servers_of-push) (omega arith);
-      within = rw c.in_ok-push.ensures.items (sites_push c.sites.sites.items site c.sites.invariant.within (omega (arith, c.len-number-end.ensures.settings.sites.few, c.len-number-end.ensures.count, c.sites-test.true, c.sites.invariant.count)) checked.0 (rw (← c.sites.invariant.before) checked.1));
+      within = rw c.in_ok-push.ensures.items (sites_push c.sites.sites.items site c.sites.invariant.within (omega (arith, settings.few, c.len-number-end.ensures.count, c.sites-test.true, c.sites.invariant.count)) is checked.some (rw (← c.sites.invariant.before) checked.few) (names_apart c.args.settings.now.sites (c.sites.sites.items ++ site ∷ []) named settings.apart));
+      named = rw c.in_ok-push.ensures.items named;
       so_far = rw c.in_ok-push.ensures.items (next_goes_on (option_map (λ v. v.now) c.args.values) c.args.settings.now.sites c.sites.number c.sites.before c.sites.sites.items c.name-name.result.now (source_shown c.source-source.result)
           c.sites.invariant.count c.sites.invariant.before c.name-name.ensures c.source-source.ensures c.sites.invariant.so_far site c.in_ok-site.ensures);
     }
+
+pub sites-init : goal.sites-init
+sites-init c = rw c.new-sites.ensures.items (record { count = refl; before = refl; within = no_sites; named = tt; so_far = λ answer rest. rest })
