@@ -1,7 +1,9 @@
 #!/usr/bin/env python3
-"""Follows the names in the documents: each edit that docs/CLAIMS.md names, each file that docs/DEFINITIONS.md names, and each crate in the README.
+"""Follows the names in the documents: each edit and each clause that docs/CLAIMS.md names, each file that docs/DEFINITIONS.md
+names, and each crate in the README.
 
-Fails where an edit or a file that a table names is not there, where a crate of crates.txt is named neither in the README nor in
+Fails where an edit or a file that a table names is not there, where a clause that stands beside a call is no `ensures` of that call,
+where a call without a named clause has not just one, where a crate of crates.txt is named neither in the README nor in
 docs/ARCHITECTURE.md, and where a document has no such table.
 """
 import glob
@@ -20,7 +22,7 @@ def text_of(path):
 def rows(text):
     """The cells of each row of a table, but for heads and rules."""
     lines = [it for it in text.splitlines() if it.startswith("|")]
-    cells = [[cell.strip() for cell in it.strip("|").split(" | ")] for it in lines]
+    cells = [[cell.strip() for cell in it.strip("|").split("|")] for it in lines]
     return [it for at, it in enumerate(cells) if not is_rule(lines[at]) and not (at + 1 < len(lines) and is_rule(lines[at + 1]))]
 
 
@@ -37,6 +39,50 @@ def missing_edits():
     there = {os.path.basename(it)[: -len(".edit")] for it in glob.glob(f"{TOP}/crates/*/must-fail/*.edit")}
     names = [name for it in rows(text_of("docs/CLAIMS.md")) for name in named(it[-1])]
     return [f"docs/CLAIMS.md names no edit of a crate: {it}" for it in names if it not in there], len(names)
+
+
+def clauses():
+    """The labels of the `ensures` of each function, by its name; one without a label has the label ''."""
+    labels = {}
+    for path in glob.glob(f"{TOP}/crates/*/src/**/*.rt", recursive=True):
+        name = None
+        for line in text_of(path).splitlines():
+            began = re.match(r"\s*(?:pub(?:\([a-z]+\))? )?(?:final )?fn (\w+)", line)
+            if began:
+                name = began.group(1)
+                labels.setdefault(name, set())
+            clause = re.match(r"\s*ensures\*?(?: (\w+))? \{", line)
+            if clause and name:
+                labels[name].add(clause.group(1) or "")
+            if line.strip() == "{":
+                name = None
+    return labels
+
+
+def parted(cells):
+    """The parts of two cells that belong together, where a semicolon parts both, or else the whole of both."""
+    calls, names = [cell.split(";") for cell in cells]
+    return list(zip(calls, names)) if len(calls) == len(names) else [(";".join(calls), ";".join(names))]
+
+
+def missing_clauses():
+    """The clauses of docs/CLAIMS.md that no `ensures` of the call beside them is, and how many it names."""
+    labels, faults, count = clauses(), [], 0
+    for cells in rows(text_of("docs/CLAIMS.md")):
+        for call_cell, clause_cell in parted(cells[1:3]):
+            calls = [name.split("::")[-1] for name in named(call_cell)]
+            calls = [name for name in calls if name in labels]
+            wanted = named(clause_cell)
+            if clause_cell.strip() and not wanted:
+                continue
+            count += len(wanted)
+            for clause in wanted:
+                if not any(clause in labels[call] for call in calls):
+                    faults.append(f"docs/CLAIMS.md: {clause} is no clause of {call_cell.strip()}")
+            for call in calls:
+                if not (labels[call] & set(wanted or [""])):
+                    faults.append(f"docs/CLAIMS.md: {call} has none of the clauses {wanted or 'without a name'}")
+    return faults, count
 
 
 def missing_files():
@@ -61,13 +107,14 @@ def missing_crates():
 
 
 def main():
-    found = [missing_edits(), missing_files(), missing_crates()]
+    found = [missing_edits(), missing_clauses(), missing_files(), missing_crates()]
     faults = [fault for it, _ in found for fault in it]
     for fault in faults:
         print(fault)
-    edits, files, crates = [count for _, count in found]
-    print(f"documents: {edits} edits, {files} files of definitions and {crates} crates followed, {len(faults)} faults")
-    return 1 if faults or not (edits and files and crates) else 0
+    counts = [count for _, count in found]
+    edits, named_clauses, files, crates = counts
+    print(f"documents: {edits} edits, {named_clauses} clauses, {files} files of definitions and {crates} crates followed, {len(faults)} faults")
+    return 1 if faults or not all(counts) else 0
 
 
 if __name__ == "__main__":

@@ -5,10 +5,14 @@
   args     in place of words: one argument a line, given as arguments alone
   stdin    in place of words: standard input, without arguments
   stdout   what it has to print (no file: nothing)
+  begins   in place of stdout: how that has to begin, where several texts are right
+  ends     with begins: how it has to end
+  judged   with begins: what `check` has to print of the text that was printed, over the same inputs
+  files    a folder with files that stand in place of the example files
   stderr   what it has to print on standard error (no file: nothing)
   status   with which status it has to end (no file: 0)
 
-It runs in a folder that holds a copy of the example files in data/. Each case with words is run twice: with them as arguments, and
+It runs in a folder that holds a copy of the example files in data/, and of the case's own. Each case with words is run twice: with them as arguments, and
 with them on standard input. Then every allocation of each case is refused in turn: the program has to say so, or to end as ever.
 """
 import os
@@ -48,15 +52,49 @@ def ways(case):
     return [([], octets(case, "stdin"))]
 
 
+def wanted_of(case, got):
+    """What a case has to print on both streams, and its status; what it printed, where that begins and ends as it has to."""
+    begins = octets(case, "begins", None)
+    printed = octets(case, "stdout")
+    if begins is not None:
+        is_right = got[0].startswith(begins) and got[0].endswith(octets(case, "ends"))
+        printed = got[0] if is_right else begins + b".." + octets(case, "ends")
+    return printed, octets(case, "stderr"), int(octets(case, "status", b"0"))
+
+
+def judged(program, case, words, folder, text):
+    """What `check` says of a text that was printed, where the case says what it has to say: the fault, if it says something else."""
+    verdict = octets(case, "judged", None)
+    if verdict is None:
+        return []
+    with open(os.path.join(folder, "printed.txt"), "wb") as file:
+        file.write(text)
+    said = run(program, [b"check"] + words[1:] + [b"--plan", b"printed.txt"], b"", folder)
+    return [] if said == (verdict, b"", 0) else [f"{case}: check of what was printed: {said}"]
+
+
+def folder_of(case, room, data):
+    """The folder in which a case is run: the example files, and its own in their place."""
+    own = os.path.join(CASES, case, "files")
+    if not os.path.isdir(own):
+        return data
+    folder = os.path.join(room, case)
+    shutil.copytree(data, folder)
+    shutil.copytree(own, folder, dirs_exist_ok=True)
+    return folder
+
+
 def check(program, case, folder, preloaded):
-    wanted = octets(case, "stdout"), octets(case, "stderr"), int(octets(case, "status", b"0"))
     faults, refused = [], 0
     count_file = os.path.join(folder, "count of growth")
     for words, given in ways(case):
         got = run(program, words, given, folder)
+        wanted = wanted_of(case, got)
         if got != wanted:
             faults.append(f"{case}: wanted {wanted}, got {got}")
             continue
+        if words:
+            faults += judged(program, case, words, folder, got[0])
         run(program, words, given, folder, LD_PRELOAD=preloaded, REFUSE_GROWTH="0", COUNT_GROWTH=count_file)
         with open(count_file) as file:
             count = int(file.read())
@@ -80,7 +118,7 @@ def main():
         shutil.copytree(os.path.join(TOP, "data"), folder)
         preloaded = check_growth.build(room)
         for case in cases:
-            found, count = check(program, case, folder, preloaded)
+            found, count = check(program, case, folder_of(case, room, folder), preloaded)
             faults, refused = faults + found, refused + count
     for fault in faults:
         print(fault)

@@ -1,5 +1,7 @@
 -- A certificate as far as its lines were read, and what can stand next in its lists.
 use Rattle.std.specs.Prelude.{◌≡◌, ◌==◌, ◌&&◌, ◌-◌, ℕ, Bool, true, false, List, [], ◌∷◌, ◌++◌, length, nat_le, nat_lt, slice_get, Option, Some, None, if◌then◌else◌}
+use Rattle.hsp_text.specs.declared.limits.TheConstants.{MOST_DEMAND_ROWS, MOST_HOSTS, MOST_SERVERS}
+use Rattle.hsp_cert.specs.declared.ranges.TheConstants.{LAST_ROW, LAST_SITE}
 use Rattle.hsp_cert.specs.declared.use_line.UseLine.{UseLine}
 use Rattle.hsp_cert.specs.declared.stage.Stage.{Stage}
 use Rattle.hsp_cert.specs.declared.item.Word.TheVariants as word
@@ -37,22 +39,22 @@ abbrev pub may_use : Best → UseLine → Bool
 may_use b u = ((is_none b.row_prices && is_none b.server_prices) && is_none b.host_prices) && (is_use u && goes_on_from is_before (last b.uses) u)
 
 abbrev pub may_row_price : Best → ℕ → ℕ → Bool
-may_row_price b number price = (is_none b.server_prices && is_none b.host_prices) && is_next 8192 b.row_prices number price
+may_row_price b number price = (is_none b.server_prices && is_none b.host_prices) && is_next MOST_DEMAND_ROWS b.row_prices number price
 
 abbrev pub may_server_price : Best → ℕ → ℕ → Bool
-may_server_price b number price = is_none b.host_prices && is_next 1024 b.server_prices number price
+may_server_price b number price = is_none b.host_prices && is_next MOST_SERVERS b.server_prices number price
 
 abbrev pub may_host_price : ℕ → Best → ℕ → ℕ → Bool
-may_host_price version b number price = version == 2 && is_next 1024 b.host_prices number price
+may_host_price version b number price = version == 2 && is_next MOST_HOSTS b.host_prices number price
 
 abbrev pub may_row : Short → ℕ → Bool
 may_row s row = is_row row && goes_on_from nat_lt (last s.rows) row
 
 abbrev pub use_in : ℕ → ℕ → ℕ → Option UseLine
-use_in row site count = when (nat_le row 8191 && nat_le site 31) (record { row = row; site = site; count = count })
+use_in row site count = when (nat_le row LAST_ROW && nat_le site LAST_SITE) (record { row = row; site = site; count = count })
 
 abbrev pub row_in : ℕ → Option ℕ
-row_in row = when (nat_le row 8191) row
+row_in row = when (nat_le row LAST_ROW) row
 
 abbrev pub use_step : Best → Option UseLine → Option Best
 use_step b None = None

@@ -1,5 +1,6 @@
 -- Reading a certificate item after item.
 use Rattle.std.specs.Prelude.{◌==◌, ◌||◌, ℕ, Bool, true, false, List, [], nat_le, Option, Some, None, option_map}
+use Rattle.hsp_text.specs.declared.limits.TheConstants.{GREATEST_SUM}
 use Rattle.hsp_cert.specs.declared.stage.Stage.{Stage}
 use Rattle.hsp_cert.specs.declared.stage.Stage.TheVariants as stage
 use Rattle.hsp_cert.specs.declared.item.Word.TheVariants as word
@@ -24,7 +25,7 @@ abbrev pub cost_set : Best → ℕ → Best
 cost_set b cost = record { cost = cost; uses = b.uses; row_prices = b.row_prices; server_prices = b.server_prices; host_prices = b.host_prices }
 
 abbrev pub is_amount : ℕ → Bool
-is_amount n = nat_le n 10000000000000000
+is_amount n = nat_le n GREATEST_SUM
 
 abbrev pub version_step : Drafted → ℕ → Option Drafted
 version_step d v = when (v == 1 || v == 2) (record { stage = stage.Kind; version = v; plan = d.plan; set = d.set })

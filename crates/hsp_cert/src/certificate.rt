@@ -2,11 +2,9 @@
 
 ghost use Rattle.std.specs.Prelude.{◌≡◌, IfSome};
 
-use crate::ranges::{
-    MOST_AMOUNT, MOST_HOSTS, MOST_ROWS, MOST_SERVERS, are_ascending, are_prices, are_rows,
-    are_rows_ascending, are_uses,
-};
+use crate::ranges::{are_ascending, are_prices, are_rows, are_rows_ascending, are_uses};
 use crate::use_line::UseLine;
+use hsp_text::limits::{GREATEST_SUM, MOST_DEMAND_ROWS, MOST_HOSTS, MOST_SERVERS};
 use std::marker::Model;
 
 // A plan with its prices.
@@ -106,10 +104,10 @@ impl PricedPlan {
     fn is_in_range(&self) -> bool
         ensures { result ≡ is_best self.now }
     {
-        self.cost <= MOST_AMOUNT
+        self.cost <= GREATEST_SUM
             && are_uses(&self.uses)
             && are_ascending(&self.uses)
-            && are_prices(&self.row_prices, MOST_ROWS)
+            && are_prices(&self.row_prices, MOST_DEMAND_ROWS)
             && are_prices(&self.server_prices, MOST_SERVERS)
             && are_prices(&self.host_prices, MOST_HOSTS)
     }
@@ -124,8 +122,8 @@ impl ShortSet {
     {
         are_rows(&self.rows)
             && are_rows_ascending(&self.rows)
-            && self.demand <= MOST_AMOUNT
-            && self.capacity <= MOST_AMOUNT
+            && self.demand <= GREATEST_SUM
+            && self.capacity <= GREATEST_SUM
     }
 }
 

@@ -7,13 +7,11 @@ ghost use Rattle.hsp_cert.specs.Steps.{version_step, kind_step, cost_step, deman
 
 use crate::certificate::{Certificate, PricedPlan, ShortSet, Shown};
 use crate::item::{Item, Word};
-use crate::ranges::{
-    LAST_ROW, LAST_SITE, MOST_AMOUNT, MOST_HOSTS, MOST_ROWS, MOST_SERVERS, is_after, is_price,
-    is_row, is_row_after, is_use,
-};
+use crate::ranges::{LAST_ROW, LAST_SITE, is_after, is_price, is_row, is_row_after, is_use};
 use crate::stage::Stage;
 use crate::use_line::UseLine;
 use crate::writing::version_of;
+use hsp_text::limits::{GREATEST_SUM, MOST_DEMAND_ROWS, MOST_HOSTS, MOST_SERVERS};
 use std::alloc::{AllocError, Global};
 use std::marker::Model;
 
@@ -56,7 +54,7 @@ fn may_row_price(plan: &PricedPlan, number: u64, price: u64) -> bool
 {
     plan.server_prices.len() == 0
         && plan.host_prices.len() == 0
-        && is_next(MOST_ROWS as u64, &plan.row_prices, number, price)
+        && is_next(MOST_DEMAND_ROWS as u64, &plan.row_prices, number, price)
 }
 
 fn may_server_price(plan: &PricedPlan, number: u64, price: u64) -> bool
@@ -204,7 +202,7 @@ fn take_kind(draft: &mut Draft) -> bool
 fn take_cost(draft: &mut Draft, cost: u64) -> bool
     ensures { Took (cost_step draft.old cost) result draft.new }
 {
-    if cost > MOST_AMOUNT {
+    if cost > GREATEST_SUM {
         return false;
     }
     draft.plan.cost = cost;
@@ -215,7 +213,7 @@ fn take_cost(draft: &mut Draft, cost: u64) -> bool
 fn take_demand(draft: &mut Draft, demand: u64) -> bool
     ensures { Took (demand_step draft.old demand) result draft.new }
 {
-    if demand > MOST_AMOUNT {
+    if demand > GREATEST_SUM {
         return false;
     }
     draft.set.demand = demand;
@@ -226,7 +224,7 @@ fn take_demand(draft: &mut Draft, demand: u64) -> bool
 fn take_capacity(draft: &mut Draft, capacity: u64) -> bool
     ensures { Took (capacity_step draft.old capacity) result draft.new }
 {
-    if capacity > MOST_AMOUNT {
+    if capacity > GREATEST_SUM {
         return false;
     }
     draft.set.capacity = capacity;

@@ -5,34 +5,23 @@ ghost use Rattle.std.specs.List.{list_all};
 ghost use Rattle.hsp_cert.specs.Certificate.{is_use, is_price, is_row, is_before, goes_on_from, ascends};
 
 use crate::use_line::UseLine;
+use hsp_text::limits::{GREATEST_COUNT, GREATEST_PRICE, MOST_DEMAND_ROWS, MOST_SITES};
 
-/// The largest cost, demand or capacity.
-pub(crate) const MOST_AMOUNT: u64 = 10_000_000_000_000_000;
+// The number of the last row and of the last site that there may be.
+pub(crate) const LAST_ROW: u32 = MOST_DEMAND_ROWS as u32 - 1;
 
-const MOST_PRICE: u64 = 1_000_000_000_000;
-
-pub(crate) const LAST_ROW: u32 = 8_191;
-
-pub(crate) const LAST_SITE: u32 = 31;
-
-const MOST_COUNT: u64 = 1_000_000;
-
-pub(crate) const MOST_ROWS: usize = 8_192;
-
-pub(crate) const MOST_SERVERS: usize = 1_024;
-
-pub(crate) const MOST_HOSTS: usize = 1_024;
+pub(crate) const LAST_SITE: u32 = MOST_SITES as u32 - 1;
 
 pub(crate) fn is_use(one: UseLine) -> bool
     ensures { result ≡ is_use one }
 {
-    one.row <= LAST_ROW && one.site <= LAST_SITE && 1 <= one.count && one.count <= MOST_COUNT
+    one.row <= LAST_ROW && one.site <= LAST_SITE && 1 <= one.count && one.count <= GREATEST_COUNT
 }
 
 pub(crate) fn is_price(price: u64) -> bool
     ensures { result ≡ is_price price }
 {
-    price <= MOST_PRICE
+    price <= GREATEST_PRICE
 }
 
 pub(crate) fn is_row(row: u32) -> bool

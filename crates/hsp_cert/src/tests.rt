@@ -15,32 +15,42 @@ fn use_of(row: u32, site: u32, count: u64) -> UseLine {
     UseLine { row, site, count }
 }
 
-// The fault of a text, if it has one.
-fn fault_of(alloc: Global, text: &[u8]) -> Option<CertFault> {
-    read_cert(alloc, text).err()
-}
-
-// The fault is the wanted one, or memory ran out.
-fn is_fault(rt: &impl Abort, text: &[u8], answer: Option<CertFault>, wanted: CertFault) {
-    if answer != Some(CertFault::OutOfMemory) {
-        assert_eq!(rt; answer, Some(wanted), "{text:?}");
+// The certificate that a text spells. Where a growth is refused, the second reading finds memory.
+fn read_twice(alloc: Global, text: &[u8]) -> Result<Certificate, CertFault> {
+    match read_cert(alloc, text) {
+        Err(CertFault::OutOfMemory) => read_cert(alloc, text),
+        answer => answer,
     }
 }
 
-// The line of this number can't stand, or memory ran out.
+// The text of a certificate. Where a growth is refused, the second writing finds memory.
+fn write_twice(alloc: Global, certificate: &Certificate) -> Result<Vec<u8>, AllocError> {
+    match write_cert(alloc, certificate) {
+        Err(AllocError) => write_cert(alloc, certificate),
+        answer => answer,
+    }
+}
+
+// The fault of a text, if it has one.
+fn fault_of(alloc: Global, text: &[u8]) -> Option<CertFault> {
+    read_twice(alloc, text).err()
+}
+
+// The fault is the wanted one.
+fn is_fault(rt: &impl Abort, text: &[u8], answer: Option<CertFault>, wanted: CertFault) {
+    assert_eq!(rt; answer, Some(wanted), "{text:?}");
+}
+
+// The line of this number can't stand.
 fn is_bad_line(rt: &impl Abort, text: &[u8], answer: Option<CertFault>, line: u64) {
     is_fault(rt, text, answer, CertFault::BadLine { line });
 }
 
-// The text that a text is written back as, and None where memory ran out.
-fn written_back(rt: &impl Abort, alloc: Global, text: &[u8]) -> Option<Vec<u8>> {
-    match read_cert(alloc, text) {
-        Ok(certificate) => write_cert(alloc, &certificate).ok(),
-        Err(fault) => {
-            assert_eq!(rt; fault, CertFault::OutOfMemory, "{text:?}");
-            None
-        }
-    }
+// The text that a text is written back as.
+fn written_back(rt: &impl Abort, alloc: Global, text: &[u8]) -> Result<Vec<u8>, Fail> {
+    let read = read_twice(alloc, text);
+    assert!(rt; read.is_ok(), "{text:?}");
+    Ok(write_twice(alloc, &read?)?)
 }
 
 #[test]
@@ -60,53 +70,40 @@ fn texts_are_read_and_written_back(rt: HostRuntime) -> Result<(), Fail> {
         greatest,
         last_row,
     ] {
-        if let Some(again) = written_back(&rt, rt.alloc(), text) {
-            assert_eq!(rt; again.as_slice(), text);
-        }
+        let again = written_back(&rt, rt.alloc(), text)?;
+        assert_eq!(rt; again.as_slice(), text);
     }
     Ok(())
 }
 
 #[test]
 fn a_plan_is_what_its_text_says(rt: HostRuntime) -> Result<(), Fail> {
-    match read_cert(rt.alloc(), PLAN_WITH_A_HOST) {
-        Ok(certificate) => {
-            assert!(rt; certificate.as_short().is_none());
-            assert!(rt; certificate.as_best().is_some());
-            if let Some(plan) = certificate.as_best() {
-                assert_eq!(rt; plan.cost(), 23);
-                let uses = [
-                    use_of(0, 0, 5),
-                    use_of(1, 0, 2),
-                    use_of(1, 1, 2),
-                    use_of(2, 0, 1),
-                    use_of(2, 1, 2),
-                ];
-                assert_eq!(rt; plan.uses(), uses.as_slice());
-                assert_eq!(rt; plan.row_prices(), [4, 4, 5].as_slice());
-                assert_eq!(rt; plan.server_prices(), [0, 0, 2, 0, 0].as_slice());
-                assert_eq!(rt; plan.host_prices(), [3].as_slice());
-            }
-        }
-        Err(fault) => assert_eq!(rt; fault, CertFault::OutOfMemory),
-    }
+    let certificate = read_twice(rt.alloc(), PLAN_WITH_A_HOST)?;
+    assert!(rt; certificate.as_short().is_none());
+    let plan = certificate.as_best().ok_or("a plan")?;
+    let uses = [
+        use_of(0, 0, 5),
+        use_of(1, 0, 2),
+        use_of(1, 1, 2),
+        use_of(2, 0, 1),
+        use_of(2, 1, 2),
+    ];
+    assert_eq!(rt; plan.cost(), 23);
+    assert_eq!(rt; plan.uses(), uses.as_slice());
+    assert_eq!(rt; plan.row_prices(), [4, 4, 5].as_slice());
+    assert_eq!(rt; plan.server_prices(), [0, 0, 2, 0, 0].as_slice());
+    assert_eq!(rt; plan.host_prices(), [3].as_slice());
     Ok(())
 }
 
 #[test]
 fn a_shortage_is_what_its_text_says(rt: HostRuntime) -> Result<(), Fail> {
-    match read_cert(rt.alloc(), SHORTAGE) {
-        Ok(certificate) => {
-            assert!(rt; certificate.as_best().is_none());
-            assert!(rt; certificate.as_short().is_some());
-            if let Some(set) = certificate.as_short() {
-                assert_eq!(rt; set.rows(), [2].as_slice());
-                assert_eq!(rt; set.demand(), 9);
-                assert_eq!(rt; set.capacity(), 8);
-            }
-        }
-        Err(fault) => assert_eq!(rt; fault, CertFault::OutOfMemory),
-    }
+    let certificate = read_twice(rt.alloc(), SHORTAGE)?;
+    assert!(rt; certificate.as_best().is_none());
+    let set = certificate.as_short().ok_or("a short set")?;
+    assert_eq!(rt; set.rows(), [2].as_slice());
+    assert_eq!(rt; set.demand(), 9);
+    assert_eq!(rt; set.capacity(), 8);
     Ok(())
 }
 
@@ -322,9 +319,12 @@ fn plans_are_made_within_their_ranges(rt: HostRuntime) -> Result<(), Fail> {
         (0, 0, 0, 1, true),
     ];
     for (cost, row, site, count, wanted) in uses {
-        if let Ok(made) = is_use_and_cost(alloc, cost, use_of(row, site, count)) {
-            assert_eq!(rt; made, wanted, "{cost} {row} {site} {count}");
-        }
+        let one = use_of(row, site, count);
+        let made = match is_use_and_cost(alloc, cost, one) {
+            Err(AllocError) => is_use_and_cost(alloc, cost, one)?,
+            Ok(made) => made,
+        };
+        assert_eq!(rt; made, wanted, "{cost} {row} {site} {count}");
     }
     let counts = [
         ([8192, 1024, 1024], 1_000_000_000_000, true),
@@ -336,9 +336,11 @@ fn plans_are_made_within_their_ranges(rt: HostRuntime) -> Result<(), Fail> {
         ([0, 0, 1], 1_000_000_000_001, false),
     ];
     for (count, price, wanted) in counts {
-        if let Ok(made) = are_prices(alloc, count, price) {
-            assert_eq!(rt; made, wanted, "{count:?} {price}");
-        }
+        let made = match are_prices(alloc, count, price) {
+            Err(AllocError) => are_prices(alloc, count, price)?,
+            Ok(made) => made,
+        };
+        assert_eq!(rt; made, wanted, "{count:?} {price}");
     }
     Ok(())
 }
@@ -353,44 +355,44 @@ fn uses_stand_in_order(rt: HostRuntime) -> Result<(), Fail> {
         ([other, one], false),
         ([one, one], false),
     ] {
-        if let Ok(uses) = Vec::from_slice(alloc, &uses) {
-            let made = Certificate::best(0, uses, Vec::new(alloc), Vec::new(alloc));
-            assert_eq!(rt; made.is_some(), wanted);
-        }
+        let uses = match Vec::from_slice(alloc, &uses) {
+            Err(AllocError) => Vec::from_slice(alloc, &uses)?,
+            Ok(uses) => uses,
+        };
+        let made = Certificate::best(0, uses, Vec::new(alloc), Vec::new(alloc));
+        assert_eq!(rt; made.is_some(), wanted);
     }
     Ok(())
+}
+
+// A plan of one use, with two row prices and three server prices.
+fn small_plan(alloc: Global, one: UseLine) -> Result<Option<Certificate>, AllocError> {
+    let uses = one_use(alloc, one)?;
+    let row_prices = prices(alloc, 2, 7)?;
+    let server_prices = prices(alloc, 3, 5)?;
+    Ok(Certificate::best(12, uses, row_prices, server_prices))
 }
 
 #[test]
 fn what_is_put_in_is_read_out(rt: HostRuntime) -> Result<(), Fail> {
     let alloc = rt.alloc();
     let one = use_of(2, 1, 3);
-    let Ok(uses) = one_use(alloc, one) else {
-        return Ok(());
+    let made = match small_plan(alloc, one) {
+        Err(AllocError) => small_plan(alloc, one)?,
+        Ok(made) => made,
     };
-    let Ok(row_prices) = prices(alloc, 2, 7) else {
-        return Ok(());
-    };
-    let Ok(server_prices) = prices(alloc, 3, 5) else {
-        return Ok(());
-    };
-    let made = Certificate::best(12, uses, row_prices, server_prices);
-    assert!(rt; made.is_some());
-    if let Some(certificate) = made {
-        if let Some(plan) = certificate.as_best() {
-            assert_eq!(rt; plan.cost(), 12);
-            assert_eq!(rt; plan.uses(), [one].as_slice());
-            assert_eq!(rt; plan.row_prices(), [7, 7].as_slice());
-            assert_eq!(rt; plan.server_prices(), [5, 5, 5].as_slice());
-            assert_eq!(rt; plan.host_prices().len(), 0);
-        }
-        if let Ok(text) = write_cert(alloc, &certificate) {
-            assert_eq!(rt;
-                text.as_slice(),
-                b"HSPLAN 1\nPLAN\ncost 12\nuse 2 1 3\nrow 0 7\nrow 1 7\nserver 0 5\nserver 1 5\nserver 2 5\nEND\n".as_slice()
-            );
-        }
-    }
+    let certificate = made.ok_or("a certificate")?;
+    let plan = certificate.as_best().ok_or("a plan")?;
+    assert_eq!(rt; plan.cost(), 12);
+    assert_eq!(rt; plan.uses(), [one].as_slice());
+    assert_eq!(rt; plan.row_prices(), [7, 7].as_slice());
+    assert_eq!(rt; plan.server_prices(), [5, 5, 5].as_slice());
+    assert_eq!(rt; plan.host_prices().len(), 0);
+    let text = write_twice(alloc, &certificate)?;
+    assert_eq!(rt;
+        text.as_slice(),
+        b"HSPLAN 1\nPLAN\ncost 12\nuse 2 1 3\nrow 0 7\nrow 1 7\nserver 0 5\nserver 1 5\nserver 2 5\nEND\n".as_slice()
+    );
     Ok(())
 }
 
@@ -418,15 +420,16 @@ fn shortages_are_made_within_their_ranges(rt: HostRuntime) -> Result<(), Fail> {
         (&[2], 9, 10_000_000_000_000_001, false),
     ];
     for (rows, demand, capacity, wanted) in sets {
-        if let Ok(made) = shortage_of(alloc, rows, demand, capacity) {
-            assert_eq!(rt; made.is_some(), wanted, "{rows:?}");
-            if let Some(certificate) = made {
-                if let Some(set) = certificate.as_short() {
-                    assert_eq!(rt; set.rows(), rows);
-                    assert_eq!(rt; set.demand(), demand);
-                    assert_eq!(rt; set.capacity(), capacity);
-                }
-            }
+        let made = match shortage_of(alloc, rows, demand, capacity) {
+            Err(AllocError) => shortage_of(alloc, rows, demand, capacity)?,
+            Ok(made) => made,
+        };
+        assert_eq!(rt; made.is_some(), wanted, "{rows:?}");
+        if let Some(certificate) = made {
+            let set = certificate.as_short().ok_or("a short set")?;
+            assert_eq!(rt; set.rows(), rows);
+            assert_eq!(rt; set.demand(), demand);
+            assert_eq!(rt; set.capacity(), capacity);
         }
     }
     Ok(())
@@ -458,17 +461,12 @@ fn largest(alloc: Global) -> Result<Option<Certificate>, AllocError> {
 #[test]
 fn the_largest_certificate_is_written_and_read(rt: HostRuntime) -> Result<(), Fail> {
     let alloc = rt.alloc();
-    let Ok(made) = largest(alloc) else {
-        return Ok(());
+    let made = match largest(alloc) {
+        Err(AllocError) => largest(alloc)?,
+        Ok(made) => made,
     };
-    assert!(rt; made.is_some());
-    if let Some(certificate) = made {
-        let Ok(text) = write_cert(alloc, &certificate) else {
-            return Ok(());
-        };
-        if let Some(again) = written_back(&rt, alloc, &text) {
-            assert!(rt; again == text);
-        }
-    }
+    let text = write_twice(alloc, &made.ok_or("a certificate")?)?;
+    let again = written_back(&rt, alloc, &text)?;
+    assert!(rt; again == text);
     Ok(())
 }

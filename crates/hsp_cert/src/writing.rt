@@ -7,16 +7,8 @@ ghost use Rattle.hsp_cert.specs.Certificate.Claim.{best, short};
 use crate::certificate::{Certificate, PricedPlan, ShortSet, Shown};
 use crate::item::{Item, Word, spelled};
 use crate::use_line::UseLine;
-use hsp_text::push_whole;
+use hsp_text::push_number;
 use std::alloc::{AllocError, Global};
-
-// Appends a space and a number.
-fn put_number(out: &mut Vec<u8>, number: u64) -> Result<(), AllocError>
-    ensures { OnOk result (out.new.items ≡ out.old.items ++ 32 ∷ decimal number) }
-{
-    out.push(b' ')?;
-    push_whole(out, number)
-}
 
 // Appends what an item says.
 fn put_item(out: &mut Vec<u8>, item: Item) -> Result<(), AllocError>
@@ -26,18 +18,18 @@ fn put_item(out: &mut Vec<u8>, item: Item) -> Result<(), AllocError>
         Item::Alone(word) => out.extend_from_slice(spelled(word)),
         Item::One(word, first) => {
             out.extend_from_slice(spelled(word))?;
-            put_number(out, first)
+            push_number(out, first)
         }
         Item::Two(word, first, second) => {
             out.extend_from_slice(spelled(word))?;
-            put_number(out, first)?;
-            put_number(out, second)
+            push_number(out, first)?;
+            push_number(out, second)
         }
         Item::Three(word, first, second, third) => {
             out.extend_from_slice(spelled(word))?;
-            put_number(out, first)?;
-            put_number(out, second)?;
-            put_number(out, third)
+            push_number(out, first)?;
+            push_number(out, second)?;
+            push_number(out, third)
         }
     }
 }

@@ -5,7 +5,8 @@ use Rattle.std.proofs.lemmas.List.{length-take, get_or-take, get_or_past}
 use Rattle.hsp_record.specs.declared.fault.Stop.{Stop}
 use Rattle.hsp_record.specs.declared.fault.Stop.TheVariants.{Short}
 use Rattle.hsp_record.specs.Fields.{IsOctets, joined}
-use Rattle.hsp_record.specs.Reading.{◌>>=◌, Reader, then_at, both_at}
+use Rattle.hsp_text.specs.Answers.{◌>>=◌}
+use Rattle.hsp_record.specs.Reading.{Reader, then_at, both_at}
 use Rattle.hsp_record.proofs.Cuts.{Cuts, joined-append, cuts_left, cuts_right, cuts_split}
 
 IsOctets-end : (f rest : List ℕ) → IsOctets (f ++ rest) → IsOctets rest

@@ -4,7 +4,8 @@ use Rattle.std.proofs.lemmas.List.{append-nil}
 use Rattle.hsp_record.specs.declared.fault.Stop.{Stop}
 use Rattle.hsp_record.specs.declared.fault.ReadError.{ReadError}
 use Rattle.hsp_record.specs.declared.fault.ReadError.TheVariants.{Memory, Stopped}
-use Rattle.hsp_record.specs.Reading.{◌>>=◌, Read, Reader, FailsAs, times_at}
+use Rattle.hsp_text.specs.Answers.{◌>>=◌}
+use Rattle.hsp_record.specs.Reading.{Read, Reader, FailsAs, times_at}
 use Rattle.hsp_record.proofs.Codec.{gave}
 
 -- what was read before, and what is still read

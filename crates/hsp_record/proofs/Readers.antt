@@ -8,7 +8,8 @@ use Rattle.std.proofs.lemmas.Nat.{be_bytes_2, be_bytes_4, be_bytes_8, from_be_by
 use Rattle.hsp_record.specs.declared.fault.Stop.{Stop}
 use Rattle.hsp_record.specs.declared.fault.Stop.TheVariants.{Short}
 use Rattle.hsp_record.specs.Fields.{IsOctets, joined, run_fields, IsRun, all_fields, list_fields, IsCounted}
-use Rattle.hsp_record.specs.Reading.{◌>>=◌, Reader, number_at, octets_at, run_at, times_at, list_at}
+use Rattle.hsp_text.specs.Answers.{◌>>=◌}
+use Rattle.hsp_record.specs.Reading.{Reader, number_at, octets_at, run_at, times_at, list_at}
 use Rattle.hsp_record.proofs.Cuts.{Cuts, InField}
 use Rattle.hsp_record.proofs.Codec.{IsOctets-append, IsOctets-take, zeros, length-zeros, IsOctets-zeros, bind_ok, bind_err, guard_ok, guard_err, done, gave, ok_is, not_both, Codec, then_codec, both_codec, as_codec}
 

@@ -7,7 +7,8 @@ use Rattle.hsp_record.specs.declared.fault.Stop.{Stop}
 use Rattle.hsp_record.specs.declared.fault.Stop.TheVariants.{Short, TooMany, Twice}
 use Rattle.hsp_record.specs.Fields.{IsOctets, joined, all_fields, list_fields, IsCounted, spelling}
 use Rattle.hsp_record.specs.Site.{Server, Site, server_fields, head_fields, IsServer, IsHead, IsWideSite, IsSite, HasTooManyServers, site_format}
-use Rattle.hsp_record.specs.Reading.{◌>>=◌, Read, number_at, times_at, list_at, server_at, head_at, server_count_at, with_servers, servers_at, site_at}
+use Rattle.hsp_text.specs.Answers.{◌>>=◌}
+use Rattle.hsp_record.specs.Reading.{Read, number_at, times_at, list_at, server_at, head_at, server_count_at, with_servers, servers_at, site_at}
 use Rattle.hsp_record.proofs.Cuts.{joined-append}
 use Rattle.hsp_record.proofs.Codec.{gave, ok_is, not_both, IsOctets-rest}
 use Rattle.hsp_record.proofs.Readers.{times_codec}

@@ -12,7 +12,8 @@ use Rattle.hsp_record.specs.declared.fault.Stop.{Stop}
 use Rattle.hsp_record.specs.declared.fault.Stop.TheVariants.{Short, TooMany, Twice}
 use Rattle.hsp_record.specs.Fields.{IsOctets, joined, all_fields, spelling}
 use Rattle.hsp_record.specs.Values.{ValueReference, HandleValue, value_fields, values_fields, indices, HaveOwnIndices, IsWideList, IsValueList, HasIndexTwice, values_format}
-use Rattle.hsp_record.specs.Reading.{◌>>=◌, Read, Reader, number_at, times_at, list_at, then_at, both_at, run_at, reference_at, body_of, body_at, is_one_of, index_at, values_at, value_list_at}
+use Rattle.hsp_text.specs.Answers.{◌>>=◌}
+use Rattle.hsp_record.specs.Reading.{Read, Reader, number_at, times_at, list_at, then_at, both_at, run_at, reference_at, body_of, body_at, is_one_of, index_at, values_at, value_list_at}
 use Rattle.hsp_record.proofs.Codec.{Codec, bind_ok, gave, done, ok_is, not_both, IsOctets-rest}
 use Rattle.hsp_record.proofs.Readers.{times_codec, list_codec}
 use Rattle.hsp_record.proofs.SiteCodec.{u32_codec, number_front}

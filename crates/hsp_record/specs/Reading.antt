@@ -2,6 +2,8 @@
 use Rattle.std.specs.Prelude.{◌≡◌, ℕ, zero, suc, ◌-◌, ◌≤◌, List, [], ◌∷◌, ◌++◌, length, take, drop, Result, Ok, Err, nat_lt, nat_eq, Bool, if◌then◌else◌}
 use Rattle.std.specs.List.{list_any, slice_index}
 use Rattle.std.specs.Int.{Width, w8, w16, w32, w64, byte_len, from_be_bytes}
+use Rattle.hsp_text.specs.Answers.{◌>>=◌}
+use Rattle.hsp_text.specs.declared.limits.TheConstants.{MOST_SERVERS}
 use Rattle.hsp_record.specs.declared.fault.Stop.{Stop}
 use Rattle.hsp_record.specs.declared.fault.Stop.TheVariants.{Short, TooMany, Twice}
 use Rattle.hsp_record.specs.declared.fault.ReadError.{ReadError}
@@ -13,11 +15,6 @@ use Rattle.hsp_record.specs.Site.{AttributePair, Interface, Server, Site}
 use Rattle.hsp_record.specs.Values.{ValueReference, HandleValue, reference_fields}
 use Rattle.hsp_record.specs.Request.{RequestBody}
 
-infixl 10 ◌>>=◌
-abbrev pub ◌>>=◌ : {A B : Type 0} → Result A Stop → (A → Result B Stop) → Result B Stop
-(Ok x) >>= f = f x
-(Err e) >>= f = Err e
-
 -- What a reader gives: a value and the octets after it, or where it stopped.
 abbrev pub Read : Type 0 → Type 0
 Read A = Result (A × List ℕ) Stop
@@ -25,24 +22,19 @@ Read A = Result (A × List ℕ) Stop
 abbrev pub Reader : Type 0 → Type 0
 Reader A = List ℕ → Read A
 
--- What a function returned, seen by `view`, is what reading gives.
-abbrev pub Reads : {X Y : Type 0} → (X → Y) → Result X Stop → Result Y Stop → Type 0
-Reads view (Ok x) read = read ≡ Ok (view x)
-Reads view (Err stop) read = read ≡ Err stop
-
 -- What a function returned stands for something that reading gives, as `Stands` says.
 abbrev pub Finds : {X Y : Type 0} → (X → Y → Type 0) → Result X Stop → Result Y Stop → Type 0
 Finds {X} {Y} Stands (Ok x) read = (y : Y) × Stands x y × (read ≡ Ok y)
 Finds Stands (Err stop) read = read ≡ Err stop
 
--- What a function returned, seen by `view`, is what reading gives, unless memory ran out.
+-- What a function that may run out of memory returned, seen by `view`, is what reading gives.
 abbrev pub FailsAs : {Y : Type 0} → ReadError → Result Y Stop → Type 0
 FailsAs Memory read = Unit {0}
 FailsAs (Stopped stop) read = read ≡ Err stop
 
-abbrev pub Gives : {X Y : Type 0} → (X → Y) → Result X ReadError → Result Y Stop → Type 0
-Gives view (Ok x) read = read ≡ Ok (view x)
-Gives view (Err e) read = FailsAs e read
+abbrev pub Reads : {X Y : Type 0} → (X → Y) → Result X ReadError → Result Y Stop → Type 0
+Reads view (Ok x) read = read ≡ Ok (view x)
+Reads view (Err e) read = FailsAs e read
 
 -- ---- fields
 
@@ -109,7 +101,7 @@ head_at = seen head_of (both_at (number_at w16) (both_at pair_at (both_at (numbe
 
 -- a number of servers within the limit
 unfoldable pub server_count_at : Reader ℕ
-server_count_at bytes = number_at w32 bytes >>= λ count. if nat_lt 1024 count.0 then Err TooMany else Ok count
+server_count_at bytes = number_at w32 bytes >>= λ count. if nat_lt MOST_SERVERS count.0 then Err TooMany else Ok count
 
 abbrev pub with_servers : Site → List Server → Site
 with_servers s servers = record s { servers = servers }

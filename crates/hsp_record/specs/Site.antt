@@ -1,6 +1,7 @@
 -- HS_SITE data, by the fields of RFC 3651 section 3.2.2, in the order and widths of this project's profile.
 use Rattle.std.specs.Prelude.{◌≡◌, ℕ, ◌<◌, ◌≤◌, ◌^◌, List, [], ◌∷◌, ◌++◌, length}
 use Rattle.std.specs.Int.{w8, w16, w32, to_be_bytes}
+use Rattle.hsp_text.specs.declared.limits.TheConstants.{MOST_SERVERS}
 use Rattle.hsp_record.specs.Fields.{IsOctets, joined, run_fields, IsRun, list_fields, IsCounted, Format}
 
 -- an attribute and its value
@@ -79,16 +80,16 @@ pub record IsHead (s : Site) : Type 0 where
 abbrev pub IsWideSite : Site → Type 0
 IsWideSite s = IsHead s × IsCounted IsServer s.servers
 
--- a record with at most 1,024 servers
+-- a record with no more servers than a site may have
 abbrev pub IsSite : Site → Type 0
-IsSite s = IsWideSite s × (length s.servers ≤ 1024)
+IsSite s = IsWideSite s × (length s.servers ≤ MOST_SERVERS)
 
--- What stands before the number of servers begins a spelling, and the number's four octets are there and above 1,024.
+-- What stands before the number of servers begins a spelling, and the number's four octets are there and above the limit.
 pub record HasTooManyServers (octets : List ℕ) : Type 0 where
   pub site : Site
   pub fits : IsHead site
   pub count : ℕ
-  pub above : 1024 < count
+  pub above : MOST_SERVERS < count
   pub counted : count < 2 ^ 32
   pub rest : List ℕ
   pub begins : octets ≡ joined (head_fields site) ++ (to_be_bytes w32 count ++ rest)

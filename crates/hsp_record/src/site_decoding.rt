@@ -2,16 +2,18 @@
 
 ghost use Rattle.std.specs.Prelude.{◌≡◌, List, Ok};
 ghost use Rattle.hsp_record.specs.Site.{Interface};
-ghost use Rattle.hsp_record.specs.Reading.{Reads, Finds, Gives, times_at, list_at, attribute_at, interface_at, server_at, head_of, head_at, server_count_at, servers_at, site_at};
+ghost use Rattle.hsp_text.specs.Answers.{Gives};
+ghost use Rattle.hsp_record.specs.Reading.{Finds, Reads, times_at, list_at, attribute_at, interface_at, server_at, head_of, head_at, server_count_at, servers_at, site_at};
 
 use crate::fault::{ReadError, Stop};
 use crate::reading::{read_address, read_octet, read_pair, read_run, read_u16, read_u32};
 use crate::site::{Attribute, ServerRecord, ServiceInterface, SiteRecord};
+use hsp_text::limits::MOST_SERVERS;
 use std::alloc::Global;
 
 #[tactic(auto, unfolding(crate::specs::Reading::interface_at))]
 fn read_interface(bytes: &[u8]) -> Result<(ServiceInterface, &[u8]), Stop>
-    ensures { Reads (λ x. (x.0, x.1.now)) result (interface_at bytes.now) }
+    ensures { Gives (λ x. (x.0, x.1.now)) result (interface_at bytes.now) }
 {
     let (service_type, rest) = read_octet(bytes)?;
     let (protocol, rest) = read_octet(rest)?;
@@ -43,7 +45,7 @@ fn read_interfaces(
     count: u32,
     bytes: &[u8],
 ) -> Result<(Vec<ServiceInterface>, &[u8]), ReadError>
-    ensures { Gives (λ x. (x.0.items, x.1.now)) result (times_at interface_at count bytes.now) }
+    ensures { Reads (λ x. (x.0.items, x.1.now)) result (times_at interface_at count bytes.now) }
 {
     let mut interfaces = Vec::new(alloc);
     let mut rest = bytes;
@@ -89,7 +91,7 @@ fn find_server(bytes: &[u8]) -> Result<(FoundServer<'_>, &[u8]), Stop>
 }
 
 fn read_server(alloc: Global, bytes: &[u8]) -> Result<(ServerRecord, &[u8]), ReadError>
-    ensures { Gives (λ x. (x.0, x.1.now)) result (server_at bytes.now) }
+    ensures { Reads (λ x. (x.0, x.1.now)) result (server_at bytes.now) }
 {
     let (found, rest) = find_server(bytes)?;
     let key = Vec::from_slice(alloc, found.key)?;
@@ -107,7 +109,7 @@ fn read_server(alloc: Global, bytes: &[u8]) -> Result<(ServerRecord, &[u8]), Rea
 
 #[tactic(auto, unfolding(crate::specs::Reading::attribute_at))]
 fn read_attribute(alloc: Global, bytes: &[u8]) -> Result<(Attribute, &[u8]), ReadError>
-    ensures { Gives (λ x. (x.0, x.1.now)) result (attribute_at bytes.now) }
+    ensures { Reads (λ x. (x.0, x.1.now)) result (attribute_at bytes.now) }
 {
     let (name, rest) = read_run(bytes)?;
     let (value, rest) = read_run(rest)?;
@@ -121,7 +123,7 @@ fn read_attributes(
     count: u32,
     bytes: &[u8],
 ) -> Result<(Vec<Attribute>, &[u8]), ReadError>
-    ensures { Gives (λ x. (x.0.items, x.1.now)) result (times_at attribute_at count bytes.now) }
+    ensures { Reads (λ x. (x.0.items, x.1.now)) result (times_at attribute_at count bytes.now) }
 {
     let mut attributes = Vec::new(alloc);
     let mut rest = bytes;
@@ -138,7 +140,7 @@ fn read_servers(
     count: u32,
     bytes: &[u8],
 ) -> Result<(Vec<ServerRecord>, &[u8]), ReadError>
-    ensures { Gives (λ x. (x.0.items, x.1.now)) result (times_at server_at count bytes.now) }
+    ensures { Reads (λ x. (x.0.items, x.1.now)) result (times_at server_at count bytes.now) }
 {
     let mut servers = Vec::new(alloc);
     let mut rest = bytes;
@@ -164,7 +166,7 @@ struct Head<'a> {
 
 #[tactic(auto, unfolding(crate::specs::Reading::head_at, crate::specs::Reading::list_at))]
 fn read_head(alloc: Global, bytes: &[u8]) -> Result<(Head<'_>, &[u8]), ReadError>
-    ensures { Gives (λ x. (head_of (x.0.version, ((x.0.protocol.0, x.0.protocol.1), (x.0.serial, (x.0.mask, (x.0.option, (x.0.filter.now, x.0.attributes.items)))))), x.1.now)) result (head_at bytes.now) }
+    ensures { Reads (λ x. (head_of (x.0.version, ((x.0.protocol.0, x.0.protocol.1), (x.0.serial, (x.0.mask, (x.0.option, (x.0.filter.now, x.0.attributes.items)))))), x.1.now)) result (head_at bytes.now) }
 {
     let (version, rest) = read_u16(bytes)?;
     let (protocol, rest) = read_pair(rest)?;
@@ -191,10 +193,10 @@ fn read_head(alloc: Global, bytes: &[u8]) -> Result<(Head<'_>, &[u8]), ReadError
 // The number of servers, which may not be above 1,024.
 #[tactic(auto, unfolding(crate::specs::Reading::server_count_at))]
 fn read_server_count(bytes: &[u8]) -> Result<(u32, &[u8]), Stop>
-    ensures { Reads (λ x. (x.0, x.1.now)) result (server_count_at bytes.now) }
+    ensures { Gives (λ x. (x.0, x.1.now)) result (server_count_at bytes.now) }
 {
     let (count, rest) = read_u32(bytes)?;
-    if count > 1024 {
+    if count > MOST_SERVERS as u32 {
         return Err(Stop::TooMany);
     }
     Ok((count, rest))
@@ -202,7 +204,7 @@ fn read_server_count(bytes: &[u8]) -> Result<(u32, &[u8]), Stop>
 
 #[tactic(auto, unfolding(crate::specs::Reading::site_at, crate::specs::Reading::servers_at))]
 pub(crate) fn read_site(alloc: Global, bytes: &[u8]) -> Result<(SiteRecord, &[u8]), ReadError>
-    ensures { Gives (λ x. (x.0, x.1.now)) result (site_at bytes.now) }
+    ensures { Reads (λ x. (x.0, x.1.now)) result (site_at bytes.now) }
 {
     let (head, rest) = read_head(alloc, bytes)?;
     let (count, rest) = read_server_count(rest)?;

@@ -1,7 +1,8 @@
 // Reading value lists. Types, data and references stay where they are.
 
 ghost use Rattle.std.specs.Prelude.{◌≡◌, [], List, length};
-ghost use Rattle.hsp_record.specs.Reading.{Reads, Finds, Gives, times_at, list_at, reference_at, body_at, values_at, value_list_at};
+ghost use Rattle.hsp_text.specs.Answers.{Gives};
+ghost use Rattle.hsp_record.specs.Reading.{Finds, Reads, times_at, list_at, reference_at, body_at, values_at, value_list_at};
 
 use crate::fault::{ReadError, Stop};
 use crate::reading::{read_octet, read_run, read_u32, read_u64};
@@ -12,7 +13,7 @@ use std::collections::BTreeSet;
 // A reference to a value of another handle: that handle, and the value's index.
 #[tactic(auto, unfolding(crate::specs::Reading::reference_at))]
 fn read_reference(bytes: &[u8]) -> Result<((&[u8], u32), &[u8]), Stop>
-    ensures { Reads (λ x. (record { handle = x.0.0.now; index = x.0.1 }, x.1.now)) result (reference_at bytes.now) }
+    ensures { Gives (λ x. (record { handle = x.0.0.now; index = x.0.1 }, x.1.now)) result (reference_at bytes.now) }
 {
     let (handle, rest) = read_run(bytes)?;
     let (index, rest) = read_u32(rest)?;
@@ -33,7 +34,7 @@ fn skip_references(count: u32, bytes: &[u8]) -> Result<&[u8], Stop>
 
 #[tactic(auto, unfolding(crate::specs::Reading::list_at))]
 fn read_references(bytes: &[u8]) -> Result<(References<'_>, &[u8]), Stop>
-    ensures { Reads (λ x. (x.0, x.1.now)) result (list_at reference_at bytes.now) }
+    ensures { Gives (λ x. (x.0, x.1.now)) result (list_at reference_at bytes.now) }
 {
     let (count, list) = read_u32(bytes)?;
     let after = skip_references(count, list)?;
@@ -44,7 +45,7 @@ fn read_references(bytes: &[u8]) -> Result<(References<'_>, &[u8]), Stop>
 // The fields behind an index.
 #[tactic(auto, unfolding(crate::specs::Reading::body_at))]
 fn read_body(index: u32, bytes: &[u8]) -> Result<(Value<'_>, &[u8]), Stop>
-    ensures { Reads (λ x. (x.0, x.1.now)) result (body_at index bytes.now) }
+    ensures { Gives (λ x. (x.0, x.1.now)) result (body_at index bytes.now) }
 {
     let (type_octets, rest) = read_run(bytes)?;
     let (octets, rest) = read_run(rest)?;
@@ -73,7 +74,7 @@ fn read_values(
     count: u32,
     bytes: &[u8],
 ) -> Result<(Vec<Value<'_>>, &[u8]), ReadError>
-    ensures { Gives (λ x. (x.0.items, x.1.now)) result (values_at [] count bytes.now) }
+    ensures { Reads (λ x. (x.0.items, x.1.now)) result (values_at [] count bytes.now) }
 {
     let mut values = Vec::new(alloc);
     let mut met = BTreeSet::new(alloc);
@@ -96,7 +97,7 @@ pub(crate) fn read_value_list(
     alloc: Global,
     bytes: &[u8],
 ) -> Result<(ValueList<'_>, &[u8]), ReadError>
-    ensures { Gives (λ x. (x.0, x.1.now)) result (value_list_at bytes.now) }
+    ensures { Reads (λ x. (x.0, x.1.now)) result (value_list_at bytes.now) }
 {
     let (count, rest) = read_u32(bytes)?;
     let (values, rest) = read_values(alloc, count, rest)?;
