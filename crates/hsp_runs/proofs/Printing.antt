@@ -36,6 +36,10 @@ in_value octets index v (Err fault.OutOfMemory) found is run = tt
 in_value octets index v (Err (fault.Site e)) found is run = (v, found, is, run)
 in_value octets index v (Err e) found is run = absurd run
 
+-- two pieces behind a text
+pub two_pieces : (out one two a b : List ℕ) → one ≡ out ++ a → two ≡ one ++ b → two ≡ out ++ (a ++ b)
+two_pieces out one two a b p q = rw (q, p, append_assoc out a b) refl
+
 -- three pieces behind a text
 pub three_pieces : (out one two three a b c : List ℕ) → one ≡ out ++ a → two ≡ one ++ b → three ≡ two ++ c → three ≡ out ++ (a ++ (b ++ c))
 three_pieces out one two three a b c p q r = rw (r, q, p, append_assoc (out ++ a) b c, append_assoc out a (b ++ c)) refl

@@ -23,7 +23,7 @@ use Rattle.hsp_runs.specs.declared.fault.Fault.{Fault}
 use Rattle.hsp_runs.specs.declared.fault.Fault.TheVariants.{Cert}
 use Rattle.hsp_runs.specs.declared.inputs.Inputs.{Inputs}
 use Rattle.hsp_runs.specs.Instance.{IsInstanceOf}
-use Rattle.hsp_runs.specs.Readings.{Then, told_as}
+use Rattle.hsp_text.specs.Answers.{Then, told_as}
 
 -- the certificate that octets spell
 abbrev pub IsCertificate : List ℕ → Result Claim Fault → Type 0

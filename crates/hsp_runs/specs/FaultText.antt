@@ -13,7 +13,8 @@ use Rattle.hsp_instance.specs.declared.fault.BuildFault.TheVariants as build_fau
 use Rattle.hsp_cert.specs.declared.fault.CertFault.{CertFault}
 use Rattle.hsp_cert.specs.declared.fault.CertFault.TheVariants as cert_fault
 use Rattle.hsp_runs.specs.declared.fault.Fault.{Fault}
-use Rattle.hsp_runs.specs.declared.fault.Fault.TheVariants.{BadOption, BadServers, BadIndex, Handle, Site, Settings, Values, NoValue, NotSiteValue, Demand, Costs, Capacity, Build, Cert, OutOfMemory}
+use Rattle.hsp_runs.specs.declared.fault.Fault.TheVariants.{BadOption, BadServers, BadIndex, Handle, Site, Settings, Values, NoValue, NotSiteValue, Demand, Costs, Capacity, Build, Cert, Refused, WrongKind, OutOfMemory}
+use Rattle.hsp_runs.specs.VerdictText.{reason_word}
 
 abbrev pub handle_words : HandleFault → List ℕ
 handle_words TooLong = codes "TooLong"
@@ -96,12 +97,29 @@ fault_words (Costs e) = codes "costs: " ++ table_words e
 fault_words (Capacity e) = codes "capacity: " ++ table_words e
 fault_words (Build e) = codes "build: " ++ build_words e
 fault_words (Cert e) = codes "certificate: " ++ cert_words e
+fault_words (Refused reason) = codes "check: " ++ reason_word reason
+fault_words WrongKind = codes "WrongKind"
 fault_words OutOfMemory = codes "OutOfMemory"
 
 abbrev pub fault_text : Fault → List ℕ
 fault_text fault = codes "hsplan: " ++ (fault_words fault ++ 10 ∷ [])
 
--- 4 for want of memory, 1 for any other refused input
+-- 4 for want of memory, 3 for a certificate that is refused or of the wrong kind, 1 for any other refused input
 abbrev pub status_in : Fault → ℕ
+status_in BadOption = 1
+status_in BadServers = 1
+status_in BadIndex = 1
+status_in (Handle e) = 1
+status_in (Site e) = 1
+status_in (Settings e) = 1
+status_in (Values e) = 1
+status_in NoValue = 1
+status_in NotSiteValue = 1
+status_in (Demand e) = 1
+status_in (Costs e) = 1
+status_in (Capacity e) = 1
+status_in (Build e) = 1
+status_in (Cert e) = 1
+status_in (Refused reason) = 3
+status_in WrongKind = 3
 status_in OutOfMemory = 4
-status_in _ = 1

@@ -13,7 +13,8 @@ use Rattle.hsp_instance.specs.declared.fault.BuildFault.{BuildFault}
 use Rattle.hsp_runs.specs.declared.fault.Fault.{Fault}
 use Rattle.hsp_runs.specs.declared.fault.Fault.TheVariants.{Demand, Costs, Capacity, Build}
 use Rattle.hsp_runs.specs.declared.inputs.Inputs.{Inputs}
-use Rattle.hsp_runs.specs.Readings.{AreSettings, AreValues, Then, told_as}
+use Rattle.hsp_text.specs.Answers.{Then, told_as}
+use Rattle.hsp_runs.specs.Readings.{AreSettings, AreValues}
 
 -- the tables that octets spell
 abbrev pub IsDemand : List ℕ → Result (List DemandEntry) Fault → Type 0

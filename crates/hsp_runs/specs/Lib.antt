@@ -1,11 +1,10 @@
-pub mod Answers
 pub mod FaultText
 pub mod Input
 pub mod Locate
-pub mod Text
 pub mod SiteText
 pub mod Readings
 pub mod Instance
 pub mod Check
+pub mod Accepted
 pub mod VerdictText
 pub mod Plan

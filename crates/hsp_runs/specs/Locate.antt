@@ -2,6 +2,7 @@
 use Rattle.std.specs.Prelude.{◌≡◌, ◌==◌, ◌++◌, ◌∷◌, [], ℕ, List, length, codes, decimal, option_map, slice_get, Option, Some, None, Result, Ok, Err, if◌then◌else◌}
 use Rattle.std.specs.Str.{bytes_eq}
 use Rattle.hsp_text.specs.Whole.{whole_within}
+use Rattle.hsp_text.specs.declared.limits.TheConstants.{MOST_SERVERS}
 use Rattle.hsp_text.specs.declared.whole.WholeFault.{WholeFault}
 use Rattle.hsp_names.specs.Handle.{handle_in}
 use Rattle.hsp_names.specs.declared.fault.HandleFault.{HandleFault}
@@ -13,9 +14,9 @@ use Rattle.hsp_runs.specs.declared.fault.Fault.{Fault}
 use Rattle.hsp_runs.specs.declared.fault.Fault.TheVariants.{BadOption, BadServers, Handle}
 use Rattle.hsp_runs.specs.declared.locate.Locate.{Locate}
 use Rattle.hsp_runs.specs.declared.locate.Locate.TheVariants.{Place, Sites}
-use Rattle.hsp_runs.specs.Answers.{◌>>=◌}
-use Rattle.hsp_runs.specs.Text.{numbered}
-use Rattle.hsp_runs.specs.Readings.{AreSitesIn, Then}
+use Rattle.hsp_text.specs.Answers.{◌>>=◌, Then}
+use Rattle.hsp_text.specs.Writing.{numbered}
+use Rattle.hsp_runs.specs.Readings.{AreSitesIn}
 
 -- the hash option of a word
 abbrev pub option_at : List ℕ → Result HashOption Fault
@@ -31,7 +32,7 @@ servers_or (Ok n) = if n == 0 then Err BadServers else Ok n
 servers_or (Err e) = Err BadServers
 
 abbrev pub servers_at : List ℕ → Result ℕ Fault
-servers_at word = servers_or (whole_within 1024 word)
+servers_at word = servers_or (whole_within MOST_SERVERS word)
 
 -- a handle's octets
 abbrev pub handle_or : Result (List ℕ) HandleFault → Result (List ℕ) Fault

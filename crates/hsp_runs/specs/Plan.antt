@@ -9,7 +9,7 @@ use Rattle.hsp_check.specs.Valid.{IsValid}
 use Rattle.hsp_runs.specs.declared.fault.Fault.{Fault}
 use Rattle.hsp_runs.specs.declared.inputs.Inputs.{Inputs}
 use Rattle.hsp_runs.specs.Instance.{IsInstanceOf}
-use Rattle.hsp_runs.specs.Readings.{Then}
+use Rattle.hsp_text.specs.Answers.{Then}
 
 -- a certificate's text, and whether it is that of a shortage
 pub record Printed : Type 0 where

@@ -1,5 +1,6 @@
 -- What runs read from their inputs, one after the other, up to the first fault.
-use Rattle.std.specs.Prelude.{◌≡◌, ◌≢◌, ◌⊎◌, ℕ, List, Option, Some, None, Result, Ok, Err}
+use Rattle.std.specs.Prelude.{◌≡◌, ◌≢◌, ℕ, List, Option, Some, None, Result, Ok, Err}
+use Rattle.hsp_text.specs.Answers.{Then, told_as}
 use Rattle.hsp_record.specs.Fields.{Means}
 use Rattle.hsp_record.specs.Values.{HandleValue, values_format}
 use Rattle.hsp_record.specs.declared.fault.RecordFault.{RecordFault}
@@ -9,26 +10,7 @@ use Rattle.hsp_instance.specs.Instance.{Site}
 use Rattle.hsp_instance.specs.Building.{AreSitesOf}
 use Rattle.hsp_instance.specs.declared.fault.BuildFault.{BuildFault}
 use Rattle.hsp_runs.specs.declared.fault.Fault.{Fault}
-use Rattle.hsp_runs.specs.declared.fault.Fault.TheVariants.{Settings, Values, Build, OutOfMemory}
-
--- the answer, seen by view, is one that stands, or memory ran out
-abbrev pub Stands : {X Y : Type 0} → (X → Y) → (Result Y Fault → Type 0) → Result X Fault → Type 0
-Stands view Is (Ok x) = Is (Ok (view x))
-Stands view Is (Err e) = (e ≡ OutOfMemory) ⊎ Is (Err e)
-
--- what follows a reading: the next one with what was read, or its fault
-abbrev pub Follows : {A B : Type 0} → Result A Fault → (A → Result B Fault → Type 0) → Result B Fault → Type 0
-Follows (Ok x) Next answer = Next x answer
-Follows (Err e) Next answer = answer ≡ Err e
-
--- one reading, and then the next
-abbrev pub Then : {A B : Type 0} → (Result A Fault → Type 0) → (A → Result B Fault → Type 0) → Result B Fault → Type 0
-Then {A} First Next answer = (first : Result A Fault) × First first × Follows first Next answer
-
--- a reading in the terms of a run
-abbrev pub told_as : {A E : Type 0} → (E → Fault) → Result A E → Result A Fault
-told_as part (Ok x) = Ok x
-told_as part (Err e) = Err (part e)
+use Rattle.hsp_runs.specs.declared.fault.Fault.TheVariants.{Settings, Values, Build}
 
 -- the settings that octets spell
 abbrev pub AreSettings : List ℕ → Result SettingsEntries Fault → Type 0
@@ -53,8 +35,5 @@ abbrev pub AreSites : SettingsEntries → Option (List HandleValue) → Result (
 AreSites settings values answer = (sites : Result (List Site) BuildFault) × AreSitesOf settings values sites × (answer ≡ told_as Build sites)
 
 -- the sites that the octets of settings and of values define
-abbrev pub AreSitesWith : SettingsEntries → Option (List ℕ) → Result (List Site) Fault → Type 0
-AreSitesWith settings values = Then (AreValues values) (AreSites settings)
-
 abbrev pub AreSitesIn : List ℕ → Option (List ℕ) → Result (List Site) Fault → Type 0
-AreSitesIn settings values = Then (AreSettings settings) (λ s. AreSitesWith s values)
+AreSitesIn settings values = Then (AreSettings settings) (λ s. Then (AreValues values) (AreSites s))

@@ -4,7 +4,7 @@ ghost use Rattle.std.specs.Prelude.{◌≡◌, IfOk};
 ghost use Rattle.hsp_check.specs.Instance.{network_of};
 ghost use Rattle.hsp_check.specs.declared.verdict.Verdict.TheVariants.{Yes};
 ghost use Rattle.hsp_runs.specs.Check.{Holds, IsCertificate, IsChecked, IsVerdict, IsVerdictOn, Shows, ShowsOf};
-ghost use Rattle.hsp_runs.specs.Readings.{Stands};
+ghost use Rattle.hsp_text.specs.Answers.{Stands};
 
 use crate::fault::Fault;
 use crate::inputs::Inputs;
@@ -14,9 +14,9 @@ use hsp_check::{Verdict, check};
 use hsp_instance::Instance;
 use std::alloc::Global;
 
-// A certificate.
-fn certificate_in(alloc: Global, octets: &[u8]) -> Result<Certificate, Fault>
-    ensures { Stands (λ certificate. certificate) (IsCertificate octets.now) result }
+/// The certificate that octets spell.
+pub(crate) fn certificate_in(alloc: Global, octets: &[u8]) -> Result<Certificate, Fault>
+    ensures { Stands Fault.OutOfMemory (λ certificate. certificate) (IsCertificate octets.now) result }
 {
     match read_cert(alloc, octets) {
         Ok(certificate) => Ok(certificate),
@@ -25,9 +25,13 @@ fn certificate_in(alloc: Global, octets: &[u8]) -> Result<Certificate, Fault>
     }
 }
 
-// The verdict on a certificate.
-fn judged(alloc: Global, instance: &Instance, certificate: &Certificate) -> Result<Verdict, Fault>
-    ensures verdict { Stands (λ verdict. verdict) (IsVerdict instance.now certificate.now) result }
+/// The verdict on a certificate.
+pub(crate) fn judged(
+    alloc: Global,
+    instance: &Instance,
+    certificate: &Certificate,
+) -> Result<Verdict, Fault>
+    ensures verdict { Stands Fault.OutOfMemory (λ verdict. verdict) (IsVerdict instance.now certificate.now) result }
     ensures holds { IfOk result (λ verdict. verdict ≡ Yes → Holds (network_of instance.now) certificate.now) }
 {
     Ok(check(alloc, instance, certificate)?)
@@ -35,7 +39,7 @@ fn judged(alloc: Global, instance: &Instance, certificate: &Certificate) -> Resu
 
 // The verdict on the certificate that octets spell.
 fn judged_text(alloc: Global, instance: &Instance, octets: &[u8]) -> Result<Verdict, Fault>
-    ensures verdict { Stands (λ verdict. verdict) (IsVerdictOn octets.now instance.now) result }
+    ensures verdict { Stands Fault.OutOfMemory (λ verdict. verdict) (IsVerdictOn octets.now instance.now) result }
     ensures shows { IfOk result (λ verdict. verdict ≡ Yes → Shows octets.now instance.now) }
 {
     let certificate = certificate_in(alloc, octets)?;
@@ -45,7 +49,7 @@ fn judged_text(alloc: Global, instance: &Instance, octets: &[u8]) -> Result<Verd
 /// Whether the text is that of a certificate which is valid for the instance of the inputs, and the first reason why it isn't.
 /// Faults in this order: `Settings`, `Values`, `Demand`, `Costs`, `Capacity`, `Build`, `Cert`.
 pub fn check_run(alloc: Global, inputs: &Inputs, cert: &[u8]) -> Result<Verdict, Fault>
-    ensures verdict { Stands (λ verdict. verdict) (IsChecked inputs.now cert.now) result }
+    ensures verdict { Stands Fault.OutOfMemory (λ verdict. verdict) (IsChecked inputs.now cert.now) result }
     // Yes says that the certificate's plan is best, or that there is no feasible plan.
     ensures shows { IfOk result (λ verdict. verdict ≡ Yes → ShowsOf inputs.now cert.now) }
 {

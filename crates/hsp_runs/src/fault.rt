@@ -2,6 +2,7 @@ ghost use Rattle.std.specs.Prelude.{◌≡◌};
 ghost use Rattle.hsp_runs.specs.declared.fault.Fault.TheVariants.{OutOfMemory};
 
 use hsp_cert::CertFault;
+use hsp_check::Reason;
 use hsp_instance::BuildFault;
 use hsp_names::HandleFault;
 use hsp_record::RecordFault;
@@ -54,6 +55,12 @@ pub enum Fault {
     /// The text is no certificate's.
     #[error("certificate: {0:?}")]
     Cert(CertFault),
+    /// The certificate isn't valid for the inputs.
+    #[error("check: {0:?}")]
+    Refused(Reason),
+    /// The certificate is of another kind than the wanted one: a plan, or a shortage.
+    #[error("wrong kind")]
+    WrongKind,
     /// Memory ran out.
     #[error("out of memory")]
     OutOfMemory,

@@ -7,7 +7,7 @@ use crate::fault::Fault;
 use crate::fault_words::{
     handle_words, put_build_fault, put_cert_fault, put_record_fault, put_table_fault,
 };
-use crate::text::put;
+use crate::verdict_text::reason_word;
 use hsp_record::RecordFault;
 use hsp_tables::TableFault;
 use std::alloc::{AllocError, Global};
@@ -16,7 +16,7 @@ use std::alloc::{AllocError, Global};
 fn put_table(out: &mut Vec<u8>, part: &[u8], fault: &TableFault) -> Result<(), AllocError>
     ensures { OnOk result (out.new.items ≡ out.old.items ++ (part.now ++ table_words fault.now)) }
 {
-    put(out, part)?;
+    out.extend_from_slice(part)?;
     put_table_fault(out, fault)
 }
 
@@ -24,7 +24,7 @@ fn put_table(out: &mut Vec<u8>, part: &[u8], fault: &TableFault) -> Result<(), A
 fn put_record(out: &mut Vec<u8>, part: &[u8], fault: &RecordFault) -> Result<(), AllocError>
     ensures { OnOk result (out.new.items ≡ out.old.items ++ (part.now ++ record_words fault.now)) }
 {
-    put(out, part)?;
+    out.extend_from_slice(part)?;
     put_record_fault(out, fault)
 }
 
@@ -33,30 +33,35 @@ fn put_fault(out: &mut Vec<u8>, fault: &Fault) -> Result<(), AllocError>
     ensures { OnOk result (out.new.items ≡ out.old.items ++ fault_words fault.now) }
 {
     match fault {
-        Fault::BadOption => put(out, b"BadOption"),
-        Fault::BadServers => put(out, b"BadServers"),
-        Fault::BadIndex => put(out, b"BadIndex"),
+        Fault::BadOption => out.extend_from_slice(b"BadOption"),
+        Fault::BadServers => out.extend_from_slice(b"BadServers"),
+        Fault::BadIndex => out.extend_from_slice(b"BadIndex"),
         Fault::Handle(inner) => {
-            put(out, b"handle: ")?;
-            put(out, handle_words(inner))
+            out.extend_from_slice(b"handle: ")?;
+            out.extend_from_slice(handle_words(inner))
         }
         Fault::Site(inner) => put_record(out, b"site: ", inner),
         Fault::Settings(inner) => put_table(out, b"settings: ", inner),
         Fault::Values(inner) => put_record(out, b"values: ", inner),
-        Fault::NoValue => put(out, b"NoValue"),
-        Fault::NotSiteValue => put(out, b"NotSiteValue"),
+        Fault::NoValue => out.extend_from_slice(b"NoValue"),
+        Fault::NotSiteValue => out.extend_from_slice(b"NotSiteValue"),
         Fault::Demand(inner) => put_table(out, b"demand: ", inner),
         Fault::Costs(inner) => put_table(out, b"costs: ", inner),
         Fault::Capacity(inner) => put_table(out, b"capacity: ", inner),
         Fault::Build(inner) => {
-            put(out, b"build: ")?;
+            out.extend_from_slice(b"build: ")?;
             put_build_fault(out, inner)
         }
         Fault::Cert(inner) => {
-            put(out, b"certificate: ")?;
+            out.extend_from_slice(b"certificate: ")?;
             put_cert_fault(out, inner)
         }
-        Fault::OutOfMemory => put(out, b"OutOfMemory"),
+        Fault::Refused(reason) => {
+            out.extend_from_slice(b"check: ")?;
+            out.extend_from_slice(reason_word(*reason))
+        }
+        Fault::WrongKind => out.extend_from_slice(b"WrongKind"),
+        Fault::OutOfMemory => out.extend_from_slice(b"OutOfMemory"),
     }
 }
 
@@ -65,18 +70,33 @@ pub fn fault_line(alloc: Global, fault: &Fault) -> Result<Vec<u8>, AllocError>
     ensures { IfOk result (λ line. line.items ≡ fault_text fault.now) }
 {
     let mut line = Vec::new(alloc);
-    put(&mut line, b"hsplan: ")?;
+    line.extend_from_slice(b"hsplan: ")?;
     put_fault(&mut line, fault)?;
-    put(&mut line, b"\n")?;
+    line.extend_from_slice(b"\n")?;
     Ok(line)
 }
 
-/// The status that the program ends with at a fault: 4 for want of memory, else 1.
+/// The status that the program ends with at a fault: 4 for want of memory, 3 for a certificate that is refused or of the wrong kind,
+/// else 1.
 pub fn status_of(fault: &Fault) -> u8
     ensures { result ≡ status_in fault.now }
 {
     match fault {
+        Fault::BadOption
+        | Fault::BadServers
+        | Fault::BadIndex
+        | Fault::Handle(_)
+        | Fault::Site(_)
+        | Fault::Settings(_)
+        | Fault::Values(_)
+        | Fault::NoValue
+        | Fault::NotSiteValue
+        | Fault::Demand(_)
+        | Fault::Costs(_)
+        | Fault::Capacity(_)
+        | Fault::Build(_)
+        | Fault::Cert(_) => 1,
+        Fault::Refused(_) | Fault::WrongKind => 3,
         Fault::OutOfMemory => 4,
-        _ => 1,
     }
 }

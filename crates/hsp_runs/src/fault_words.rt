@@ -1,11 +1,10 @@
 // The words of the faults that lower calls answer.
 
-ghost use Rattle.std.specs.Prelude.{◌≡◌, ◌++◌, ◌∷◌, OnOk};
+ghost use Rattle.std.specs.Prelude.{◌≡◌, ◌++◌, ◌∷◌, OnOk, decimal};
 ghost use Rattle.hsp_tables.specs.declared.fault.TableFault.TheVariants as table_fault;
 ghost use Rattle.hsp_instance.specs.declared.fault.BuildFault.TheVariants as build_fault;
 ghost use Rattle.hsp_runs.specs.FaultText.{build_words, cert_words, handle_words, host_words, record_words, row_words, site_words, table_name, table_words};
 
-use crate::text::{put, put_with};
 use hsp_cert::CertFault;
 use hsp_instance::{BuildFault, Table};
 use hsp_names::HandleFault;
@@ -13,6 +12,14 @@ use hsp_record::RecordFault;
 use hsp_tables::TableFault;
 use hsp_text::push_whole;
 use std::alloc::AllocError;
+
+/// Appends a text and the digits of a number.
+pub(crate) fn put_with(out: &mut Vec<u8>, text: &[u8], number: u64) -> Result<(), AllocError>
+    ensures { OnOk result (out.new.items ≡ out.old.items ++ (text.now ++ decimal number)) }
+{
+    out.extend_from_slice(text)?;
+    push_whole(out, number)
+}
 
 /// The words of a handle's fault.
 pub(crate) fn handle_words(fault: &HandleFault) -> &'static [u8]
@@ -33,30 +40,30 @@ pub(crate) fn put_record_fault(out: &mut Vec<u8>, fault: &RecordFault) -> Result
     match fault {
         RecordFault::Truncated { at } => put_with(out, b"Truncated at ", *at as u64),
         RecordFault::Trailing { at } => put_with(out, b"Trailing at ", *at as u64),
-        RecordFault::TooManyServers => put(out, b"TooManyServers"),
+        RecordFault::TooManyServers => out.extend_from_slice(b"TooManyServers"),
         RecordFault::IndexTwice { index } => put_with(out, b"IndexTwice index ", u64::from(*index)),
-        RecordFault::OutOfMemory => put(out, b"OutOfMemory"),
+        RecordFault::OutOfMemory => out.extend_from_slice(b"OutOfMemory"),
     }
 }
 
 fn put_row(out: &mut Vec<u8>, word: &[u8], row: u32) -> Result<(), AllocError>
     ensures { OnOk result (out.new.items ≡ out.old.items ++ row_words word.now row) }
 {
-    put(out, word)?;
+    out.extend_from_slice(word)?;
     put_with(out, b" row ", u64::from(row))
 }
 
 fn put_site(out: &mut Vec<u8>, word: &[u8], site: u32) -> Result<(), AllocError>
     ensures { OnOk result (out.new.items ≡ out.old.items ++ site_words word.now site) }
 {
-    put(out, word)?;
+    out.extend_from_slice(word)?;
     put_with(out, b" site ", u64::from(site))
 }
 
 fn put_host(out: &mut Vec<u8>, word: &[u8], host: u32) -> Result<(), AllocError>
     ensures { OnOk result (out.new.items ≡ out.old.items ++ host_words word.now host) }
 {
-    put(out, word)?;
+    out.extend_from_slice(word)?;
     put_with(out, b" host ", u64::from(host))
 }
 
@@ -64,8 +71,8 @@ fn put_bad_handle(out: &mut Vec<u8>, row: u32, fault: &HandleFault) -> Result<()
     ensures { OnOk result (out.new.items ≡ out.old.items ++ table_words (table_fault.BadHandle row fault.now)) }
 {
     put_row(out, b"BadHandle", row)?;
-    put(out, b" ")?;
-    put(out, handle_words(fault))
+    out.extend_from_slice(b" ")?;
+    out.extend_from_slice(handle_words(fault))
 }
 
 /// Appends a fault of the settings or of a table with its fields.
@@ -73,23 +80,23 @@ pub(crate) fn put_table_fault(out: &mut Vec<u8>, fault: &TableFault) -> Result<(
     ensures { OnOk result (out.new.items ≡ out.old.items ++ table_words fault.now) }
 {
     match fault {
-        TableFault::NotToml => put(out, b"NotToml"),
-        TableFault::UnknownKey => put(out, b"UnknownKey"),
+        TableFault::NotToml => out.extend_from_slice(b"NotToml"),
+        TableFault::UnknownKey => out.extend_from_slice(b"UnknownKey"),
         TableFault::BadSite { site } => put_site(out, b"BadSite", *site),
         TableFault::SiteTwice { site } => put_site(out, b"SiteTwice", *site),
-        TableFault::Header => put(out, b"Header"),
+        TableFault::Header => out.extend_from_slice(b"Header"),
         TableFault::Fields { row } => put_row(out, b"Fields", *row),
         TableFault::BadName { row } => put_row(out, b"BadName", *row),
         TableFault::BadHandle { row, fault } => put_bad_handle(out, *row, fault),
         TableFault::BadNumber { row } => put_row(out, b"BadNumber", *row),
         TableFault::RowTwice { row } => put_row(out, b"RowTwice", *row),
-        TableFault::TooManyRows => put(out, b"TooManyRows"),
-        TableFault::TooManySites => put(out, b"TooManySites"),
-        TableFault::TooManyRegions => put(out, b"TooManyRegions"),
-        TableFault::OutOfMemory => put(out, b"OutOfMemory"),
+        TableFault::TooManyRows => out.extend_from_slice(b"TooManyRows"),
+        TableFault::TooManySites => out.extend_from_slice(b"TooManySites"),
+        TableFault::TooManyRegions => out.extend_from_slice(b"TooManyRegions"),
+        TableFault::OutOfMemory => out.extend_from_slice(b"OutOfMemory"),
         TableFault::BadHost { host } => put_host(out, b"BadHost", *host),
         TableFault::HostTwice { host } => put_host(out, b"HostTwice", *host),
-        TableFault::TooManyHosts => put(out, b"TooManyHosts"),
+        TableFault::TooManyHosts => out.extend_from_slice(b"TooManyHosts"),
     }
 }
 
@@ -106,14 +113,14 @@ fn put_bad_record(out: &mut Vec<u8>, site: u32, fault: &RecordFault) -> Result<(
     ensures { OnOk result (out.new.items ≡ out.old.items ++ build_words (build_fault.BadRecord site fault.now)) }
 {
     put_site(out, b"BadRecord", site)?;
-    put(out, b" ")?;
+    out.extend_from_slice(b" ")?;
     put_record_fault(out, fault)
 }
 
 fn put_unknown_site(out: &mut Vec<u8>, table: Table, row: u32) -> Result<(), AllocError>
     ensures { OnOk result (out.new.items ≡ out.old.items ++ build_words (build_fault.UnknownSite table row)) }
 {
-    put(out, b"UnknownSite table ")?;
+    out.extend_from_slice(b"UnknownSite table ")?;
     put_row(out, table_name(table), row)
 }
 
@@ -121,8 +128,7 @@ fn put_no_capacity(out: &mut Vec<u8>, site: u32, server_id: u32) -> Result<(), A
     ensures { OnOk result (out.new.items ≡ out.old.items ++ build_words (build_fault.NoCapacity site server_id)) }
 {
     put_site(out, b"NoCapacity", site)?;
-    put(out, b" server_id ")?;
-    push_whole(out, u64::from(server_id))
+    put_with(out, b" server_id ", u64::from(server_id))
 }
 
 /// Appends a fault of the instance with its fields.
@@ -136,11 +142,11 @@ pub(crate) fn put_build_fault(out: &mut Vec<u8>, fault: &BuildFault) -> Result<(
         BuildFault::BadHashOption { site } => put_site(out, b"BadHashOption", *site),
         BuildFault::NoServer { site } => put_site(out, b"NoServer", *site),
         BuildFault::ServerIdTwice { site } => put_site(out, b"ServerIdTwice", *site),
-        BuildFault::TooManyServers => put(out, b"TooManyServers"),
+        BuildFault::TooManyServers => out.extend_from_slice(b"TooManyServers"),
         BuildFault::UnknownSite { table, row } => put_unknown_site(out, *table, *row),
         BuildFault::UnknownServer { row } => put_row(out, b"UnknownServer", *row),
         BuildFault::NoCapacity { site, server_id } => put_no_capacity(out, *site, *server_id),
-        BuildFault::OutOfMemory => put(out, b"OutOfMemory"),
+        BuildFault::OutOfMemory => out.extend_from_slice(b"OutOfMemory"),
     }
 }
 
@@ -150,8 +156,8 @@ pub(crate) fn put_cert_fault(out: &mut Vec<u8>, fault: &CertFault) -> Result<(),
 {
     match fault {
         CertFault::BadLine { line } => put_with(out, b"BadLine line ", *line),
-        CertFault::Ended => put(out, b"Ended"),
+        CertFault::Ended => out.extend_from_slice(b"Ended"),
         CertFault::AfterEnd { line } => put_with(out, b"AfterEnd line ", *line),
-        CertFault::OutOfMemory => put(out, b"OutOfMemory"),
+        CertFault::OutOfMemory => out.extend_from_slice(b"OutOfMemory"),
     }
 }

@@ -3,19 +3,14 @@
 ghost use Rattle.std.specs.Prelude.{◌≡◌, ◌≤◌, length, IfOk, IfSome};
 ghost use Rattle.hsp_runs.specs.Input.{first_line_of};
 
+use hsp_text::limits::{LARGEST_FILE, LONGEST_FIRST_LINE};
 use std::alloc::{AllocError, Global};
 use std::io::Read;
-
-// How many octets a file that is read whole may have.
-const WHOLE_FILE: usize = 67_108_864;
-
-// How many octets a first line may have.
-const FIRST_LINE: usize = 65_536;
 
 /// Every octet of the reader; None where a read failed, or where there are more than 67,108,864.
 pub fn read_file<R: Read + Drop>(alloc: Global, reader: R) -> Result<Option<Vec<u8>>, AllocError>
     ensures octets { IfOk result (λ found. IfSome found (λ whole. IfSome (R.remaining reader) (λ text. whole.items ≡ text))) }
-    ensures limit { IfOk result (λ found. IfSome found (λ whole. length whole.items ≤ 67108864)) }
+    ensures limit { IfOk result (λ found. IfSome found (λ whole. length whole.items ≤ LARGEST_FILE)) }
 {
     let mut reader = reader;
     let mut whole = Vec::new(alloc);
@@ -27,7 +22,7 @@ pub fn read_file<R: Read + Drop>(alloc: Global, reader: R) -> Result<Option<Vec<
         if count == 0 {
             return Ok(Some(whole));
         }
-        if count > WHOLE_FILE - whole.len() {
+        if count > LARGEST_FILE - whole.len() {
             return Ok(None);
         }
         whole.extend_from_slice(&piece[..count])?;
@@ -38,7 +33,7 @@ pub fn read_file<R: Read + Drop>(alloc: Global, reader: R) -> Result<Option<Vec<
 /// more than 65,536.
 pub fn first_line<R: Read + Drop>(alloc: Global, reader: R) -> Result<Option<Vec<u8>>, AllocError>
     ensures line { IfOk result (λ found. IfSome found (λ line. IfSome (R.remaining reader) (λ text. line.items ≡ first_line_of text))) }
-    ensures limit { IfOk result (λ found. IfSome found (λ line. length line.items ≤ 65536)) }
+    ensures limit { IfOk result (λ found. IfSome found (λ line. length line.items ≤ LONGEST_FIRST_LINE)) }
 {
     let mut reader = reader;
     let mut line = Vec::new(alloc);
@@ -50,7 +45,7 @@ pub fn first_line<R: Read + Drop>(alloc: Global, reader: R) -> Result<Option<Vec
         if count == 0 || octet[0] == b'\n' {
             return Ok(Some(line));
         }
-        if line.len() == FIRST_LINE {
+        if line.len() == LONGEST_FIRST_LINE {
             return Ok(None);
         }
         line.push(octet[0])?;

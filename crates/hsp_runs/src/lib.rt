@@ -1,6 +1,7 @@
 // The runs behind the program: from the octets of its words and files to the octets that it prints.
 #![tactic(auto)]
 
+mod accepted;
 mod checking;
 mod fault;
 mod fault_text;
@@ -13,7 +14,6 @@ mod plan;
 mod readings;
 mod site;
 mod site_lines;
-mod text;
 mod verdict_text;
 
 pub use checking::check_run;

@@ -1,21 +1,18 @@
 // The servers that are responsible for a handle.
 
 ghost use Rattle.std.specs.Prelude.{◌≡◌, ◌++◌, ◌∷◌, [], IfOk, decimal, option_map};
+ghost use Rattle.hsp_text.specs.Answers.{Gives, GivesUnless, Stands};
 ghost use Rattle.hsp_names.specs.Lent.{octets_of, Reads};
-ghost use Rattle.hsp_runs.specs.Answers.{Gives, GivesAtOnce};
 ghost use Rattle.hsp_runs.specs.Locate.{AreLocated, IsLocated, handle_at, option_at, placed, servers_at};
-ghost use Rattle.hsp_runs.specs.Readings.{Stands};
 
 use crate::fault::Fault;
 use crate::readings::sites_in;
 use crate::site_lines::site_lines;
 use hsp_hash::{HashOption, server_number};
 use hsp_names::HandleRef;
+use hsp_text::limits::MOST_SERVERS;
 use hsp_text::{push_whole, read_whole};
 use std::alloc::{AllocError, Global};
-
-// How many servers a site may have.
-const MOST_SERVERS: u64 = 1024;
 
 /// What decides the server of a handle.
 #[derive(Debug, Drop)]
@@ -33,7 +30,7 @@ pub enum Locate {
 }
 
 fn option_at(text: &[u8]) -> Result<HashOption, Fault>
-    ensures { GivesAtOnce (λ option. option) result (option_at text.now) }
+    ensures { Gives (λ option. option) result (option_at text.now) }
 {
     if text == b"na".as_slice() {
         return Ok(HashOption::ByNa);
@@ -48,16 +45,16 @@ fn option_at(text: &[u8]) -> Result<HashOption, Fault>
 }
 
 fn servers_at(text: &[u8]) -> Result<u32, Fault>
-    ensures { GivesAtOnce (λ servers. servers) result (servers_at text.now) }
+    ensures { Gives (λ servers. servers) result (servers_at text.now) }
 {
-    match read_whole(text, MOST_SERVERS) {
+    match read_whole(text, MOST_SERVERS as u64) {
         Ok(0) | Err(_) => Err(Fault::BadServers),
         Ok(servers) => Ok(servers as u32),
     }
 }
 
 fn handle_at(octets: &[u8]) -> Result<HandleRef<'_>, Fault>
-    ensures { GivesAtOnce (λ handle. octets_of handle) result (handle_at octets.now) }
+    ensures { Gives (λ handle. octets_of handle) result (handle_at octets.now) }
 {
     match HandleRef::parse(octets) {
         Ok(handle) => Ok(handle),
@@ -77,7 +74,7 @@ fn number_line(alloc: Global, number: u32) -> Result<Vec<u8>, AllocError>
 
 // The place of the handle's server.
 fn place_run(alloc: Global, option: &[u8], servers: &[u8], handle: &[u8]) -> Result<Vec<u8>, Fault>
-    ensures { Gives (λ text. text.items) result (placed option.now servers.now handle.now) }
+    ensures { GivesUnless Fault.OutOfMemory (λ text. text.items) result (placed option.now servers.now handle.now) }
 {
     let option = option_at(option)?;
     let servers = servers_at(servers)?;
@@ -92,7 +89,7 @@ fn sites_run(
     values: Option<&[u8]>,
     handle: &[u8],
 ) -> Result<Vec<u8>, Fault>
-    ensures { Stands (λ text. text.items) (AreLocated settings.now (option_map (λ v. v.now) values.entry) handle.now) result }
+    ensures { Stands Fault.OutOfMemory (λ text. text.items) (AreLocated settings.now (option_map (λ v. v.now) values.entry) handle.now) result }
 {
     let handle = handle_at(handle)?;
     let sites = sites_in(alloc, settings, values)?;
@@ -103,7 +100,7 @@ fn sites_run(
 /// place and the identifier of the handle's server there. Faults in this order: `BadOption`, `BadServers`, `Handle`;
 /// for sites: `Handle`, `Settings`, `Values`, `Build`.
 pub fn locate_run(alloc: Global, locate: &Locate, handle: &[u8]) -> Result<Vec<u8>, Fault>
-    ensures { Stands (λ text. text.items) (IsLocated locate.now handle.now) result }
+    ensures { Stands Fault.OutOfMemory (λ text. text.items) (IsLocated locate.now handle.now) result }
 {
     match locate {
         Locate::Place { option, servers } => place_run(alloc, option, servers, handle),

@@ -4,7 +4,7 @@ ghost use Rattle.std.specs.Prelude.{◌≡◌, IfOk};
 ghost use Rattle.hsp_cert.specs.Certificate.{IsCertificate};
 ghost use Rattle.hsp_runs.specs.Check.{Shows, ShowsOf};
 ghost use Rattle.hsp_runs.specs.Plan.{IsPlanText, IsPlanned, printed};
-ghost use Rattle.hsp_runs.specs.Readings.{Stands};
+ghost use Rattle.hsp_text.specs.Answers.{Stands};
 
 use crate::fault::Fault;
 use crate::inputs::Inputs;
@@ -38,6 +38,13 @@ impl PlanText {
         self.bytes.as_slice()
     }
 
+    /// The octets of the text, given up.
+    pub fn into_bytes(self) -> Vec<u8>
+        ensures { result.items ≡ self.octets }
+    {
+        self.bytes
+    }
+
     /// Whether the text tells of a shortage.
     pub fn is_short(&self) -> bool
         ensures { result ≡ self.now.is_short }
@@ -61,7 +68,7 @@ fn text_of(alloc: Global, certificate: &Certificate) -> Result<PlanText, AllocEr
 
 // The text of a valid certificate for the instance.
 fn planned(alloc: Global, instance: &Instance) -> Result<PlanText, Fault>
-    ensures text { Stands (λ text. text) (IsPlanText instance.now) result }
+    ensures text { Stands Fault.OutOfMemory (λ text. text) (IsPlanText instance.now) result }
     ensures shows { IfOk result (λ text. Shows text.octets instance.now) }
 {
     // Every instance is within its limits.
@@ -74,7 +81,7 @@ fn planned(alloc: Global, instance: &Instance) -> Result<PlanText, Fault>
 /// rows that asks for more than all that it can reach takes. Faults in this order: `Settings`, `Values`, `Demand`, `Costs`,
 /// `Capacity`, `Build`.
 pub fn plan_run(alloc: Global, inputs: &Inputs) -> Result<PlanText, Fault>
-    ensures text { Stands (λ text. text) (IsPlanned inputs.now) result }
+    ensures text { Stands Fault.OutOfMemory (λ text. text) (IsPlanned inputs.now) result }
     // The plan is best, or there is no feasible plan.
     ensures shows { IfOk result (λ text. ShowsOf inputs.now text.octets) }
 {

@@ -1,7 +1,8 @@
 // What runs read from their inputs.
 
 ghost use Rattle.std.specs.Prelude.{option_map};
-ghost use Rattle.hsp_runs.specs.Readings.{AreListed, AreSettings, AreSites, AreSitesIn, AreSitesWith, AreValues, Stands};
+ghost use Rattle.hsp_text.specs.Answers.{Stands};
+ghost use Rattle.hsp_runs.specs.Readings.{AreListed, AreSettings, AreSites, AreSitesIn, AreValues};
 
 use crate::fault::Fault;
 use hsp_instance::{BuildFault, Sites, build_sites};
@@ -11,7 +12,7 @@ use std::alloc::Global;
 
 /// The settings.
 pub(crate) fn settings_in(alloc: Global, octets: &[u8]) -> Result<Settings, Fault>
-    ensures { Stands (λ settings. settings) (AreSettings octets.now) result }
+    ensures { Stands Fault.OutOfMemory (λ settings. settings) (AreSettings octets.now) result }
 {
     match read_settings(alloc, octets) {
         Ok(settings) => Ok(settings),
@@ -22,7 +23,7 @@ pub(crate) fn settings_in(alloc: Global, octets: &[u8]) -> Result<Settings, Faul
 
 // A value list.
 fn list_in(alloc: Global, octets: &[u8]) -> Result<ValueList<'_>, Fault>
-    ensures { Stands (λ values. values) (AreListed octets.now) result }
+    ensures { Stands Fault.OutOfMemory (λ values. values) (AreListed octets.now) result }
 {
     match decode_values(alloc, octets) {
         Ok(values) => Ok(values),
@@ -36,7 +37,7 @@ pub(crate) fn values_in<'a>(
     alloc: Global,
     octets: Option<&'a [u8]>,
 ) -> Result<Option<ValueList<'a>>, Fault>
-    ensures { Stands (λ values. values) (AreValues (option_map (λ o. o.now) octets.entry)) result }
+    ensures { Stands Fault.OutOfMemory (λ values. values) (AreValues (option_map (λ o. o.now) octets.entry)) result }
 {
     match octets {
         None => Ok(None),
@@ -50,7 +51,7 @@ fn sites_of(
     settings: &Settings,
     values: Option<&ValueList<'_>>,
 ) -> Result<Sites, Fault>
-    ensures { Stands (λ sites. sites) (AreSites settings.now (option_map (λ v. v.now) values.entry)) result }
+    ensures { Stands Fault.OutOfMemory (λ sites. sites) (AreSites settings.now (option_map (λ v. v.now) values.entry)) result }
 {
     match build_sites(alloc, settings, values) {
         Ok(sites) => Ok(sites),
@@ -59,22 +60,15 @@ fn sites_of(
     }
 }
 
-// The sites of settings and of the value list, where one is given.
-fn sites_with(alloc: Global, settings: &Settings, values: Option<&[u8]>) -> Result<Sites, Fault>
-    ensures { Stands (λ sites. sites) (AreSitesWith settings.now (option_map (λ o. o.now) values.entry)) result }
-{
-    let values = values_in(alloc, values)?;
-    sites_of(alloc, settings, values.as_ref())
-}
-
 /// The sites that settings define, with the value list, where one is given.
 pub(crate) fn sites_in(
     alloc: Global,
     settings: &[u8],
     values: Option<&[u8]>,
 ) -> Result<Sites, Fault>
-    ensures { Stands (λ sites. sites) (AreSitesIn settings.now (option_map (λ o. o.now) values.entry)) result }
+    ensures { Stands Fault.OutOfMemory (λ sites. sites) (AreSitesIn settings.now (option_map (λ o. o.now) values.entry)) result }
 {
     let settings = settings_in(alloc, settings)?;
-    sites_with(alloc, &settings, values)
+    let values = values_in(alloc, values)?;
+    sites_of(alloc, &settings, values.as_ref())
 }

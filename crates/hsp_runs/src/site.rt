@@ -3,13 +3,12 @@
 ghost use Rattle.std.specs.Prelude.{◌≡◌, ◌++◌, ◌∷◌, [], ◌<◌, length, OnOk, IfOk, option_map, codes};
 ghost use Rattle.hex.specs.Hex.{encode_lower};
 ghost use Rattle.hsp_record.specs.Site.{IsSite};
-ghost use Rattle.hsp_runs.specs.Text.{numbered};
+ghost use Rattle.hsp_text.specs.Writing.{numbered};
 ghost use Rattle.hsp_runs.specs.SiteText.{IsRecordRun, IsSiteRun, IsValueRun, counts_text, numbers_text, server_line, server_lines, site_text};
 
 use crate::fault::Fault;
-use crate::text::{put, put_numbered};
 use hsp_record::{RecordFault, ServerRecord, SiteRecord, decode_site, decode_values};
-use hsp_text::{push_whole, read_whole};
+use hsp_text::{push_line, push_whole, read_whole};
 use std::alloc::{AllocError, Global};
 
 // The greatest index of a value.
@@ -19,17 +18,17 @@ fn put_numbers(out: &mut Vec<u8>, site: &SiteRecord) -> Result<(), AllocError>
     ensures { OnOk result (out.new.items ≡ out.old.items ++ numbers_text site.now) }
 {
     let (major, minor) = site.protocol();
-    put_numbered(out, b"version", &[u64::from(site.version())])?;
-    put_numbered(out, b"protocol", &[u64::from(major), u64::from(minor)])?;
-    put_numbered(out, b"serial", &[u64::from(site.serial())])?;
-    put_numbered(out, b"mask", &[u64::from(site.mask())])?;
-    put_numbered(out, b"option", &[u64::from(site.option_octet())])
+    push_line(out, b"version", &[u64::from(site.version())])?;
+    push_line(out, b"protocol", &[u64::from(major), u64::from(minor)])?;
+    push_line(out, b"serial", &[u64::from(site.serial())])?;
+    push_line(out, b"mask", &[u64::from(site.mask())])?;
+    push_line(out, b"option", &[u64::from(site.option_octet())])
 }
 
 fn put_count(out: &mut Vec<u8>, word: &[u8], count: usize) -> Result<(), AllocError>
     ensures { OnOk result (out.new.items ≡ out.old.items ++ numbered word.now (count ∷ [])) }
 {
-    put_numbered(out, word, &[count as u64])
+    push_line(out, word, &[count as u64])
 }
 
 fn put_filter(out: &mut Vec<u8>, filter: &[u8]) -> Result<(), AllocError>
@@ -51,19 +50,19 @@ fn put_address(out: &mut Vec<u8>, address: [u8; 16]) -> Result<(), AllocError>
 {
     let mut digits = [0u8; 32];
     hex::encode_to_slice(address.as_slice(), &mut digits).unwrap();
-    put(out, &digits)
+    out.extend_from_slice(&digits)
 }
 
 fn put_server(out: &mut Vec<u8>, place: u32, server: &ServerRecord) -> Result<(), AllocError>
     ensures { OnOk result (out.new.items ≡ out.old.items ++ server_line place server.now) }
 {
-    put(out, b"server ")?;
+    out.extend_from_slice(b"server ")?;
     push_whole(out, u64::from(place))?;
-    put(out, b" ")?;
+    out.extend_from_slice(b" ")?;
     push_whole(out, u64::from(server.id()))?;
-    put(out, b" ")?;
+    out.extend_from_slice(b" ")?;
     put_address(out, server.address())?;
-    put_numbered(
+    push_line(
         out,
         b"",
         &[server.key().len() as u64, server.interface_count() as u64],

@@ -5,10 +5,10 @@ ghost use Rattle.hsp_names.specs.Lent.{octets_of};
 ghost use Rattle.hsp_instance.specs.Instance.{AreSites};
 ghost use Rattle.hsp_runs.specs.Locate.{site_line, site_lines};
 
-use crate::text::put_numbered;
 use hsp_hash::server_number;
 use hsp_instance::Sites;
 use hsp_names::HandleRef;
+use hsp_text::push_line;
 use std::alloc::{AllocError, Global};
 
 // Appends the line of a site.
@@ -24,7 +24,7 @@ fn put_site(
 {
     let place = server_number(sites.option(number), handle, sites.server_count(number));
     let id = sites.server_id(number, place);
-    put_numbered(out, sites.name(number), &[u64::from(place), u64::from(id)])
+    push_line(out, sites.name(number), &[u64::from(place), u64::from(id)])
 }
 
 /// The lines of all sites.

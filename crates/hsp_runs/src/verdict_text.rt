@@ -4,7 +4,7 @@ ghost use Rattle.std.specs.Prelude.{◌≡◌, ◌++◌, IfOk, OnOk};
 ghost use Rattle.hsp_check.specs.Verdict.{number};
 ghost use Rattle.hsp_runs.specs.VerdictText.{reason_word, verdict_status, verdict_text, verdict_words};
 
-use crate::text::{put, put_with};
+use crate::fault_words::put_with;
 use hsp_check::{Reason, Verdict};
 use std::alloc::{AllocError, Global};
 
@@ -26,7 +26,8 @@ fn reason_number(reason: Reason) -> u64
     }
 }
 
-fn reason_word(reason: Reason) -> &'static [u8]
+/// The name of a reason.
+pub(crate) fn reason_word(reason: Reason) -> &'static [u8]
     ensures { result.now ≡ reason_word reason }
 {
     match reason {
@@ -48,11 +49,11 @@ fn put_verdict(out: &mut Vec<u8>, verdict: &Verdict) -> Result<(), AllocError>
     ensures { OnOk result (out.new.items ≡ out.old.items ++ verdict_words verdict.now) }
 {
     match verdict {
-        Verdict::Yes => put(out, b"yes"),
+        Verdict::Yes => out.extend_from_slice(b"yes"),
         Verdict::No(reason) => {
             put_with(out, b"no ", reason_number(*reason))?;
-            put(out, b" ")?;
-            put(out, reason_word(*reason))
+            out.extend_from_slice(b" ")?;
+            out.extend_from_slice(reason_word(*reason))
         }
     }
 }
@@ -63,7 +64,7 @@ pub fn verdict_line(alloc: Global, verdict: &Verdict) -> Result<Vec<u8>, AllocEr
 {
     let mut line = Vec::new(alloc);
     put_verdict(&mut line, verdict)?;
-    put(&mut line, b"\n")?;
+    line.extend_from_slice(b"\n")?;
     Ok(line)
 }
 

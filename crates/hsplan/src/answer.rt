@@ -48,9 +48,10 @@ pub fn plan_answer(alloc: Global, inputs: &Inputs) -> Result<Answer, Failure>
     ensures { Answers plan_told (IsShownPlan inputs.now) result }
 {
     let plan = plan_run(alloc, inputs)?;
+    let status = plan_status(plan.is_short());
     Ok(Answer {
-        text: Vec::from_slice(alloc, plan.bytes())?,
-        status: plan_status(plan.is_short()),
+        text: plan.into_bytes(),
+        status,
     })
 }
 
