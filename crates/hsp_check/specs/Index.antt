@@ -1,6 +1,7 @@
 -- The arcs of a network row by row.
 use Rattle.std.specs.Prelude.{◌≡◌, ℕ, ◌+◌, ◌*◌, ◌<◌, ◌≤◌, ◌==◌, ◌&&◌, Bool, List, length, map, slice_index, slice_index_or}
 use Rattle.std.specs.List.{list_any}
+use Rattle.hsp_text.specs.declared.limits.TheConstants.{MOST_SITES}
 use Rattle.hsp_cert.specs.declared.use_line.UseLine.{UseLine}
 use Rattle.hsp_instance.specs.declared.arc.Arc.{Arc}
 use Rattle.hsp_check.specs.declared.arc.NetworkArc.{NetworkArc}
@@ -52,4 +53,4 @@ pub record IsIndexed (lists : List (List Arc)) (laid : List LaidArc) (starts : L
   pub last : slice_index starts (length lists) ≡ length laid
   pub arcs : map (λ l. l.arc) laid ≡ arcs_from 0 lists
   pub bare : (k : ℕ) → k < length laid → flow_at laid k ≡ 0
-  pub few : length laid ≤ length lists * 32
+  pub few : length laid ≤ length lists * MOST_SITES

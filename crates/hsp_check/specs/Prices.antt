@@ -1,5 +1,6 @@
 -- Dual prices of a plan: no reduced cost is negative, and slack goes with price 0 (complementary slackness, Network Flows, section 9.3).
 use Rattle.std.specs.Prelude.{◌≡◌, ℕ, ◌+◌, ◌<◌, ◌≤◌, List, length, All, slice_index, Option, Some, None}
+use Rattle.hsp_text.specs.declared.limits.TheConstants.{GREATEST_PRICE}
 use Rattle.hsp_check.specs.Network.{Network}
 use Rattle.hsp_check.specs.Plan.{Plan, planned, load, host_load}
 
@@ -23,6 +24,6 @@ pub record Prices (n : Network) (x : Plan) (u p q : List ℕ) : Type 0 where
   -- and so is a host with room left
   pub idle_host : (h : ℕ) → h < length n.limits → host_load n x h < slice_index n.limits h → slice_index q h ≡ 0
 
--- each price is at most 10^12
+-- each price is within the limit
 abbrev pub ArePrices : List ℕ → Type 0
-ArePrices prices = All (λ v. v ≤ 1000000000000) prices
+ArePrices prices = All (λ v. v ≤ GREATEST_PRICE) prices

@@ -81,10 +81,10 @@ Meets n (best c) r = PlanMeets n c r
 Meets n (short c) r = SetMeets n c r
 
 -- A reason stands where its condition isn't met.
-abbrev pub Stands : Network → Claim → Reason → Type 0
-Stands n c r = Meets n c r → ⊥
+abbrev pub StandsAgainst : Network → Claim → Reason → Type 0
+StandsAgainst n c r = Meets n c r → ⊥
 
 -- Yes: every condition is met. No: the reason stands, and the conditions of all reasons before it are met.
 abbrev pub IsVerdict : Network → Claim → Verdict → Type 0
 IsVerdict n c Yes = (r : Reason) → Meets n c r
-IsVerdict n c (No r) = Stands n c r × ((earlier : Reason) → number earlier < number r → Meets n c earlier)
+IsVerdict n c (No r) = StandsAgainst n c r × ((earlier : Reason) → number earlier < number r → Meets n c earlier)

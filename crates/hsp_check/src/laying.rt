@@ -1,6 +1,7 @@
 // The uses of a certificate, laid on the arcs.
 
 ghost use Rattle.std.specs.Prelude.{◌≡◌, ℕ, ◌+◌, ◌<◌, ◌≤◌, ◌^◌, length, slice_index, All, IfSome, IfNone, true, false, map};
+ghost use Rattle.hsp_text.specs.declared.limits.TheConstants.{GREATEST_COUNT};
 ghost use Rattle.hsp_check.specs.Index.{ByRow, HasArc, arc_at, flow_at, has_arc, use_at};
 ghost use Rattle.hsp_check.specs.Laid.{IsLaid};
 ghost use Rattle.hsp_check.specs.Uses.{table};
@@ -33,7 +34,7 @@ fn place_of(laid: &[LaidArc], runs: &Runs, row: u32, site: u32) -> Option<usize>
 fn lay_each(laid: &mut [LaidArc], runs: &Runs, uses: &[UseLine]) -> bool
     requires index { (rows : ℕ) × ByRow rows laid.old runs.now }
     requires bare { (k : ℕ) → k < length laid.old → flow_at laid.old k ≡ 0 }
-    requires counts { All (λ u. u.count ≤ 1000000) uses.now }
+    requires counts { All (λ u. u.count ≤ GREATEST_COUNT) uses.now }
     requires few { length uses.now < 2 ^ 32 }
     ensures arcs { (k : ℕ) → k < length laid.old → arc_at laid.new k ≡ arc_at laid.old k }
     ensures flows { result ≡ true → (k : ℕ) → k < length laid.old → flow_at laid.new k ≡ table uses.now (arc_at laid.old k).row (arc_at laid.old k).site }
@@ -54,7 +55,7 @@ fn lay_each(laid: &mut [LaidArc], runs: &Runs, uses: &[UseLine]) -> bool
 pub(crate) fn lay(arcs: IndexedArcs, uses: &[UseLine]) -> Option<Vec<LaidArc>>
     requires index { (rows : ℕ) × ByRow rows arcs.laid.items arcs.runs }
     requires bare { (k : ℕ) → k < length arcs.laid.items → flow_at arcs.laid.items k ≡ 0 }
-    requires counts { All (λ u. u.count ≤ 1000000) uses.now }
+    requires counts { All (λ u. u.count ≤ GREATEST_COUNT) uses.now }
     requires few { length uses.now < 2 ^ 32 }
     ensures laid { IfSome result (λ laid. IsLaid (map (λ l. l.arc) arcs.laid.items) (table uses.now) laid.items) }
     ensures each { IfSome result (λ _. All (λ u. has_arc arcs.laid.items u ≡ true) uses.now) }

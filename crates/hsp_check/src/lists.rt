@@ -1,6 +1,7 @@
 // A network as lists.
 
 ghost use Rattle.std.specs.Prelude.{◌≡◌, ℕ, ◌<◌, ◌≤◌, ◌^◌, length, All, Some};
+ghost use Rattle.hsp_text.specs.declared.limits.TheConstants.{GREATEST_COST};
 ghost use Rattle.hsp_check.specs.Laid.{home_in};
 
 use crate::sums::LaidArc;
@@ -21,6 +22,6 @@ pub(crate) struct NetworkLists<'a> {
     ghost homes_in: { (j h : ℕ) → j < length homes.now → home_in homes.now j ≡ Some h → h < length limits.now },
     ghost rows_in: { All (λ l. l.arc.row < length demands.now) laid.now },
     ghost servers_in: { All (λ l. l.arc.server < length homes.now) laid.now },
-    ghost cheap: { All (λ l. l.arc.cost ≤ 1000000) laid.now },
+    ghost cheap: { All (λ l. l.arc.cost ≤ GREATEST_COST) laid.now },
     ghost few_arcs: { length laid.now < 2 ^ 32 },
 }

@@ -1,6 +1,7 @@
 // The numbers of an instance, as lists.
 
 ghost use Rattle.std.specs.Prelude.{◌≡◌, ◌<◌, ◌≤◌, ◌^◌, All, IfOk, length, map};
+ghost use Rattle.hsp_text.specs.declared.limits.TheConstants.{GREATEST_COST};
 
 use crate::lists::NetworkLists;
 use crate::sums::LaidArc;
@@ -46,7 +47,7 @@ impl NetworkNumbers {
     /// The network of these numbers and arcs, as lists.
     pub(crate) fn with<'a>(&'a self, laid: &'a [LaidArc]) -> NetworkLists<'a>
         requires network { IsNetwork (network_with self.now laid.now) }
-        requires cheap { All (λ l. l.arc.cost ≤ 1000000) laid.now }
+        requires cheap { All (λ l. l.arc.cost ≤ GREATEST_COST) laid.now }
         requires few { length laid.now < 2 ^ 32 }
         ensures network { network_in result ≡ network_with self.now laid.now }
         ensures homes { result.homes.now ≡ self.now.homes.items }

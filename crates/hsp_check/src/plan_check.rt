@@ -1,6 +1,7 @@
 // The check of a plan.
 
 ghost use Rattle.std.specs.Prelude.{◌≡◌, ℕ, ◌<◌, ◌≤◌, ◌^◌, ◌↔◌, length, All, IfOk, IsTrue};
+ghost use Rattle.hsp_text.specs.declared.limits.TheConstants.{GREATEST_COST};
 ghost use Rattle.hsp_cert.specs.Certificate.{IsBest};
 ghost use Rattle.hsp_cert.specs.Certificate.Claim.{best};
 ghost use Rattle.hsp_check.specs.declared.verdict.Reason.TheVariants.{Shape, NoSuchUse};
@@ -70,7 +71,7 @@ pub(crate) fn check_plan(
     requires network { IsNetwork (network_with numbers.now arcs.laid.items) }
     requires index { (rows : ℕ) × ByRow rows arcs.laid.items arcs.runs }
     requires bare { (k : ℕ) → k < length arcs.laid.items → flow_at arcs.laid.items k ≡ 0 }
-    requires cheap { All (λ a. a.cost ≤ 1000000) (network_with numbers.now arcs.laid.items).arcs }
+    requires cheap { All (λ a. a.cost ≤ GREATEST_COST) (network_with numbers.now arcs.laid.items).arcs }
     requires few { length arcs.laid.items < 2 ^ 32 }
     requires ranges { IsBest plan.now }
     ensures { IfOk result (λ verdict. IsVerdict (network_with numbers.now arcs.laid.items) (best plan.now) verdict) }

@@ -1,6 +1,7 @@
 // The prices of a certificate, against the arcs.
 
 ghost use Rattle.std.specs.Prelude.{◌≡◌, ℕ, ◌+◌, ◌<◌, ◌≤◌, ◌↔◌, length, slice_index, All, IsTrue, Some};
+ghost use Rattle.hsp_text.specs.declared.limits.TheConstants.{GREATEST_COST};
 ghost use Rattle.hsp_check.specs.Laid.{home_in};
 
 use crate::arc::NetworkArc;
@@ -37,7 +38,7 @@ impl<'a> PriceLists<'a> {
     // What a query over the arc pays.
     fn paid(self, arc: NetworkArc) -> u64
         requires server { arc.server < length self.homes.now }
-        requires cheap { arc.cost ≤ 1000000 }
+        requires cheap { arc.cost ≤ GREATEST_COST }
         ensures { result ≡ arc.cost + listed_at self.entry arc.server }
     {
         arc.cost + self.at(arc.server as usize)
@@ -47,7 +48,7 @@ impl<'a> PriceLists<'a> {
     pub(crate) fn are_low(self, laid: &[LaidArc]) -> bool
         requires rows { All (λ l. l.arc.row < length self.rows.now) laid.now }
         requires servers { All (λ l. l.arc.server < length self.homes.now) laid.now }
-        requires cheap { All (λ l. l.arc.cost ≤ 1000000) laid.now }
+        requires cheap { All (λ l. l.arc.cost ≤ GREATEST_COST) laid.now }
         ensures { IsTrue result ↔ All (λ l. slice_index self.entry.rows.now l.arc.row ≤ l.arc.cost + listed_at self.entry l.arc.server) laid.now }
     {
         for place in 0..laid.len() {
@@ -63,7 +64,7 @@ impl<'a> PriceLists<'a> {
     pub(crate) fn are_tight(self, laid: &[LaidArc]) -> bool
         requires rows { All (λ l. l.arc.row < length self.rows.now) laid.now }
         requires servers { All (λ l. l.arc.server < length self.homes.now) laid.now }
-        requires cheap { All (λ l. l.arc.cost ≤ 1000000) laid.now }
+        requires cheap { All (λ l. l.arc.cost ≤ GREATEST_COST) laid.now }
         ensures { IsTrue result ↔ All (λ l. 0 < l.flow → slice_index self.entry.rows.now l.arc.row ≡ l.arc.cost + listed_at self.entry l.arc.server) laid.now }
     {
         for place in 0..laid.len() {

@@ -1,6 +1,7 @@
 // The sums of a plan over its arcs, its servers and its hosts.
 
 ghost use Rattle.std.specs.Prelude.{◌≡◌, ℕ, ◌+◌, ◌*◌, ◌<◌, ◌≤◌, ◌==◌, ◌^◌, length, slice_index, slice_get, sum_by, option_and_then, All, IfOk, Some, vec_len, if◌then◌else◌};
+ghost use Rattle.hsp_text.specs.declared.limits.TheConstants.{GREATEST_COST};
 ghost use Rattle.hsp_check.specs.Sums.{sum_below, times};
 ghost use Rattle.hsp_check.specs.Plan.{is_on};
 ghost use Rattle.hsp_check.specs.Laid.{end_of, home_in};
@@ -41,7 +42,7 @@ fn flow_of(one: LaidArc) -> u128
 
 // What the flow of the arc costs.
 fn cost_of(one: LaidArc) -> u128
-    requires { one.arc.cost ≤ 1000000 }
+    requires { one.arc.cost ≤ GREATEST_COST }
     ensures cost { result ≡ one.arc.cost * one.flow }
     ensures fits { result ≤ 2 ^ 84 }
 {
@@ -119,7 +120,7 @@ pub(crate) fn add_hosts(
 /// What the plan costs.
 pub(crate) fn total_of(laid: &[LaidArc]) -> u128
     requires few { length laid.now < 2 ^ 32 }
-    requires cheap { All (λ l. l.arc.cost ≤ 1000000) laid.now }
+    requires cheap { All (λ l. l.arc.cost ≤ GREATEST_COST) laid.now }
     ensures { result ≡ sum_by (λ l. l.arc.cost * l.flow) laid.now }
 {
     let mut sum: u128 = 0;

@@ -1,6 +1,7 @@
 // The certificate of a flow that meets every row.
 
 ghost use Rattle.std.specs.Prelude.{◌≡◌, ℕ, ◌+◌, ◌*◌, ◌<◌, ◌≤◌, ◌^◌, IfOk, length, map, slice_index};
+ghost use Rattle.hsp_text.specs.declared.limits.TheConstants.{GREATEST_COST};
 ghost use Rattle.hsp_cert.specs.Certificate.{IsBest};
 ghost use Rattle.hsp_cert.specs.Certificate.Claim.{best};
 ghost use Rattle.hsp_instance.specs.Instance.{IsInstance};
@@ -38,7 +39,7 @@ fn uses_of(alloc: Global, arcs: &[NetworkArc], flows: &[u64]) -> Result<Vec<UseL
 
 // What the flow of an arc costs.
 fn cost_of(cost: u64, flow: u64) -> u128
-    requires { cost ≤ 1000000 }
+    requires { cost ≤ GREATEST_COST }
     ensures cost { result ≡ cost * flow }
     ensures fits { result ≤ 2 ^ 84 }
 {
@@ -49,7 +50,7 @@ fn cost_of(cost: u64, flow: u64) -> u128
 fn total_of(costs: &[u64], flows: &[u64]) -> u128
     requires many { length flows.now ≡ length costs.now }
     requires few { length costs.now < 2 ^ 32 }
-    requires cheap { (k : ℕ) → k < length costs.now → slice_index costs.now k ≤ 1000000 }
+    requires cheap { (k : ℕ) → k < length costs.now → slice_index costs.now k ≤ GREATEST_COST }
     ensures { result ≡ sum_below (length costs.now) (λ k. slice_index costs.now k * slice_index flows.now k) }
 {
     let mut total: u128 = 0;

@@ -1,6 +1,7 @@
 // Rows of one group as one source of the network.
 
 ghost use Rattle.std.specs.Prelude.{◌≡◌, ℕ, ◌+◌, ◌<◌, ◌≤◌, IfOk, OnOk, length, map, slice_index};
+ghost use Rattle.hsp_text.specs.declared.limits.TheConstants.{MOST_DEMAND_ROWS};
 ghost use Rattle.hsp_instance.specs.Groups.{AreGroups};
 ghost use Rattle.hsp_instance.specs.Instance.{IsInstance};
 ghost use Rattle.hsp_check.specs.Instance.{arcs_from};
@@ -36,7 +37,7 @@ pub(crate) fn group_arcs_of(
     instance: &Instance,
     firsts: &[u32],
 ) -> Result<Vec<NetworkArc>, AllocError>
-    requires many { length firsts.now ≤ 8192 }
+    requires many { length firsts.now ≤ MOST_DEMAND_ROWS }
     requires there { (g : ℕ) → g < length firsts.now → slice_index firsts.now g < length instance.now.rows }
     ensures { IfOk result (λ arcs. arcs.items ≡ group_arcs instance.now firsts.now) }
 {
@@ -53,7 +54,7 @@ pub(crate) fn runs_of(
     instance: &Instance,
     firsts: &[u32],
 ) -> Result<Runs, AllocError>
-    requires many { length firsts.now ≤ 8192 }
+    requires many { length firsts.now ≤ MOST_DEMAND_ROWS }
     requires there { (g : ℕ) → g < length firsts.now → slice_index firsts.now g < length instance.now.rows }
     requires within { IsInstance instance.now }
     ensures { IfOk result (BeginAt (lists_at instance.now firsts.now)) }

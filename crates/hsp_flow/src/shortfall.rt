@@ -1,6 +1,7 @@
 // The certificate of sources that demand more than all that they can reach takes.
 
 ghost use Rattle.std.specs.Prelude.{◌≡◌, ℕ, ◌+◌, ◌*◌, ◌<◌, ◌≤◌, ◌==◌, ◌&&◌, ◌^◌, Some, None, false, IfOk, is_none, length, min, slice_index, slice_index_or, vec_len, if◌then◌else◌};
+ghost use Rattle.hsp_text.specs.declared.limits.TheConstants.{GREATEST_COUNT, MOST_DEMAND_ROWS, MOST_HOSTS, MOST_SERVERS};
 ghost use Rattle.hsp_cert.specs.Certificate.{IsShort as CertifiesShort};
 ghost use Rattle.hsp_cert.specs.Certificate.Claim.{short};
 ghost use Rattle.hsp_instance.specs.Instance.{IsInstance};
@@ -34,8 +35,8 @@ fn flagged(alloc: Global, flags: &[bool]) -> Result<Vec<u32>, AllocError>
 // What the flagged sources demand.
 fn demand_of(demands: &[u64], flags: &[bool]) -> u64
     requires many { length flags.now ≡ length demands.now }
-    requires few { length demands.now ≤ 8192 }
-    requires low { (i : ℕ) → i < length demands.now → slice_index demands.now i ≤ 1000000 }
+    requires few { length demands.now ≤ MOST_DEMAND_ROWS }
+    requires low { (i : ℕ) → i < length demands.now → slice_index demands.now i ≤ GREATEST_COUNT }
     ensures sum { result ≡ sum_below (length demands.now) (λ i. if slice_index_or flags.now i false then slice_index demands.now i else 0) }
     ensures low { result ≤ 8192000000 }
 {
@@ -77,7 +78,7 @@ fn reached_by(alloc: Global, network: &Network, flags: &[bool]) -> Result<Vec<bo
 // What the reached servers on no host can take.
 fn free_room(network: &Network, reached: &[bool]) -> u64
     requires many { length reached.now ≡ length network.now.capacities.now }
-    requires few { length network.now.capacities.now ≤ 1024 }
+    requires few { length network.now.capacities.now ≤ MOST_SERVERS }
     requires low { (j : ℕ) → j < length network.now.capacities.now → slice_index network.now.capacities.now j ≤ 1000000000 }
     ensures sum { result ≡ sum_below (length network.now.capacities.now) (λ j. if is_none (slice_index_or network.now.hosts.now j None) then (if slice_index_or reached.now j false then slice_index network.now.capacities.now j else 0) else 0) }
     ensures low { result ≤ 1024000000000 }
@@ -95,7 +96,7 @@ fn free_room(network: &Network, reached: &[bool]) -> u64
 fn add_rooms(network: &Network, reached: &[bool], rooms: &mut [u64])
     requires many { length reached.now ≡ length network.now.capacities.now }
     requires hosts { length rooms.old ≡ length network.now.limits.now }
-    requires few { length network.now.capacities.now ≤ 1024 }
+    requires few { length network.now.capacities.now ≤ MOST_SERVERS }
     requires low { (j : ℕ) → j < length network.now.capacities.now → slice_index network.now.capacities.now j ≤ 1000000000 }
     requires none { (h : ℕ) → h < length rooms.old → slice_index rooms.old h ≡ 0 }
     ensures many { length rooms.new ≡ length network.now.limits.now }
@@ -113,7 +114,7 @@ fn add_rooms(network: &Network, reached: &[bool], rooms: &mut [u64])
 // What the reached servers on each host can take.
 fn rooms_of(alloc: Global, network: &Network, reached: &[bool]) -> Result<Vec<u64>, AllocError>
     requires many { length reached.now ≡ length network.now.capacities.now }
-    requires few { length network.now.capacities.now ≤ 1024 }
+    requires few { length network.now.capacities.now ≤ MOST_SERVERS }
     requires low { (j : ℕ) → j < length network.now.capacities.now → slice_index network.now.capacities.now j ≤ 1000000000 }
     ensures many { IfOk result (λ rooms. length rooms.items ≡ length network.now.limits.now) }
     ensures rooms { IfOk result (λ rooms. (h : ℕ) → h < length network.now.limits.now → slice_index rooms.items h ≡ sum_below (length network.now.capacities.now) (λ j. if is_on (slice_index_or network.now.hosts.now j None) h then (if slice_index_or reached.now j false then slice_index network.now.capacities.now j else 0) else 0)) }
@@ -126,7 +127,7 @@ fn rooms_of(alloc: Global, network: &Network, reached: &[bool]) -> Result<Vec<u6
 // For each host the smaller of its limit and its room, added up.
 fn limited_room(limits: &[u64], rooms: &[u64]) -> u64
     requires many { length rooms.now ≡ length limits.now }
-    requires few { length limits.now ≤ 1024 }
+    requires few { length limits.now ≤ MOST_HOSTS }
     requires low { (h : ℕ) → h < length limits.now → slice_index limits.now h ≤ 1000000000000 }
     ensures sum { result ≡ sum_below (length limits.now) (λ h. min (slice_index limits.now h) (slice_index rooms.now h)) }
     ensures low { result ≤ 1024000000000000 }
@@ -144,8 +145,8 @@ fn room_of(network: &Network, flags: &[bool], reached: &[bool], rooms: &[u64]) -
     requires reached { (j : ℕ) → j < length network.now.capacities.now → slice_index_or reached.now j false ≡ reaches (problem_of network.now) (λ i. slice_index_or flags.now i false) j }
     requires hosts { length rooms.now ≡ length network.now.limits.now }
     requires rooms { (h : ℕ) → h < length network.now.limits.now → slice_index rooms.now h ≡ sum_below (length network.now.capacities.now) (λ j. if is_on (slice_index_or network.now.hosts.now j None) h then (if slice_index_or reached.now j false then slice_index network.now.capacities.now j else 0) else 0) }
-    requires few { length network.now.capacities.now ≤ 1024 }
-    requires few_hosts { length network.now.limits.now ≤ 1024 }
+    requires few { length network.now.capacities.now ≤ MOST_SERVERS }
+    requires few_hosts { length network.now.limits.now ≤ MOST_HOSTS }
     requires low { (j : ℕ) → j < length network.now.capacities.now → slice_index network.now.capacities.now j ≤ 1000000000 }
     requires low_limits { (h : ℕ) → h < length network.now.limits.now → slice_index network.now.limits.now h ≤ 1000000000000 }
     ensures sum { result ≡ capacity_of (problem_of network.now) (λ i. slice_index_or flags.now i false) }
@@ -158,8 +159,8 @@ fn room_of(network: &Network, flags: &[bool], reached: &[bool], rooms: &[u64]) -
 // What the servers that the flagged sources may use can take.
 fn capacity_of(alloc: Global, network: &Network, flags: &[bool]) -> Result<u64, AllocError>
     requires flags { length flags.now ≡ length network.now.demands.now }
-    requires few { length network.now.capacities.now ≤ 1024 }
-    requires few_hosts { length network.now.limits.now ≤ 1024 }
+    requires few { length network.now.capacities.now ≤ MOST_SERVERS }
+    requires few_hosts { length network.now.limits.now ≤ MOST_HOSTS }
     requires low { (j : ℕ) → j < length network.now.capacities.now → slice_index network.now.capacities.now j ≤ 1000000000 }
     requires low_limits { (h : ℕ) → h < length network.now.limits.now → slice_index network.now.limits.now h ≤ 1000000000000 }
     ensures sum { IfOk result (λ capacity. capacity ≡ capacity_of (problem_of network.now) (λ i. slice_index_or flags.now i false)) }

@@ -2,6 +2,7 @@
 use Rattle.std.specs.Prelude.{◌≡◌, ◌≤◌, ◌<◌, ◌==◌, ◌&&◌, ◌↔◌, not, Bool, true, false, ℕ, List, ◌∷◌, ◌++◌, length, nat_le, nat_lt, IsUtf8, Result, Ok, Err, if◌then◌else◌}
 use Rattle.std.specs.List.{AllByRecursion, list_all, list_any, slice_split, before_first, after_first, join_with_byte}
 use Rattle.std.specs.Str.{is_utf8}
+use Rattle.hsp_text.specs.declared.limits.TheConstants.{LONGEST_HANDLE}
 use Rattle.hsp_names.specs.declared.fault.HandleFault.{HandleFault}
 use Rattle.hsp_names.specs.declared.fault.HandleFault.TheVariants.{TooLong, NotUtf8, NoSlash, EmptySegment}
 
@@ -27,17 +28,17 @@ IsNamingAuthority n = (ss : List (List ℕ)) × (0 < length ss) × AllByRecursio
 
 -- The octets h are the handle of the naming authority n and the local name l.
 pub record IsHandle (h n l : List ℕ) : Type 0 where
-  pub short : length h ≤ 4096
+  pub short : length h ≤ LONGEST_HANDLE
   pub text : IsUtf8 h
   pub parts : h ≡ n ++ 47 ∷ l
   pub authority : IsNamingAuthority n
 
 -- The reason for which octets are no handle: of several the first.
 abbrev pub IsFault : List ℕ → HandleFault → Type 0
-IsFault h TooLong = 4096 < length h
-IsFault h NotUtf8 = (length h ≤ 4096) × (IsUtf8 h → ⊥)
-IsFault h NoSlash = (length h ≤ 4096) × IsUtf8 h × (has_slash h ≡ false)
-IsFault h EmptySegment = (length h ≤ 4096) × IsUtf8 h × (has_slash h ≡ true) × ((n l : List ℕ) → IsHandle h n l → ⊥)
+IsFault h TooLong = LONGEST_HANDLE < length h
+IsFault h NotUtf8 = (length h ≤ LONGEST_HANDLE) × (IsUtf8 h → ⊥)
+IsFault h NoSlash = (length h ≤ LONGEST_HANDLE) × IsUtf8 h × (has_slash h ≡ false)
+IsFault h EmptySegment = (length h ≤ LONGEST_HANDLE) × IsUtf8 h × (has_slash h ≡ true) × ((n l : List ℕ) → IsHandle h n l → ⊥)
 
 -- The parts of a handle: what stands before its first "/" and after it, and between the dots of the former.
 abbrev pub naming_authority : List ℕ → List ℕ
@@ -55,14 +56,14 @@ has_segments n = list_all (λ s. not (length s == 0)) (slice_split is_dot n)
 -- The handle that octets spell, or the first fault.
 abbrev pub handle_in : List ℕ → Result (List ℕ) HandleFault
 handle_in h =
-    if nat_lt 4096 (length h) then Err TooLong
+    if nat_lt LONGEST_HANDLE (length h) then Err TooLong
     else if not (is_utf8 h) then Err NotUtf8
     else if not (has_slash h) then Err NoSlash
     else if not (has_segments (naming_authority h)) then Err EmptySegment
     else Ok h
 
 abbrev pub is_handle : List ℕ → Bool
-is_handle h = nat_le (length h) 4096 && is_utf8 h && has_slash h && has_segments (naming_authority h)
+is_handle h = nat_le (length h) LONGEST_HANDLE && is_utf8 h && has_slash h && has_segments (naming_authority h)
 
 -- a handle has one pair of parts
 abbrev pub PartsAreUnique : Type 0

@@ -7,10 +7,8 @@ ghost use Rattle.hsp_names.specs.Handle.{is_slash, has_slash, is_handle, has_seg
 
 use crate::fault::HandleFault;
 use crate::segments::Segments;
+use hsp_text::limits::LONGEST_HANDLE;
 use std::str;
-
-// The length of the longest handle, in octets.
-const LONGEST_HANDLE: usize = 4096;
 
 /// A handle: a naming authority, one `/`, and a local name (RFC 3651, section 2).
 ///
@@ -63,7 +61,8 @@ fn has_segments(authority: &[u8]) -> bool
 }
 
 impl<'a> HandleRef<'a> {
-    ghost use Rattle.hsp_names.specs.Lent.{octets_of, segments_left, Reads};
+    ghost use Rattle.hsp_text.specs.Answers.{Gives};
+    ghost use Rattle.hsp_names.specs.Lent.{octets_of, segments_left};
 
     /// The handle that the octets spell, or the first fault in the order of [`HandleFault`].
     pub fn parse(octets: &'a [u8]) -> Result<HandleRef<'a>, HandleFault>
@@ -71,7 +70,7 @@ impl<'a> HandleRef<'a> {
         ensures handle { IfOk result (λ handle. IsHandle octets.now (naming_authority octets.now) (local_name octets.now)) }
         ensures fault { IfErr result (λ fault. IsFault octets.now fault) }
         // The same as one value, whose octets are those that were lent.
-        ensures reads { Reads result (handle_in octets.now) }
+        ensures reads { Gives octets_of result (handle_in octets.now) }
     {
         if octets.len() > LONGEST_HANDLE {
             return Err(HandleFault::TooLong);

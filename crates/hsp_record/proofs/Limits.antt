@@ -8,7 +8,8 @@ use Rattle.hsp_record.specs.declared.fault.ReadError.TheVariants.{Memory, Stoppe
 use Rattle.hsp_record.specs.declared.fault.RecordFault.{RecordFault}
 use Rattle.hsp_record.specs.declared.fault.RecordFault.TheVariants.{Truncated, Trailing, TooManyServers, IndexTwice, OutOfMemory}
 use Rattle.hsp_record.specs.Fields.{IsOctets, Format, spelling, Means, Agrees, HasOneSpelling, HasNothingAfter}
-use Rattle.hsp_record.specs.Reading.{Read, Reader, FailsAs, LeavesWithin, answer_of, Answers}
+use Rattle.hsp_record.specs.Reading.{Read, Reader, FailsAs, LeavesWithin, answer_of}
+use Rattle.hsp_text.specs.Answers.{GivesUnless}
 use Rattle.hsp_record.proofs.Cuts.{Cuts, cuts_within, ends_from_cuts, cuts_from_ends}
 use Rattle.hsp_record.proofs.Codec.{Codec, ok_is, not_both}
 
@@ -145,15 +146,17 @@ module _ {A : Type 0} {read wide : Reader A} {format : Format A} (limited : Limi
 
   -- ---- from what a call answered
 
-  pub means : (octets : List ℕ) (r : Result A RecordFault) → IsOctets octets → Answers r (answer_of octets (read octets)) → Means format octets r
-  means octets (Err OutOfMemory) fits a = tt
-  means octets r fits a = subst (Means format octets) (sym a) (answer_means octets fits)
+  pub means : (octets : List ℕ) (r : Result A RecordFault) → IsOctets octets → GivesUnless OutOfMemory (λ x. x) r (answer_of octets (read octets)) → Means format octets r
+  means octets (Ok x) fits a = subst (Means format octets) a (answer_means octets fits)
+  means octets (Err e) fits (inl ran_out) = rw ran_out tt
+  means octets (Err e) fits (inr a) = subst (Means format octets) a (answer_means octets fits)
 
-  agrees : (r answer other : Result A RecordFault) → Answers r answer → Agrees answer other → Agrees r other
-  agrees (Err OutOfMemory) answer other a h = tt
-  agrees r answer other a h = subst (λ (q : Result A RecordFault). Agrees q other) (sym a) h
+  agrees : (r answer other : Result A RecordFault) → GivesUnless OutOfMemory (λ x. x) r answer → Agrees answer other → Agrees r other
+  agrees (Ok x) answer other a h = subst (λ (q : Result A RecordFault). Agrees q other) a h
+  agrees (Err e) answer other (inl ran_out) h = rw ran_out tt
+  agrees (Err e) answer other (inr a) h = subst (λ (q : Result A RecordFault). Agrees q other) a h
 
-  pub only : (octets : List ℕ) (r other : Result A RecordFault) → IsOctets octets → Answers r (answer_of octets (read octets)) → Means format octets other → Agrees r other
+  pub only : (octets : List ℕ) (r other : Result A RecordFault) → IsOctets octets → GivesUnless OutOfMemory (λ x. x) r (answer_of octets (read octets)) → Means format octets other → Agrees r other
   only octets r other fits a m = agrees r (answer_of octets (read octets)) other a (means_answer octets other fits m)
 
   -- ---- laws

@@ -183,8 +183,3 @@ abbrev pub answer_of : {A : Type 0} → List ℕ → Read A → Result A RecordF
 answer_of octets (Ok (x, [])) = Ok x
 answer_of octets (Ok (x, y ∷ rest)) = Err (Trailing (length octets - length (y ∷ rest)))
 answer_of octets (Err stop) = Err (fault_of (length octets) (Stopped stop))
-
--- the answer, unless memory ran out
-abbrev pub Answers : {A : Type 0} → Result A RecordFault → Result A RecordFault → Type 0
-Answers (Err OutOfMemory) answer = Unit {0}
-Answers result answer = result ≡ answer

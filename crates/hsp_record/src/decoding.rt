@@ -5,7 +5,8 @@ ghost use Rattle.hsp_record.specs.Fields.{Means, Agrees};
 ghost use Rattle.hsp_record.specs.Site.{Site, site_format};
 ghost use Rattle.hsp_record.specs.Values.{HandleValue, values_format};
 ghost use Rattle.hsp_record.specs.Request.{RequestBody, request_format, handle_of};
-ghost use Rattle.hsp_record.specs.Reading.{Answers, LeavesWithin, fault_of, answer_of, site_at, value_list_at, request_at};
+ghost use Rattle.hsp_text.specs.Answers.{GivesUnless};
+ghost use Rattle.hsp_record.specs.Reading.{LeavesWithin, fault_of, answer_of, site_at, value_list_at, request_at};
 ghost use Rattle.hsp_record.specs.declared.fault.RecordFault.{RecordFault};
 ghost use Rattle.hsp_record.specs.declared.fault.RecordFault.TheVariants.{Trailing, OutOfMemory};
 
@@ -46,7 +47,7 @@ fn check_end(len: usize, rest: &[u8]) -> Result<(), RecordFault>
 }
 
 fn site_answer(alloc: Global, octets: &[u8]) -> Result<SiteRecord, RecordFault>
-    ensures { Answers result (answer_of octets.now (site_at octets.now)) }
+    ensures { GivesUnless RecordFault.OutOfMemory (λ x. x) result (answer_of octets.now (site_at octets.now)) }
 {
     match read_site(alloc, octets) {
         Ok((site, rest)) => {
@@ -69,7 +70,7 @@ pub fn decode_site(alloc: Global, octets: &[u8]) -> Result<SiteRecord, RecordFau
 }
 
 fn values_answer(alloc: Global, octets: &[u8]) -> Result<ValueList<'_>, RecordFault>
-    ensures { Answers result (answer_of octets.now (value_list_at octets.now)) }
+    ensures { GivesUnless RecordFault.OutOfMemory (λ x. x) result (answer_of octets.now (value_list_at octets.now)) }
 {
     match read_value_list(alloc, octets) {
         Ok((values, rest)) => {

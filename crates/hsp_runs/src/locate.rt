@@ -2,7 +2,7 @@
 
 ghost use Rattle.std.specs.Prelude.{◌≡◌, ◌++◌, ◌∷◌, [], IfOk, decimal, option_map};
 ghost use Rattle.hsp_text.specs.Answers.{Gives, GivesUnless, Stands};
-ghost use Rattle.hsp_names.specs.Lent.{octets_of, Reads};
+ghost use Rattle.hsp_names.specs.Lent.{octets_of};
 ghost use Rattle.hsp_runs.specs.Locate.{AreLocated, IsLocated, handle_at, option_at, placed, servers_at};
 
 use crate::fault::Fault;

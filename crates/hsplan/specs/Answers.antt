@@ -47,8 +47,8 @@ abbrev pub IsTold : Told → Answer → Type 0
 IsTold told answer = (answer.text.items ≡ told.text) × (answer.status ≡ told.status)
 
 -- the result of a run is one that stands, and told so; or its fault is told; or memory ran out
-abbrev pub Answers : {X : Type 0} → (X → Told) → (Result X Fault → Type 0) → Result Answer Failure → Type 0
-Answers {X} told Is (Ok answer) = (x : X) × Is (Ok x) × IsTold (told x) answer
-Answers told Is (Err (Refused fault)) = (fault ≡ OutOfMemory) ⊎ Is (Err fault)
-Answers told Is (Err Memory) = ⊤
-Answers told Is (Err failure) = ⊥
+abbrev pub IsAnswered : {X : Type 0} → (X → Told) → (Result X Fault → Type 0) → Result Answer Failure → Type 0
+IsAnswered {X} told Is (Ok answer) = (x : X) × Is (Ok x) × IsTold (told x) answer
+IsAnswered told Is (Err (Refused fault)) = (fault ≡ OutOfMemory) ⊎ Is (Err fault)
+IsAnswered told Is (Err Memory) = ⊤
+IsAnswered told Is (Err failure) = ⊥

@@ -13,7 +13,7 @@ use Rattle.hsp_runs.specs.SiteText.{IsSiteRun}
 use Rattle.hsp_runs.specs.declared.inputs.Inputs.{Inputs}
 use Rattle.hsplan.specs.declared.answer.Answer.{Answer}
 use Rattle.hsplan.specs.declared.failure.Failure.{Failure}
-use Rattle.hsplan.specs.Answers.{Answers, IsShownPlan, IsShownVerdict, fields_told, plan_told, text_told, verdict_told}
+use Rattle.hsplan.specs.Answers.{IsAnswered, IsShownPlan, IsShownVerdict, fields_told, plan_told, text_told, verdict_told}
 use Rattle.hsplan.specs.Failing.{IsUnread, failure_of}
 use Rattle.hsplan.specs.Files.{Disk}
 use Rattle.hsplan.specs.Printing.{Prints}
@@ -48,24 +48,24 @@ LacksFile MayFail answer = IsErrAnd answer (IsUnread MayFail)
 abbrev pub AnswersSites : Disk → List ℕ → Option (List ℕ) → List ℕ → Result Answer Failure → Type 0
 AnswersSites disk settings values handle answer =
     LacksFile (disk.fails settings ⊎ FailsNamed disk values) answer
-    ⊎ ((s : List ℕ) × (v : Option (List ℕ)) × disk.holds settings s × HoldsNamed disk values v × Answers text_told (AreLocated s v handle) answer)
+    ⊎ ((s : List ℕ) × (v : Option (List ℕ)) × disk.holds settings s × HoldsNamed disk values v × IsAnswered text_told (AreLocated s v handle) answer)
 
 abbrev pub AnswersSite : Disk → Option (List ℕ) → List ℕ → Result Answer Failure → Type 0
 AnswersSite disk index file answer =
-    LacksFile (disk.fails file) answer ⊎ ((octets : List ℕ) × disk.holds file octets × Answers fields_told (IsSiteRun octets index) answer)
+    LacksFile (disk.fails file) answer ⊎ ((octets : List ℕ) × disk.holds file octets × IsAnswered fields_told (IsSiteRun octets index) answer)
 
 abbrev pub AnswersPlan : Disk → InputFiles → Result Answer Failure → Type 0
 AnswersPlan disk files answer =
-    LacksFile (OneFails disk files) answer ⊎ ((inputs : Inputs) × AreHeld disk files inputs × Answers plan_told (IsShownPlan inputs) answer)
+    LacksFile (OneFails disk files) answer ⊎ ((inputs : Inputs) × AreHeld disk files inputs × IsAnswered plan_told (IsShownPlan inputs) answer)
 
 abbrev pub AnswersCheck : Disk → InputFiles → List ℕ → Result Answer Failure → Type 0
 AnswersCheck disk files plan answer =
     LacksFile (OneFails disk files ⊎ disk.fails plan) answer
-    ⊎ ((inputs : Inputs) × (octets : List ℕ) × AreHeld disk files inputs × disk.holds plan octets × Answers verdict_told (IsShownVerdict inputs octets) answer)
+    ⊎ ((inputs : Inputs) × (octets : List ℕ) × AreHeld disk files inputs × disk.holds plan octets × IsAnswered verdict_told (IsShownVerdict inputs octets) answer)
 
 -- the answer to an order
 abbrev pub AnswersTo : Disk → Order → Result Answer Failure → Type 0
-AnswersTo disk (order.LocatePlace option servers handle) answer = Answers text_told (λ text. text ≡ placed option servers handle) answer
+AnswersTo disk (order.LocatePlace option servers handle) answer = IsAnswered text_told (λ text. text ≡ placed option servers handle) answer
 AnswersTo disk (order.LocateSites settings values handle) answer = AnswersSites disk settings values handle answer
 AnswersTo disk (order.Site index file) answer = AnswersSite disk index file answer
 AnswersTo disk (order.Plan inputs) answer = AnswersPlan disk inputs answer
@@ -82,10 +82,10 @@ IsOrdered words (Err command_fault.Usage) = IsUsage words
 IsOrdered words (Err command_fault.OutOfMemory) = ⊤
 
 -- it is carried out; where there is none, nothing was written, and the failure is told
-abbrev pub Follows : Disk → Type 0 → Result Order CommandFault → Option (List ℕ) → Option (List ℕ) → Result ℕ Failure → Type 0
-Follows disk MayFail (Ok order) old new ended = CarriesOut disk MayFail order old new ended
-Follows disk MayFail (Err fault) old new ended = (new ≡ old) × (ended ≡ Err (failure_of fault))
+abbrev pub ActsOn : Disk → Type 0 → Result Order CommandFault → Option (List ℕ) → Option (List ℕ) → Result ℕ Failure → Type 0
+ActsOn disk MayFail (Ok order) old new ended = CarriesOut disk MayFail order old new ended
+ActsOn disk MayFail (Err fault) old new ended = (new ≡ old) × (ended ≡ Err (failure_of fault))
 
 -- the words are obeyed
 abbrev pub Obeys : Disk → Type 0 → List (List ℕ) → Option (List ℕ) → Option (List ℕ) → Result ℕ Failure → Type 0
-Obeys disk MayFail words old new ended = (order : Result Order CommandFault) × IsOrdered words order × Follows disk MayFail order old new ended
+Obeys disk MayFail words old new ended = (order : Result Order CommandFault) × IsOrdered words order × ActsOn disk MayFail order old new ended

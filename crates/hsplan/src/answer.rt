@@ -3,7 +3,7 @@
 ghost use Rattle.std.specs.Prelude.{◌≡◌, option_map};
 ghost use Rattle.hsp_runs.specs.Locate.{IsLocated};
 ghost use Rattle.hsp_runs.specs.SiteText.{IsSiteRun};
-ghost use Rattle.hsplan.specs.Answers.{Answers, IsShownPlan, IsShownVerdict, fields_told, plan_status, plan_told, text_told, verdict_told};
+ghost use Rattle.hsplan.specs.Answers.{IsAnswered, IsShownPlan, IsShownVerdict, fields_told, plan_status, plan_told, text_told, verdict_told};
 ghost use Rattle.hsplan.specs.Printing.{Prints};
 
 use crate::failure::Failure;
@@ -22,7 +22,7 @@ pub struct Answer {
 
 /// Where the handle is served.
 pub fn locate_answer(alloc: Global, locate: &Locate, handle: &[u8]) -> Result<Answer, Failure>
-    ensures { Answers text_told (IsLocated locate.now handle.now) result }
+    ensures { IsAnswered text_told (IsLocated locate.now handle.now) result }
 {
     let text = locate_run(alloc, locate, handle)?;
     Ok(Answer { text, status: 0 })
@@ -30,7 +30,7 @@ pub fn locate_answer(alloc: Global, locate: &Locate, handle: &[u8]) -> Result<An
 
 /// The fields of a site record, or of that in the value with an index.
 pub fn site_answer(alloc: Global, octets: &[u8], index: Option<&[u8]>) -> Result<Answer, Failure>
-    ensures { Answers fields_told (IsSiteRun octets.now (option_map (λ digits. digits.now) index.entry)) result }
+    ensures { IsAnswered fields_told (IsSiteRun octets.now (option_map (λ digits. digits.now) index.entry)) result }
 {
     let text = site_run(alloc, octets, index)?;
     Ok(Answer { text, status: 0 })
@@ -45,7 +45,7 @@ fn plan_status(is_short: bool) -> u8
 
 /// The text of a plan, or of a shortage with status 3.
 pub fn plan_answer(alloc: Global, inputs: &Inputs) -> Result<Answer, Failure>
-    ensures { Answers plan_told (IsShownPlan inputs.now) result }
+    ensures { IsAnswered plan_told (IsShownPlan inputs.now) result }
 {
     let plan = plan_run(alloc, inputs)?;
     let status = plan_status(plan.is_short());
@@ -57,7 +57,7 @@ pub fn plan_answer(alloc: Global, inputs: &Inputs) -> Result<Answer, Failure>
 
 /// The line of a verdict, a No with status 3.
 pub fn check_answer(alloc: Global, inputs: &Inputs, plan: &[u8]) -> Result<Answer, Failure>
-    ensures { Answers verdict_told (IsShownVerdict inputs.now plan.now) result }
+    ensures { IsAnswered verdict_told (IsShownVerdict inputs.now plan.now) result }
 {
     let verdict = check_run(alloc, inputs, plan)?;
     Ok(Answer {

@@ -2,7 +2,7 @@
 
 ghost use Rattle.std.specs.Prelude.{◌≡◌, IfErr, IfOk, map, option_map, string_bytes};
 ghost use Rattle.hsp_runs.specs.Locate.{placed};
-ghost use Rattle.hsplan.specs.Answers.{Answers, text_told};
+ghost use Rattle.hsplan.specs.Answers.{IsAnswered, text_told};
 ghost use Rattle.hsplan.specs.Commands.{AnswersCheck, AnswersPlan, AnswersSite, AnswersSites, AreHeld, CarriesOut, FailsNamed, HoldsNamed, Obeys, OneFails};
 ghost use Rattle.hsplan.specs.Failing.{IsUnread};
 
@@ -53,7 +53,7 @@ fn locate_place(
     servers: &Word,
     handle: &Word,
 ) -> Result<Answer, Failure>
-    ensures { Answers text_told (λ text. text ≡ placed option.now servers.now handle.now) result }
+    ensures { IsAnswered text_told (λ text. text ≡ placed option.now servers.now handle.now) result }
 {
     let option = Vec::from_slice(alloc, option.as_bytes())?;
     let servers = Vec::from_slice(alloc, servers.as_bytes())?;
