@@ -1,4 +1,5 @@
 use super::*;
+use crate::accepted::{Accepted, accepted_in};
 use crate::tests::{SETTINGS, list_of};
 use hsp_cert::CertFault;
 use hsp_check::{Reason, Verdict};
@@ -6,8 +7,9 @@ use hsp_instance::BuildFault;
 use hsp_names::HandleFault;
 use hsp_record::RecordFault;
 use hsp_tables::TableFault;
-use std::alloc::Global;
+use std::alloc::{AllocError, Global};
 use std::process::Abort;
+use std::test::Fail;
 
 const DEMAND: &[u8] = b"region,handle,count\nr1,10/1,5\nr1,10/2,4\nr2,10/3,3\n";
 
@@ -58,16 +60,46 @@ fn inputs_of(alloc: Global, texts: Texts<'_>) -> Option<Inputs> {
 }
 
 // The text of a plan, from the texts of its uses and prices.
-fn plan_text(alloc: Global, cost: &[u8], uses: &[u8], prices: &[u8]) -> Option<Vec<u8>> {
-    let mut text = Vec::from_slice(alloc, b"HSPLAN 1\nPLAN\n").ok()?;
-    text.extend_from_slice(cost).ok()?;
-    text.extend_from_slice(uses).ok()?;
-    text.extend_from_slice(prices).ok()?;
-    text.extend_from_slice(b"END\n").ok()?;
-    Some(text)
+fn plan_text(
+    alloc: Global,
+    cost: &[u8],
+    uses: &[u8],
+    prices: &[u8],
+) -> Result<Vec<u8>, AllocError> {
+    match plan_text_once(alloc, cost, uses, prices) {
+        Err(AllocError) => plan_text_once(alloc, cost, uses, prices),
+        text => text,
+    }
 }
 
-// Whether the verdict is the wanted one, unless memory ran out.
+fn plan_text_once(
+    alloc: Global,
+    cost: &[u8],
+    uses: &[u8],
+    prices: &[u8],
+) -> Result<Vec<u8>, AllocError> {
+    let mut text = Vec::from_slice(alloc, b"HSPLAN 1\nPLAN\n")?;
+    text.extend_from_slice(cost)?;
+    text.extend_from_slice(uses)?;
+    text.extend_from_slice(prices)?;
+    text.extend_from_slice(b"END\n")?;
+    Ok(text)
+}
+
+// The verdict on a certificate of the texts. Where a growth is refused, the second call finds memory.
+fn judged_twice(alloc: Global, texts: Texts<'_>, cert: &[u8]) -> Result<Verdict, Fault> {
+    match judged_once(alloc, texts, cert) {
+        Err(Fault::OutOfMemory) => judged_once(alloc, texts, cert),
+        answer => answer,
+    }
+}
+
+fn judged_once(alloc: Global, texts: Texts<'_>, cert: &[u8]) -> Result<Verdict, Fault> {
+    let inputs = inputs_of(alloc, texts).ok_or(Fault::OutOfMemory)?;
+    check_run(alloc, &inputs, cert)
+}
+
+// The verdict is the wanted one.
 fn checks(
     rt: &impl Abort,
     alloc: Global,
@@ -75,15 +107,7 @@ fn checks(
     cert: &[u8],
     wanted: &Result<Verdict, Fault>,
 ) {
-    let Some(inputs) = inputs_of(alloc, texts) else {
-        return;
-    };
-    match (check_run(alloc, &inputs, cert), wanted) {
-        (Ok(verdict), Ok(wanted)) => assert_eq!(rt; verdict, *wanted),
-        (Err(fault), Err(wanted)) => assert!(rt; fault == Fault::OutOfMemory || fault == *wanted),
-        (Err(fault), Ok(_)) => assert_eq!(rt; fault, Fault::OutOfMemory),
-        (Ok(_), Err(_)) => assert!(rt; false, "an answer came"),
-    }
+    assert_eq!(rt; judged_twice(alloc, texts, cert), *wanted);
 }
 
 const USES: &[u8] = b"use 0 0 5\nuse 1 0 4\nuse 2 0 1\nuse 2 1 2\n";
@@ -92,7 +116,7 @@ const PRICES: &[u8] =
     b"row 0 2\nrow 1 1\nrow 2 3\nserver 0 0\nserver 1 1\nserver 2 0\nserver 3 0\nserver 4 0\n";
 
 #[test]
-fn plans_are_judged(rt: HostRuntime) {
+fn plans_are_judged(rt: HostRuntime) -> Result<(), Fail> {
     let uses: [(&[u8], &[u8], Verdict); 5] = [
         (b"cost 17\n", USES, Verdict::Yes),
         (b"cost 16\n", USES, Verdict::No(Reason::Cost)),
@@ -113,15 +137,14 @@ fn plans_are_judged(rt: HostRuntime) {
         ),
     ];
     for (cost, uses, wanted) in uses {
-        let Some(text) = plan_text(rt.alloc(), cost, uses, PRICES) else {
-            return;
-        };
+        let text = plan_text(rt.alloc(), cost, uses, PRICES)?;
         checks(&rt, rt.alloc(), BASE, text.as_slice(), &Ok(wanted));
     }
+    Ok(())
 }
 
 #[test]
-fn prices_are_judged(rt: HostRuntime) {
+fn prices_are_judged(rt: HostRuntime) -> Result<(), Fail> {
     let prices: [(&[u8], Reason); 4] = [
         (
             b"row 0 2\nrow 1 1\nrow 2 3\nserver 0 0\nserver 1 1\nserver 2 0\nserver 3 0\n",
@@ -141,12 +164,11 @@ fn prices_are_judged(rt: HostRuntime) {
         ),
     ];
     for (prices, reason) in prices {
-        let Some(text) = plan_text(rt.alloc(), b"cost 17\n", USES, prices) else {
-            return;
-        };
+        let text = plan_text(rt.alloc(), b"cost 17\n", USES, prices)?;
         let wanted = Ok(Verdict::No(reason));
         checks(&rt, rt.alloc(), BASE, text.as_slice(), &wanted);
     }
+    Ok(())
 }
 
 #[test]
@@ -179,7 +201,7 @@ fn shortages_are_judged(rt: HostRuntime) {
 }
 
 #[test]
-fn equal_costs_leave_several_best_plans(rt: HostRuntime) {
+fn equal_costs_leave_several_best_plans(rt: HostRuntime) -> Result<(), Fail> {
     let texts = Texts {
         demand: b"region,handle,count\nr1,10/1,2\n",
         costs: b"region,site,cost\nr1,E,1\nr1,W,1\n",
@@ -188,17 +210,17 @@ fn equal_costs_leave_several_best_plans(rt: HostRuntime) {
     let prices: &[u8] = b"row 0 1\nserver 0 0\nserver 1 0\nserver 2 0\nserver 3 0\nserver 4 0\n";
     let plans: [&[u8]; 3] = [b"use 0 0 2\n", b"use 0 0 1\nuse 0 1 1\n", b"use 0 1 2\n"];
     for uses in plans {
-        let Some(text) = plan_text(rt.alloc(), b"cost 2\n", uses, prices) else {
-            return;
-        };
+        let text = plan_text(rt.alloc(), b"cost 2\n", uses, prices)?;
         checks(&rt, rt.alloc(), texts, text.as_slice(), &Ok(Verdict::Yes));
     }
+    Ok(())
 }
 
 #[test]
-fn sites_of_values_are_planned_for(rt: HostRuntime) {
-    let Some(list) = list_of(rt.alloc(), b"HS_SITE") else {
-        return;
+fn sites_of_values_are_planned_for(rt: HostRuntime) -> Result<(), Fail> {
+    let list = match list_of(rt.alloc(), b"HS_SITE") {
+        None => list_of(rt.alloc(), b"HS_SITE").ok_or(AllocError)?,
+        Some(list) => list,
     };
     let texts = Texts {
         settings: b"[[site]]\nname = \"X\"\nindex = 1\n",
@@ -207,15 +229,14 @@ fn sites_of_values_are_planned_for(rt: HostRuntime) {
         costs: b"region,site,cost\nr1,X,1\n",
         capacity: b"site,server_id,capacity\nX,7,10\n",
     };
-    let Some(text) = plan_text(
+    let text = plan_text(
         rt.alloc(),
         b"cost 1\n",
         b"use 0 0 1\n",
         b"row 0 1\nserver 0 0\n",
-    ) else {
-        return;
-    };
+    )?;
     checks(&rt, rt.alloc(), texts, text.as_slice(), &Ok(Verdict::Yes));
+    Ok(())
 }
 
 #[test]
@@ -318,35 +339,37 @@ fn faults_of_tables_and_certificates_have_their_lines(rt: HostRuntime) {
     }
 }
 
-// The text that `plan` answers, unless memory ran out.
-fn planned(rt: &impl Abort, alloc: Global, texts: Texts<'_>) -> Option<PlanText> {
-    let inputs = inputs_of(alloc, texts)?;
-    match plan_run(alloc, &inputs) {
-        Ok(plan) => Some(plan),
-        Err(fault) => {
-            assert_eq!(rt; fault, Fault::OutOfMemory);
-            None
-        }
+// The text that `plan` answers. Where a growth is refused, the second call finds memory.
+fn planned(alloc: Global, texts: Texts<'_>) -> Result<PlanText, Fault> {
+    match planned_once(alloc, texts) {
+        Err(Fault::OutOfMemory) => planned_once(alloc, texts),
+        answer => answer,
     }
 }
 
-// Whether the plan's text begins so, and is valid.
-fn plans_from(rt: &impl Abort, alloc: Global, texts: Texts<'_>, start: &[u8]) {
-    if let Some(plan) = planned(rt, alloc, texts) {
-        assert!(rt; !plan.is_short());
-        assert!(rt; plan.bytes().starts_with(start));
-        checks(rt, alloc, texts, plan.bytes(), &Ok(Verdict::Yes));
-    }
+fn planned_once(alloc: Global, texts: Texts<'_>) -> Result<PlanText, Fault> {
+    let inputs = inputs_of(alloc, texts).ok_or(Fault::OutOfMemory)?;
+    plan_run(alloc, &inputs)
+}
+
+// The plan's text begins so, and is valid.
+fn plans_from(rt: &impl Abort, alloc: Global, texts: Texts<'_>, start: &[u8]) -> Result<(), Fail> {
+    let plan = planned(alloc, texts)?;
+    assert!(rt; !plan.is_short());
+    assert!(rt; plan.bytes().starts_with(start));
+    checks(rt, alloc, texts, plan.bytes(), &Ok(Verdict::Yes));
+    assert!(rt; plan.into_bytes().as_slice().starts_with(start));
+    Ok(())
 }
 
 #[test]
-fn plans_are_of_the_least_cost(rt: HostRuntime) {
+fn plans_are_of_the_least_cost(rt: HostRuntime) -> Result<(), Fail> {
     plans_from(
         &rt,
         rt.alloc(),
         BASE,
         b"HSPLAN 1\nPLAN\ncost 17\nuse 0 0 5\nuse 1 0 4\nuse 2 0 1\nuse 2 1 2\nrow 0 ",
-    );
+    )?;
     let reversed = Texts {
         demand: b"region,handle,count\nr2,10/3,3\nr1,10/2,4\nr1,10/1,5\n",
         ..BASE
@@ -356,27 +379,34 @@ fn plans_are_of_the_least_cost(rt: HostRuntime) {
         rt.alloc(),
         reversed,
         b"HSPLAN 1\nPLAN\ncost 17\nuse 0 0 1\nuse 0 1 2\nuse 1 0 4\nuse 2 0 5\nrow 0 ",
-    );
+    )?;
+    Ok(())
+}
+
+// Two texts, one behind the other.
+fn joined(alloc: Global, first: &[u8], second: &[u8]) -> Result<Vec<u8>, AllocError> {
+    let mut text = Vec::from_slice(alloc, first)?;
+    text.extend_from_slice(second)?;
+    Ok(text)
 }
 
 #[test]
-fn hosts_limit_plans(rt: HostRuntime) {
-    let Ok(mut settings) = Vec::from_slice(rt.alloc(), SETTINGS) else {
-        return;
+fn hosts_limit_plans(rt: HostRuntime) -> Result<(), Fail> {
+    let host: &[u8] = b"[[host]]\naddress = \"00000000000000000000000000000001\"\nlimit = 8\n";
+    let settings = match joined(rt.alloc(), SETTINGS, host) {
+        Err(AllocError) => joined(rt.alloc(), SETTINGS, host)?,
+        Ok(settings) => settings,
     };
-    let host = b"[[host]]\naddress = \"00000000000000000000000000000001\"\nlimit = 8\n";
-    if settings.extend_from_slice(host).is_err() {
-        return;
-    }
     let limited = Texts {
         settings: settings.as_slice(),
         ..BASE
     };
-    plans_from(&rt, rt.alloc(), limited, b"HSPLAN 2\nPLAN\ncost 23\n");
+    plans_from(&rt, rt.alloc(), limited, b"HSPLAN 2\nPLAN\ncost 23\n")?;
+    Ok(())
 }
 
 #[test]
-fn shortages_are_told(rt: HostRuntime) {
+fn shortages_are_told(rt: HostRuntime) -> Result<(), Fail> {
     let unserved = Texts {
         demand: b"region,handle,count\nr3,10/1,1\n",
         ..BASE
@@ -401,30 +431,30 @@ fn shortages_are_told(rt: HostRuntime) {
         ),
     ];
     for (texts, wanted) in cases {
-        if let Some(plan) = planned(&rt, rt.alloc(), texts) {
-            assert!(rt; plan.is_short());
-            assert_eq!(rt; plan.bytes(), wanted);
-        }
+        let plan = planned(rt.alloc(), texts)?;
+        assert!(rt; plan.is_short());
+        assert_eq!(rt; plan.bytes(), wanted);
     }
+    Ok(())
 }
 
 #[test]
-fn nothing_asked_for_is_planned(rt: HostRuntime) {
+fn nothing_asked_for_is_planned(rt: HostRuntime) -> Result<(), Fail> {
     let nothing = Texts {
         demand: b"region,handle,count\n",
         ..BASE
     };
     let wanted: &[u8] =
         b"HSPLAN 1\nPLAN\ncost 0\nserver 0 0\nserver 1 0\nserver 2 0\nserver 3 0\nserver 4 0\nEND\n";
-    if let Some(plan) = planned(&rt, rt.alloc(), nothing) {
-        assert!(rt; !plan.is_short());
-        assert_eq!(rt; plan.bytes(), wanted);
-    }
+    let plan = planned(rt.alloc(), nothing)?;
+    assert!(rt; !plan.is_short());
+    assert_eq!(rt; plan.bytes(), wanted);
     let no_query = Texts {
         demand: b"region,handle,count\nr3,10/1,0\n",
         ..BASE
     };
-    plans_from(&rt, rt.alloc(), no_query, b"HSPLAN 1\nPLAN\ncost 0\nrow 0 ");
+    plans_from(&rt, rt.alloc(), no_query, b"HSPLAN 1\nPLAN\ncost 0\nrow 0 ")?;
+    Ok(())
 }
 
 #[test]
@@ -434,13 +464,77 @@ fn nothing_is_planned_for_inputs_with_a_fault(rt: HostRuntime) {
         costs: b"",
         ..BASE
     };
-    let Some(inputs) = inputs_of(rt.alloc(), no_table) else {
-        return;
-    };
-    match plan_run(rt.alloc(), &inputs) {
-        Ok(_) => assert!(rt; false, "a plan came"),
-        Err(fault) => {
-            assert!(rt; fault == Fault::OutOfMemory || fault == Fault::Demand(TableFault::Header))
-        }
+    let told = planned(rt.alloc(), no_table).err();
+    assert_eq!(rt; told, Some(Fault::Demand(TableFault::Header)));
+}
+
+// What is accepted of the texts and a certificate. Where a growth is refused, the second call finds memory.
+fn accepted_twice(alloc: Global, texts: Texts<'_>, cert: &[u8]) -> Result<Accepted, Fault> {
+    match accepted_once(alloc, texts, cert) {
+        Err(Fault::OutOfMemory) => accepted_once(alloc, texts, cert),
+        answer => answer,
     }
+}
+
+fn accepted_once(alloc: Global, texts: Texts<'_>, cert: &[u8]) -> Result<Accepted, Fault> {
+    let inputs = inputs_of(alloc, texts).ok_or(Fault::OutOfMemory)?;
+    accepted_in(alloc, &inputs, cert)
+}
+
+const PLAN: &[u8] =
+    b"HSPLAN 1\nPLAN\ncost 17\nuse 0 0 5\nuse 1 0 4\nuse 2 0 1\nuse 2 1 2\nrow 0 2\nrow 1 1\nrow 2 3\nserver 0 0\nserver 1 1\nserver 2 0\nserver 3 0\nserver 4 0\nEND\n";
+
+const CHEAPER_PLAN: &[u8] =
+    b"HSPLAN 1\nPLAN\ncost 16\nuse 0 0 5\nuse 1 0 4\nuse 2 0 1\nuse 2 1 2\nrow 0 2\nrow 1 1\nrow 2 3\nserver 0 0\nserver 1 1\nserver 2 0\nserver 3 0\nserver 4 0\nEND\n";
+
+const SHORTAGE: &[u8] = b"HSPLAN 1\nSHORTAGE\ndemand 9\ncapacity 8\nrow 2\nEND\n";
+
+#[test]
+fn valid_certificates_are_accepted(rt: HostRuntime) -> Result<(), Fail> {
+    let plan = accepted_twice(rt.alloc(), BASE, PLAN)?;
+    assert_eq!(rt; plan.instance.rows(), 3);
+    assert_eq!(rt; plan.plan()?.cost(), 17);
+    assert!(rt; plan.shortage().err() == Some(Fault::WrongKind));
+    let shortage = accepted_twice(rt.alloc(), LACKING, SHORTAGE)?;
+    assert_eq!(rt; shortage.shortage()?.demand(), 9);
+    assert!(rt; shortage.plan().err() == Some(Fault::WrongKind));
+    Ok(())
+}
+
+#[test]
+fn what_is_not_accepted_is_told_in_order(rt: HostRuntime) {
+    let no_demand = Texts {
+        demand: b"",
+        ..BASE
+    };
+    let cases: [(Texts<'_>, &[u8], Fault); 4] = [
+        (no_demand, b"", Fault::Demand(TableFault::Header)),
+        (BASE, b"", Fault::Cert(CertFault::Ended)),
+        (BASE, CHEAPER_PLAN, Fault::Refused(Reason::Cost)),
+        (BASE, SHORTAGE, Fault::Refused(Reason::DemandSum)),
+    ];
+    for (texts, cert, wanted) in cases {
+        let told = accepted_twice(rt.alloc(), texts, cert).err();
+        assert!(rt; told == Some(wanted));
+    }
+}
+
+#[test]
+fn certificates_that_are_not_accepted_have_their_lines(rt: HostRuntime) -> Result<(), Fail> {
+    let cases: [(Fault, &[u8]); 2] = [
+        (
+            Fault::Refused(Reason::IdlePrice),
+            b"hsplan: check: IdlePrice\n",
+        ),
+        (Fault::WrongKind, b"hsplan: WrongKind\n"),
+    ];
+    for (fault, wanted) in cases {
+        let line = match fault_line(rt.alloc(), &fault) {
+            Err(AllocError) => fault_line(rt.alloc(), &fault)?,
+            Ok(line) => line,
+        };
+        assert_eq!(rt; line.as_slice(), wanted);
+        assert_eq!(rt; status_of(&fault), 3);
+    }
+    Ok(())
 }
