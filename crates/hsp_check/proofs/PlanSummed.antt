@@ -1,5 +1,5 @@
 -- The sums of what is laid are those of the plan.
-use Rattle.std.proofs.Common.{◌≡◌, ℕ, ◌<◌, ◌==◌, ◌∙◌, List, length, sum_by, slice_index, All, if◌then◌else◌, ap}
+use Rattle.std.proofs.Common.{◌≡◌, ℕ, ◌<◌, ◌==◌, ◌∙◌, length, sum_by, slice_index, All, if◌then◌else◌, ap}
 use Rattle.hsp_check.specs.declared.lists.NetworkLists.{NetworkLists}
 use Rattle.hsp_check.specs.Sums.{sum_below}
 use Rattle.hsp_check.specs.Plan.{Plan, is_on, planned, load}

@@ -1,4 +1,3 @@
-use Rattle.std.proofs.Common.{◌≤◌, ◌*◌, arith, rules}
 use Rattle.hsp_check.proofs.InstanceNetwork.{is_network, are_cheap, drawn}
 use Rattle.hsp_check.proofs.drawing.draw.Goals as goal
 

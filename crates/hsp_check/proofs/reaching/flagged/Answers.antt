@@ -1,4 +1,4 @@
-use Rattle.std.proofs.Common.{◌≡◌, ◌∙◌, sym, ap, true, false}
+use Rattle.std.proofs.Common.{◌≡◌, sym, true, false}
 use Rattle.std.proofs.lemmas.List.{append-nil}
 use Rattle.hsp_check.specs.Laid.{flag_at}
 use Rattle.hsp_check.proofs.Reached.{kept_more}

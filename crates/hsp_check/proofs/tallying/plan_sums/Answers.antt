@@ -1,9 +1,7 @@
-use Rattle.std.proofs.Common.{◌≡◌, ◌≤◌, ap}
+use Rattle.std.proofs.Common.{◌≤◌, ap}
 use Rattle.hsp_check.specs.declared.arc.NetworkArc.{NetworkArc}
 use Rattle.hsp_check.specs.declared.sums.LaidArc.{LaidArc}
-use Rattle.hsp_check.specs.Instance.{network_of}
 use Rattle.hsp_check.specs.Network.{Network}
-use Rattle.hsp_check.specs.Reach.{network_with}
 use Rattle.hsp_check.proofs.LaidSums.{all_of_map}
 use Rattle.hsp_check.proofs.Ranges.{few_uses}
 use Rattle.hsp_check.proofs.Reached.{found_where}
