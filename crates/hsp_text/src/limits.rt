@@ -21,6 +21,9 @@ pub const MOST_COST_ROWS: usize = 2048;
 /// How many rows the table of capacities may have.
 pub const MOST_CAPACITY_ROWS: usize = 1024;
 
+/// How many rows a log may have.
+pub const MOST_LOG_ROWS: u32 = 10_000_000;
+
 /// How many octets the name of a region or a site may have.
 pub const LONGEST_NAME: usize = 64;
 

@@ -1,0 +1,38 @@
+-- What holds of every plan and every log.
+use Rattle.std.specs.Prelude.{◌≡◌, ◌≤◌, ◌<◌, ⊤, ℕ, List, ◌++◌, length, Some, Ok, option_map}
+use Rattle.std.specs.List.{slice_get}
+use Rattle.hsp_hash.specs.Place.{server_place}
+use Rattle.hsp_instance.specs.Building.{Inputs, IsBuilt}
+use Rattle.hsp_instance.specs.Instance.{Instance, Site}
+use Rattle.hsp_check.specs.Instance.{network_of}
+use Rattle.hsp_check.specs.Plan.{Feasible, Plan}
+use Rattle.hsp_dispatch.specs.Dispatch.{Entry, answer_to, answers, assigned_in, rest, row_of}
+use Rattle.hsp_dispatch.specs.declared.answer.Answer.{Answer}
+use Rattle.hsp_dispatch.specs.declared.answer.Answer.TheVariants.{Assigned, Spent, Unknown}
+
+-- no log has more of a row's entries assigned to a site than the plan sends there
+abbrev pub NeverExceeds : Type 0
+NeverExceeds = (it : Instance) (x : Plan) (entries : List Entry) (row site : ℕ) → assigned_in it x entries row site ≤ x row site
+
+-- where an entry of a row is answered by Spent, all that the plan sends of the row was assigned before
+abbrev pub IsSpentAfterAll : Type 0
+IsSpentAfterAll =
+    (it : Instance) (x : Plan) (earlier : List Entry) (entry : Entry) (row site : ℕ) → row_of it entry ≡ Some row → answer_to it x earlier entry ≡ Spent
+    → site < length it.sites → assigned_in it x earlier row site ≡ x row site
+
+-- the answers to two logs one after the other: the second is answered by what the first leaves of the plan
+abbrev pub GoesOnWithTheRest : Type 0
+GoesOnWithTheRest = (it : Instance) (x : Plan) (a b : List Entry) → answers it x (a ++ b) ≡ answers it x a ++ answers it (rest it x a) b
+
+-- a query is assigned to the server of the site that is responsible for its handle, by the handle's hash
+abbrev pub IsByHash : Instance → Entry → Answer → Type 0
+IsByHash it entry (Assigned site place id) =
+    (own : Site) × (slice_get it.sites site ≡ Some own) × (place ≡ server_place own.option entry.handle (length own.servers))
+    × (option_map (λ server. server.id) (slice_get own.servers place) ≡ Some id)
+IsByHash it entry Spent = ⊤
+IsByHash it entry Unknown = ⊤
+
+abbrev pub GoesByHash : Type 0
+GoesByHash =
+    (inputs : Inputs) (it : Instance) (x : Plan) (earlier : List Entry) (entry : Entry) → IsBuilt inputs (Ok it) → Feasible (network_of it) x
+    → IsByHash it entry (answer_to it x earlier entry)

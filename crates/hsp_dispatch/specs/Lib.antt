@@ -1,0 +1,6 @@
+pub mod Dispatch
+pub mod Shares
+pub mod Lines
+pub mod Log
+pub mod Runs
+pub mod Laws

@@ -1,0 +1,63 @@
+// Why a run over a log stopped.
+
+ghost use Rattle.std.specs.Prelude.{◌≡◌};
+ghost use Rattle.hsp_dispatch.specs.declared.fault.LogFault.TheVariants.{OutOfMemory, ReadFailed, WriteFailed};
+ghost use Rattle.hsp_dispatch.specs.Log.{fault_of};
+
+use hsp_csv::RecordsFault;
+use hsp_text::WriteFailed as CutText;
+use std::alloc::AllocError;
+
+/// Why a run over a log stopped. Rows are numbered from 0, without the header.
+#[derive(Clone, Copy, Debug, PartialEq, Eq)]
+pub enum LogFault {
+    /// A read of the log failed.
+    ReadFailed,
+    /// A write failed or took no octet, or the last `flush` failed.
+    WriteFailed,
+    /// The first record is no header of a log, or there is none.
+    Header,
+    /// The row has not two fields.
+    Fields {
+        row: u32,
+    },
+    /// The row's handle is none.
+    BadHandle {
+        row: u32,
+    },
+    /// There are more than 10,000,000 rows.
+    LogTooLong,
+    /// Memory ran out.
+    OutOfMemory,
+    /// The row's body is not in hexadecimal digits, or no body of a resolution request.
+    BadBody {
+        row: u32,
+    },
+}
+
+impl From<AllocError> for LogFault {
+    ghost from_gives = { λ _ fault. fault ≡ OutOfMemory };
+
+    fn from(_error: AllocError) -> LogFault {
+        LogFault::OutOfMemory
+    }
+}
+
+impl From<RecordsFault> for LogFault {
+    ghost from_gives = { λ fault e. e ≡ fault_of fault };
+
+    fn from(fault: RecordsFault) -> LogFault {
+        match fault {
+            RecordsFault::ReadFailed => LogFault::ReadFailed,
+            RecordsFault::OutOfMemory => LogFault::OutOfMemory,
+        }
+    }
+}
+
+impl From<CutText> for LogFault {
+    ghost from_gives = { λ _ fault. fault ≡ WriteFailed };
+
+    fn from(_failed: CutText) -> LogFault {
+        LogFault::WriteFailed
+    }
+}

@@ -1,0 +1,23 @@
+// The dispatcher: the queries of a log, answered by a plan. Each row's queries go to the sites in turn, as many to each as the plan
+// says, and at a site to the server that is responsible for their handle.
+#![tactic(auto)]
+
+mod answer;
+mod body;
+mod dispatcher;
+mod fault;
+mod form;
+pub mod laws;
+mod lines;
+mod reading;
+mod run;
+mod share;
+mod sharing;
+
+pub use answer::{Answer, LogSums};
+pub use dispatcher::Dispatcher;
+pub use fault::LogFault;
+pub use run::run_log;
+
+#[cfg(test)]
+mod tests;
