@@ -10,6 +10,9 @@ use Rattle.hsp_check.specs.Valid.{IsValidPlan}
 use Rattle.hsp_cert.specs.Certificate.{Claim}
 use Rattle.hsp_cert.specs.Certificate.Claim.{best, short}
 use Rattle.hsp_dispatch.specs.Dispatch.{arc_to}
+use Rattle.hsp_dispatch.specs.Lines.{served_by}
+use Rattle.hsp_dispatch.specs.declared.answer.Answer.{Answer}
+use Rattle.hsp_dispatch.specs.declared.answer.Answer.TheVariants.{Spent}
 use Rattle.hsp_dispatch.specs.declared.share.Cell.{Cell}
 
 -- what is left at a site, 0 where no cell is of it
@@ -71,3 +74,8 @@ IsPlanFor it (short c) = ⊥
 abbrev pub plan_of : Claim → Plan
 plan_of (best c) row site = table c.uses row site
 plan_of (short c) row site = 0
+
+-- what is answered by the server that a query was taken at, or by none
+abbrev pub taken_answer : Instance → Option ℕ → Answer
+taken_answer it None = Spent
+taken_answer it (Some server) = served_by (slice_get it.servers server)

@@ -3,21 +3,17 @@
 #![tactic(auto)]
 
 mod answer;
+mod answering;
 mod body;
 mod dispatcher;
 mod fault;
 mod form;
-pub mod laws;
 mod lines;
 mod reading;
 mod run;
 mod share;
-mod sharing;
 
 pub use answer::{Answer, LogSums};
 pub use dispatcher::Dispatcher;
 pub use fault::LogFault;
 pub use run::run_log;
-
-#[cfg(test)]
-mod tests;
