@@ -1,0 +1,3 @@
+pub mod Spreads
+pub mod Shares
+pub mod Resting
