@@ -1,2 +1,5 @@
 mod RowFields
 mod Bodies
+pub mod Spreads
+pub mod Shares
+pub mod Resting
