@@ -1,5 +1,8 @@
 mod RowFields
 mod Bodies
+mod InTurn
+mod Running
+mod Counting
 pub mod Spreads
 pub mod Shares
 pub mod Resting

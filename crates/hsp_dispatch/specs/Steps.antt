@@ -1,5 +1,5 @@
 -- What the answer to one row of a log changes, and how it fails.
-use Rattle.std.specs.Prelude.{◌≡◌, ◌≢◌, ⊤, ℕ, List, [], ◌∷◌, Option, Some, option_map, length, Ok}
+use Rattle.std.specs.Prelude.{◌≡◌, ◌≢◌, ⊤, ℕ, List, [], ◌∷◌, Option, None, Some, option_map, length, Ok}
 use Rattle.std.specs.Io.KnownBytes.{Appends}
 use Rattle.csv.specs.Reading.{reader_state, source_of}
 use Rattle.csv.specs.declared.parser.State.{State}
@@ -10,7 +10,7 @@ use Rattle.hsp_names.specs.Handle.{handle_in}
 use Rattle.hsp_instance.specs.Instance.{Instance}
 use Rattle.hsp_dispatch.specs.Dispatch.{Entry, IsSame, answer_to, rest}
 use Rattle.hsp_dispatch.specs.Lines.{answer_of, line_of}
-use Rattle.hsp_dispatch.specs.Log.{IsBadBody, IsBadHandle, IsEntryIn, IsUnheaded, header_of}
+use Rattle.hsp_dispatch.specs.Log.{Begins, IsBadBody, IsBadHandle, IsEntryIn, IsUnheaded, header_of}
 use Rattle.hsp_dispatch.specs.Runs.{Outcome, Setting}
 use Rattle.hsp_dispatch.specs.Shares.{Held, left_of}
 use Rattle.hsp_dispatch.specs.declared.answering.Given.{Given}
@@ -85,3 +85,9 @@ FailsForm remaining old fault.Header = IsKnown remaining old → IsUnheaded (Som
 FailsForm remaining old fault.ReadFailed = ⊤
 FailsForm remaining old fault.OutOfMemory = ⊤
 FailsForm remaining old other = ⊥
+
+-- a log whose header and rows were read, and whose records `now` are left
+abbrev pub IsRead : Option (List Fields) → Form → List Fields → Option (List Fields) → Type 0
+IsRead None form rows now = ⊤
+IsRead (Some records) form rows None = ⊥
+IsRead (Some records) form rows (Some now) = Begins (Some records) form rows now

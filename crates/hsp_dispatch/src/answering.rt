@@ -27,21 +27,21 @@ pub(crate) enum Given {
 /// the handles of other entries are read.
 pub(crate) fn choose(
     dispatcher: &mut Dispatcher<'_>,
-    entry: LentEntry<'_>,
+    lent: LentEntry<'_>,
     number: u32,
 ) -> Result<Given, LogFault>
     ensures instance { dispatcher.new.instance ≡ dispatcher.old.instance }
     ensures among { IfOk result (IsAmong (length dispatcher.old.instance.servers)) }
-    ensures takes { IfOk result (Takes (begun dispatcher.old None None) (entry_of entry) (ended dispatcher.new None)) }
-    ensures fault { IfErr result (λ e. (e ≡ BadHandle number) × (handle_in entry.handle.now ≢ Ok entry.handle.now)) }
+    ensures takes { IfOk result (Takes (begun dispatcher.old None None) (entry_of lent.entry) (ended dispatcher.new None)) }
+    ensures fault { IfErr result (λ e. (e ≡ BadHandle number) × (handle_in lent.entry.handle.now ≢ Ok lent.entry.handle.now)) }
     ensures stays { OnErr result (dispatcher.new ≡ dispatcher.old) }
 {
-    match dispatcher.row_of(entry.region, entry.handle) {
+    match dispatcher.row_of(lent.region, lent.handle) {
         Some(row) => match dispatcher.take(row) {
             Some(server) => Ok(Given::Server(server)),
             None => Ok(Given::Spent),
         },
-        None => match HandleRef::parse(entry.handle) {
+        None => match HandleRef::parse(lent.handle) {
             Ok(_) => Ok(Given::Unknown),
             Err(_) => Err(LogFault::BadHandle { row: number }),
         },

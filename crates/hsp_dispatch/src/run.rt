@@ -38,7 +38,7 @@ struct Place {
 
 // Answers an entry of the row of a number, in a line.
 fn answer_entry<W: Write>(
-    entry: LentEntry<'_>,
+    lent: LentEntry<'_>,
     row: u32,
     lines: &ServerLines,
     writer: &mut W,
@@ -47,12 +47,12 @@ fn answer_entry<W: Write>(
     requires { lines.now ≡ map (server_line dispatcher.old.instance) dispatcher.old.instance.servers }
     ensures instance { dispatcher.new.instance ≡ dispatcher.old.instance }
     ensures among { IfOk result (IsAmong (length dispatcher.old.instance.servers)) }
-    ensures answers { IfOk result (AnswersEntry (begun dispatcher.old None (W.contents writer.old)) (entry_of entry)
+    ensures answers { IfOk result (AnswersEntry (begun dispatcher.old None (W.contents writer.old)) (entry_of lent.entry)
         (ended dispatcher.new (W.contents writer.new))) }
-    ensures fails { IfErr result (FailsEntry (begun dispatcher.old None (W.contents writer.old)) row (entry_of entry)
+    ensures fails { IfErr result (FailsEntry (begun dispatcher.old None (W.contents writer.old)) row (entry_of lent.entry)
         (ended dispatcher.new (W.contents writer.new))) }
 {
-    let given = choose(dispatcher, entry, row)?;
+    let given = choose(dispatcher, lent, row)?;
     put_all(writer, line_in(lines, given))?;
     Ok(given)
 }
