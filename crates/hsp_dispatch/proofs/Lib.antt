@@ -1,3 +1,4 @@
 pub mod Spreads
 pub mod Shares
 pub mod Resting
+pub mod SharedOut
