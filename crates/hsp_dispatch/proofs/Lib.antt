@@ -2,3 +2,4 @@ pub mod Spreads
 pub mod Shares
 pub mod Resting
 pub mod SharedOut
+pub mod Taking

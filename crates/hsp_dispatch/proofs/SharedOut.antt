@@ -184,7 +184,7 @@ row_there site row lists has = elim (cases_lt row (length lists)) [
 ]
 
 -- the arc that is found is one of the arcs, and of the site
-found_so : (P : Arc → Type 0) (site : ℕ) (arcs : List Arc) (arc : Arc) → AllByRecursion P arcs → arc_to site (Some arcs) ≡ Some arc → P arc × (arc.site ≡ site)
+pub found_so : (P : Arc → Type 0) (site : ℕ) (arcs : List Arc) (arc : Arc) → AllByRecursion P arcs → arc_to site (Some arcs) ≡ Some arc → P arc × (arc.site ≡ site)
 found_so P site [] arc all found = absurd (cc)
 found_so P site (first ∷ arcs) arc all found = elim (cases_Bool (first.site == site)) [
   | inl at ↦
@@ -224,12 +224,12 @@ each_is it row (one ∷ uses) is goes = elim (cases_eq one.row row) [
 
 -- ---- lists with one element written
 
-set_here : (xs : List (List Cell)) (i : ℕ) (x : List Cell) → i < length xs → slice_get (set xs i x) i ≡ Some x
+pub set_here : (xs : List (List Cell)) (i : ℕ) (x : List Cell) → i < length xs → slice_get (set xs i x) i ≡ Some x
 set_here [] i x l = absurd (omega arith)
 set_here (y ∷ xs) zero x l = refl
 set_here (y ∷ xs) (suc i) x l = set_here xs i x (omega arith)
 
-set_other : (xs : List (List Cell)) (i j : ℕ) (x : List Cell) → i ≢ j → slice_get (set xs i x) j ≡ slice_get xs j
+pub set_other : (xs : List (List Cell)) (i j : ℕ) (x : List Cell) → i ≢ j → slice_get (set xs i x) j ≡ slice_get xs j
 set_other [] i j x other = refl
 set_other (y ∷ xs) zero zero x other = absurd (other refl)
 set_other (y ∷ xs) zero (suc j) x other = refl

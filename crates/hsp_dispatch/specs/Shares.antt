@@ -11,7 +11,9 @@ use Rattle.hsp_check.specs.Valid.{IsValidPlan}
 use Rattle.hsp_cert.specs.Certificate.{Claim, ascends, is_before, is_use}
 use Rattle.hsp_cert.specs.Certificate.Claim.{best, short}
 use Rattle.hsp_cert.specs.declared.use_line.UseLine.{UseLine}
-use Rattle.hsp_dispatch.specs.Dispatch.{arc_to}
+use Rattle.hsp_names.specs.declared.handle.HandleRef.{HandleRef}
+use Rattle.hsp_names.specs.Lent.{octets_of}
+use Rattle.hsp_dispatch.specs.Dispatch.{Entry, IsSame, answer_at, answer_to, arc_to, rest, row_of, spread}
 use Rattle.hsp_dispatch.specs.declared.answer.Answer.{Answer}
 use Rattle.hsp_dispatch.specs.declared.answer.Answer.TheVariants.{Assigned, Spent}
 use Rattle.hsp_dispatch.specs.declared.share.Cell.{Cell}
@@ -114,3 +116,23 @@ served_by (Some server) = Assigned server.site server.place server.id
 abbrev pub taken_answer : Instance → Option ℕ → Answer
 taken_answer it None = Spent
 taken_answer it (Some number) = served_by (slice_get it.servers number)
+
+-- a query for a handle, from a region
+abbrev pub query : List ℕ → HandleRef → Entry
+query region handle = record { region = region; handle = octets_of handle }
+
+-- the answer to a query by what is left
+abbrev pub answer_by : Held → Entry → Answer
+answer_by held entry = answer_to held.instance (left_of held) [] entry
+
+-- the answer by the first of what is left of a row
+abbrev pub first_answer : Held → ℕ → Answer
+first_answer held row = answer_at held.instance row (slice_get (spread held.instance (left_of held) row) 0)
+
+-- what a query leaves
+abbrev pub rest_of : Held → Entry → Plan
+rest_of held entry = rest held.instance (left_of held) (entry ∷ [])
+
+-- what is left is what a query for the row leaves
+abbrev pub IsRestOf : Held → ℕ → Held → Type 0
+IsRestOf held row new = (entry : Entry) → row_of held.instance entry ≡ Some row → IsSame (left_of new) (rest_of held entry)
