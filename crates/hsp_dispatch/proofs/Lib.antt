@@ -6,3 +6,5 @@ mod Counting
 pub mod Spreads
 pub mod Shares
 pub mod Resting
+pub mod SharedOut
+pub mod Taking

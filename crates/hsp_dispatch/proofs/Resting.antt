@@ -176,6 +176,20 @@ rest_unknown it x entry unknown row site =
     let taken : times site (take (count_for it row (entry ∷ [])) (spread it x row)) ≡ 0 = ap (λ (k : ℕ). times site (take k (spread it x row))) none in
     omega (arith, rest_is it x (entry ∷ []) row site, taken)
 
+-- one query leaves its row without the first element of its spread, and the other rows as they are
+pub rest_here : (it : Instance) (x : Plan) (row site : ℕ) (entry : Entry) → row_of it entry ≡ Some row
+    → rest it x (entry ∷ []) row site ≡ x row site - times site (take 1 (spread it x row))
+rest_here it x row site entry found =
+    let one : count_for it row (entry ∷ []) ≡ 1 = count_more it row [] entry ∙ rw (found, eq-eqb row row refl) refl in
+    rest_is it x (entry ∷ []) row site ∙ ap (λ (k : ℕ). x row site - times site (take k (spread it x row))) one
+
+pub rest_other : (it : Instance) (x : Plan) (row other site : ℕ) (entry : Entry) → row_of it entry ≡ Some row → row ≢ other
+    → rest it x (entry ∷ []) other site ≡ x other site
+rest_other it x row other site entry found apart =
+    let none : count_for it other (entry ∷ []) ≡ 0 = count_more it other [] entry ∙ rw (found, ne_eqb row other apart) refl in
+    let taken : times site (take (count_for it other (entry ∷ [])) (spread it x other)) ≡ 0 = ap (λ (k : ℕ). times site (take k (spread it x other))) none in
+    omega (arith, rest_is it x (entry ∷ []) other site, taken)
+
 -- ---- answers to one entry more
 
 pub answers_more : (it : Instance) (x : Plan) (before entries : List Entry) (entry : Entry)

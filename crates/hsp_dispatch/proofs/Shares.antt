@@ -44,7 +44,7 @@ more_left cells i read written h are r w not_one =
     let left : written.left ≡ read.left = ap (λ (c : Cell). c.left) one in
     omega (arith, not_one)
 
-all_so : (P Q : Cell → Type 0) → ((cell : Cell) → P cell → Q cell) → (cells : List Cell) → AllByRecursion P cells → AllByRecursion Q cells
+pub all_so : (P Q : Cell → Type 0) → ((cell : Cell) → P cell → Q cell) → (cells : List Cell) → AllByRecursion P cells → AllByRecursion Q cells
 all_so P Q so [] all = tt
 all_so P Q so (cell ∷ cells) all = (so cell all.0, all_so P Q so cells all.1)
 
@@ -53,7 +53,7 @@ both_so P Q R so [] p q = tt
 both_so P Q R so (cell ∷ cells) p q = (so cell p.0 q.0, both_so P Q R so cells p.1 q.1)
 
 -- cells behind a site leave nothing at it
-none_at : (cells : List Cell) (s : ℕ) → AllByRecursion (λ (cell : Cell). s < cell.site) cells → left_at cells s ≡ 0
+pub none_at : (cells : List Cell) (s : ℕ) → AllByRecursion (λ (cell : Cell). s < cell.site) cells → left_at cells s ≡ 0
 none_at [] s behind = refl
 none_at (cell ∷ cells) s behind = rw (ne_eqb cell.site s (λ same. absurd (omega (arith, behind.0, same)))) (none_at cells s behind.1)
 

@@ -12,8 +12,16 @@ mod lines;
 mod reading;
 mod run;
 mod share;
+mod sharing;
 
 pub use answer::{Answer, LogSums};
 pub use dispatcher::Dispatcher;
 pub use fault::LogFault;
 pub use run::run_log;
+
+#[cfg(test)]
+pub mod fakes;
+#[cfg(test)]
+mod run_tests;
+#[cfg(test)]
+mod worked;
