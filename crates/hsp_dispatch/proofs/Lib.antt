@@ -3,3 +3,4 @@ pub mod Shares
 pub mod Resting
 pub mod SharedOut
 pub mod Taking
+pub mod Dispatching
