@@ -8,3 +8,4 @@ pub mod Shares
 pub mod Resting
 pub mod SharedOut
 pub mod Taking
+pub mod Dispatching

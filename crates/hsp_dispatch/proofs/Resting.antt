@@ -27,7 +27,7 @@ at_site : (own site : ℕ) (server : Option Server) → is_at site (assigned_to 
 at_site own site None = refl
 at_site own site (Some server) = refl
 
-none_from : (xs : List ℕ) (k : ℕ) → None ≡ slice_get xs k → length xs ≤ k
+pub none_from : (xs : List ℕ) (k : ℕ) → None ≡ slice_get xs k → length xs ≤ k
 none_from xs k none = elim (cases_lt k (length xs)) [
   | inl inside ↦ let there = slice_get-get_or xs k 0 inside in absurd (cc)
   | inr past ↦ past

@@ -13,8 +13,12 @@ use Rattle.hsp_dispatch.specs.Dispatch.{spread_from}
 abbrev pub times : ℕ → List ℕ → ℕ
 times site sites = count_by (λ (own : ℕ). own == site) sites
 
+-- 1 at the site, 0 at others
+abbrev pub is_site : ℕ → ℕ → ℕ
+is_site site own = cond (own == site) 1 0
+
 pub times_append : (site : ℕ) (xs ys : List ℕ) → times site (xs ++ ys) ≡ times site xs + times site ys
-times_append site xs ys = sum_by-append (λ (own : ℕ). cond (own == site) 1 0) xs ys
+times_append site xs ys = sum_by-append (is_site site) xs ys
 
 -- a site by itself, so often
 times_same : (k s : ℕ) → times s (replicate k s) ≡ k
