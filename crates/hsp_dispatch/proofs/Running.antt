@@ -64,19 +64,22 @@ answer_is run form rows entries now entry answered = answer_after run.instance r
 pub answered_more : (run : Setting) (form : Form) (rows : List Fields) (entries : List Entry) (now end : Outcome) (row : Fields) (given : Given) → Answered run form rows entries now
     → AnswersRow (midst run now) form row end given
     → (entry : Entry) × Answered run form (rows ++ row ∷ []) (entries ++ entry ∷ []) end
-      × (answers run.instance run.plan (entries ++ entry ∷ []) ≡ answers run.instance run.plan entries ++ answer_of run.instance given ∷ [])
+    × (answers run.instance run.plan (entries ++ entry ∷ []) ≡ answers run.instance run.plan entries ++ answer_of run.instance given ∷ [])
 answered_more run form rows entries now end row given answered answers_row =
     let entry = answers_row.0 in
     let takes = answers_row.2.0 in
     let is = answer_is run form rows entries now entry answered in
     let more = answers_more run.instance run.plan [] entries entry in
     let line : text_of run.instance (answers run.instance run.plan (entries ++ entry ∷ [])) ≡ text_of run.instance (answers run.instance run.plan entries) ++ line_of run.instance (answer_to run.instance now.left [] entry) =
-        rw (more, is) (text_more run.instance (answers run.instance run.plan entries) (answer_to run.instance run.plan entries entry)) in
-    (entry, record {
-      spelled = entries_more form rows entries row entry answered.spelled answers_row.1;
-      written = rw line (Appends-trans run.before now.after end.after _ _ answered.written answers_row.2.1);
-      left = rest_more run.instance run.plan now.left end.left entries entry answered.left takes.left;
-    }, rw (more, takes.answer, is) refl)
+    rw (more, is) (text_more run.instance (answers run.instance run.plan entries) (answer_to run.instance run.plan entries entry)) in (
+      entry,
+      record {
+        spelled = entries_more form rows entries row entry answered.spelled answers_row.1;
+        written = rw line (Appends-trans run.before now.after end.after _ _ answered.written answers_row.2.1);
+        left = rest_more run.instance run.plan now.left end.left entries entry answered.left takes.left;
+      },
+      rw (more, takes.answer, is) refl,
+    )
 
 -- nothing more
 pub answered_still : (run : Setting) (form : Form) (rows : List Fields) (entries : List Entry) (now end : Outcome) → Answered run form rows entries now
@@ -127,8 +130,16 @@ row_stops run form rows entries bad more now end number fault.WriteFailed begins
     let entry = fails.0 in
     let takes = fails.2.1 in
     inl (
-      form, rows ++ bad ∷ [], more, entries, entry, now.after, begins, entries_more form rows entries bad entry answered.spelled fails.1,
-      rest_more run.instance run.plan now.left end.left entries entry answered.left takes.left, answered.written,
+      form,
+      rows ++ bad ∷ [],
+      more,
+      entries,
+      entry,
+      now.after,
+      begins,
+      entries_more form rows entries bad entry answered.spelled fails.1,
+      rest_more run.instance run.plan now.left end.left entries entry answered.left takes.left,
+      answered.written,
       rw (answer_is run form rows entries now entry answered) at fails.2.2,
     )
 row_stops run form rows entries bad more now end number fault.ReadFailed begins many answered fails = absurd fails

@@ -1,23 +1,6 @@
 use super::*;
-use crate::worked::{certificate, instance};
-use hsp_cert::Certificate;
-use hsp_check::{Verdict, check};
-use hsp_instance::Instance;
+use crate::worked::{certificate, dispatcher, instance};
 use hsp_names::HandleRef;
-use std::alloc::Global;
-
-// A dispatcher by the certificate, which is valid. None stands for want of memory.
-fn dispatcher<'a>(
-    alloc: Global,
-    instance: &'a Instance,
-    certificate: &Certificate,
-) -> Option<Dispatcher<'a>> {
-    let verdict = check(alloc, instance, certificate).ok()?;
-    if verdict != Verdict::Yes || certificate.as_best().is_none() {
-        return None;
-    }
-    Dispatcher::new(alloc, instance, certificate).ok()
-}
 
 #[test]
 fn queries_go_by_the_plan(rt: HostRuntime) {

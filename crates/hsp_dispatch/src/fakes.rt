@@ -28,20 +28,19 @@ impl<'a> Read for FakeReader<'a> {
         if self.good == 0 {
             return Err(io::Error::from(ErrorKind::Other));
         }
-        let mut given = 0;
-        for place in buf {
-            if given == self.piece || given == self.good {
-                break;
-            }
+        let room = buf.len();
+        for (given, place) in buf.iter_mut().enumerate() {
             let [octet, rest @ ..] = self.text else {
-                break;
+                return Ok(given);
             };
+            if given == self.piece || self.good == 0 {
+                return Ok(given);
+            }
             *place = *octet;
             self.text = rest;
-            given += 1;
+            self.good -= 1;
         }
-        self.good -= given;
-        Ok(given)
+        Ok(room)
     }
 }
 
@@ -70,21 +69,17 @@ impl FakeWriter {
 
 impl Write for FakeWriter {
     fn write(&mut self, buf: &[u8]) -> io::Result<usize> {
-        let mut count = 0;
-        for octet in buf {
-            if count == self.piece || self.good == 0 {
-                break;
-            }
-            if self.taken.push(*octet).is_err() {
-                break;
+        for (count, octet) in buf.iter().enumerate() {
+            if count == self.piece || self.good == 0 || self.taken.push(*octet).is_err() {
+                return if count == 0 {
+                    Err(io::Error::from(ErrorKind::Other))
+                } else {
+                    Ok(count)
+                };
             }
             self.good -= 1;
-            count += 1;
         }
-        if count == 0 && !buf.is_empty() {
-            return Err(io::Error::from(ErrorKind::Other));
-        }
-        Ok(count)
+        Ok(buf.len())
     }
 
     fn flush(&mut self) -> io::Result<()> {

@@ -18,21 +18,15 @@ pub enum LogFault {
     /// The first record is no header of a log, or there is none.
     Header,
     /// The row has not two fields.
-    Fields {
-        row: u32,
-    },
+    Fields { row: u32 },
     /// The row's handle is none.
-    BadHandle {
-        row: u32,
-    },
+    BadHandle { row: u32 },
     /// There are more than 10,000,000 rows.
     LogTooLong,
     /// Memory ran out.
     OutOfMemory,
     /// The row's body is not in hexadecimal digits, or no body of a resolution request.
-    BadBody {
-        row: u32,
-    },
+    BadBody { row: u32 },
 }
 
 impl From<AllocError> for LogFault {

@@ -8,6 +8,7 @@ mod body;
 mod dispatcher;
 mod fault;
 mod form;
+pub mod laws;
 mod lines;
 mod reading;
 mod run;
@@ -19,6 +20,8 @@ pub use dispatcher::Dispatcher;
 pub use fault::LogFault;
 pub use run::run_log;
 
+#[cfg(test)]
+mod dispatcher_tests;
 #[cfg(test)]
 pub mod fakes;
 #[cfg(test)]

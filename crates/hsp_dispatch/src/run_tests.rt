@@ -1,6 +1,6 @@
 use super::*;
 use crate::fakes::{FakeReader, FakeWriter};
-use crate::worked::{certificate, instance};
+use crate::worked::{certificate, dispatcher, instance};
 use std::alloc::Global;
 use std::io;
 use std::io::{Read, Write};
@@ -65,7 +65,12 @@ fn worked() -> Case {
 const WHOLE_PLAN: [u64; 4] = [1, 2, 5, 4];
 
 // What a log that is read and written whole comes to.
-fn plain(log: &'static [u8], ends: Result<LogSums, LogFault>, lines: &'static [u8], left: [u64; 4]) -> Case {
+fn plain(
+    log: &'static [u8],
+    ends: Result<LogSums, LogFault>,
+    lines: &'static [u8],
+    left: [u64; 4],
+) -> Case {
     Case {
         log,
         ends,
@@ -79,7 +84,7 @@ fn plain(log: &'static [u8], ends: Result<LogSums, LogFault>, lines: &'static [u
 fn run(rt: &impl Abort, alloc: Global, case: Case) -> Option<Result<LogSums, LogFault>> {
     let instance = instance(alloc)?;
     let certificate = certificate(alloc)?;
-    let mut dispatcher = Dispatcher::new(alloc, &instance, &certificate).ok()?;
+    let mut dispatcher = dispatcher(alloc, &instance, &certificate)?;
     let mut writer = FakeWriter::whole(alloc).ok()?;
     writer.piece = case.written.piece;
     writer.good = case.written.good;
@@ -123,9 +128,24 @@ fn the_worked_log_is_answered(rt: HostRuntime) {
             ..worked()
         },
         plain(b"region,handle\n", sums(0, 0, 0), b"", WHOLE_PLAN),
-        plain(b"region,handle\r\nr2,\"10/3\"\r\n", sums(1, 0, 0), b"assigned E 1 3\n", [0, 2, 5, 4]),
-        plain(b"region,handle\n,10/3\n", sums(0, 0, 1), b"unknown\n", WHOLE_PLAN),
-        plain(b"region,handle\nr1,10/1\nr1,10/2\n", sums(2, 0, 0), b"assigned E 1 3\nassigned E 0 7\n", [1, 2, 4, 3]),
+        plain(
+            b"region,handle\r\nr2,\"10/3\"\r\n",
+            sums(1, 0, 0),
+            b"assigned E 1 3\n",
+            [0, 2, 5, 4],
+        ),
+        plain(
+            b"region,handle\n,10/3\n",
+            sums(0, 0, 1),
+            b"unknown\n",
+            WHOLE_PLAN,
+        ),
+        plain(
+            b"region,handle\nr1,10/1\nr1,10/2\n",
+            sums(2, 0, 0),
+            b"assigned E 1 3\nassigned E 0 7\n",
+            [1, 2, 4, 3],
+        ),
     ];
     for case in cases {
         comes(&rt, rt.alloc(), case);
@@ -135,8 +155,18 @@ fn the_worked_log_is_answered(rt: HostRuntime) {
 #[test]
 fn bodies_are_answered(rt: HostRuntime) {
     let cases = [
-        plain(b"region,body\nr2,0000000431302f330000000000000000\n", sums(1, 0, 0), FIRST, [0, 2, 5, 4]),
-        plain(b"region,body\nr2,0000000431302F330000000000000000\n", sums(1, 0, 0), FIRST, [0, 2, 5, 4]),
+        plain(
+            b"region,body\nr2,0000000431302f330000000000000000\n",
+            sums(1, 0, 0),
+            FIRST,
+            [0, 2, 5, 4],
+        ),
+        plain(
+            b"region,body\nr2,0000000431302F330000000000000000\n",
+            sums(1, 0, 0),
+            FIRST,
+            [0, 2, 5, 4],
+        ),
         plain(
             b"region,body\nr2,0000000431302f330000000100000001000000010000000755524c\n",
             Err(LogFault::BadBody { row: 0 }),
@@ -178,11 +208,36 @@ fn no_body(log: &'static [u8]) -> Case {
 fn a_faulty_row_ends_the_run_after_the_others(rt: HostRuntime) {
     let cases = [
         plain(b"", Err(LogFault::Header), b"", WHOLE_PLAN),
-        plain(b"region,handles\nr1,10/1\n", Err(LogFault::Header), b"", WHOLE_PLAN),
-        plain(b"region,handle,count\n", Err(LogFault::Header), b"", WHOLE_PLAN),
-        plain(b"front,region,handle\n", Err(LogFault::Header), b"", WHOLE_PLAN),
-        plain(b"region,handle\nr1\n", Err(LogFault::Fields { row: 0 }), b"", WHOLE_PLAN),
-        plain(b"region,handle\nr1,10/1,5\n", Err(LogFault::Fields { row: 0 }), b"", WHOLE_PLAN),
+        plain(
+            b"region,handles\nr1,10/1\n",
+            Err(LogFault::Header),
+            b"",
+            WHOLE_PLAN,
+        ),
+        plain(
+            b"region,handle,count\n",
+            Err(LogFault::Header),
+            b"",
+            WHOLE_PLAN,
+        ),
+        plain(
+            b"front,region,handle\n",
+            Err(LogFault::Header),
+            b"",
+            WHOLE_PLAN,
+        ),
+        plain(
+            b"region,handle\nr1\n",
+            Err(LogFault::Fields { row: 0 }),
+            b"",
+            WHOLE_PLAN,
+        ),
+        plain(
+            b"region,handle\nr1,10/1,5\n",
+            Err(LogFault::Fields { row: 0 }),
+            b"",
+            WHOLE_PLAN,
+        ),
         plain(
             b"region,handle\nr1,10/1\nr1,10\n",
             Err(LogFault::BadHandle { row: 1 }),
@@ -220,10 +275,7 @@ fn failing_reads_and_writes_are_told(rt: HostRuntime) {
     };
     // The reader fails behind the second row.
     let cut_log = Case {
-        read: Limits {
-            piece: 1,
-            good: 32,
-        },
+        read: Limits { piece: 1, good: 32 },
         ends: Err(LogFault::ReadFailed),
         lines: b"assigned E 1 3\nassigned W 0 1\n",
         left: [0, 1, 5, 4],
@@ -251,23 +303,22 @@ struct Rows {
 
 impl Read for Rows {
     fn read(&mut self, buf: &mut [u8]) -> io::Result<usize> {
-        let mut given = 0;
-        for place in buf {
+        let room = buf.len();
+        for (given, place) in buf.iter_mut().enumerate() {
             if self.head.is_empty() {
                 if self.times == 0 {
-                    break;
+                    return Ok(given);
                 }
                 self.times -= 1;
                 self.head = self.row;
             }
             let [octet, rest @ ..] = self.head else {
-                break;
+                return Ok(given);
             };
             *place = *octet;
             self.head = rest;
-            given += 1;
         }
-        Ok(given)
+        Ok(room)
     }
 }
 
@@ -303,7 +354,7 @@ fn a_log_has_ten_million_rows_at_most(rt: HostRuntime) -> Result<(), Fail> {
     let Some(certificate) = certificate(rt.alloc()) else {
         return Ok(());
     };
-    let Ok(mut dispatcher) = Dispatcher::new(rt.alloc(), &instance, &certificate) else {
+    let Some(mut dispatcher) = dispatcher(rt.alloc(), &instance, &certificate) else {
         return Ok(());
     };
     let rows = Rows {

@@ -1,6 +1,8 @@
 // The worked instance and its plan. None stands for want of memory.
 
+use crate::dispatcher::Dispatcher;
 use hsp_cert::{Certificate, UseLine};
+use hsp_check::{Verdict, check};
 use hsp_instance::{Instance, build};
 use hsp_tables::{read_capacity, read_costs, read_demand, read_settings};
 use std::alloc::Global;
@@ -32,4 +34,17 @@ pub(crate) fn certificate(alloc: Global) -> Option<Certificate> {
     let rows = Vec::from_slice(alloc, &[2, 1, 3]).ok()?;
     let servers = Vec::from_slice(alloc, &[0, 1, 0, 0, 0]).ok()?;
     Certificate::best(17, uses, rows, servers)
+}
+
+/// A dispatcher by the certificate, which is valid.
+pub(crate) fn dispatcher<'a>(
+    alloc: Global,
+    instance: &'a Instance,
+    certificate: &Certificate,
+) -> Option<Dispatcher<'a>> {
+    let verdict = check(alloc, instance, certificate).ok()?;
+    if verdict != Verdict::Yes || certificate.as_best().is_none() {
+        return None;
+    }
+    Dispatcher::new(alloc, instance, certificate).ok()
 }

@@ -22,7 +22,9 @@ rows-init g c = record {
   instance = refl;
   within = lit≤ tt;
   so_far = (
-    [], [], refl,
+    [],
+    [],
+    refl,
     header_read g.R.Read.remaining c.args.reader.now c.take_form.new.reader c.in_ok-form.form c.in_ok-form.ensures.form,
     answered_none _ c.in_ok-form.form _ (Appends-nil _) (λ row site. refl),
     c.none-sums.ensures,
@@ -66,18 +68,19 @@ rows-preserved g c =
     let row = fields_of c.take_record.new.record in
     let read = row_read g.R.Read.remaining c.rows.reader c.take_record.new.reader _ _ so_far.0 row so_far.3 (rw c.if-not-branch.false at c.in_ok-take_record.ensures.takes) in
     let more = answered_more _ c.in_ok-form.form so_far.0 so_far.1 (ended c.rows.dispatcher (g.W.Write.contents c.rows.writer))
-        (ended c.answer_row.new.dispatcher (g.W.Write.contents c.answer_row.new.writer)) row c.in_ok-given.given so_far.4 (rw c.rows.invariant.instance at c.in_ok-given.ensures.answers) in
+    (ended c.answer_row.new.dispatcher (g.W.Write.contents c.answer_row.new.writer)) row c.in_ok-given.given so_far.4 (rw c.rows.invariant.instance at c.in_ok-given.ensures.answers) in
     record {
       reading = c.in_ok-take_record.ensures.reading;
       instance = c.answer_row.ensures.instance ∙ c.rows.invariant.instance;
       within = omega (arith, c.rows.invariant.within, c.if-row-eq-MOST_LOG_ROWS.false);
       so_far = (
-        so_far.0 ++ row ∷ [], so_far.1 ++ more.0 ∷ [],
+        so_far.0 ++ row ∷ [],
+        so_far.1 ++ more.0 ∷ [],
         length-append so_far.0 (row ∷ []) ∙ ap (λ n. n + 1) so_far.2,
         read,
         more.1,
         c.count.ensures ∙ counted_on c.args.dispatcher.now.instance (left_of c.args.dispatcher.now) so_far.1 (so_far.1 ++ more.0 ∷ []) c.in_ok-given.given c.rows.sums
-        (rw c.rows.invariant.instance at c.in_ok-given.ensures.among) so_far.5 more.2,
+            (rw c.rows.invariant.instance at c.in_ok-given.ensures.among) so_far.5 more.2,
       );
     }
 
@@ -85,9 +88,14 @@ pub returns-in-Ok-clause-whole : goal.returns-in-Ok-clause-whole
 returns-in-Ok-clause-whole g c =
     let so_far = c.rows.invariant.so_far in
     let whole = all_read g.R.Read.remaining c.rows.reader c.take_record.new.reader _ _ so_far.0 (fields_of c.take_record.new.record) so_far.3
-    (rw c.if-not-branch.true at c.in_ok-take_record.ensures.takes) in
-    (c.in_ok-form.form, so_far.0, so_far.1, whole,
-     answered_still _ _ so_far.0 so_far.1 _ _ so_far.4 (keeps_appends _ _ c.flush.ensures.bytes) (λ row site. refl), so_far.5)
+    (rw c.if-not-branch.true at c.in_ok-take_record.ensures.takes) in (
+      c.in_ok-form.form,
+      so_far.0,
+      so_far.1,
+      whole,
+      answered_still _ _ so_far.0 so_far.1 _ _ so_far.4 (keeps_appends _ _ c.flush.ensures.bytes) (λ row site. refl),
+      so_far.5,
+    )
 
 pub returns-in-Err-clause-stops : goal.returns-in-Err-clause-stops
 returns-in-Err-clause-stops g c =
