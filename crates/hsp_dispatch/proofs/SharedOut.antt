@@ -126,9 +126,9 @@ left_is it row site (one ∷ uses) order = split (left_is it row site uses order
 -- ---- uses that go where they may
 
 -- a row has an arc to the site
-record HasArcTo (site row : ℕ) (lists : List (List Arc)) : Type 0 where
-  arc : Arc
-  is_arc : arc_to site (slice_get lists row) ≡ Some arc
+pub record HasArcTo (site row : ℕ) (lists : List (List Arc)) : Type 0 where
+  pub arc : Arc
+  pub is_arc : arc_to site (slice_get lists row) ≡ Some arc
 
 -- the test of the arcs of a row to a site
 abbrev goes : ℕ → ℕ → NetworkArc → Bool
@@ -168,7 +168,7 @@ arc_from i row site (arcs ∷ lists) any =
           (suc rest.0, omega (arith, rest.1), record { arc = rest.2.arc; is_arc = rest.2.is_arc })
     ]
 
-has_arc : (it : Instance) (row site : ℕ) → is_allowed (network_of it) row site ≡ true → HasArcTo site row it.arcs
+pub has_arc : (it : Instance) (row site : ℕ) → is_allowed (network_of it) row site ≡ true → HasArcTo site row it.arcs
 has_arc it row site allowed =
     let found = arc_from 0 row site it.arcs allowed in
     let same : row ≡ found.0 = omega (arith, found.1) in

@@ -146,11 +146,16 @@ rest_after held row cells new is e same entry found other site = elim (cases_eq 
 
 -- ---- the row of a query
 
-pub row_handle : (it : Instance) (region handle : List ℕ) (row : ℕ) → IsInstance it → position (has_keys region handle) it.rows ≡ Some row → handle_in handle ≡ Ok handle
-row_handle it region handle row is found =
+-- the row that is found is of the handle
+pub row_found : (it : Instance) (region handle : List ℕ) (row : ℕ) → position (has_keys region handle) it.rows ≡ Some row → (own : Row) × (slice_get it.rows row ≡ Some own) × (handle ≡ own.handle)
+row_found it region handle row found =
     let none : Row = record { region = []; handle = []; count = 0 } in
     let at = position-Some (has_keys region handle) it.rows row none found in
     let own = there it.rows row at.0 in
     let tested : has_keys region handle own.0 ≡ true = rw (get_or_from_slice_get it.rows row own.0 none own.1) at at.1 in
-    let same : handle ≡ own.0.handle = (bytes_eq-Decides handle own.0.handle).0 (and_parts (bytes_eq region own.0.region) (bytes_eq handle own.0.handle) tested).1 in
-    subst (λ (octets : List ℕ). handle_in octets ≡ Ok octets) (sym same) (all_at IsNamed it.rows row own.0 is.rows.named own.1).handle
+    (own.0, own.1, (bytes_eq-Decides handle own.0.handle).0 (and_parts (bytes_eq region own.0.region) (bytes_eq handle own.0.handle) tested).1)
+
+pub row_handle : (it : Instance) (region handle : List ℕ) (row : ℕ) → IsInstance it → position (has_keys region handle) it.rows ≡ Some row → handle_in handle ≡ Ok handle
+row_handle it region handle row is found =
+    let own = row_found it region handle row found in
+    subst (λ (octets : List ℕ). handle_in octets ≡ Ok octets) (sym own.2) (all_at IsNamed it.rows row own.0 is.rows.named own.1).handle
