@@ -4,7 +4,7 @@ use Rattle.std.proofs.Common.{inl, inr}
 use Rattle.std.specs.List.{AllByRecursion, slice_get}
 use Rattle.std.proofs.lemmas.Bool.{cases_Bool, eqb-false}
 use Rattle.hsp_hash.specs.Option.{option_of}
-use Rattle.hsp_hash.specs.Place.{absolute_value, server_place}
+use Rattle.hsp_hash.specs.Place.{server_place}
 use Rattle.hsp_hash.specs.declared.option.HashOption.{HashOption}
 use Rattle.hsp_record.specs.Site as records
 use Rattle.hsp_record.specs.Values.{HandleValue}
@@ -13,16 +13,15 @@ use Rattle.hsp_tables.specs.Settings.{SiteEntry}
 use Rattle.hsp_text.specs.Answers.{◌>>=◌, or_fault}
 use Rattle.hsp_text.specs.declared.limits.TheConstants.{MOST_SERVERS}
 use Rattle.hsp_instance.specs.Building.{AreSitesAfter, Inputs, IsBuilt, IsSiteOf, checked_site, has_id_twice, server_of_record, site_octets, site_of_reading}
-use Rattle.hsp_instance.specs.Instance.{HasServer, Instance, Row, Server, Site, SiteServer, number_at, servers_of}
-use Rattle.hsp_instance.specs.Parts.{HasPartsOf, IsArcOf}
+use Rattle.hsp_instance.specs.Instance.{HasServer, Instance, Server, Site, SiteServer, number_at, servers_of}
+use Rattle.hsp_instance.specs.Parts.{IsArcOf}
 use Rattle.hsp_instance.specs.declared.arc.Arc.{Arc}
 use Rattle.hsp_instance.specs.declared.fault.BuildFault.{BuildFault}
-use Rattle.hsp_instance.specs.declared.fault.BuildFault.TheVariants.{BadHashOption, NoServer, ServerIdTwice, TooManyServers}
+use Rattle.hsp_instance.specs.declared.fault.BuildFault.TheVariants.{BadHashOption}
 use Rattle.hsp_instance.proofs.BuiltParts.{built_has_its_parts}
 use Rattle.hsp_instance.proofs.Lists.{all_at, all_push, there}
 use Rattle.hsp_check.specs.Instance.{network_of}
 use Rattle.hsp_check.specs.Network.{is_allowed}
-use Rattle.hsp_check.specs.Plan.{Feasible, Plan}
 use Rattle.hsp_dispatch.specs.Dispatch.{Entry, answer_at, answer_in, arc_to, assigned_to, count_for, end_of, row_of, server_to, spread}
 use Rattle.hsp_dispatch.specs.Laws.{GoesByHash, IsByHash}
 use Rattle.hsp_dispatch.proofs.SharedOut.{found_so, has_arc}

@@ -1,8 +1,8 @@
 -- Spreads, and what is left of them when their first elements are taken.
-use Rattle.std.proofs.Common.{◌≡◌, ◌≢◌, ◌<◌, ◌≤◌, ◌+◌, ◌-◌, ◌∙◌, ◌++◌, ◌==◌, ℕ, zero, suc, List, [], ◌∷◌, count_by, length, take, drop, replicate, cond, Option, Some, None, arith, refl, sym, ap, eq-eqb}
+use Rattle.std.proofs.Common.{◌≡◌, ◌≢◌, ◌<◌, ◌≤◌, ◌+◌, ◌-◌, ◌∙◌, ◌++◌, ◌==◌, ℕ, zero, suc, List, [], ◌∷◌, count_by, length, take, drop, replicate, cond, Some, arith, refl, sym, ap, eq-eqb}
 use Rattle.std.proofs.Common.{inl, inr}
 use Rattle.std.proofs.lemmas.Bool.{ne_eqb, cases_eq, cases_lt}
-use Rattle.std.proofs.lemmas.List.{drop-append-le, drop-drop, drop_at, drop-replicate, length-replicate, take-append-le, take-append-drop, take-replicate}
+use Rattle.std.proofs.lemmas.List.{drop-append-le, drop-drop, drop_at, drop-replicate, length-replicate, take-append-le, take-replicate}
 use Rattle.std.proofs.lemmas.List.Folds.{sum_by-replicate}
 use Rattle.std.proofs.lemmas.List.Sums.{sum_by-append, sum_by-cons}
 use Rattle.std.proofs.lemmas.Option.{same_Some}

@@ -1,7 +1,7 @@
 -- What a query takes of what is held.
-use Rattle.std.proofs.Common.{◌≡◌, ◌≢◌, ◌<◌, ◌≤◌, ◌+◌, ◌-◌, ◌∙◌, ◌++◌, ◌==◌, Bool, true, false, ℕ, zero, suc, List, [], ◌∷◌, length, position, take, replicate, cond, Option, Some, None, Ok, arith, refl, sym, ap, subst, eq-eqb}
+use Rattle.std.proofs.Common.{◌≡◌, ◌<◌, ◌≤◌, ◌+◌, ◌-◌, ◌∙◌, ◌++◌, true, ℕ, zero, suc, List, [], ◌∷◌, length, position, take, replicate, Option, Some, None, Ok, arith, refl, sym, ap, subst, eq-eqb}
 use Rattle.std.proofs.Common.{inl, inr}
-use Rattle.std.specs.List.{AllByRecursion, slice_get}
+use Rattle.std.specs.List.{slice_get}
 use Rattle.std.specs.Str.{bytes_eq}
 use Rattle.std.proofs.lemmas.Bool.{and_parts, cases_eq, ne_eqb}
 use Rattle.std.proofs.lemmas.List.{length-set}
@@ -13,10 +13,8 @@ use Rattle.hsp_names.specs.Handle.{handle_in}
 use Rattle.hsp_instance.specs.Instance.{AreArcs, Instance, IsArc, IsInstance, IsNamed, Row, Server, has_keys}
 use Rattle.hsp_instance.specs.declared.arc.Arc.{Arc}
 use Rattle.hsp_instance.proofs.Lists.{all_at, there}
-use Rattle.hsp_check.specs.Plan.{Plan}
-use Rattle.hsp_dispatch.specs.Dispatch.{Entry, IsSame, answer_at, arc_to, assigned_to, end_of, rest, row_of, server_to, spread}
-use Rattle.hsp_dispatch.specs.Shares.{AreCells, AreCellsOf, Held, IsCellOf, IsHeld, IsRestOf, cells_in, first_answer, first_of, left_at, left_of, rest_of, served_by, without_first}
-use Rattle.hsp_dispatch.specs.declared.answer.Answer.{Answer}
+use Rattle.hsp_dispatch.specs.Dispatch.{answer_at, arc_to, assigned_to, end_of, server_to, spread}
+use Rattle.hsp_dispatch.specs.Shares.{AreCells, AreCellsOf, Held, IsCellOf, IsHeld, IsRestOf, cells_in, first_answer, first_of, left_at, left_of, served_by, without_first}
 use Rattle.hsp_dispatch.specs.declared.answer.Answer.TheVariants.{Assigned, Spent}
 use Rattle.hsp_dispatch.specs.declared.share.Cell.{Cell}
 use Rattle.hsp_dispatch.proofs.Resting.{rest_here, rest_other}
