@@ -1,14 +1,14 @@
 -- What holds of every plan and every log.
-use Rattle.std.proofs.Common.{◌≡◌, ◌<◌, ◌≤◌, ◌+◌, ◌∙◌, ◌++◌, ℕ, List, [], ◌∷◌, length, take, Option, Some, None, arith, refl, sym, ap}
+use Rattle.std.proofs.Common.{◌≡◌, ◌≤◌, ◌∙◌, ◌++◌, ℕ, List, [], ◌∷◌, length, take, Option, Some, None, arith, refl, sym, ap}
 use Rattle.std.specs.List.{slice_get}
 use Rattle.std.proofs.lemmas.List.{append-nil, append_assoc, take_all}
 use Rattle.std.proofs.lemmas.List.Sums.{sum_by-take-le}
 use Rattle.hsp_instance.specs.Instance.{Instance, Server}
 use Rattle.hsp_check.specs.Plan.{Plan}
-use Rattle.hsp_dispatch.specs.Dispatch.{Entry, answer_at, answer_in, answer_to, answers, answers_after, assigned_in, assigned_to, count_for, rest, row_of, server_to, spread}
+use Rattle.hsp_dispatch.specs.Dispatch.{Entry, answer_at, answer_in, answer_to, answers, answers_after, assigned_in, assigned_to, count_for, rest, server_to, spread}
 use Rattle.hsp_dispatch.specs.Laws.{GoesOnWithTheRest, IsSpentAfterAll, NeverExceeds}
 use Rattle.hsp_dispatch.specs.declared.answer.Answer.{Answer}
-use Rattle.hsp_dispatch.specs.declared.answer.Answer.TheVariants.{Assigned, Spent}
+use Rattle.hsp_dispatch.specs.declared.answer.Answer.TheVariants.{Spent}
 use Rattle.hsp_dispatch.proofs.Resting.{answer_parts, assigned_is, none_from}
 use Rattle.hsp_dispatch.proofs.Spreads.{is_site, times, times_in, times_within}
 

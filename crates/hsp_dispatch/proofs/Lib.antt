@@ -9,3 +9,4 @@ pub mod Resting
 pub mod SharedOut
 pub mod Taking
 pub mod Dispatching
+pub mod ByHash

@@ -1,5 +1,5 @@
 -- What the entries of a log leave of a plan, and that later entries are answered by it.
-use Rattle.std.proofs.Common.{◌≡◌, ◌≢◌, ◌<◌, ◌≤◌, ◌+◌, ◌-◌, ◌∙◌, ◌++◌, ◌==◌, Bool, true, false, ℕ, zero, suc, List, [], ◌∷◌, count_by, length, take, drop, replicate, cond, if◌then◌else◌, Option, Some, None, arith, refl, sym, ap, eq-eqb, zero-add}
+use Rattle.std.proofs.Common.{◌≡◌, ◌≢◌, ◌<◌, ◌≤◌, ◌+◌, ◌-◌, ◌∙◌, ◌++◌, ◌==◌, ℕ, zero, suc, List, [], ◌∷◌, length, take, drop, cond, if◌then◌else◌, Option, Some, None, arith, refl, sym, ap, eq-eqb, zero-add}
 use Rattle.std.proofs.Common.{inl, inr}
 use Rattle.std.proofs.lemmas.Bool.{ne_eqb, cases_eq, cases_lt}
 use Rattle.std.proofs.lemmas.List.{append-nil, append_assoc, drop-take, take-append-drop, take-take, take_all, take_more}
@@ -9,7 +9,7 @@ use Rattle.std.proofs.Math.Nat.{suc-add}
 use Rattle.std.specs.List.{slice_get}
 use Rattle.hsp_instance.specs.Instance.{Instance, Server}
 use Rattle.hsp_check.specs.Plan.{Plan}
-use Rattle.hsp_dispatch.specs.Dispatch.{Entry, IsSame, answer_at, answer_in, answer_to, answers_after, assigned_in, assigned_to, count_for, count_in, is_at, is_for, is_in, is_row, rest, row_of, server_to, spread}
+use Rattle.hsp_dispatch.specs.Dispatch.{Entry, IsSame, answer_at, answer_in, answer_to, answers_after, assigned_in, assigned_to, count_for, count_in, is_at, is_for, is_in, rest, row_of, server_to, spread}
 use Rattle.hsp_dispatch.proofs.Spreads.{same_spread, spread_left, times, times_append}
 
 -- ---- how many entries are for a row

@@ -1,8 +1,8 @@
 -- The cells that the uses of a plan give the rows of an instance.
-use Rattle.std.proofs.Common.{◌≡◌, ◌≢◌, ◌<◌, ◌≤◌, ◌+◌, ◌∙◌, ◌++◌, ◌==◌, ◌&&◌, ◌||◌, ◌⊎◌, Bool, true, false, ℕ, zero, suc, List, [], ◌∷◌, All, length, map, take, replicate, cond, if◌then◌else◌, Option, Some, None, arith, refl, sym, ap, subst, eq-eqb, eqb-true}
+use Rattle.std.proofs.Common.{◌≡◌, ◌≢◌, ◌<◌, ◌≤◌, ◌+◌, ◌∙◌, ◌++◌, ◌==◌, ◌&&◌, Bool, true, false, ℕ, zero, suc, List, [], ◌∷◌, All, length, map, take, replicate, if◌then◌else◌, Some, None, arith, refl, sym, ap, subst, eq-eqb, eqb-true}
 use Rattle.std.proofs.Common.{inl, inr}
-use Rattle.std.specs.Prelude.{nat_le, nat_lt, sum_by}
-use Rattle.std.specs.List.{AllByRecursion, find, list_all, list_any, slice_get}
+use Rattle.std.specs.Prelude.{nat_le, nat_lt}
+use Rattle.std.specs.List.{AllByRecursion, list_all, list_any, slice_get}
 use Rattle.std.proofs.lemmas.Bool.{and_parts, cases_Bool, cases_eq, cases_lt, leb-true, ltb-true, ne_eqb, or_cases}
 use Rattle.std.proofs.lemmas.List.{append-nil, length-replicate, length-set, take_more}
 use Rattle.std.proofs.lemmas.List.Folds.{list_any-append}
@@ -11,7 +11,7 @@ use Rattle.std.proofs.lemmas.Option.{get_or_from_slice_get, same_Some, slice_get
 use Rattle.std.proofs.Math.ListN.{set}
 use Rattle.hsp_cert.specs.declared.use_line.UseLine.{UseLine}
 use Rattle.hsp_cert.specs.Certificate.{ascends, ascends_from, is_before, is_use}
-use Rattle.hsp_instance.specs.Instance.{AreArcs, Instance, IsArc, IsInstance, IsServer, Server}
+use Rattle.hsp_instance.specs.Instance.{AreArcs, Instance, IsArc, IsInstance, IsServer}
 use Rattle.hsp_instance.specs.declared.arc.Arc.{Arc}
 use Rattle.hsp_instance.proofs.Lists.{all_at, all_from, there}
 use Rattle.hsp_check.specs.declared.arc.NetworkArc.{NetworkArc}
@@ -19,9 +19,9 @@ use Rattle.hsp_check.specs.Instance.{arc_of, arcs_from, network_of}
 use Rattle.hsp_check.specs.Network.{is_allowed}
 use Rattle.hsp_check.specs.Uses.{table}
 use Rattle.hsp_dispatch.specs.Dispatch.{IsSame, arc_to}
-use Rattle.hsp_dispatch.specs.Shares.{AreCells, AreCellsOf, AreSharesOf, AreUsesOf, IsCellOf, IsHeld, cell_of, cells_of, left_at, left_of, number_of}
+use Rattle.hsp_dispatch.specs.Shares.{AreCells, AreSharesOf, AreUsesOf, IsCellOf, IsHeld, cell_of, cells_of, left_at, left_of, number_of}
 use Rattle.hsp_dispatch.specs.declared.share.Cell.{Cell}
-use Rattle.hsp_dispatch.proofs.Shares.{all_so, none_at}
+use Rattle.hsp_dispatch.proofs.Shares.{none_at}
 
 -- ---- uses in order
 
@@ -126,9 +126,9 @@ left_is it row site (one ∷ uses) order = split (left_is it row site uses order
 -- ---- uses that go where they may
 
 -- a row has an arc to the site
-record HasArcTo (site row : ℕ) (lists : List (List Arc)) : Type 0 where
-  arc : Arc
-  is_arc : arc_to site (slice_get lists row) ≡ Some arc
+pub record HasArcTo (site row : ℕ) (lists : List (List Arc)) : Type 0 where
+  pub arc : Arc
+  pub is_arc : arc_to site (slice_get lists row) ≡ Some arc
 
 -- the test of the arcs of a row to a site
 abbrev goes : ℕ → ℕ → NetworkArc → Bool
@@ -168,7 +168,7 @@ arc_from i row site (arcs ∷ lists) any =
           (suc rest.0, omega (arith, rest.1), record { arc = rest.2.arc; is_arc = rest.2.is_arc })
     ]
 
-has_arc : (it : Instance) (row site : ℕ) → is_allowed (network_of it) row site ≡ true → HasArcTo site row it.arcs
+pub has_arc : (it : Instance) (row site : ℕ) → is_allowed (network_of it) row site ≡ true → HasArcTo site row it.arcs
 has_arc it row site allowed =
     let found = arc_from 0 row site it.arcs allowed in
     let same : row ≡ found.0 = omega (arith, found.1) in

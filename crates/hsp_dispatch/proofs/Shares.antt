@@ -1,5 +1,5 @@
 -- A row's cells, and the spread of what is left in them.
-use Rattle.std.proofs.Common.{◌≡◌, ◌≢◌, ◌<◌, ◌≤◌, ◌+◌, ◌-◌, ◌∙◌, ◌++◌, ◌==◌, ℕ, zero, suc, List, [], ◌∷◌, length, drop, get_or, Option, Some, None, Bool, true, false, replicate, arith, refl, sym, ap, eq-eqb, add-one, cond}
+use Rattle.std.proofs.Common.{◌≡◌, ◌<◌, ◌≤◌, ◌+◌, ◌-◌, ◌∙◌, ◌++◌, ℕ, zero, suc, List, [], ◌∷◌, length, drop, get_or, replicate, arith, refl, sym, ap, eq-eqb, add-one}
 use Rattle.std.proofs.Common.{inl, inr}
 use Rattle.std.proofs.lemmas.Bool.{ne_eqb, cases_eq}
 use Rattle.std.specs.List.{AllByRecursion}
@@ -8,7 +8,7 @@ use Rattle.std.proofs.Math.Seq.{drop-cons}
 use Rattle.std.proofs.Math.ListN.{set}
 use Rattle.hsp_dispatch.proofs.Spreads.{same_spread}
 use Rattle.hsp_dispatch.specs.Dispatch.{spread_from}
-use Rattle.hsp_dispatch.specs.Shares.{AreCells, first_of, without_first, left_at}
+use Rattle.hsp_dispatch.specs.Shares.{AreCells, without_first, left_at}
 use Rattle.hsp_dispatch.specs.declared.share.Cell.{Cell}
 
 -- the sites of cells, each as often as something is left there

@@ -1,10 +1,11 @@
 -- Spreads, and what is left of them when their first elements are taken.
-use Rattle.std.proofs.Common.{◌≡◌, ◌≢◌, ◌<◌, ◌≤◌, ◌+◌, ◌-◌, ◌∙◌, ◌++◌, ◌==◌, ℕ, zero, suc, List, [], ◌∷◌, count_by, length, take, drop, replicate, cond, Option, Some, None, arith, refl, sym, ap, eq-eqb}
+use Rattle.std.proofs.Common.{◌≡◌, ◌≢◌, ◌<◌, ◌≤◌, ◌+◌, ◌-◌, ◌∙◌, ◌++◌, ◌==◌, ℕ, zero, suc, List, [], ◌∷◌, count_by, length, take, drop, replicate, cond, Some, arith, refl, sym, ap, eq-eqb}
 use Rattle.std.proofs.Common.{inl, inr}
 use Rattle.std.proofs.lemmas.Bool.{ne_eqb, cases_eq, cases_lt}
-use Rattle.std.proofs.lemmas.List.{drop-append-le, drop-drop, drop_at, drop-replicate, length-replicate, take-append-le, take-append-drop, take-replicate}
+use Rattle.std.proofs.lemmas.List.{drop-append-le, drop-drop, drop_at, drop-replicate, length-replicate, take-append-le, take-replicate}
 use Rattle.std.proofs.lemmas.List.Folds.{sum_by-replicate}
-use Rattle.std.proofs.lemmas.List.Sums.{sum_by-append, sum_by-take-le}
+use Rattle.std.proofs.lemmas.List.Sums.{sum_by-append, sum_by-cons}
+use Rattle.std.proofs.lemmas.Option.{same_Some}
 use Rattle.std.proofs.Math.Seq.{take-append-add}
 use Rattle.std.specs.List.{slice_get}
 use Rattle.hsp_dispatch.specs.Dispatch.{spread_from}
@@ -55,6 +56,19 @@ times_within (suc n) s t x = rw (times_append t (replicate (x s) s) (spread_from
   | inl here ↦ rw (← here, times_same (x s) s, none_before n (s + 1) s x (omega arith)) (omega arith)
   | inr other ↦ rw (times_other (x s) s t other) (omega (arith, times_within n (s + 1) t x))
 ])
+
+-- an element of a spread is a site that something is sent to
+occurs : (xs : List ℕ) (k site : ℕ) → slice_get xs k ≡ Some site → 0 < times site xs
+occurs [] k site e = absurd (cc)
+occurs (own ∷ xs) zero site e =
+    let same : own ≡ site = same_Some own site e in
+    rw (sum_by-cons (is_site site) own xs, eq-eqb own site same) (omega arith)
+occurs (own ∷ xs) (suc k) site e =
+    let later = occurs xs k site e in
+    rw (sum_by-cons (is_site site) own xs) (omega arith)
+
+pub is_sent : (n s k site : ℕ) (x : ℕ → ℕ) → slice_get (spread_from n s x) k ≡ Some site → 0 < x site
+is_sent n s k site x e = omega (arith, occurs (spread_from n s x) k site e, times_within n s site x)
 
 drop_nil : (k : ℕ) → drop {A = ℕ} k [] ≡ []
 drop_nil zero = refl

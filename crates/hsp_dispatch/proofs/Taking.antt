@@ -1,7 +1,7 @@
 -- What a query takes of what is held.
-use Rattle.std.proofs.Common.{◌≡◌, ◌≢◌, ◌<◌, ◌≤◌, ◌+◌, ◌-◌, ◌∙◌, ◌++◌, ◌==◌, Bool, true, false, ℕ, zero, suc, List, [], ◌∷◌, length, position, take, replicate, cond, Option, Some, None, Ok, arith, refl, sym, ap, subst, eq-eqb}
+use Rattle.std.proofs.Common.{◌≡◌, ◌<◌, ◌≤◌, ◌+◌, ◌-◌, ◌∙◌, ◌++◌, true, ℕ, zero, suc, List, [], ◌∷◌, length, position, take, replicate, Option, Some, None, Ok, arith, refl, sym, ap, subst, eq-eqb}
 use Rattle.std.proofs.Common.{inl, inr}
-use Rattle.std.specs.List.{AllByRecursion, slice_get}
+use Rattle.std.specs.List.{slice_get}
 use Rattle.std.specs.Str.{bytes_eq}
 use Rattle.std.proofs.lemmas.Bool.{and_parts, cases_eq, ne_eqb}
 use Rattle.std.proofs.lemmas.List.{length-set}
@@ -13,11 +13,9 @@ use Rattle.hsp_names.specs.Handle.{handle_in}
 use Rattle.hsp_instance.specs.Instance.{AreArcs, Instance, IsArc, IsInstance, IsNamed, Row, Server, has_keys}
 use Rattle.hsp_instance.specs.declared.arc.Arc.{Arc}
 use Rattle.hsp_instance.proofs.Lists.{all_at, there}
-use Rattle.hsp_check.specs.Plan.{Plan}
-use Rattle.hsp_dispatch.specs.Dispatch.{Entry, IsSame, answer_at, arc_to, assigned_to, end_of, rest, row_of, server_to, spread}
+use Rattle.hsp_dispatch.specs.Dispatch.{answer_at, arc_to, assigned_to, end_of, server_to, spread}
 use Rattle.hsp_dispatch.specs.Lines.{served_by}
-use Rattle.hsp_dispatch.specs.Shares.{AreCells, AreCellsOf, Held, IsCellOf, IsHeld, IsRestOf, cells_in, first_answer, first_of, left_at, left_of, rest_of, without_first}
-use Rattle.hsp_dispatch.specs.declared.answer.Answer.{Answer}
+use Rattle.hsp_dispatch.specs.Shares.{AreCells, AreCellsOf, Held, IsCellOf, IsHeld, IsRestOf, cells_in, first_answer, first_of, left_at, left_of, without_first}
 use Rattle.hsp_dispatch.specs.declared.answer.Answer.TheVariants.{Assigned, Spent}
 use Rattle.hsp_dispatch.specs.declared.share.Cell.{Cell}
 use Rattle.hsp_dispatch.proofs.Resting.{rest_here, rest_other}
@@ -147,11 +145,16 @@ rest_after held row cells new is e same entry found other site = elim (cases_eq 
 
 -- ---- the row of a query
 
-pub row_handle : (it : Instance) (region handle : List ℕ) (row : ℕ) → IsInstance it → position (has_keys region handle) it.rows ≡ Some row → handle_in handle ≡ Ok handle
-row_handle it region handle row is found =
+-- the row that is found is of the handle
+pub row_found : (it : Instance) (region handle : List ℕ) (row : ℕ) → position (has_keys region handle) it.rows ≡ Some row → (own : Row) × (slice_get it.rows row ≡ Some own) × (handle ≡ own.handle)
+row_found it region handle row found =
     let none : Row = record { region = []; handle = []; count = 0 } in
     let at = position-Some (has_keys region handle) it.rows row none found in
     let own = there it.rows row at.0 in
     let tested : has_keys region handle own.0 ≡ true = rw (get_or_from_slice_get it.rows row own.0 none own.1) at at.1 in
-    let same : handle ≡ own.0.handle = (bytes_eq-Decides handle own.0.handle).0 (and_parts (bytes_eq region own.0.region) (bytes_eq handle own.0.handle) tested).1 in
-    subst (λ (octets : List ℕ). handle_in octets ≡ Ok octets) (sym same) (all_at IsNamed it.rows row own.0 is.rows.named own.1).handle
+    (own.0, own.1, (bytes_eq-Decides handle own.0.handle).0 (and_parts (bytes_eq region own.0.region) (bytes_eq handle own.0.handle) tested).1)
+
+pub row_handle : (it : Instance) (region handle : List ℕ) (row : ℕ) → IsInstance it → position (has_keys region handle) it.rows ≡ Some row → handle_in handle ≡ Ok handle
+row_handle it region handle row is found =
+    let own = row_found it region handle row found in
+    subst (λ (octets : List ℕ). handle_in octets ≡ Ok octets) (sym own.2) (all_at IsNamed it.rows row own.0 is.rows.named own.1).handle

@@ -1,12 +1,8 @@
-use Rattle.std.proofs.Common.{◌≡◌, ◌<◌, ◌∙◌, ◌++◌, List, [], ◌∷◌, length, take, slice_index_or, Some, arith, refl}
+use Rattle.std.proofs.Common.{◌≡◌, ◌∙◌, ◌++◌, [], ◌∷◌, take, slice_index_or, Some, arith, refl}
 use Rattle.std.specs.List.{slice_get}
 use Rattle.std.proofs.lemmas.List.{take_all}
 use Rattle.std.proofs.lemmas.Option.{get_or_from_slice_get, slice_get-get_or}
-use Rattle.hsp_cert.specs.declared.use_line.UseLine.{UseLine}
-use Rattle.hsp_check.specs.Uses.{table}
-use Rattle.hsp_dispatch.specs.Dispatch.{IsSame}
-use Rattle.hsp_dispatch.specs.Shares.{AreSharesOf, IsHeld, cell_of, cells_of, left_of}
-use Rattle.hsp_dispatch.specs.declared.share.Cell.{Cell}
+use Rattle.hsp_dispatch.specs.Shares.{cell_of, cells_of}
 use Rattle.hsp_dispatch.proofs.SharedOut.{are_held, cells_stay, shared_more, table_held, use_there}
 use Rattle.hsp_dispatch.proofs.sharing.share_out.Goals as goal
 

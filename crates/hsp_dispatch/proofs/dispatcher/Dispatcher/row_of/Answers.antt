@@ -1,4 +1,4 @@
-use Rattle.std.proofs.Common.{◌≡◌, ◌∙◌, ℕ, Option, None, Some, List, Ok, OnSome, position, sym}
+use Rattle.std.proofs.Common.{◌≡◌, ℕ, Option, None, Some, Ok, OnSome, position, sym}
 use Rattle.hsp_names.specs.Handle.{handle_in}
 use Rattle.hsp_instance.specs.Instance.{has_keys}
 use Rattle.hsp_dispatch.proofs.Taking.{row_handle}

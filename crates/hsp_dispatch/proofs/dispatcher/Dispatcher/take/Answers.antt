@@ -1,10 +1,7 @@
-use Rattle.std.proofs.Common.{◌≡◌, ◌<◌, ◌∙◌, ℕ, List, length, Option, None, Some, refl, sym, arith}
+use Rattle.std.proofs.Common.{◌≡◌, ◌<◌, length, Some, refl, sym, arith}
 use Rattle.std.specs.List.{slice_get}
 use Rattle.std.proofs.lemmas.Option.{slice_get_read}
-use Rattle.hsp_instance.specs.Instance.{Instance}
-use Rattle.hsp_dispatch.specs.Dispatch.{Entry, IsSame, row_of}
-use Rattle.hsp_dispatch.specs.Shares.{Held, IsHeld, IsRestOf, first_answer, left_of, rest_of, taken_answer}
-use Rattle.hsp_dispatch.specs.declared.share.Cell.{Cell}
+use Rattle.hsp_dispatch.specs.Shares.{Held}
 use Rattle.hsp_dispatch.proofs.Taking.{first_taken, first_there, held_after, none_left, rest_after}
 use Rattle.hsp_dispatch.proofs.dispatcher.Dispatcher.take.Goals as goal
 
