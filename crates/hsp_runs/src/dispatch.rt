@@ -24,7 +24,7 @@ fn dispatched<R: Read + Drop, W: Write>(
     requires { IsValid (network_of accepted.now.instance) accepted.now.certificate }
     ensures { Refuses (record { log = option_map records_of (R.remaining reader); before = W.contents writer.old; after = W.contents writer.new }) OutOfMemory result
         ⊎ AnswersAs accepted.now.instance accepted.now.certificate
-          (record { log = option_map records_of (R.remaining reader); before = W.contents writer.old; after = W.contents writer.new }) result }
+        (record { log = option_map records_of (R.remaining reader); before = W.contents writer.old; after = W.contents writer.new }) result }
 {
     let _plan = accepted.plan()?;
     let mut dispatcher = Dispatcher::new(alloc, &accepted.instance, &accepted.certificate)?;

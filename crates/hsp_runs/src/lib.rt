@@ -31,6 +31,8 @@ pub use sums_text::sums_line;
 pub use verdict_text::{verdict_line, verdict_status};
 
 #[cfg(test)]
+mod dispatch_tests;
+#[cfg(test)]
 mod run_tests;
 #[cfg(test)]
 mod tests;
