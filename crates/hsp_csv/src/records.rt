@@ -1,7 +1,7 @@
 // The records of a text, one after the other.
 
-ghost use Rattle.std.specs.Prelude.{◌≡◌, true, false, IfOk, IfSome, OnOk, OnErr};
-ghost use Rattle.csv.specs.Reading.{has_failed};
+ghost use Rattle.std.specs.Prelude.{◌≡◌, true, false, None, IfNone, IfOk, IfSome, OnOk, OnErr};
+ghost use Rattle.csv.specs.Reading.{has_failed, source_of};
 ghost use Rattle.csv.specs.Records.{fields_of};
 ghost use Rattle.hsp_csv.specs.Records.{IsKnown, IsReading, TakesRecord, records_left, records_of};
 
@@ -18,6 +18,7 @@ pub fn read_records<R: Read>(alloc: Global, text: R) -> Reader<R>
     ensures working { has_failed result ≡ false }
     ensures known { IfSome (R.remaining text) (λ octets. IsKnown R.remaining result) }
     ensures records { IfSome (R.remaining text) (λ octets. records_left R.remaining result ≡ records_of octets) }
+    ensures unknown { IfNone (R.remaining text) (source_of R.remaining result ≡ None) }
 {
     ReaderBuilder::new()
         .has_headers(false)

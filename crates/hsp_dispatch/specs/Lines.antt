@@ -1,9 +1,13 @@
 -- The lines of answers.
-use Rattle.std.specs.Prelude.{ℕ, List, [], ◌∷◌, ◌++◌, codes, decimal, Option, None, Some}
+use Rattle.std.specs.Prelude.{⊤, ℕ, ◌+◌, ◌<◌, List, [], ◌∷◌, ◌++◌, codes, Option, None, Some}
 use Rattle.std.specs.List.{slice_get}
+use Rattle.hsp_text.specs.Writing.{numbered}
 use Rattle.hsp_instance.specs.Instance.{Instance, Server, Site}
 use Rattle.hsp_dispatch.specs.declared.answer.Answer.{Answer}
 use Rattle.hsp_dispatch.specs.declared.answer.Answer.TheVariants.{Assigned, Spent, Unknown}
+use Rattle.hsp_dispatch.specs.declared.answer.LogSums.{LogSums}
+use Rattle.hsp_dispatch.specs.declared.answering.Given.{Given}
+use Rattle.hsp_dispatch.specs.declared.answering.Given.TheVariants.{Server as ByServer, Spent as IsSpent, Unknown as IsUnknown}
 
 abbrev pub name_in : Option Site → List ℕ
 name_in None = []
@@ -15,7 +19,7 @@ name_at it site = name_in (slice_get it.sites site)
 
 -- `assigned` with the site's name, the place and the identifier, each after a space
 abbrev pub assigned_line : List ℕ → ℕ → ℕ → List ℕ
-assigned_line name place id = codes "assigned " ++ (name ++ 32 ∷ (decimal place ++ 32 ∷ (decimal id ++ 10 ∷ [])))
+assigned_line name place id = codes "assigned " ++ numbered name (place ∷ id ∷ [])
 
 -- the line of an answer
 abbrev pub line_of : Instance → Answer → List ℕ
@@ -31,3 +35,39 @@ text_of it (answer ∷ more) = line_of it answer ++ text_of it more
 -- the line of a query that is assigned to a server
 abbrev pub server_line : Instance → Server → List ℕ
 server_line it server = assigned_line (name_at it server.site) server.place server.id
+
+-- how an entry is answered: by the server of a number, or without one
+abbrev pub served_by : Option Server → Answer
+served_by None = Spent
+served_by (Some server) = Assigned server.site server.place server.id
+
+abbrev pub answer_of : Instance → Given → Answer
+answer_of it (ByServer number) = served_by (slice_get it.servers number)
+answer_of it IsSpent = Spent
+answer_of it IsUnknown = Unknown
+
+-- the server of the number is one of so many
+abbrev pub IsAmong : ℕ → Given → Type 0
+IsAmong servers (ByServer number) = number < servers
+IsAmong servers IsSpent = ⊤
+IsAmong servers IsUnknown = ⊤
+
+abbrev pub or_none : Option (List ℕ) → List ℕ
+or_none None = []
+or_none (Some line) = line
+
+-- the line of an answer, by those of the servers
+abbrev pub line_by : List (List ℕ) → Given → List ℕ
+line_by lines (ByServer number) = or_none (slice_get lines number)
+line_by lines IsSpent = codes "spent" ++ 10 ∷ []
+line_by lines IsUnknown = codes "unknown" ++ 10 ∷ []
+
+-- sums with one answer more
+abbrev pub counted : LogSums → Given → LogSums
+counted sums (ByServer number) = record sums { assigned = sums.assigned + 1 }
+counted sums IsSpent = record sums { spent = sums.spent + 1 }
+counted sums IsUnknown = record sums { unknown = sums.unknown + 1 }
+
+-- each sum is below a limit
+abbrev pub AreBelow : ℕ → LogSums → Type 0
+AreBelow limit sums = (sums.assigned < limit) × (sums.spent < limit) × (sums.unknown < limit)

@@ -2,6 +2,8 @@
 use Rattle.std.specs.Prelude.{◌≡◌, ◌≢◌, ⊤, ℕ, List, [], ◌∷◌, ◌++◌, codes, length, Option, None, Some, Ok}
 use Rattle.hex.specs.Hex.{decode_of}
 use Rattle.hsp_csv.specs.Records.{Fields}
+use Rattle.hsp_csv.specs.declared.fault.RecordsFault.{RecordsFault}
+use Rattle.hsp_csv.specs.declared.fault.RecordsFault.TheVariants as records_fault
 use Rattle.hsp_names.specs.Handle.{handle_in}
 use Rattle.hsp_record.specs.Fields.{Means}
 use Rattle.hsp_record.specs.Request.{RequestBody, request_format}
@@ -48,6 +50,11 @@ IsBadHandle form (region ∷ field ∷ []) = (octets : List ℕ) × Gives form f
 IsBadHandle form [] = ⊥
 IsBadHandle form (region ∷ []) = ⊥
 IsBadHandle form (region ∷ field ∷ third ∷ more) = ⊥
+
+-- a read of the records that failed
+abbrev pub fault_of : RecordsFault → LogFault
+fault_of records_fault.ReadFailed = fault.ReadFailed
+fault_of records_fault.OutOfMemory = fault.OutOfMemory
 
 -- the log's records, where they are known: a header of the form, the rows, and what follows them
 abbrev pub Begins : Option (List Fields) → Form → List Fields → List Fields → Type 0

@@ -29,7 +29,7 @@ pub record Outcome : Type 0 where
 
 -- the entries of these rows were answered, their lines were written, and the rest of the plan is left
 pub record Answered (run : Setting) (form : Form) (rows : List Fields) (entries : List Entry) (end : Outcome) : Type 0 where
-  pub entries : AreEntries form rows entries
+  pub spelled : AreEntries form rows entries
   pub written : Appends run.before end.after (text_of run.instance (answers run.instance run.plan entries))
   pub left : IsSame end.left (rest run.instance run.plan entries)
 

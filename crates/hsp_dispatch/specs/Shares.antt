@@ -1,15 +1,22 @@
 -- What a dispatcher holds: for each row, how many of its queries are left for which site.
-use Rattle.std.specs.Prelude.{◌≡◌, ◌-◌, ◌<◌, ◌==◌, ⊤, ℕ, List, [], ◌∷◌, length, Option, None, Some, if◌then◌else◌}
-use Rattle.std.specs.List.{AllByRecursion, find, slice_get}
-use Rattle.hsp_instance.specs.Instance.{Instance}
+use Rattle.std.specs.Prelude.{◌≡◌, ◌-◌, ◌<◌, ◌==◌, ⊤, true, ℕ, List, [], ◌∷◌, length, All, Option, None, Some, if◌then◌else◌}
+use Rattle.std.specs.List.{AllByRecursion, list_all, slice_get}
+use Rattle.hsp_instance.specs.Instance.{Instance, IsInstance, Server}
 use Rattle.hsp_instance.specs.declared.arc.Arc.{Arc}
 use Rattle.hsp_check.specs.Instance.{network_of}
+use Rattle.hsp_check.specs.Network.{is_allowed}
 use Rattle.hsp_check.specs.Plan.{Plan}
 use Rattle.hsp_check.specs.Uses.{table}
 use Rattle.hsp_check.specs.Valid.{IsValidPlan}
-use Rattle.hsp_cert.specs.Certificate.{Claim}
+use Rattle.hsp_cert.specs.Certificate.{Claim, ascends, is_before, is_use}
 use Rattle.hsp_cert.specs.Certificate.Claim.{best, short}
-use Rattle.hsp_dispatch.specs.Dispatch.{arc_to}
+use Rattle.hsp_cert.specs.declared.use_line.UseLine.{UseLine}
+use Rattle.hsp_names.specs.declared.handle.HandleRef.{HandleRef}
+use Rattle.hsp_names.specs.Lent.{octets_of}
+use Rattle.hsp_dispatch.specs.Dispatch.{Entry, IsSame, answer_at, answer_to, arc_to, rest, row_of, spread}
+use Rattle.hsp_dispatch.specs.Lines.{served_by}
+use Rattle.hsp_dispatch.specs.declared.answer.Answer.{Answer}
+use Rattle.hsp_dispatch.specs.declared.answer.Answer.TheVariants.{Assigned, Spent}
 use Rattle.hsp_dispatch.specs.declared.share.Cell.{Cell}
 
 -- what is left at a site, 0 where no cell is of it
@@ -57,8 +64,9 @@ pub record AreCellsOf (it : Instance) (row : ℕ) (cells : List Cell) : Type 0 w
   pub each : AllByRecursion (IsCellOf it row) cells
   pub are : AreCells cells
 
--- there are cells for each row
+-- the instance is within its limits, and there are cells for each row
 pub record IsHeld (held : Held) : Type 0 where
+  pub within : IsInstance held.instance
   pub one_a_row : length held.shares ≡ length held.instance.rows
   pub each : (row : ℕ) (cells : List Cell) → slice_get held.shares row ≡ Some cells → AreCellsOf held.instance row cells
 
@@ -71,3 +79,55 @@ IsPlanFor it (short c) = ⊥
 abbrev pub plan_of : Claim → Plan
 plan_of (best c) row site = table c.uses row site
 plan_of (short c) row site = 0
+
+-- ---- the shares that a plan gives
+
+-- the number of the server at which an arc ends, 0 where there is no arc
+abbrev pub number_of : Option Arc → ℕ
+number_of None = 0
+number_of (Some arc) = arc.server
+
+-- the cell that a use gives its row
+abbrev pub cell_of : Instance → UseLine → Cell
+cell_of it one = record { site = one.site; server = number_of (arc_to one.site (slice_get it.arcs one.row)); left = one.count }
+
+-- the cells that uses give a row
+abbrev pub cells_of : Instance → ℕ → List UseLine → List Cell
+cells_of it row [] = []
+cells_of it row (one ∷ uses) = if one.row == row then cell_of it one ∷ cells_of it row uses else cells_of it row uses
+
+-- for each row the cells that the uses give it
+pub record AreSharesOf (it : Instance) (uses : List UseLine) (shares : List (List Cell)) : Type 0 where
+  pub one_a_row : length shares ≡ length it.rows
+  pub each : (row : ℕ) → row < length it.rows → slice_get shares row ≡ Some (cells_of it row uses)
+
+-- uses in order and within their ranges, each of which goes where it may
+pub record AreUsesOf (it : Instance) (uses : List UseLine) : Type 0 where
+  pub order : ascends is_before uses ≡ true
+  pub ranges : list_all is_use uses ≡ true
+  pub allowed : All (λ u. is_allowed (network_of it) u.row u.site ≡ true) uses
+
+-- the answer where the query goes to the server of a number, Spent where it goes to none
+abbrev pub taken_answer : Instance → Option ℕ → Answer
+taken_answer it None = Spent
+taken_answer it (Some number) = served_by (slice_get it.servers number)
+
+-- a query for a handle, from a region
+abbrev pub query : List ℕ → HandleRef → Entry
+query region handle = record { region = region; handle = octets_of handle }
+
+-- the answer to a query by what is left
+abbrev pub answer_by : Held → Entry → Answer
+answer_by held entry = answer_to held.instance (left_of held) [] entry
+
+-- the answer by the first of what is left of a row
+abbrev pub first_answer : Held → ℕ → Answer
+first_answer held row = answer_at held.instance row (slice_get (spread held.instance (left_of held) row) 0)
+
+-- what a query leaves
+abbrev pub rest_of : Held → Entry → Plan
+rest_of held entry = rest held.instance (left_of held) (entry ∷ [])
+
+-- what is left is what a query for the row leaves
+abbrev pub IsRestOf : Held → ℕ → Held → Type 0
+IsRestOf held row new = (entry : Entry) → row_of held.instance entry ≡ Some row → IsSame (left_of new) (rest_of held entry)

@@ -1,5 +1,11 @@
 // What entries of a log are answered.
 
+ghost use Rattle.std.specs.Prelude.{◌≡◌};
+ghost use Rattle.hsp_text.specs.declared.limits.TheConstants.{MOST_LOG_ROWS};
+ghost use Rattle.hsp_dispatch.specs.Lines.{AreBelow, counted};
+
+use crate::answering::Given;
+
 /// What an entry is answered.
 #[derive(Clone, Copy, Debug, PartialEq, Eq)]
 pub enum Answer {
@@ -21,4 +27,29 @@ pub struct LogSums {
     pub assigned: u64,
     pub spent: u64,
     pub unknown: u64,
+}
+
+impl LogSums {
+    /// The sums of no answers.
+    pub(crate) fn none() -> LogSums
+        ensures { result ≡ record { assigned = 0; spent = 0; unknown = 0 } }
+    {
+        LogSums {
+            assigned: 0,
+            spent: 0,
+            unknown: 0,
+        }
+    }
+
+    /// Counts one answer more.
+    pub(crate) fn count(&mut self, given: Given)
+        requires { AreBelow MOST_LOG_ROWS self.old }
+        ensures { self.new ≡ counted self.old given }
+    {
+        match given {
+            Given::Server(_) => self.assigned += 1,
+            Given::Spent => self.spent += 1,
+            Given::Unknown => self.unknown += 1,
+        }
+    }
 }

@@ -1,12 +1,14 @@
 // The dispatcher: what is left of a plan, and the answers by it.
 
-ghost use Rattle.std.specs.Prelude.{◌≡◌, ◌∷◌, [], IfOk};
-ghost use Rattle.hsp_names.specs.Lent.{octets_of};
-ghost use Rattle.hsp_dispatch.specs.Dispatch.{IsSame, answer_to, rest};
-ghost use Rattle.hsp_dispatch.specs.Shares.{IsPlanFor, left_of, plan_of};
+ghost use Rattle.std.specs.Prelude.{◌≡◌, ◌<◌, IfOk, IfSome, OnSome, Ok, length, position};
+ghost use Rattle.hsp_names.specs.Handle.{handle_in};
+ghost use Rattle.hsp_instance.specs.Instance.{has_keys};
+ghost use Rattle.hsp_dispatch.specs.Dispatch.{IsSame};
+ghost use Rattle.hsp_dispatch.specs.Shares.{IsPlanFor, IsRestOf, answer_by, first_answer, left_of, plan_of, query, rest_of, taken_answer};
 
 use crate::answer::Answer;
 use crate::share::RowShare;
+use crate::sharing::share_out;
 use hsp_cert::Certificate;
 use hsp_instance::Instance;
 use hsp_names::HandleRef;
@@ -30,11 +32,83 @@ impl<'a> Model for Dispatcher<'a> {
     ghost invariant = { λ d. IsHeld (record { instance = d.instance.now; shares = d.shares.items }) };
 }
 
-/// What a query takes of a row.
-#[derive(Clone, Copy, Debug, PartialEq, Eq)]
-pub(crate) enum Taken {
-    /// One at the server of a number among all servers.
-    Server(u32),
-    /// Nothing, where nothing is left.
-    Nothing,
+impl<'a> Dispatcher<'a> {
+    /// A dispatcher by the plan of a certificate that is valid for the instance.
+    ///
+    /// # Errors
+    ///
+    /// An `AllocError` where memory runs out.
+    pub fn new(
+        alloc: Global,
+        instance: &'a Instance,
+        certificate: &Certificate,
+    ) -> Result<Dispatcher<'a>, AllocError>
+        requires { IsPlanFor instance.now certificate.now }
+        ensures instance { IfOk result (λ d. d.instance ≡ instance.now) }
+        ensures plan { IfOk result (λ d. IsSame (left_of d) (plan_of certificate.now)) }
+    {
+        let best = certificate.as_best().unwrap();
+        let shares = share_out(alloc, instance, best.uses())?;
+        Ok(Dispatcher { instance, shares })
+    }
+
+    /// The instance whose queries are dispatched.
+    pub fn instance(&self) -> &'a Instance
+        ensures { result.now ≡ self.now.instance }
+    {
+        self.instance
+    }
+
+    /// Answers a query for a handle from a region, and takes it of what is left. The site is the first at which something of the
+    /// row is left.
+    pub fn assign(&mut self, region: &[u8], handle: HandleRef<'_>) -> Answer
+        ensures instance { self.new.instance ≡ self.old.instance }
+        ensures answer { result ≡ answer_by self.old (query region.now handle.entry) }
+        ensures rest { IsSame (left_of self.new) (rest_of self.old (query region.now handle.entry)) }
+    {
+        let Some(row) = self.row_of(region, handle.bytes()) else {
+            return Answer::Unknown;
+        };
+        let Some(server) = self.take(row) else {
+            return Answer::Spent;
+        };
+        let (site, place, server_id, _) = self.instance.server(server);
+        Answer::Assigned {
+            site,
+            place,
+            server_id,
+        }
+    }
+
+    /// How many queries of a row are left for a site, 0 where the row or the site is not there.
+    pub fn left(&self, row: u32, site: u32) -> u64
+        ensures { result ≡ left_of self.now row site }
+    {
+        match self.shares.get(row as usize) {
+            Some(share) => share.left(site),
+            None => 0,
+        }
+    }
+
+    /// The number of the row of a region and a handle.
+    pub(crate) fn row_of(&self, region: &[u8], handle: &[u8]) -> Option<u32>
+        ensures row { result ≡ position (has_keys region.now handle.now) self.now.instance.rows }
+        // A row's handle is a handle.
+        ensures handle { OnSome result (handle_in handle.now ≡ Ok handle.now) }
+        ensures there { IfSome result (λ row. row < length self.now.instance.rows) }
+    {
+        self.instance.find_row(region, handle)
+    }
+
+    /// Takes one of what is left of a row. The number of the server to which it goes, None where nothing is left.
+    pub(crate) fn take(&mut self, row: u32) -> Option<u32>
+        requires { row < length self.old.instance.rows }
+        ensures instance { self.new.instance ≡ self.old.instance }
+        ensures taken { taken_answer self.old.instance result ≡ first_answer self.old row }
+        ensures there { IfSome result (λ server. server < length self.old.instance.servers) }
+        ensures rest { IsRestOf self.old row self.new }
+    {
+        let cell = self.shares[row as usize].take()?;
+        Some(cell.server)
+    }
 }

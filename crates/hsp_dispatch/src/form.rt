@@ -1,4 +1,12 @@
-// The two forms of a log.
+// The two forms of a log, told by its header.
+
+ghost use Rattle.std.specs.Prelude.{◌≡◌, ◌≢◌, IfNone, IfSome};
+ghost use Rattle.csv.specs.Records.{fields_of};
+ghost use Rattle.hsp_dispatch.specs.Log.{header_of};
+ghost use Rattle.hsp_dispatch.specs.declared.form.Form.{Form};
+
+use csv::ByteRecord;
+use hsp_csv::is_header;
 
 /// What the second field of a log's rows holds.
 #[derive(Clone, Copy, Debug, PartialEq, Eq)]
@@ -7,4 +15,18 @@ pub(crate) enum Form {
     Handles,
     /// The body of a resolution request in hexadecimal digits.
     Bodies,
+}
+
+/// The form of a log, by its first record; None where that is no header.
+pub(crate) fn form_of(record: &ByteRecord) -> Option<Form>
+    ensures header { IfSome result (λ form. fields_of «record».now ≡ header_of form) }
+    ensures none { IfNone result ((form : Form) → fields_of «record».now ≢ header_of form) }
+{
+    if is_header(record, &[b"region", b"handle"]) {
+        return Some(Form::Handles);
+    }
+    if is_header(record, &[b"region", b"body"]) {
+        return Some(Form::Bodies);
+    }
+    None
 }

@@ -3,11 +3,11 @@
 #![tactic(auto)]
 
 mod answer;
+mod answering;
 mod body;
 mod dispatcher;
 mod fault;
 mod form;
-pub mod laws;
 mod lines;
 mod reading;
 mod run;
@@ -20,4 +20,8 @@ pub use fault::LogFault;
 pub use run::run_log;
 
 #[cfg(test)]
-mod tests;
+pub mod fakes;
+#[cfg(test)]
+mod run_tests;
+#[cfg(test)]
+mod worked;

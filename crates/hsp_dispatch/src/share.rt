@@ -1,8 +1,9 @@
 // What a plan has left for a row.
 
-ghost use Rattle.std.specs.Prelude.{◌≡◌};
-ghost use Rattle.hsp_dispatch.specs.Shares.{first_of, left_at, without_first};
+ghost use Rattle.std.specs.Prelude.{◌≡◌, ◌++◌, ◌∷◌, [], OnOk};
+ghost use Rattle.hsp_dispatch.specs.Shares.{AreCells, first_of, left_at, without_first};
 
+use std::alloc::{AllocError, Global};
 use std::marker::Model;
 
 /// What is left of a row's number at a site, and the server there that is responsible for the row's handle.
@@ -33,6 +34,25 @@ impl Model for RowShare {
 }
 
 impl RowShare {
+    /// A share of nothing.
+    pub(crate) fn new(alloc: Global) -> RowShare
+        ensures { result ≡ [] }
+    {
+        RowShare {
+            cells: Vec::new(alloc),
+            next: 0,
+        }
+    }
+
+    /// Adds a cell with something left, of a site after all others.
+    pub(crate) fn push(&mut self, cell: Cell) -> Result<(), AllocError>
+        requires { AreCells (self.old ++ cell ∷ []) }
+        ensures { OnOk result (self.new ≡ self.old ++ cell ∷ []) }
+    {
+        self.cells.push(cell)?;
+        Ok(())
+    }
+
     /// Takes one of what is left, at the first site that has something left; None where nothing is left.
     pub(crate) fn take(&mut self) -> Option<Cell>
         ensures taken { result ≡ first_of self.old }

@@ -1,0 +1,14 @@
+-- Bodies that are no request's.
+use Rattle.std.proofs.Common.{◌≡◌, ℕ, List, Result, Ok, Err, refl}
+use Rattle.hsp_record.specs.Fields.{Agrees}
+use Rattle.hsp_record.specs.declared.fault.RecordFault.{RecordFault}
+use Rattle.hsp_record.specs.declared.fault.RecordFault.TheVariants.{Truncated, Trailing, TooManyServers, IndexTwice, OutOfMemory}
+
+-- a fault of the octets doesn't agree with a handle
+pub told_other : (fault : RecordFault) (handle : List ℕ) → (◌≡◌ {A = Result (List ℕ) RecordFault} (Err fault) (Err OutOfMemory) → ⊥)
+    → Agrees {A = List ℕ} (Err fault) (Ok handle) → ⊥
+told_other (Truncated at) handle not_memory agrees = cc agrees
+told_other (Trailing at) handle not_memory agrees = cc agrees
+told_other TooManyServers handle not_memory agrees = cc agrees
+told_other (IndexTwice index) handle not_memory agrees = cc agrees
+told_other OutOfMemory handle not_memory agrees = not_memory refl

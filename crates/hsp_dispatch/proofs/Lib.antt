@@ -1,0 +1,11 @@
+mod RowFields
+mod Bodies
+mod InTurn
+mod Running
+mod Counting
+pub mod Spreads
+pub mod Shares
+pub mod Resting
+pub mod SharedOut
+pub mod Taking
+pub mod Dispatching

@@ -1,0 +1,342 @@
+-- The cells that the uses of a plan give the rows of an instance.
+use Rattle.std.proofs.Common.{◌≡◌, ◌≢◌, ◌<◌, ◌≤◌, ◌+◌, ◌∙◌, ◌++◌, ◌==◌, ◌&&◌, ◌||◌, ◌⊎◌, Bool, true, false, ℕ, zero, suc, List, [], ◌∷◌, All, length, map, take, replicate, cond, if◌then◌else◌, Option, Some, None, arith, refl, sym, ap, subst, eq-eqb, eqb-true}
+use Rattle.std.proofs.Common.{inl, inr}
+use Rattle.std.specs.Prelude.{nat_le, nat_lt, sum_by}
+use Rattle.std.specs.List.{AllByRecursion, find, list_all, list_any, slice_get}
+use Rattle.std.proofs.lemmas.Bool.{and_parts, cases_Bool, cases_eq, cases_lt, leb-true, ltb-true, ne_eqb, or_cases}
+use Rattle.std.proofs.lemmas.List.{append-nil, length-replicate, length-set, take_more}
+use Rattle.std.proofs.lemmas.List.Folds.{list_any-append}
+use Rattle.std.proofs.lemmas.List.Sums.{sum_by-cons}
+use Rattle.std.proofs.lemmas.Option.{get_or_from_slice_get, same_Some, slice_get_past, slice_get_within}
+use Rattle.std.proofs.Math.ListN.{set}
+use Rattle.hsp_cert.specs.declared.use_line.UseLine.{UseLine}
+use Rattle.hsp_cert.specs.Certificate.{ascends, ascends_from, is_before, is_use}
+use Rattle.hsp_instance.specs.Instance.{AreArcs, Instance, IsArc, IsInstance, IsServer, Server}
+use Rattle.hsp_instance.specs.declared.arc.Arc.{Arc}
+use Rattle.hsp_instance.proofs.Lists.{all_at, all_from, there}
+use Rattle.hsp_check.specs.declared.arc.NetworkArc.{NetworkArc}
+use Rattle.hsp_check.specs.Instance.{arc_of, arcs_from, network_of}
+use Rattle.hsp_check.specs.Network.{is_allowed}
+use Rattle.hsp_check.specs.Uses.{table}
+use Rattle.hsp_dispatch.specs.Dispatch.{IsSame, arc_to}
+use Rattle.hsp_dispatch.specs.Shares.{AreCells, AreCellsOf, AreSharesOf, AreUsesOf, IsCellOf, IsHeld, cell_of, cells_of, left_at, left_of, number_of}
+use Rattle.hsp_dispatch.specs.declared.share.Cell.{Cell}
+use Rattle.hsp_dispatch.proofs.Shares.{all_so, none_at}
+
+-- ---- uses in order
+
+-- a use before another one
+record Before (u v : UseLine) : Type 0 where
+  rows : u.row ≤ v.row
+  sites : u.row ≡ v.row → u.site < v.site
+
+before_is : (u v : UseLine) → is_before u v ≡ true → Before u v
+before_is u v test = elim (cases_Bool (nat_lt u.row v.row)) [
+  | inl less ↦ let l = ltb-true u.row v.row less in record { rows = omega arith; sites = λ same. absurd (omega arith) }
+  | inr not_less ↦
+      let same : (u.row == v.row && nat_lt u.site v.site) ≡ true = rw not_less at test in
+      let parts = and_parts (u.row == v.row) (nat_lt u.site v.site) same in
+      let r = eqb-true u.row v.row parts.0 in
+      let l = ltb-true u.site v.site parts.1 in
+      record { rows = omega arith; sites = λ same. omega arith }
+]
+
+before_both : (u v w : UseLine) → Before u v → Before v w → Before u w
+before_both u v w a b = record {
+  rows = omega (arith, a.rows, b.rows);
+  sites = λ same.
+      let first = a.sites (omega (arith, a.rows, b.rows)) in
+      let second = b.sites (omega (arith, a.rows, b.rows)) in
+      omega arith;
+}
+
+abbrev InOrder : List UseLine → Type 0
+InOrder [] = Unit {0}
+InOrder (one ∷ uses) = AllByRecursion (Before one) uses × InOrder uses
+
+order_from : (one : UseLine) (uses : List UseLine) → ascends_from is_before (Some one) uses ≡ true → AllByRecursion (Before one) uses × InOrder uses
+order_from one [] order = (tt, tt)
+order_from one (next ∷ uses) order =
+    let parts = and_parts (is_before one next) (ascends_from is_before (Some next) uses) order in
+    let first = before_is one next parts.0 in
+    let rest = order_from next uses parts.1 in
+    ((first, all_of_uses (Before next) (Before one) (λ later after. before_both one next later first after) uses rest.0), rest)
+  where
+    all_of_uses : (P Q : UseLine → Type 0) → ((u : UseLine) → P u → Q u) → (us : List UseLine) → AllByRecursion P us → AllByRecursion Q us
+    all_of_uses P Q so [] all = tt
+    all_of_uses P Q so (u ∷ us) all = (so u all.0, all_of_uses P Q so us all.1)
+
+in_order : (uses : List UseLine) → ascends is_before uses ≡ true → InOrder uses
+in_order [] order = tt
+in_order (one ∷ uses) order = order_from one uses (and_parts true (ascends_from is_before (Some one) uses) order).1
+
+abbrev IsCounted : UseLine → Type 0
+IsCounted one = 0 < one.count
+
+counted : (uses : List UseLine) → list_all is_use uses ≡ true → AllByRecursion IsCounted uses
+counted [] all = tt
+counted (one ∷ uses) all =
+    let each = and_parts (is_use one) (list_all is_use uses) all in
+    let both = and_parts (nat_le one.row 8191 && nat_le one.site 31) (nat_le 1 one.count && nat_le one.count 1000000) each.0 in
+    let least = leb-true 1 one.count (and_parts (nat_le 1 one.count) (nat_le one.count 1000000) both.1).0 in
+    (omega arith, counted uses each.1)
+
+-- ---- cells in order
+
+-- the cells of a row come after a site where the uses of the row do
+cells_after : (it : Instance) (first : UseLine) (uses : List UseLine) → AllByRecursion (Before first) uses
+    → AllByRecursion (λ (cell : Cell). first.site < cell.site) (cells_of it first.row uses)
+cells_after it first [] after = tt
+cells_after it first (one ∷ uses) after = elim (cases_eq one.row first.row) [
+  | inl here ↦ rw (eq-eqb one.row first.row here) (after.0.sites (sym here), cells_after it first uses after.1)
+  | inr other ↦ rw (ne_eqb one.row first.row other) (cells_after it first uses after.1)
+]
+
+are_cells : (it : Instance) (row : ℕ) (uses : List UseLine) → InOrder uses → AllByRecursion IsCounted uses → AreCells (cells_of it row uses)
+are_cells it row [] order counts = tt
+are_cells it row (one ∷ uses) order counts = elim (cases_eq one.row row) [
+  | inl here ↦
+      let later : AllByRecursion (λ (cell : Cell). one.site < cell.site) (cells_of it row uses) = rw (← here) (cells_after it one uses order.0) in
+      rw (eq-eqb one.row row here) (counts.0, (later, are_cells it row uses order.1 counts.1))
+  | inr other ↦ rw (ne_eqb one.row row other) (are_cells it row uses order.1 counts.1)
+]
+
+-- what a use adds to a place of the table
+abbrev count_at : ℕ → ℕ → UseLine → ℕ
+count_at row site one = if one.row == row && one.site == site then one.count else 0
+
+-- what is left of the cells is what the uses say
+left_is : (it : Instance) (row site : ℕ) (uses : List UseLine) → InOrder uses → left_at (cells_of it row uses) site ≡ table uses row site
+left_is it row site [] order = refl
+left_is it row site (one ∷ uses) order = split (left_is it row site uses order.1) ∙ sym (sum_by-cons (count_at row site) one uses)
+  where
+    split : left_at (cells_of it row uses) site ≡ table uses row site → left_at (cells_of it row (one ∷ uses)) site ≡ count_at row site one + table uses row site
+    split others = elim (cases_eq one.row row) [
+      | inl here ↦
+          let later : AllByRecursion (λ (cell : Cell). one.site < cell.site) (cells_of it row uses) = rw (← here) (cells_after it one uses order.0) in
+          elim (cases_eq one.site site) [
+            | inl at ↦
+                let none : left_at (cells_of it row uses) site ≡ 0 = none_at (cells_of it row uses) site (rw (← at) later) in
+                rw (eq-eqb one.row row here, eq-eqb one.site site at) (omega (arith, others, none))
+            | inr away ↦ rw (eq-eqb one.row row here, ne_eqb one.site site away) (omega (arith, others))
+          ]
+      | inr other ↦ rw (ne_eqb one.row row other) (omega (arith, others))
+    ]
+
+-- ---- uses that go where they may
+
+-- a row has an arc to the site
+record HasArcTo (site row : ℕ) (lists : List (List Arc)) : Type 0 where
+  arc : Arc
+  is_arc : arc_to site (slice_get lists row) ≡ Some arc
+
+-- the test of the arcs of a row to a site
+abbrev goes : ℕ → ℕ → NetworkArc → Bool
+goes row site a = a.row == row && a.site == site
+
+row_among : (i row site : ℕ) (arcs : List Arc) → list_any (goes row site) (map (arc_of i) arcs) ≡ true → i ≡ row
+row_among i row site [] any = absurd (cc)
+row_among i row site (arc ∷ arcs) any = elim (or_cases (i == row && arc.site == site) (list_any (goes row site) (map (arc_of i) arcs)) any) [
+  | inl here ↦ eqb-true i row (and_parts (i == row) (arc.site == site) here).0
+  | inr later ↦ row_among i row site arcs later
+]
+
+behind : (site : ℕ) (arc : Arc) (arcs : List Arc) → (arc.site == site) ≡ false → HasArcTo site 0 (arcs ∷ []) → HasArcTo site 0 ((arc ∷ arcs) ∷ [])
+behind site arc arcs away rest = record { arc = rest.arc; is_arc = rw away rest.is_arc }
+
+arc_among : (i row site : ℕ) (arcs : List Arc) → list_any (goes row site) (map (arc_of i) arcs) ≡ true → HasArcTo site 0 (arcs ∷ [])
+arc_among i row site [] any = absurd (cc)
+arc_among i row site (arc ∷ arcs) any = elim (cases_Bool (arc.site == site)) [
+  | inl at ↦ record { arc = arc; is_arc = rw at refl }
+  | inr away ↦ elim (or_cases (i == row && arc.site == site) (list_any (goes row site) (map (arc_of i) arcs)) any) [
+    | inl here ↦ let at = (and_parts (i == row) (arc.site == site) here).1 in absurd (cc)
+    | inr later ↦ behind site arc arcs away (arc_among i row site arcs later)
+  ]
+]
+
+arc_from : (i row site : ℕ) (lists : List (List Arc)) → list_any (goes row site) (arcs_from i lists) ≡ true → (k : ℕ) × (row ≡ i + k) × HasArcTo site k lists
+arc_from i row site [] any = absurd (cc)
+arc_from i row site (arcs ∷ lists) any =
+    elim (or_cases (list_any (goes row site) (map (arc_of i) arcs)) (list_any (goes row site) (arcs_from (i + 1) lists))
+    (sym (list_any-append (goes row site) (map (arc_of i) arcs) (arcs_from (i + 1) lists)) ∙ any)) [
+      | inl here ↦
+          let same = row_among i row site arcs here in
+          let own = arc_among i row site arcs here in
+          (0, omega arith, record { arc = own.arc; is_arc = own.is_arc })
+      | inr later ↦
+          let rest = arc_from (i + 1) row site lists later in
+          (suc rest.0, omega (arith, rest.1), record { arc = rest.2.arc; is_arc = rest.2.is_arc })
+    ]
+
+has_arc : (it : Instance) (row site : ℕ) → is_allowed (network_of it) row site ≡ true → HasArcTo site row it.arcs
+has_arc it row site allowed =
+    let found = arc_from 0 row site it.arcs allowed in
+    let same : row ≡ found.0 = omega (arith, found.1) in
+    rw same found.2
+
+-- ---- cells of an instance
+
+-- a row with an arc is there
+row_there : (site row : ℕ) (lists : List (List Arc)) → HasArcTo site row lists → row < length lists
+row_there site row lists has = elim (cases_lt row (length lists)) [
+  | inl inside ↦ inside
+  | inr past ↦ let none : arc_to site (slice_get lists row) ≡ None = rw (slice_get_past lists row past) refl in absurd (cc (none, has.is_arc))
+]
+
+-- the arc that is found is one of the arcs, and of the site
+pub found_so : (P : Arc → Type 0) (site : ℕ) (arcs : List Arc) (arc : Arc) → AllByRecursion P arcs → arc_to site (Some arcs) ≡ Some arc → P arc × (arc.site ≡ site)
+found_so P site [] arc all found = absurd (cc)
+found_so P site (first ∷ arcs) arc all found = elim (cases_Bool (first.site == site)) [
+  | inl at ↦
+      let same : first ≡ arc = cc (rw at at found) in
+      rw (← same) (all.0, eqb-true first.site site at)
+  | inr away ↦ found_so P site arcs arc all.1 (rw away at found)
+]
+
+cell_is : (it : Instance) (one : UseLine) → IsInstance it → is_allowed (network_of it) one.row one.site ≡ true → IsCellOf it one.row (cell_of it one)
+cell_is it one is allowed =
+    let has = has_arc it one.row one.site allowed in
+    let list = there it.arcs one.row (row_there one.site one.row it.arcs has) in
+    let found : arc_to one.site (Some list.0) ≡ Some has.arc = rw list.1 at has.is_arc in
+    let own = found_so (IsArc it.servers) one.site list.0 has.arc (all_at (AreArcs it.servers) it.arcs one.row list.0 is.arcs list.1).each found in
+    let server = all_at (IsServer it.sites (length it.hosts)) it.servers has.arc.server own.0.server is.servers.each own.0.is_server in
+    let number : (cell_of it one).server ≡ has.arc.server = ap number_of has.is_arc in
+    record {
+      site = rw (sym own.1 ∙ own.0.same_site) (slice_get_within it.sites own.0.server.site server.place.site server.place.is_site);
+      arc = has.arc;
+      is_arc = has.is_arc;
+      server = sym number;
+      there = rw number (slice_get_within it.servers has.arc.server own.0.server own.0.is_server);
+    }
+
+all_of : (P : UseLine → Type 0) (uses : List UseLine) → All P uses → AllByRecursion P uses
+all_of P uses all = all_from P uses (λ i one e. rw (get_or_from_slice_get uses i one one e) at (all i one (slice_get_within uses i one e)))
+
+abbrev Goes : Instance → UseLine → Type 0
+Goes it one = is_allowed (network_of it) one.row one.site ≡ true
+
+each_is : (it : Instance) (row : ℕ) (uses : List UseLine) → IsInstance it → AllByRecursion (Goes it) uses → AllByRecursion (IsCellOf it row) (cells_of it row uses)
+each_is it row [] is goes = tt
+each_is it row (one ∷ uses) is goes = elim (cases_eq one.row row) [
+  | inl here ↦ rw (eq-eqb one.row row here) (subst (λ (r : ℕ). IsCellOf it r (cell_of it one)) here (cell_is it one is goes.0), each_is it row uses is goes.1)
+  | inr other ↦ rw (ne_eqb one.row row other) (each_is it row uses is goes.1)
+]
+
+-- ---- lists with one element written
+
+pub set_here : (xs : List (List Cell)) (i : ℕ) (x : List Cell) → i < length xs → slice_get (set xs i x) i ≡ Some x
+set_here [] i x l = absurd (omega arith)
+set_here (y ∷ xs) zero x l = refl
+set_here (y ∷ xs) (suc i) x l = set_here xs i x (omega arith)
+
+pub set_other : (xs : List (List Cell)) (i j : ℕ) (x : List Cell) → i ≢ j → slice_get (set xs i x) j ≡ slice_get xs j
+set_other [] i j x other = refl
+set_other (y ∷ xs) zero zero x other = absurd (other refl)
+set_other (y ∷ xs) zero (suc j) x other = refl
+set_other (y ∷ xs) (suc i) zero x other = refl
+set_other (y ∷ xs) (suc i) (suc j) x other = set_other xs i j x (λ same. other (ap suc same))
+
+-- ---- one use after the other
+
+cells_more : (it : Instance) (row : ℕ) (uses : List UseLine) (one : UseLine)
+    → cells_of it row (uses ++ one ∷ []) ≡ cells_of it row uses ++ (if one.row == row then cell_of it one ∷ [] else [])
+cells_more it row [] one = refl
+cells_more it row (first ∷ uses) one = elim (cases_eq first.row row) [
+  | inl here ↦ rw (eq-eqb first.row row here) (ap (λ (cells : List Cell). cell_of it first ∷ cells) (cells_more it row uses one))
+  | inr other ↦ rw (ne_eqb first.row row other) (cells_more it row uses one)
+]
+
+-- the first uses
+record AreGiven (it : Instance) (uses : List UseLine) : Type 0 where
+  order : InOrder uses
+  counts : AllByRecursion IsCounted uses
+  goes : AllByRecursion (Goes it) uses
+
+all_take : (P : UseLine → Type 0) (n : ℕ) (uses : List UseLine) → AllByRecursion P uses → AllByRecursion P (take n uses)
+all_take P zero uses all = tt
+all_take P (suc n) [] all = tt
+all_take P (suc n) (one ∷ uses) all = (all.0, all_take P n uses all.1)
+
+order_take : (n : ℕ) (uses : List UseLine) → InOrder uses → InOrder (take n uses)
+order_take zero uses order = tt
+order_take (suc n) [] order = tt
+order_take (suc n) (one ∷ uses) order = (all_take (Before one) n uses order.0, order_take n uses order.1)
+
+are_given : (it : Instance) (uses : List UseLine) → AreUsesOf it uses → AreGiven it uses
+are_given it uses are = record { order = in_order uses are.order; counts = counted uses are.ranges; goes = all_of (Goes it) uses are.allowed }
+
+-- the row of a use is there
+pub use_there : (it : Instance) (uses : List UseLine) (k : ℕ) (one : UseLine) → IsInstance it → AreUsesOf it uses → slice_get uses k ≡ Some one → one.row < length it.rows
+use_there it uses k one is are e =
+    let goes = all_at (Goes it) uses k one (are_given it uses are).goes e in
+    let inside = row_there one.site one.row it.arcs (has_arc it one.row one.site goes) in
+    omega (arith, is.one_list_a_row)
+
+take_next : (uses : List UseLine) (k : ℕ) (one : UseLine) → slice_get uses k ≡ Some one → take (k + 1) uses ≡ take k uses ++ one ∷ []
+take_next uses k one e =
+    take_more uses k one (slice_get_within uses k one e) ∙ ap (λ (x : UseLine). take k uses ++ x ∷ []) (get_or_from_slice_get uses k one one e)
+
+own_more : (it : Instance) (uses : List UseLine) (k : ℕ) (one : UseLine) → slice_get uses k ≡ Some one
+    → cells_of it one.row (take (k + 1) uses) ≡ cells_of it one.row (take k uses) ++ cell_of it one ∷ []
+own_more it uses k one e =
+    ap (λ (us : List UseLine). cells_of it one.row us) (take_next uses k one e) ∙ cells_more it one.row (take k uses) one ∙ rw (eq-eqb one.row one.row refl) refl
+
+-- the cell of a use comes after those of its row's earlier ones
+pub cells_stay : (it : Instance) (uses : List UseLine) (k : ℕ) (one : UseLine) → AreUsesOf it uses → slice_get uses k ≡ Some one
+    → AreCells (cells_of it one.row (take k uses) ++ cell_of it one ∷ [])
+cells_stay it uses k one are e =
+    let given = are_given it uses are in
+    rw (← own_more it uses k one e) (are_cells it one.row (take (k + 1) uses) (order_take (k + 1) uses given.order) (all_take IsCounted (k + 1) uses given.counts))
+
+pub shared_none : (it : Instance) → AreSharesOf it [] (replicate (length it.rows) [])
+shared_none it = record { one_a_row = length-replicate (length it.rows) []; each = none_at_row (length it.rows) }
+  where
+    none_at_row : (n row : ℕ) → row < n → slice_get (replicate {A = List Cell} n []) row ≡ Some []
+    none_at_row zero row l = absurd (omega arith)
+    none_at_row (suc n) zero l = refl
+    none_at_row (suc n) (suc row) l = none_at_row n row (omega arith)
+
+-- one use more: its cell is added to those of its row
+pub shared_more : (it : Instance) (uses : List UseLine) (k : ℕ) (one : UseLine) (shares : List (List Cell)) (cells : List Cell) → slice_get uses k ≡ Some one
+    → AreSharesOf it (take k uses) shares → one.row < length it.rows → cells ≡ cells_of it one.row (take k uses) ++ cell_of it one ∷ []
+    → AreSharesOf it (take (k + 1) uses) (set shares one.row cells)
+shared_more it uses k one shares cells e are inside new = record {
+  one_a_row = length-set shares one.row cells ∙ are.one_a_row;
+  each = λ row l. elim (cases_eq one.row row) [
+    | inl here ↦ rw (← here) (set_here shares one.row cells (omega (arith, are.one_a_row)) ∙ ap Some (new ∙ sym (own_more it uses k one e)))
+    | inr other ↦
+        set_other shares one.row row cells other ∙ are.each row l
+        ∙ ap Some (sym (ap (λ (us : List UseLine). cells_of it row us) (take_next uses k one e) ∙ cells_more it row (take k uses) one ∙ rw (ne_eqb one.row row other) (append-nil (cells_of it row (take k uses)))))
+  ];
+}
+
+-- ---- all uses
+
+no_cells : (it : Instance) (row : ℕ) (uses : List UseLine) → AllByRecursion (λ (one : UseLine). one.row < row) uses → cells_of it row uses ≡ []
+no_cells it row [] all = refl
+no_cells it row (one ∷ uses) all = rw (ne_eqb one.row row (λ same. absurd (omega (arith, all.0, same)))) (no_cells it row uses all.1)
+
+pub are_held : (it : Instance) (uses : List UseLine) (shares : List (List Cell)) → IsInstance it → AreUsesOf it uses → AreSharesOf it uses shares
+    → IsHeld (record { instance = it; shares = shares })
+are_held it uses shares is are shared =
+    let given = are_given it uses are in
+    record {
+      within = is;
+      one_a_row = shared.one_a_row;
+      each = λ row cells e.
+          let inside : row < length it.rows = omega (arith, slice_get_within shares row cells e, shared.one_a_row) in
+          let same : cells ≡ cells_of it row uses = same_Some cells (cells_of it row uses) (sym e ∙ shared.each row inside) in
+          rw same (record { each = each_is it row uses is given.goes; are = are_cells it row uses given.order given.counts });
+    }
+
+pub table_held : (it : Instance) (uses : List UseLine) (shares : List (List Cell)) → IsInstance it → AreUsesOf it uses → AreSharesOf it uses shares
+    → IsSame (left_of (record { instance = it; shares = shares })) (table uses)
+table_held it uses shares is are shared row site =
+    let given = are_given it uses are in
+    elim (cases_lt row (length it.rows)) [
+      | inl inside ↦ rw (shared.each row inside) (left_is it row site uses given.order)
+      | inr past ↦
+          let before : AllByRecursion (λ (one : UseLine). one.row < row) uses = all_from (λ (one : UseLine). one.row < row) uses (λ k one e. omega (arith, use_there it uses k one is are e)) in
+          let none : left_at (cells_of it row uses) site ≡ 0 = rw (no_cells it row uses before) refl in
+          rw (slice_get_past shares row (omega (arith, shared.one_a_row))) (sym none ∙ left_is it row site uses given.order)
+    ]

@@ -1,0 +1,106 @@
+-- A row's cells, and the spread of what is left in them.
+use Rattle.std.proofs.Common.{◌≡◌, ◌≢◌, ◌<◌, ◌≤◌, ◌+◌, ◌-◌, ◌∙◌, ◌++◌, ◌==◌, ℕ, zero, suc, List, [], ◌∷◌, length, drop, get_or, Option, Some, None, Bool, true, false, replicate, arith, refl, sym, ap, eq-eqb, add-one, cond}
+use Rattle.std.proofs.Common.{inl, inr}
+use Rattle.std.proofs.lemmas.Bool.{ne_eqb, cases_eq}
+use Rattle.std.specs.List.{AllByRecursion}
+use Rattle.std.proofs.lemmas.List.{drop-set}
+use Rattle.std.proofs.Math.Seq.{drop-cons}
+use Rattle.std.proofs.Math.ListN.{set}
+use Rattle.hsp_dispatch.proofs.Spreads.{same_spread}
+use Rattle.hsp_dispatch.specs.Dispatch.{spread_from}
+use Rattle.hsp_dispatch.specs.Shares.{AreCells, first_of, without_first, left_at}
+use Rattle.hsp_dispatch.specs.declared.share.Cell.{Cell}
+
+-- the sites of cells, each as often as something is left there
+abbrev pub sites_of : List Cell → List ℕ
+sites_of [] = []
+sites_of (cell ∷ cells) = replicate cell.left cell.site ++ sites_of cells
+
+-- every cell is of a site from s on and before s + n
+abbrev pub Within : ℕ → ℕ → List Cell → Type 0
+Within n s cells = AllByRecursion (λ (cell : Cell). (s ≤ cell.site) × (cell.site < s + n)) cells
+
+-- the first cell lowered, while something is left in it
+with_less : (cell new : Cell) (cells : List Cell) → AreCells (cell ∷ cells) → new.site ≡ cell.site → 0 < new.left → AreCells (new ∷ cells)
+with_less cell new cells are same left = (left, (rw same are.1.0, are.1.1))
+
+pub lowered : (cells : List Cell) (i : ℕ) (d new : Cell) → i < length cells → AreCells (drop i cells) → new.site ≡ (get_or cells i d).site → 0 < new.left → AreCells (drop i (set cells i new))
+lowered cells i d new h are same left =
+    rw (drop-set cells i new h, add-one) (with_less (get_or cells i d) new (drop (suc i) cells) (rw (drop-cons cells i d h) at are) same left)
+
+-- which value stands for a place that is not there is the same at a place that is
+same_at : (cells : List Cell) (i : ℕ) (d e : Cell) → i < length cells → get_or cells i d ≡ get_or cells i e
+same_at [] i d e h = absurd (omega arith)
+same_at (cell ∷ cells) zero d e h = refl
+same_at (cell ∷ cells) (suc i) d e h = same_at cells i d e (omega arith)
+
+-- the cell that was read and the one that is written are one, and more than 1 is left in it
+pub more_left : (cells : List Cell) (i : ℕ) (read written : Cell) → i < length cells → AreCells (drop i cells) → read ≡ get_or cells i read → written ≡ get_or cells i written
+    → (read.left ≡ 1 → ⊥) → 0 < written.left - 1
+more_left cells i read written h are r w not_one =
+    let one : written ≡ read = w ∙ same_at cells i written read h ∙ sym r in
+    let some = (rw (drop-cons cells i read h) at are).0 in
+    let some_read : 0 < read.left = rw (sym r) at some in
+    let left : written.left ≡ read.left = ap (λ (c : Cell). c.left) one in
+    omega (arith, not_one)
+
+pub all_so : (P Q : Cell → Type 0) → ((cell : Cell) → P cell → Q cell) → (cells : List Cell) → AllByRecursion P cells → AllByRecursion Q cells
+all_so P Q so [] all = tt
+all_so P Q so (cell ∷ cells) all = (so cell all.0, all_so P Q so cells all.1)
+
+both_so : (P Q R : Cell → Type 0) → ((cell : Cell) → P cell → Q cell → R cell) → (cells : List Cell) → AllByRecursion P cells → AllByRecursion Q cells → AllByRecursion R cells
+both_so P Q R so [] p q = tt
+both_so P Q R so (cell ∷ cells) p q = (so cell p.0 q.0, both_so P Q R so cells p.1 q.1)
+
+-- cells behind a site leave nothing at it
+pub none_at : (cells : List Cell) (s : ℕ) → AllByRecursion (λ (cell : Cell). s < cell.site) cells → left_at cells s ≡ 0
+none_at [] s behind = refl
+none_at (cell ∷ cells) s behind = rw (ne_eqb cell.site s (λ same. absurd (omega (arith, behind.0, same)))) (none_at cells s behind.1)
+
+-- what is left behind the first cell
+left_behind : (cell : Cell) (cells : List Cell) (t : ℕ) → cell.site < t → left_at (cell ∷ cells) t ≡ left_at cells t
+left_behind cell cells t later = rw (ne_eqb cell.site t (λ same. absurd (omega (arith, same)))) refl
+
+-- the spread of what is left: the sites of the cells
+pub spread_is : (n s : ℕ) (cells : List Cell) → AreCells cells → Within n s cells → spread_from n s (left_at cells) ≡ sites_of cells
+spread_is zero s [] are within = refl
+spread_is zero s (cell ∷ cells) are within = absurd (omega (arith, within.0.0, within.0.1))
+spread_is (suc n) s [] are within = spread_is n (s + 1) [] tt tt
+spread_is (suc n) s (cell ∷ cells) are within = elim (cases_eq cell.site s) [
+  | inl here ↦
+      let rest : Within n (s + 1) cells =
+      both_so (λ (later : Cell). cell.site < later.site) (λ (later : Cell). (s ≤ later.site) × (later.site < s + suc n)) (λ (later : Cell). (s + 1 ≤ later.site) × (later.site < s + 1 + n))
+      (λ later behind inside. (omega (arith, behind, here), omega (arith, inside.1))) cells are.1.0 within.1 in
+      let tail : spread_from n (s + 1) (left_at (cell ∷ cells)) ≡ sites_of cells =
+      same_spread n (s + 1) (left_at (cell ∷ cells)) (left_at cells) (λ t h. left_behind cell cells t (omega (arith, here, h))) ∙ spread_is n (s + 1) cells are.1.1 rest in
+      rw (eq-eqb cell.site s here) (ap (λ (others : List ℕ). replicate cell.left s ++ others) tail ∙ ap (λ (k : ℕ). replicate cell.left k ++ sites_of cells) (sym here))
+  | inr other ↦
+      let later : s < cell.site = omega (arith, other, within.0.0) in
+      let none : left_at cells s ≡ 0 = none_at cells s (all_so (λ (c : Cell). cell.site < c.site) (λ (c : Cell). s < c.site) (λ c behind. omega (arith, behind, later)) cells are.1.0) in
+      let rest : Within n (s + 1) cells =
+      both_so (λ (c : Cell). cell.site < c.site) (λ (c : Cell). (s ≤ c.site) × (c.site < s + suc n)) (λ (c : Cell). (s + 1 ≤ c.site) × (c.site < s + 1 + n))
+      (λ c behind inside. (omega (arith, behind, later), omega (arith, inside.1))) cells are.1.0 within.1 in
+      rw (ne_eqb cell.site s other, none) (spread_is n (s + 1) (cell ∷ cells) are ((omega arith, omega (arith, within.0.1)), rest))
+]
+
+-- the first of the spread is the first cell's site
+pub first_site : (cells : List Cell) (cell : Cell) → AreCells (cell ∷ cells) → (rest : List ℕ) × (sites_of (cell ∷ cells) ≡ cell.site ∷ rest)
+first_site cells cell are = some cell.left are.0 refl
+  where
+    some : (n : ℕ) → 0 < n → cell.left ≡ n → (rest : List ℕ) × (sites_of (cell ∷ cells) ≡ cell.site ∷ rest)
+    some zero h e = absurd (omega arith)
+    some (suc n) h e = (replicate n cell.site ++ sites_of cells, rw e refl)
+
+-- what is left after one was taken: one less at the first site, and the spread without its first element
+pub without_first_spread : (cells : List Cell) → AreCells cells → sites_of (without_first cells) ≡ drop 1 (sites_of cells)
+without_first_spread [] are = refl
+without_first_spread (cell ∷ cells) are = elim (cases_eq cell.left 1) [
+  | inl last ↦ rw (eq-eqb cell.left 1 last, last) refl
+  | inr more ↦ rw (ne_eqb cell.left 1 more) (some cell.left are.0 more refl)
+]
+  where
+    some : (n : ℕ) → 0 < n → (n ≡ 1 → ⊥) → cell.left ≡ n → replicate (cell.left - 1) cell.site ++ sites_of cells ≡ drop 1 (replicate cell.left cell.site ++ sites_of cells)
+    some zero h more e = absurd (omega arith)
+    some (suc n) h more e =
+        let less : suc n - 1 ≡ n = omega arith in
+        rw (e, less) refl

@@ -1,0 +1,16 @@
+use Rattle.std.proofs.Common.{[], inl, refl, sym, ap}
+use Rattle.std.proofs.KnownBytes.{Appends-nil}
+use Rattle.std.proofs.lemmas.Result.{err_from_is_err_and}
+use Rattle.hsp_dispatch.specs.declared.form.Form.TheVariants.{Handles}
+use Rattle.hsp_dispatch.proofs.InTurn.{all_left}
+use Rattle.hsp_dispatch.proofs.Running.{answered_none}
+use Rattle.hsp_dispatch.proofs.run.run_log.Goals as goal
+
+pub returns-in_err-of-clause-stops : goal.returns-in_err-of-clause-stops
+returns-in_err-of-clause-stops g c =
+    let told = err_from_is_err_and c.from_residual.result c.from_residual.ensures.1 in
+    rw (told.1, told.2) (Handles, [], [], [], inl refl, answered_none _ Handles _ (Appends-nil _) (λ row site. refl))
+
+pub returns-clause-stops : goal.returns-clause-stops
+returns-clause-stops g c =
+    rw (all_left g.R.Read.remaining (g.R.Read.remaining c.args.reader) c.read_records-records.result c.read_records-records.ensures.known c.read_records-records.ensures.records c.read_records-records.ensures.unknown) at c.run_rows.ensures.stops

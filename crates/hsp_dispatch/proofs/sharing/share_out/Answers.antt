@@ -1,0 +1,59 @@
+use Rattle.std.proofs.Common.{◌≡◌, ◌<◌, ◌∙◌, ◌++◌, List, [], ◌∷◌, length, take, slice_index_or, Some, arith, refl}
+use Rattle.std.specs.List.{slice_get}
+use Rattle.std.proofs.lemmas.List.{take_all}
+use Rattle.std.proofs.lemmas.Option.{get_or_from_slice_get, slice_get-get_or}
+use Rattle.hsp_cert.specs.declared.use_line.UseLine.{UseLine}
+use Rattle.hsp_check.specs.Uses.{table}
+use Rattle.hsp_dispatch.specs.Dispatch.{IsSame}
+use Rattle.hsp_dispatch.specs.Shares.{AreSharesOf, IsHeld, cell_of, cells_of, left_of}
+use Rattle.hsp_dispatch.specs.declared.share.Cell.{Cell}
+use Rattle.hsp_dispatch.proofs.SharedOut.{are_held, cells_stay, shared_more, table_held, use_there}
+use Rattle.hsp_dispatch.proofs.sharing.share_out.Goals as goal
+
+pub server_at-requires : goal.server_at-requires
+server_at-requires c =
+    let uses = c.args.uses.now in
+    let k = c.loop-one.one-index in
+    use_there c.args.instance.now uses k _ c.rows.ensures.within c.requires (slice_get-get_or uses k (record { row = 0; site = 0; count = 0 }) (omega arith))
+
+pub index_mut-requires : goal.index_mut-requires
+index_mut-requires c =
+    let uses = c.args.uses.now in
+    let k = c.loop-one.one-index in
+    let inside = use_there c.args.instance.now uses k _ c.rows.ensures.within c.requires (slice_get-get_or uses k (record { row = 0; site = 0; count = 0 }) (omega arith)) in
+    omega (arith, c.loop-one.invariant.one_a_row, c.loop-one.shares.ok.0)
+
+pub push-requires : goal.push-requires
+push-requires c =
+    let uses = c.args.uses.now in
+    let k = c.loop-one.one-index in
+    let it = c.args.instance.now in
+    let one = slice_index_or uses k (record { row = 0; site = 0; count = 0 }) in
+    let at : slice_get uses k ≡ Some one = slice_get-get_or uses k (record { row = 0; site = 0; count = 0 }) (omega arith) in
+    let inside = use_there it uses k one c.rows.ensures.within c.requires at in
+    let own : c.index_mut.result.now ≡ cells_of it one.row (take k uses) =
+    c.index_mut.ensures.value ∙ get_or_from_slice_get c.loop-one.shares.items one.row (cells_of it one.row (take k uses)) _ (c.loop-one.invariant.each one.row inside) in
+    rw (own, c.server_at.ensures) (cells_stay it uses k one c.requires at)
+
+pub loop-one-preserved : goal.loop-one-preserved
+loop-one-preserved c =
+    let uses = c.args.uses.now in
+    let k = c.loop-one.one-index in
+    let it = c.args.instance.now in
+    let one = slice_index_or uses k (record { row = 0; site = 0; count = 0 }) in
+    let at : slice_get uses k ≡ Some one = slice_get-get_or uses k (record { row = 0; site = 0; count = 0 }) (omega arith) in
+    let inside = use_there it uses k one c.rows.ensures.within c.requires at in
+    let own : c.index_mut.result.now ≡ cells_of it one.row (take k uses) =
+    c.index_mut.ensures.value ∙ get_or_from_slice_get c.loop-one.shares.items one.row (cells_of it one.row (take k uses)) _ (c.loop-one.invariant.each one.row inside) in
+    let new : c.push.new.self ≡ cells_of it one.row (take k uses) ++ cell_of it one ∷ [] = c.in_ok-push.ensures ∙ rw (own, c.server_at.ensures) refl in
+    shared_more it uses k one c.loop-one.shares.items c.push.new.self at c.loop-one.invariant inside new
+
+pub returns-clause-held : goal.returns-clause-held
+returns-clause-held c =
+    let all : take c.loop-one.one-index c.args.uses.now ≡ c.args.uses.now = take_all c.loop-one.one-index c.args.uses.now (omega arith) in
+    are_held c.args.instance.now c.args.uses.now c.loop-one.shares.items c.rows.ensures.within c.requires (rw all at c.loop-one.invariant)
+
+pub returns-clause-table : goal.returns-clause-table
+returns-clause-table c =
+    let all : take c.loop-one.one-index c.args.uses.now ≡ c.args.uses.now = take_all c.loop-one.one-index c.args.uses.now (omega arith) in
+    table_held c.args.instance.now c.args.uses.now c.loop-one.shares.items c.rows.ensures.within c.requires (rw all at c.loop-one.invariant)

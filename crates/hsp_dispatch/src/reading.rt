@@ -1,0 +1,52 @@
+// The rows of a log, and the entries that they spell.
+
+ghost use Rattle.std.specs.Prelude.{◌≡◌, ◌≢◌, IfErr, IfNone, IfOk, IfSome, OnOk, length, [], ◌∷◌};
+ghost use Rattle.csv.specs.Records.{fields_of};
+ghost use Rattle.hsp_csv.specs.Records.{IsReading};
+ghost use Rattle.hsp_dispatch.specs.Steps.{FailsForm, TakesForm};
+
+use crate::fault::LogFault;
+use crate::form::{Form, form_of};
+use csv::{ByteRecord, Reader};
+use hsp_csv::take_record;
+use std::io::Read;
+
+/// An entry whose parts are lent.
+#[derive(Clone, Copy, Debug)]
+pub(crate) struct LentEntry<'a> {
+    pub(crate) region: &'a [u8],
+    pub(crate) handle: &'a [u8],
+}
+
+/// Takes the header, and tells the form of the log.
+pub(crate) fn take_form<R: Read>(
+    reader: &mut Reader<R>,
+    record: &mut ByteRecord,
+) -> Result<Form, LogFault>
+    requires { IsReading reader.old }
+    ensures form { IfOk result (λ form. TakesForm R.remaining reader.old reader.new form) }
+    ensures reading { OnOk result (IsReading reader.new) }
+    ensures fault { IfErr result (λ e. FailsForm R.remaining reader.old e) }
+{
+    if !take_record(reader, record)? {
+        return Err(LogFault::Header);
+    }
+    match form_of(record) {
+        Some(form) => Ok(form),
+        None => Err(LogFault::Header),
+    }
+}
+
+/// The fields of a record, where there are two.
+#[tactic(auto, using(crate::proofs::RowFields::two_fields_are, hsp_tables::proofs::RecordFields::field_is_missing))]
+pub(crate) fn two_fields(fields: &ByteRecord) -> Option<(&[u8], &[u8])>
+    ensures found { IfSome result (λ t. fields_of fields.now ≡ t.0.now ∷ t.1.now ∷ []) }
+    ensures none { IfNone result (length (fields_of fields.now) ≢ 2) }
+{
+    let first = fields.get(0)?;
+    let second = fields.get(1)?;
+    if fields.len() != 2 {
+        return None;
+    }
+    Some((first, second))
+}

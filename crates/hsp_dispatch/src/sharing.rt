@@ -1,0 +1,57 @@
+// What the uses of a plan give each row of its instance.
+
+ghost use Rattle.std.specs.Prelude.{◌≡◌, ◌<◌, [], length, replicate, slice_get, IfOk};
+ghost use Rattle.hsp_check.specs.Uses.{table};
+ghost use Rattle.hsp_dispatch.specs.Dispatch.{IsSame, arc_to};
+ghost use Rattle.hsp_dispatch.specs.Shares.{AreUsesOf, IsHeld, left_of, number_of};
+
+use crate::share::{Cell, RowShare};
+use hsp_cert::UseLine;
+use hsp_instance::Instance;
+use std::alloc::{AllocError, Global};
+
+// The number of the server at which the row's arc to a site ends, 0 where the row has none.
+fn server_at(instance: &Instance, row: u32, site: u32) -> u32
+    requires { row < length instance.now.rows }
+    ensures { result ≡ number_of (arc_to site (slice_get instance.now.arcs row)) }
+{
+    for arc in instance.arcs(row) {
+        if arc.site == site {
+            return arc.server;
+        }
+    }
+    0
+}
+
+// So many shares of nothing.
+fn empty_shares(alloc: Global, count: u32) -> Result<Vec<RowShare>, AllocError>
+    ensures { IfOk result (λ shares. shares.items ≡ replicate count []) }
+{
+    let mut shares = Vec::new(alloc);
+    for _row in 0..count {
+        shares.push(RowShare::new(alloc))?;
+    }
+    Ok(shares)
+}
+
+/// For each row what the uses give it.
+pub(crate) fn share_out(
+    alloc: Global,
+    instance: &Instance,
+    uses: &[UseLine],
+) -> Result<Vec<RowShare>, AllocError>
+    requires { AreUsesOf instance.now uses.now }
+    ensures held { IfOk result (λ shares. IsHeld (record { instance = instance.now; shares = shares.items })) }
+    ensures table { IfOk result (λ shares. IsSame (left_of (record { instance = instance.now; shares = shares.items })) (table uses.now)) }
+{
+    let mut shares = empty_shares(alloc, instance.rows())?;
+    for one in uses {
+        let cell = Cell {
+            site: one.site,
+            server: server_at(instance, one.row, one.site),
+            left: one.count,
+        };
+        shares[one.row as usize].push(cell)?;
+    }
+    Ok(shares)
+}
