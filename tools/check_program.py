@@ -13,7 +13,8 @@
   status   with which status it has to end (no file: 0)
 
 It runs in a folder that holds a copy of the example files in data/, and of the case's own. Each case with words is run twice: with them as arguments, and
-with them on standard input. Then every allocation of each case is refused in turn: the program has to say so, or to end as ever.
+with them on standard input. Then every allocation of each case is refused in turn: the program has to say so, or to end as ever. `dispatch` may
+have printed its first lines by then.
 """
 import os
 import shutil
@@ -25,7 +26,7 @@ import check_growth
 
 TOP = check_growth.TOP
 CASES = os.path.join(TOP, "checks", "program")
-MEMORY = (b"", b"hsplan: OutOfMemory\n", 4)
+MEMORY = (b"hsplan: OutOfMemory\n", 4)
 
 
 def octets(case, name, absent=b""):
@@ -84,6 +85,13 @@ def folder_of(case, room, data):
     return folder
 
 
+def is_cut_short(words, got, wanted):
+    """Whether a run ended for want of memory: with nothing printed or, by the command that prints as it goes, with some of the lines."""
+    goes_on = words[:1] == [b"dispatch"]
+    lines = wanted[0].splitlines(keepends=True) if goes_on else []
+    return got[1:] == MEMORY and got[0] in [b"".join(lines[:count]) for count in range(len(lines) + 1)]
+
+
 def check(program, case, folder, preloaded):
     faults, refused = [], 0
     count_file = os.path.join(folder, "count of growth")
@@ -101,7 +109,7 @@ def check(program, case, folder, preloaded):
         for number in check_growth.numbers(count):
             got = run(program, words, given, folder, LD_PRELOAD=preloaded, REFUSE_GROWTH=str(number), COUNT_GROWTH=count_file)
             refused += 1
-            if got not in (wanted, MEMORY):
+            if got != wanted and not is_cut_short(words or given.split(), got, wanted):
                 faults.append(f"{case}: allocation {number} refused: {got}")
     return faults, refused
 

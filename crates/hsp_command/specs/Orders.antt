@@ -25,6 +25,8 @@ IsOrderIn (order.LocateSites settings values handle) name rows =
 IsOrderIn (order.Site index file) name rows = (name ≡ codes "site") × (first_of (codes "index") rows ≡ index) × (first_of (codes "file") rows ≡ Some file)
 IsOrderIn (order.Plan inputs) name rows = (name ≡ codes "plan") × HasInputs rows inputs
 IsOrderIn (order.Check inputs plan) name rows = (name ≡ codes "check") × HasInputs rows inputs × (first_of (codes "plan") rows ≡ Some plan)
+IsOrderIn (order.Dispatch inputs plan log) name rows =
+    (name ≡ codes "dispatch") × HasInputs rows inputs × (first_of (codes "plan") rows ≡ Some plan) × (first_of (codes "log") rows ≡ Some log)
 
 -- the order of what clap's matches give
 abbrev pub IsOrderOf : Order → Option (Text × List Row) → Type 0

@@ -77,4 +77,10 @@ pub enum Order {
         inputs: InputFiles,
         plan: Word,
     },
+    /// `dispatch` with the files of the inputs, `--plan F` and `--log F`
+    Dispatch {
+        inputs: InputFiles,
+        plan: Word,
+        log: Word,
+    },
 }

@@ -101,6 +101,12 @@ fn order_of(alloc: Global, name: &str, matches: &ArgMatches<'_>) -> Result<Order
             let plan = needed_of(alloc, matches, "plan")?;
             Ok(Order::Check { inputs, plan })
         }
+        "dispatch" => {
+            let inputs = inputs_of(alloc, matches)?;
+            let plan = needed_of(alloc, matches, "plan")?;
+            let log = needed_of(alloc, matches, "log")?;
+            Ok(Order::Dispatch { inputs, plan, log })
+        }
         _ => Err(CommandFault::Usage),
     }
 }

@@ -52,6 +52,11 @@ fn shown(alloc: Global, order: &Order) -> Option<String> {
         }
         Order::Plan { inputs } => shown_inputs(alloc, "plan", inputs, ""),
         Order::Check { inputs, plan } => shown_inputs(alloc, "check", inputs, plan.as_str()),
+        Order::Dispatch { inputs, plan, log } => {
+            let shown = shown_inputs(alloc, "dispatch", inputs, plan.as_str())?;
+            let (shown, log) = (shown.as_str(), log.as_str());
+            format!(in alloc; "{shown}|{log}").ok()
+        }
     }
 }
 
@@ -168,8 +173,18 @@ fn a_check_is_ordered(rt: HostRuntime) -> Result<(), Fail> {
 }
 
 #[test]
+fn a_dispatch_is_ordered(rt: HostRuntime) -> Result<(), Fail> {
+    gives(
+        &rt,
+        rt.alloc(),
+        b"dispatch --settings s --demand d --costs c --capacity k --plan p --log l",
+        "dispatch|s|none|d|c|k|p|l",
+    )
+}
+
+#[test]
 fn other_words_are_no_order(rt: HostRuntime) -> Result<(), Fail> {
-    let lines: [&[u8]; 14] = [
+    let lines: [&[u8]; 16] = [
         b"",
         b"locate",
         b"plan",
@@ -184,6 +199,8 @@ fn other_words_are_no_order(rt: HostRuntime) -> Result<(), Fail> {
         b"locate --option local --servers 2 --settings s 10/3",
         b"locate --values v 10/3",
         b"check --settings s --demand d --costs c --capacity k",
+        b"dispatch --settings s --demand d --costs c --capacity k --plan p",
+        b"dispatch --settings s --demand d --costs c --capacity k --log l",
     ];
     for line in lines {
         refused(&rt, rt.alloc(), line)?;

@@ -1,3 +1,4 @@
 pub mod Consuming
+pub mod Dispatching
 pub mod Printing
 pub mod Showing

@@ -12,8 +12,10 @@ use Rattle.hsp_instance.specs.declared.fault.BuildFault.{BuildFault}
 use Rattle.hsp_instance.specs.declared.fault.BuildFault.TheVariants as build_fault
 use Rattle.hsp_cert.specs.declared.fault.CertFault.{CertFault}
 use Rattle.hsp_cert.specs.declared.fault.CertFault.TheVariants as cert_fault
+use Rattle.hsp_dispatch.specs.declared.fault.LogFault.{LogFault}
+use Rattle.hsp_dispatch.specs.declared.fault.LogFault.TheVariants as log_fault
 use Rattle.hsp_runs.specs.declared.fault.Fault.{Fault}
-use Rattle.hsp_runs.specs.declared.fault.Fault.TheVariants.{BadOption, BadServers, BadIndex, Handle, Site, Settings, Values, NoValue, NotSiteValue, Demand, Costs, Capacity, Build, Cert, Refused, WrongKind, OutOfMemory}
+use Rattle.hsp_runs.specs.declared.fault.Fault.TheVariants.{BadOption, BadServers, BadIndex, Handle, Site, Settings, Values, NoValue, NotSiteValue, Demand, Costs, Capacity, Build, Cert, Refused, WrongKind, OutOfMemory, Log}
 use Rattle.hsp_runs.specs.VerdictText.{reason_word}
 
 abbrev pub handle_words : HandleFault → List ℕ
@@ -81,6 +83,21 @@ cert_words cert_fault.Ended = codes "Ended"
 cert_words (cert_fault.AfterEnd line) = codes "AfterEnd line " ++ decimal line
 cert_words cert_fault.OutOfMemory = codes "OutOfMemory"
 
+abbrev pub log_words : LogFault → List ℕ
+log_words log_fault.ReadFailed = codes "ReadFailed"
+log_words log_fault.WriteFailed = codes "WriteFailed"
+log_words log_fault.Header = codes "Header"
+log_words (log_fault.Fields row) = row_words (codes "Fields") row
+log_words (log_fault.BadHandle row) = row_words (codes "BadHandle") row
+log_words log_fault.LogTooLong = codes "LogTooLong"
+log_words log_fault.OutOfMemory = codes "OutOfMemory"
+log_words (log_fault.BadBody row) = row_words (codes "BadBody") row
+
+-- a fault of a run over a log; want of memory is told without a part
+abbrev pub log_told : LogFault → Fault
+log_told log_fault.OutOfMemory = OutOfMemory
+log_told e = Log e
+
 -- a fault without a part, or the part with the fault in it
 abbrev pub fault_words : Fault → List ℕ
 fault_words BadOption = codes "BadOption"
@@ -100,11 +117,23 @@ fault_words (Cert e) = codes "certificate: " ++ cert_words e
 fault_words (Refused reason) = codes "check: " ++ reason_word reason
 fault_words WrongKind = codes "WrongKind"
 fault_words OutOfMemory = codes "OutOfMemory"
+fault_words (Log e) = codes "log: " ++ log_words e
 
 abbrev pub fault_text : Fault → List ℕ
 fault_text fault = codes "hsplan: " ++ (fault_words fault ++ 10 ∷ [])
 
--- 4 for want of memory, 3 for a certificate that is refused or of the wrong kind, 1 for any other refused input
+-- 5 for a log that isn't read to its end and for answers that aren't written, 4 for want of memory, 1 for a refused log
+abbrev pub log_status : LogFault → ℕ
+log_status log_fault.ReadFailed = 5
+log_status log_fault.WriteFailed = 5
+log_status log_fault.Header = 1
+log_status (log_fault.Fields row) = 1
+log_status (log_fault.BadHandle row) = 1
+log_status log_fault.LogTooLong = 1
+log_status log_fault.OutOfMemory = 4
+log_status (log_fault.BadBody row) = 1
+
+-- 4 for want of memory, 3 for a certificate that is refused or of the wrong kind, that of a log's fault, 1 for any other refused input
 abbrev pub status_in : Fault → ℕ
 status_in BadOption = 1
 status_in BadServers = 1
@@ -123,3 +152,4 @@ status_in (Cert e) = 1
 status_in (Refused reason) = 3
 status_in WrongKind = 3
 status_in OutOfMemory = 4
+status_in (Log e) = log_status e

@@ -8,3 +8,5 @@ pub mod Check
 pub mod Accepted
 pub mod VerdictText
 pub mod Plan
+pub mod SumsText
+pub mod Dispatch

@@ -1,8 +1,10 @@
 ghost use Rattle.std.specs.Prelude.{◌≡◌};
+ghost use Rattle.hsp_runs.specs.FaultText.{log_told};
 ghost use Rattle.hsp_runs.specs.declared.fault.Fault.TheVariants.{OutOfMemory};
 
 use hsp_cert::CertFault;
 use hsp_check::Reason;
+use hsp_dispatch::LogFault;
 use hsp_instance::BuildFault;
 use hsp_names::HandleFault;
 use hsp_record::RecordFault;
@@ -64,6 +66,9 @@ pub enum Fault {
     /// Memory ran out.
     #[error("out of memory")]
     OutOfMemory,
+    /// The run over a log stopped.
+    #[error("log: {0:?}")]
+    Log(LogFault),
 }
 
 impl From<AllocError> for Fault {
@@ -71,5 +76,16 @@ impl From<AllocError> for Fault {
 
     fn from(_error: AllocError) -> Fault {
         Fault::OutOfMemory
+    }
+}
+
+impl From<LogFault> for Fault {
+    ghost from_gives = { λ log fault. fault ≡ log_told log };
+
+    fn from(fault: LogFault) -> Fault {
+        match fault {
+            LogFault::OutOfMemory => Fault::OutOfMemory,
+            other => Fault::Log(other),
+        }
     }
 }

@@ -1,13 +1,14 @@
 // Faults as the program prints them, and the statuses that it ends with.
 
 ghost use Rattle.std.specs.Prelude.{◌≡◌, ◌++◌, IfOk, OnOk, codes};
-ghost use Rattle.hsp_runs.specs.FaultText.{fault_text, fault_words, record_words, status_in, table_words};
+ghost use Rattle.hsp_runs.specs.FaultText.{fault_text, fault_words, log_status, record_words, status_in, table_words};
 
 use crate::fault::Fault;
 use crate::fault_words::{
-    handle_words, put_build_fault, put_cert_fault, put_record_fault, put_table_fault,
+    handle_words, put_build_fault, put_cert_fault, put_log_fault, put_record_fault, put_table_fault,
 };
 use crate::verdict_text::reason_word;
+use hsp_dispatch::LogFault;
 use hsp_record::RecordFault;
 use hsp_tables::TableFault;
 use std::alloc::{AllocError, Global};
@@ -62,6 +63,10 @@ fn put_fault(out: &mut Vec<u8>, fault: &Fault) -> Result<(), AllocError>
         }
         Fault::WrongKind => out.extend_from_slice(b"WrongKind"),
         Fault::OutOfMemory => out.extend_from_slice(b"OutOfMemory"),
+        Fault::Log(inner) => {
+            out.extend_from_slice(b"log: ")?;
+            put_log_fault(out, inner)
+        }
     }
 }
 
@@ -76,8 +81,23 @@ pub fn fault_line(alloc: Global, fault: &Fault) -> Result<Vec<u8>, AllocError>
     Ok(line)
 }
 
-/// The status that the program ends with at a fault: 4 for want of memory, 3 for a certificate that is refused or of the wrong kind,
-/// else 1.
+// The status at a fault of a run over a log.
+fn log_status(fault: LogFault) -> u8
+    ensures { result ≡ log_status fault }
+{
+    match fault {
+        LogFault::ReadFailed | LogFault::WriteFailed => 5,
+        LogFault::OutOfMemory => 4,
+        LogFault::Header
+        | LogFault::Fields { .. }
+        | LogFault::BadHandle { .. }
+        | LogFault::LogTooLong
+        | LogFault::BadBody { .. } => 1,
+    }
+}
+
+/// The status that the program ends with at a fault: 5 for a log that can't be read to its end and for answers that can't be
+/// written, 4 for want of memory, 3 for a certificate that is refused or of the wrong kind, else 1.
 pub fn status_of(fault: &Fault) -> u8
     ensures { result ≡ status_in fault.now }
 {
@@ -98,5 +118,6 @@ pub fn status_of(fault: &Fault) -> u8
         | Fault::Cert(_) => 1,
         Fault::Refused(_) | Fault::WrongKind => 3,
         Fault::OutOfMemory => 4,
+        Fault::Log(inner) => log_status(*inner),
     }
 }

@@ -3,9 +3,10 @@
 ghost use Rattle.std.specs.Prelude.{◌≡◌, ◌++◌, ◌∷◌, OnOk, decimal};
 ghost use Rattle.hsp_tables.specs.declared.fault.TableFault.TheVariants as table_fault;
 ghost use Rattle.hsp_instance.specs.declared.fault.BuildFault.TheVariants as build_fault;
-ghost use Rattle.hsp_runs.specs.FaultText.{build_words, cert_words, handle_words, host_words, record_words, row_words, site_words, table_name, table_words};
+ghost use Rattle.hsp_runs.specs.FaultText.{build_words, cert_words, handle_words, host_words, log_words, record_words, row_words, site_words, table_name, table_words};
 
 use hsp_cert::CertFault;
+use hsp_dispatch::LogFault;
 use hsp_instance::{BuildFault, Table};
 use hsp_names::HandleFault;
 use hsp_record::RecordFault;
@@ -159,5 +160,21 @@ pub(crate) fn put_cert_fault(out: &mut Vec<u8>, fault: &CertFault) -> Result<(),
         CertFault::Ended => out.extend_from_slice(b"Ended"),
         CertFault::AfterEnd { line } => put_with(out, b"AfterEnd line ", *line),
         CertFault::OutOfMemory => out.extend_from_slice(b"OutOfMemory"),
+    }
+}
+
+/// Appends a fault of a run over a log, with its row.
+pub(crate) fn put_log_fault(out: &mut Vec<u8>, fault: &LogFault) -> Result<(), AllocError>
+    ensures { OnOk result (out.new.items ≡ out.old.items ++ log_words fault.now) }
+{
+    match fault {
+        LogFault::ReadFailed => out.extend_from_slice(b"ReadFailed"),
+        LogFault::WriteFailed => out.extend_from_slice(b"WriteFailed"),
+        LogFault::Header => out.extend_from_slice(b"Header"),
+        LogFault::Fields { row } => put_row(out, b"Fields", *row),
+        LogFault::BadHandle { row } => put_row(out, b"BadHandle", *row),
+        LogFault::LogTooLong => out.extend_from_slice(b"LogTooLong"),
+        LogFault::OutOfMemory => out.extend_from_slice(b"OutOfMemory"),
+        LogFault::BadBody { row } => put_row(out, b"BadBody", *row),
     }
 }

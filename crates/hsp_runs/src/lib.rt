@@ -3,6 +3,7 @@
 
 mod accepted;
 mod checking;
+mod dispatch;
 mod fault;
 mod fault_text;
 mod fault_words;
@@ -14,9 +15,11 @@ mod plan;
 mod readings;
 mod site;
 mod site_lines;
+mod sums_text;
 mod verdict_text;
 
 pub use checking::check_run;
+pub use dispatch::dispatch_run;
 pub use fault::Fault;
 pub use fault_text::{fault_line, status_of};
 pub use input::{first_line, read_file};
@@ -24,8 +27,11 @@ pub use inputs::Inputs;
 pub use locate::{Locate, locate_run};
 pub use plan::{PlanText, plan_run};
 pub use site::site_run;
+pub use sums_text::sums_line;
 pub use verdict_text::{verdict_line, verdict_status};
 
+#[cfg(test)]
+mod dispatch_tests;
 #[cfg(test)]
 mod run_tests;
 #[cfg(test)]

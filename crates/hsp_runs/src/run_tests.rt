@@ -18,7 +18,7 @@ const COSTS: &[u8] = b"region,site,cost\nr1,E,1\nr1,W,4\nr2,E,2\nr2,W,3\n";
 const CAPACITY: &[u8] = b"site,server_id,capacity\nE,7,10\nE,3,6\nW,1,2\nW,2,10\nW,9,10\n";
 
 // Two sites, three rows, five servers.
-const BASE: Texts<'static> = Texts {
+pub(crate) const BASE: Texts<'static> = Texts {
     settings: SETTINGS,
     values: None,
     demand: DEMAND,
@@ -27,7 +27,7 @@ const BASE: Texts<'static> = Texts {
 };
 
 // The same, where the last row asks for 9 queries.
-const LACKING: Texts<'static> = Texts {
+pub(crate) const LACKING: Texts<'static> = Texts {
     settings: SETTINGS,
     values: None,
     demand: b"region,handle,count\nr1,10/1,5\nr1,10/2,4\nr2,10/3,9\n",
@@ -37,7 +37,7 @@ const LACKING: Texts<'static> = Texts {
 
 // The texts of inputs.
 #[derive(Clone, Copy)]
-struct Texts<'a> {
+pub(crate) struct Texts<'a> {
     settings: &'a [u8],
     values: Option<&'a [u8]>,
     demand: &'a [u8],
@@ -45,7 +45,7 @@ struct Texts<'a> {
     capacity: &'a [u8],
 }
 
-fn inputs_of(alloc: Global, texts: Texts<'_>) -> Option<Inputs> {
+pub(crate) fn inputs_of(alloc: Global, texts: Texts<'_>) -> Option<Inputs> {
     let values = match texts.values {
         None => None,
         Some(octets) => Some(Vec::from_slice(alloc, octets).ok()?),
@@ -481,13 +481,13 @@ fn accepted_once(alloc: Global, texts: Texts<'_>, cert: &[u8]) -> Result<Accepte
     accepted_in(alloc, &inputs, cert)
 }
 
-const PLAN: &[u8] =
+pub(crate) const PLAN: &[u8] =
     b"HSPLAN 1\nPLAN\ncost 17\nuse 0 0 5\nuse 1 0 4\nuse 2 0 1\nuse 2 1 2\nrow 0 2\nrow 1 1\nrow 2 3\nserver 0 0\nserver 1 1\nserver 2 0\nserver 3 0\nserver 4 0\nEND\n";
 
-const CHEAPER_PLAN: &[u8] =
+pub(crate) const CHEAPER_PLAN: &[u8] =
     b"HSPLAN 1\nPLAN\ncost 16\nuse 0 0 5\nuse 1 0 4\nuse 2 0 1\nuse 2 1 2\nrow 0 2\nrow 1 1\nrow 2 3\nserver 0 0\nserver 1 1\nserver 2 0\nserver 3 0\nserver 4 0\nEND\n";
 
-const SHORTAGE: &[u8] = b"HSPLAN 1\nSHORTAGE\ndemand 9\ncapacity 8\nrow 2\nEND\n";
+pub(crate) const SHORTAGE: &[u8] = b"HSPLAN 1\nSHORTAGE\ndemand 9\ncapacity 8\nrow 2\nEND\n";
 
 #[test]
 fn valid_certificates_are_accepted(rt: HostRuntime) -> Result<(), Fail> {

@@ -12,6 +12,6 @@ refused words fault.Usage usage = usage refl
 refused words fault.OutOfMemory usage = tt
 
 -- a command that ended by a failure
-pub ends_by : (ended : Result ℕ Failure) (failure : Failure) → IsErrAnd ended (λ it. it ≡ failure) → ended ≡ Err failure
+pub ends_by : {A : Type 0} (ended : Result A Failure) (failure : Failure) → IsErrAnd ended (λ it. it ≡ failure) → ended ≡ Err failure
 ends_by (Ok status) failure is = absurd is
 ends_by (Err it) failure is = ap (λ f. Err f) is

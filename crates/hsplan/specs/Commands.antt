@@ -10,12 +10,21 @@ use Rattle.hsp_command.specs.declared.order.Order.{Order}
 use Rattle.hsp_command.specs.declared.order.Order.TheVariants as order
 use Rattle.hsp_runs.specs.Locate.{AreLocated, placed}
 use Rattle.hsp_runs.specs.SiteText.{IsSiteRun}
+use Rattle.hsp_runs.specs.Dispatch.{IsDispatched}
+use Rattle.hsp_runs.specs.declared.fault.Fault.{Fault}
+use Rattle.hsp_runs.specs.declared.fault.Fault.TheVariants.{Log}
 use Rattle.hsp_runs.specs.declared.inputs.Inputs.{Inputs}
+use Rattle.hsp_dispatch.specs.declared.answer.LogSums.{LogSums}
+use Rattle.hsp_dispatch.specs.declared.fault.LogFault.TheVariants.{WriteFailed}
+use Rattle.hsp_csv.specs.Records.{records_of}
+use Rattle.std.specs.Io.KnownBytes.{Keeps}
 use Rattle.hsplan.specs.declared.answer.Answer.{Answer}
+use Rattle.hsplan.specs.declared.answer.Completed.{Completed}
 use Rattle.hsplan.specs.declared.failure.Failure.{Failure}
+use Rattle.hsplan.specs.declared.failure.Failure.TheVariants.{Refused}
 use Rattle.hsplan.specs.Answers.{IsAnswered, IsShownPlan, IsShownVerdict, fields_told, plan_told, text_told, verdict_told}
 use Rattle.hsplan.specs.Failing.{IsUnread, failure_of}
-use Rattle.hsplan.specs.Files.{Disk}
+use Rattle.hsplan.specs.Files.{Disk, HoldsRest}
 use Rattle.hsplan.specs.Printing.{Prints}
 
 -- the octets of a file that may be named
@@ -42,7 +51,7 @@ abbrev pub OneFails : Disk → InputFiles → Type 0
 OneFails disk files = disk.fails files.settings ⊎ FailsNamed disk files.values ⊎ disk.fails files.demand ⊎ disk.fails files.costs ⊎ disk.fails files.capacity
 
 -- a file, which may fail to be read, wasn't read; or memory ran out
-abbrev pub LacksFile : Type 0 → Result Answer Failure → Type 0
+abbrev pub LacksFile : {A : Type 0} → Type 0 → Result A Failure → Type 0
 LacksFile MayFail answer = IsErrAnd answer (IsUnread MayFail)
 
 abbrev pub AnswersSites : Disk → List ℕ → Option (List ℕ) → List ℕ → Result Answer Failure → Type 0
@@ -63,16 +72,43 @@ AnswersCheck disk files plan answer =
     LacksFile (OneFails disk files ⊎ disk.fails plan) answer
     ⊎ ((inputs : Inputs) × (octets : List ℕ) × AreHeld disk files inputs × disk.holds plan octets × IsAnswered verdict_told (IsShownVerdict inputs octets) answer)
 
--- the answer to an order
+-- the answer to an order whose text is printed as one; a log's lines are not
 abbrev pub AnswersTo : Disk → Order → Result Answer Failure → Type 0
 AnswersTo disk (order.LocatePlace option servers handle) answer = IsAnswered text_told (λ text. text ≡ placed option servers handle) answer
 AnswersTo disk (order.LocateSites settings values handle) answer = AnswersSites disk settings values handle answer
 AnswersTo disk (order.Site index file) answer = AnswersSite disk index file answer
 AnswersTo disk (order.Plan inputs) answer = AnswersPlan disk inputs answer
 AnswersTo disk (order.Check inputs plan) answer = AnswersCheck disk inputs plan answer
+AnswersTo disk (order.Dispatch inputs plan log) answer = ⊥
 
--- an order is carried out on an output, whose writes may fail or not: its answer is printed
-abbrev pub CarriesOut : Disk → Type 0 → Order → Option (List ℕ) → Option (List ℕ) → Result ℕ Failure → Type 0
+-- each file holds what was read of it, and the log's file what is left to be read
+pub record AreOpened (disk : Disk) (files : InputFiles) (plan log : List ℕ) (inputs : Inputs) (octets : List ℕ) (left : Option (List ℕ)) : Type 0 where
+  pub held : AreHeld disk files inputs
+  pub certificate : disk.holds plan octets
+  pub rest : HoldsRest disk log left
+
+-- the sums are told with status 0, or the fault; or what had been written couldn't be handed on, as may be
+abbrev pub TellsRun : Type 0 → Result LogSums Fault → Result Completed Failure → Type 0
+TellsRun MayFail (Ok sums) ended = ended ≡ Ok (record { status = 0; sums = Some sums })
+TellsRun MayFail (Err fault) ended = (ended ≡ Err (Refused fault)) ⊎ (MayFail × (ended ≡ Err (Refused (Log WriteFailed))))
+
+-- the log's entries were answered on an output, and what was written was handed on
+abbrev pub Dispatches : Type 0 → Inputs → List ℕ → Option (List ℕ) → Option (List ℕ) → Option (List ℕ) → Result Completed Failure → Type 0
+Dispatches MayFail inputs octets left old new ended =
+    (written : Option (List ℕ)) × (answer : Result LogSums Fault)
+    × IsDispatched inputs octets (record { log = option_map records_of left; before = old; after = written }) answer
+    × Keeps written new × TellsRun MayFail answer ended
+
+-- a file, which may fail to be read, wasn't read, or memory ran out, and nothing was written; or the log was answered
+abbrev pub DispatchesFrom : Disk → Type 0 → InputFiles → List ℕ → List ℕ → Option (List ℕ) → Option (List ℕ) → Result Completed Failure → Type 0
+DispatchesFrom disk MayFail files plan log old new ended =
+    ((new ≡ old) × LacksFile (OneFails disk files ⊎ disk.fails plan ⊎ disk.fails log) ended)
+    ⊎ ((inputs : Inputs) × (octets : List ℕ) × (left : Option (List ℕ)) × AreOpened disk files plan log inputs octets left
+    × Dispatches MayFail inputs octets left old new ended)
+
+-- an order is carried out on an output, whose writes may fail or not: a log is answered, or the order's answer is printed
+abbrev pub CarriesOut : Disk → Type 0 → Order → Option (List ℕ) → Option (List ℕ) → Result Completed Failure → Type 0
+CarriesOut disk MayFail (order.Dispatch inputs plan log) old new ended = DispatchesFrom disk MayFail inputs plan log old new ended
 CarriesOut disk MayFail order old new ended = (answer : Result Answer Failure) × AnswersTo disk order answer × Prints MayFail answer old new ended
 
 -- the order that words give, or that they give none, or that memory ran out
@@ -82,10 +118,10 @@ IsOrdered words (Err command_fault.Usage) = IsUsage words
 IsOrdered words (Err command_fault.OutOfMemory) = ⊤
 
 -- it is carried out; where there is none, nothing was written, and the failure is told
-abbrev pub ActsOn : Disk → Type 0 → Result Order CommandFault → Option (List ℕ) → Option (List ℕ) → Result ℕ Failure → Type 0
+abbrev pub ActsOn : Disk → Type 0 → Result Order CommandFault → Option (List ℕ) → Option (List ℕ) → Result Completed Failure → Type 0
 ActsOn disk MayFail (Ok order) old new ended = CarriesOut disk MayFail order old new ended
 ActsOn disk MayFail (Err fault) old new ended = (new ≡ old) × (ended ≡ Err (failure_of fault))
 
 -- the words are obeyed
-abbrev pub Obeys : Disk → Type 0 → List (List ℕ) → Option (List ℕ) → Option (List ℕ) → Result ℕ Failure → Type 0
+abbrev pub Obeys : Disk → Type 0 → List (List ℕ) → Option (List ℕ) → Option (List ℕ) → Result Completed Failure → Type 0
 Obeys disk MayFail words old new ended = (order : Result Order CommandFault) × IsOrdered words order × ActsOn disk MayFail order old new ended

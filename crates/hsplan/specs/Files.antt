@@ -11,3 +11,7 @@ pub record Disk : Type 1 where
 abbrev pub MayRead : Option (List ℕ) → List ℕ → Type 0
 MayRead (Some left) octets = octets ≡ left
 MayRead None octets = ⊤
+
+-- what is left, read to the end, is what the file holds
+abbrev pub HoldsRest : Disk → List ℕ → Option (List ℕ) → Type 0
+HoldsRest disk path left = (octets : List ℕ) → MayRead left octets → disk.holds path octets

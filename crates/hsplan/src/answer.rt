@@ -8,6 +8,7 @@ ghost use Rattle.hsplan.specs.Printing.{Prints};
 
 use crate::failure::Failure;
 use crate::output::Output;
+use hsp_dispatch::LogSums;
 use hsp_runs::{
     Inputs, Locate, check_run, locate_run, plan_run, site_run, verdict_line, verdict_status,
 };
@@ -18,6 +19,13 @@ use std::alloc::Global;
 pub struct Answer {
     pub text: Vec<u8>,
     pub status: u8,
+}
+
+/// What a command ends with: a status and, where it answered a log, the sums of that.
+#[derive(Debug, Drop)]
+pub struct Completed {
+    pub status: u8,
+    pub sums: Option<LogSums>,
 }
 
 /// Where the handle is served.
@@ -67,12 +75,18 @@ pub fn check_answer(alloc: Global, inputs: &Inputs, plan: &[u8]) -> Result<Answe
 }
 
 /// Writes the text of an answer, and gives its status.
-pub fn print<O: Output>(out: &mut O, answered: Result<Answer, Failure>) -> Result<u8, Failure>
+pub fn print<O: Output>(
+    out: &mut O,
+    answered: Result<Answer, Failure>,
+) -> Result<Completed, Failure>
     ensures { Prints O.may_fail answered (O.contents out.old) (O.contents out.new) result }
 {
     let answer = answered?;
     match out.put(answer.text.as_slice()) {
-        Ok(()) => Ok(answer.status),
+        Ok(()) => Ok(Completed {
+            status: answer.status,
+            sums: None,
+        }),
         Err(_) => Err(Failure::Write),
     }
 }

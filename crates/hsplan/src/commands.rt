@@ -6,7 +6,10 @@ ghost use Rattle.hsplan.specs.Answers.{IsAnswered, text_told};
 ghost use Rattle.hsplan.specs.Commands.{AnswersCheck, AnswersPlan, AnswersSite, AnswersSites, AreHeld, CarriesOut, FailsNamed, HoldsNamed, Obeys, OneFails};
 ghost use Rattle.hsplan.specs.Failing.{IsUnread};
 
-use crate::answer::{Answer, check_answer, locate_answer, plan_answer, print, site_answer};
+use crate::answer::{
+    Answer, Completed, check_answer, locate_answer, plan_answer, print, site_answer,
+};
+use crate::dispatch::{dispatch, open_log};
 use crate::failure::Failure;
 use crate::files::{FileSource, read_whole};
 use crate::output::Output;
@@ -29,8 +32,8 @@ fn read_named<S: FileSource>(
     }
 }
 
-// The files of inputs, read in their order.
-fn read_inputs<S: FileSource>(
+/// The files of inputs, read in their order.
+pub fn read_inputs<S: FileSource>(
     alloc: Global,
     files: &S,
     named: &InputFiles,
@@ -113,13 +116,13 @@ fn check<S: FileSource>(
     check_answer(alloc, &inputs, &plan)
 }
 
-// Carries out the order: prints its answer on `out`, and gives the status to end with.
+// Carries out the order: prints its answer on `out`, or answers a log there, and gives what to end with.
 fn carry_out<S: FileSource, O: Output>(
     alloc: Global,
     files: &S,
     order: &Order,
     out: &mut O,
-) -> Result<u8, Failure>
+) -> Result<Completed, Failure>
     ensures { CarriesOut (S.disk files.now) O.may_fail order.now (O.contents out.old) (O.contents out.new) result }
 {
     match order {
@@ -136,16 +139,19 @@ fn carry_out<S: FileSource, O: Output>(
         Order::Site { index, file } => print(out, site(alloc, files, index, file)),
         Order::Plan { inputs } => print(out, plan(alloc, files, inputs)),
         Order::Check { inputs, plan } => print(out, check(alloc, files, inputs, plan)),
+        Order::Dispatch { inputs, plan, log } => {
+            dispatch(alloc, open_log(alloc, files, inputs, plan, log)?, out)
+        }
     }
 }
 
-/// Obeys the command that the words give: writes its answer on `out`, and gives the status to end with.
+/// Obeys the command that the words give: writes its answer on `out`, and gives what to end with.
 pub fn obey<S: FileSource, O: Output>(
     alloc: Global,
     files: &S,
     words: &[String],
     out: &mut O,
-) -> Result<u8, Failure>
+) -> Result<Completed, Failure>
     ensures { Obeys (S.disk files.now) O.may_fail (map string_bytes words.now)
         (O.contents out.old) (O.contents out.new) result }
 {

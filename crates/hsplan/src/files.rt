@@ -1,8 +1,8 @@
 // The files that a command names.
 
-ghost use Rattle.std.specs.Prelude.{ℕ, List, ⊤, IfErr, IfOk};
+ghost use Rattle.std.specs.Prelude.{⊤, IfErr, IfOk};
 ghost use Rattle.hsplan.specs.Failing.{IsUnread};
-ghost use Rattle.hsplan.specs.Files.{Disk, MayRead};
+ghost use Rattle.hsplan.specs.Files.{Disk, HoldsRest, MayRead};
 
 use crate::failure::Failure;
 use hsp_command::Word;
@@ -44,7 +44,7 @@ pub trait FileSource {
 
     /// The file at this path, to be read.
     fn open(&self, path: &Word) -> Result<Self::File, Failure>
-        ensures held { IfOk result (λ file. (octets : List ℕ) → MayRead (Self.File.remaining file) octets → (disk self.now).holds path.now octets) }
+        ensures held { IfOk result (λ file. HoldsRest (disk self.now) path.now (Self.File.remaining file)) }
         ensures stops { IfOk result (λ file. Self.File.may_fail file → (disk self.now).fails path.now) }
         ensures unopened { IfErr result (IsUnread ((disk self.now).fails path.now)) };
 }

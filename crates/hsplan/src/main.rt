@@ -3,34 +3,47 @@
 
 mod answer;
 mod commands;
+mod dispatch;
 mod ending;
 mod failure;
 mod files;
 mod output;
 mod words;
 
+use answer::Completed;
 use commands::obey;
-use ending::{end_with, refusal_line};
+use ending::{end_with, last_line};
 use failure::Failure;
 use output::Output;
-use std::io;
+use std::io::{self, BufWriter};
 use std::process::ExitCode;
 use std::rt::{Env, Files};
 use words::take_words;
+
+// How many octets of answers go out together.
+const PIECE: usize = 65_536;
 
 // Obeys the command that the words give.
 fn run<R: Env + Files + Input + AllocGlobal, O: Output>(
     rt: &R,
     out: &mut O,
-) -> Result<u8, Failure> {
+) -> Result<Completed, Failure> {
     let words = take_words(rt)?;
     obey(rt.alloc(), rt, words.as_slice(), out)
 }
 
 fn main(rt: HostRuntime) -> ExitCode {
-    let ended = run(&rt, &mut io::writer(&rt));
-    let refusal = refusal_line(rt.alloc(), &ended);
+    let ended = match BufWriter::with_capacity(rt.alloc(), PIECE, io::writer(&rt)) {
+        Ok(mut out) => {
+            let ended = run(&rt, &mut out);
+            // What a failed write left isn't tried again.
+            let _left = out.into_parts();
+            ended
+        }
+        Err(_) => Err(Failure::Memory),
+    };
+    let line = last_line(rt.alloc(), &ended);
     let errors = rt.stderr();
-    let status = end_with(&mut io::writer(&errors), &ended, &refusal);
+    let status = end_with(&mut io::writer(&errors), &ended, &line);
     ExitCode::from(status)
 }

@@ -10,4 +10,6 @@ returns c =
     let locate = c.in_ok-command.ensures ∙ ap₂ (λ (app : App) (sub : App). with_subcommand app sub.top) bare c.in_ok-locate_command.ensures.app in
     let site = c.in_ok-command-2.ensures ∙ ap₂ (λ (app : App) (sub : App). with_subcommand app sub.top) locate c.in_ok-site_command.ensures.app in
     let plan = c.in_ok-command-3.ensures ∙ ap₂ (λ (app : App) (sub : App). with_subcommand app sub.top) site c.in_ok-plan_command.ensures.app in
-    IfOk-weaker c.with_subcommand-4.result _ _ (λ new h. h ∙ ap₂ (λ (app : App) (sub : App). with_subcommand app sub.top) plan c.in_ok-check_command.ensures.app) c.with_subcommand-4.ensures
+    let check = c.in_ok-command-4.ensures ∙ ap₂ (λ (app : App) (sub : App). with_subcommand app sub.top) plan c.in_ok-check_command.ensures.app in
+    IfOk-weaker c.with_subcommand-5.result _ _ (λ new h. h ∙ ap₂ (λ (app : App) (sub : App). with_subcommand app sub.top) check c.in_ok-dispatch_command.ensures.app)
+    c.with_subcommand-5.ensures

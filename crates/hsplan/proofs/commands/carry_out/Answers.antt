@@ -1,4 +1,10 @@
+use Rattle.std.proofs.Common.{inr}
 use Rattle.hsplan.proofs.commands.carry_out.Goals as goal
 
 pub returns-in-Check : goal.returns-in-Check
 returns-in-Check g c = rw c.in-Check.is (c.check.result, c.check.ensures, c.print-in-Check.ensures)
+
+pub returns-in_ok-open_log-in-Dispatch : goal.returns-in_ok-open_log-in-Dispatch
+returns-in_ok-open_log-in-Dispatch g c =
+    let it = c.in_ok-open_log-in-Dispatch.field-0 in
+    rw c.in-Dispatch.is (inr (it.inputs, it.certificate.items, g.S.File.Read.remaining it.log, c.in_ok-open_log-in-Dispatch.ensures.opened, c.dispatch.ensures))

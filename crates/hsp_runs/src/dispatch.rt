@@ -1,0 +1,50 @@
+// Logs, answered by the plans of certificates.
+
+ghost use Rattle.std.specs.Prelude.{◌⊎◌, IfErr, IfOk, option_map};
+ghost use Rattle.hsp_check.specs.Instance.{network_of};
+ghost use Rattle.hsp_check.specs.Valid.{IsValid};
+ghost use Rattle.hsp_csv.specs.Records.{records_of};
+ghost use Rattle.hsp_runs.specs.Dispatch.{AnswersAs, IsDispatched, Refuses};
+ghost use Rattle.hsp_runs.specs.declared.fault.Fault.TheVariants.{OutOfMemory};
+
+use crate::accepted::{Accepted, accepted_in};
+use crate::fault::Fault;
+use crate::inputs::Inputs;
+use hsp_dispatch::{Dispatcher, LogSums, run_log};
+use std::alloc::Global;
+use std::io::{Read, Write};
+
+// The log, answered by the plan of a certificate.
+fn dispatched<R: Read + Drop, W: Write>(
+    alloc: Global,
+    accepted: &Accepted,
+    reader: R,
+    writer: &mut W,
+) -> Result<LogSums, Fault>
+    requires { IsValid (network_of accepted.now.instance) accepted.now.certificate }
+    ensures { Refuses (record { log = option_map records_of (R.remaining reader); before = W.contents writer.old; after = W.contents writer.new }) OutOfMemory result
+        ⊎ AnswersAs accepted.now.instance accepted.now.certificate
+        (record { log = option_map records_of (R.remaining reader); before = W.contents writer.old; after = W.contents writer.new }) result }
+{
+    let _plan = accepted.plan()?;
+    let mut dispatcher = Dispatcher::new(alloc, &accepted.instance, &accepted.certificate)?;
+    Ok(run_log(alloc, reader, writer, &mut dispatcher)?)
+}
+
+/// Answers the entries of the log that `reader` gives, by the plan that the octets of `certificate` spell, with a line each on
+/// `writer`. Faults in this order, with nothing written: those of the inputs (`Settings`, `Values`, `Demand`, `Costs`, `Capacity`,
+/// `Build`), `Cert`, `Refused`, `WrongKind` for a shortage; then `Log`, when the entries before it were answered. Want of memory
+/// stops a run anywhere.
+pub fn dispatch_run<R: Read + Drop, W: Write>(
+    alloc: Global,
+    inputs: &Inputs,
+    certificate: &[u8],
+    reader: R,
+    writer: &mut W,
+) -> Result<LogSums, Fault>
+    ensures { IsDispatched inputs.now certificate.now
+        (record { log = option_map records_of (R.remaining reader); before = W.contents writer.old; after = W.contents writer.new }) result }
+{
+    let accepted = accepted_in(alloc, inputs, certificate)?;
+    dispatched(alloc, &accepted, reader, writer)
+}
