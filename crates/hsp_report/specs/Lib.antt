@@ -1,0 +1,5 @@
+pub mod Columns
+pub mod Conditions
+pub mod Numbered
+pub mod LoadReport
+pub mod ShortageReport

@@ -1,0 +1,9 @@
+// What a valid certificate says of an instance, as texts to read.
+#![tactic(auto)]
+
+mod columns;
+mod loads;
+mod shortages;
+
+pub use loads::load_report;
+pub use shortages::shortage_report;
