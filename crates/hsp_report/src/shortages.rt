@@ -1,11 +1,12 @@
 // The report of a shortage.
 
-ghost use Rattle.std.specs.Prelude.{◌≡◌, ◌++◌, ◌<◌, All, IfOk, IfSome, OnOk, length};
+ghost use Rattle.std.specs.Prelude.{◌≡◌, ◌++◌, ◌-◌, ◌<◌, ◌≤◌, All, IfOk, IfSome, OnOk, codes, length};
 ghost use Rattle.std.specs.List.{flat_map};
 ghost use Rattle.hsp_cert.specs.Certificate.{short_of};
 ghost use Rattle.hsp_instance.specs.Instance.{IsInstance};
 ghost use Rattle.hsp_check.specs.Instance.{network_of};
 ghost use Rattle.hsp_check.specs.Valid.{IsValidSet};
+ghost use Rattle.hsp_report.specs.Columns.{difference_line};
 ghost use Rattle.hsp_report.specs.Conditions.{IsShortageFor};
 ghost use Rattle.hsp_report.specs.ShortageReport.{reached_line, row_line, shortage_report};
 
@@ -73,6 +74,20 @@ fn push_servers(out: &mut Vec<u8>, instance: &Instance, servers: &[u32]) -> Resu
     Ok(())
 }
 
+// Appends the line of what rows ask for, and what is missing of it.
+fn push_short(out: &mut Vec<u8>, demand: u64, capacity: u64) -> Result<(), AllocError>
+    requires { capacity ≤ demand }
+    ensures { OnOk result (out.new.items ≡ out.old.items ++ difference_line (codes "short") demand capacity (demand - capacity)) }
+{
+    push_difference(
+        out,
+        b"short",
+        u128::from(demand),
+        u128::from(capacity),
+        u128::from(demand - capacity),
+    )
+}
+
 // The report of a short set.
 fn shortage_text(
     alloc: Global,
@@ -85,15 +100,8 @@ fn shortage_text(
     // The instance is within its limits.
     let _servers = instance.servers();
     let servers = reached_servers(alloc, instance, set)?;
-    let (demand, capacity) = (set.demand(), set.capacity());
     let mut text = Vec::new(alloc);
-    push_difference(
-        &mut text,
-        b"short",
-        u128::from(demand),
-        u128::from(capacity),
-        u128::from(demand - capacity),
-    )?;
+    push_short(&mut text, set.demand(), set.capacity())?;
     text.extend_from_slice(ROWS_HEADER)?;
     push_rows(&mut text, instance, set.rows())?;
     text.extend_from_slice(SERVERS_HEADER)?;
