@@ -3,3 +3,4 @@ pub mod Conditions
 pub mod Numbered
 pub mod LoadReport
 pub mod ShortageReport
+pub mod RegionReport

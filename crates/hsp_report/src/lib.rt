@@ -3,7 +3,10 @@
 
 mod columns;
 mod loads;
+mod naming;
+mod regions;
 mod shortages;
 
 pub use loads::load_report;
+pub use regions::region_report;
 pub use shortages::shortage_report;

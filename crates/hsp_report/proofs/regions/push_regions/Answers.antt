@@ -1,0 +1,8 @@
+use Rattle.hsp_report.specs.RegionReport.{region_line}
+use Rattle.hsp_report.proofs.RegionSums.{region_more}
+use Rattle.hsp_report.proofs.regions.push_regions.Goals as goal
+
+pub loop-region-preserved : goal.loop-region-preserved
+loop-region-preserved c = λ x planned.
+    region_more (region_line c.args.instance.now x) c.args.out.now.items c.loop-region.out.items _ c.args.regions.now c.loop-region.region-index _ c.loop-region-test.true
+    (c.loop-region.invariant x planned) (c.in_ok-push_region.ensures x planned)
