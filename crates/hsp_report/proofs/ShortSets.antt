@@ -1,5 +1,5 @@
 -- The report of a short set, piece by piece.
-use Rattle.std.proofs.Common.{◌≡◌, ℕ, ◌-◌, ◌<◌, List, [], ◌++◌, length, All, sym, arith}
+use Rattle.std.proofs.Common.{◌≡◌, ℕ, ◌-◌, ◌<◌, List, [], ◌++◌, length, All, arith}
 use Rattle.std.specs.Prelude.{codes}
 use Rattle.std.specs.List.{flat_map, range_with_len}
 use Rattle.std.proofs.lemmas.List.{length-map}
@@ -8,7 +8,7 @@ use Rattle.std.proofs.lemmas.List.FromFn.{length-range_with_len, get_or-range_wi
 use Rattle.hsp_cert.specs.Certificate.{Short}
 use Rattle.hsp_instance.specs.Instance.{Instance, Server}
 use Rattle.hsp_check.specs.Instance.{network_of}
-use Rattle.hsp_check.specs.Short.{capacity_of, demand_of, reached, reaches}
+use Rattle.hsp_check.specs.Short.{reached, reaches}
 use Rattle.hsp_check.specs.Valid.{IsValidSet}
 use Rattle.hsp_check.specs.Verdict.{is_one_of}
 use Rattle.hsp_report.specs.Columns.{difference_line}

@@ -1,15 +1,14 @@
 // The report of loads.
 
-ghost use Rattle.std.specs.Prelude.{◌≡◌, ◌++◌, ◌<◌, IfOk, IfSome, OnOk, length};
-ghost use Rattle.std.specs.List.{flat_map, range_with_len};
-ghost use Rattle.hsp_cert.specs.Certificate.{IsBest, best_of};
+ghost use Rattle.std.specs.Prelude.{◌≡◌, ◌++◌, ◌<◌, IfOk, OnOk, length};
+ghost use Rattle.hsp_cert.specs.Certificate.{IsBest};
 ghost use Rattle.hsp_instance.specs.Instance.{IsInstance};
 ghost use Rattle.hsp_check.specs.Instance.{network_of};
 ghost use Rattle.hsp_check.specs.Loads.{AreLoads};
 ghost use Rattle.hsp_check.specs.Uses.{table};
 ghost use Rattle.hsp_check.specs.Valid.{IsValidPlan};
 ghost use Rattle.hsp_report.specs.Conditions.{IsPlanFor};
-ghost use Rattle.hsp_report.specs.LoadReport.{load_line, load_report, server_line};
+ghost use Rattle.hsp_report.specs.LoadReport.{IsLoadReport, load_lines, load_report, server_line};
 
 use crate::columns::{aligned, push_columns, push_difference};
 use hsp_cert::{BestRef, Certificate};
@@ -54,7 +53,7 @@ fn push_loads(
 ) -> Result<(), AllocError>
     requires loads { AreLoads (network_of instance.now) (table plan.now.uses) loads.now }
     requires prices { length plan.now.server_prices ≡ length instance.now.servers }
-    ensures { OnOk result (out.new.items ≡ out.old.items ++ flat_map (load_line instance.now plan.now) (range_with_len 0 (length instance.now.servers))) }
+    ensures { OnOk result (out.new.items ≡ out.old.items ++ load_lines instance.now plan.now) }
 {
     let prices = plan.server_prices();
     for server in 0..instance.servers() {
@@ -100,7 +99,7 @@ pub fn load_report(
     certificate: &Certificate,
 ) -> Result<Vec<u8>, AllocError>
     requires { IsPlanFor instance.now certificate.now }
-    ensures { IfOk result (λ text. IfSome (best_of certificate.now) (λ plan. text.items ≡ load_report instance.now plan)) }
+    ensures { IfOk result (λ text. IsLoadReport instance.now certificate.now text.items) }
 {
     let plan = certificate.as_best().unwrap();
     loads_text(alloc, instance, &plan)

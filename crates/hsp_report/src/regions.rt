@@ -1,17 +1,16 @@
 // The report of regions.
 
-ghost use Rattle.std.specs.Prelude.{◌≡◌, ◌++◌, ◌<◌, ◌≤◌, ◌^◌, ◌*◌, ℕ, All, IfOk, IfSome, OnOk, length, map, sum_by, if◌then◌else◌};
-ghost use Rattle.std.specs.List.{flat_map};
+ghost use Rattle.std.specs.Prelude.{◌≡◌, ◌++◌, ◌<◌, ◌≤◌, ◌^◌, IfOk, OnOk, length, sum_by};
 ghost use Rattle.hsp_text.specs.declared.limits.TheConstants.{GREATEST_COST};
-ghost use Rattle.hsp_cert.specs.Certificate.{IsBest, best_of};
+ghost use Rattle.hsp_cert.specs.Certificate.{IsBest};
 ghost use Rattle.hsp_check.specs.Instance.{network_of};
-ghost use Rattle.hsp_check.specs.Plan.{Plan, total};
+ghost use Rattle.hsp_check.specs.Plan.{Plan};
 ghost use Rattle.hsp_check.specs.Planned.{ArePlanned};
 ghost use Rattle.hsp_check.specs.Uses.{table};
 ghost use Rattle.hsp_check.specs.Valid.{IsValidPlan};
 ghost use Rattle.hsp_report.specs.Conditions.{IsPlanFor};
 ghost use Rattle.hsp_report.specs.Numbered.{row_at};
-ghost use Rattle.hsp_report.specs.RegionReport.{is_of, region_cost, region_demand, region_line, region_report, total_line};
+ghost use Rattle.hsp_report.specs.RegionReport.{IsRegionReport, cost_in, is_of, names_in, region_cost, region_demand, region_lines, region_report, total_line};
 
 use crate::columns::{aligned, push_columns};
 use crate::naming::regions_of;
@@ -70,7 +69,7 @@ fn total_demand(instance: &Instance) -> u128
 fn cost_in(instance: &Instance, region: &[u8], one: LaidArc) -> u128
     requires row { one.arc.row < length instance.now.rows }
     requires cheap { one.arc.cost ≤ GREATEST_COST }
-    ensures cost { result ≡ (if is_of region.now (row_at instance.now one.arc.row) then one.arc.cost * one.flow else 0) }
+    ensures cost { result ≡ cost_in instance.now region.now one }
     ensures fits { result ≤ 2 ^ 84 }
 {
     // Most arcs have no use, and need no look at the row's region.
@@ -83,33 +82,14 @@ fn cost_in(instance: &Instance, region: &[u8], one: LaidArc) -> u128
 // What the queries of the region's rows cost.
 fn region_cost(instance: &Instance, laid: &[LaidArc], region: &[u8]) -> u128
     requires { (x : Plan) × ArePlanned instance.now x laid.now }
-    ensures { (x : Plan) → ArePlanned instance.now x laid.now → result ≡ region_cost instance.now x region.now }
+    ensures { (x : Plan) → ArePlanned instance.now x laid.now
+        → result ≡ region_cost instance.now x region.now }
 {
     let mut sum: u128 = 0;
     for place in 0..laid.len() {
         sum += cost_in(instance, region, laid[place]);
     }
     sum
-}
-
-// Appends the line of a region.
-fn push_region(
-    out: &mut Vec<u8>,
-    instance: &Instance,
-    laid: &[LaidArc],
-    region: &[u8],
-) -> Result<(), AllocError>
-    requires { (x : Plan) × ArePlanned instance.now x laid.now }
-    ensures { OnOk result ((x : Plan) → ArePlanned instance.now x laid.now → out.new.items ≡ out.old.items ++ region_line instance.now x region.now) }
-{
-    push_columns(
-        out,
-        &[
-            aligned(10, region_demand(instance, region)),
-            aligned(16, region_cost(instance, laid, region)),
-        ],
-        region,
-    )
 }
 
 // Appends the lines of regions.
@@ -120,10 +100,13 @@ fn push_regions(
     regions: &[&[u8]],
 ) -> Result<(), AllocError>
     requires { (x : Plan) × ArePlanned instance.now x laid.now }
-    ensures { OnOk result ((x : Plan) → ArePlanned instance.now x laid.now → out.new.items ≡ out.old.items ++ flat_map (region_line instance.now x) (map (λ r. r.now) regions.now)) }
+    ensures { OnOk result ((x : Plan) → ArePlanned instance.now x laid.now
+        → out.new.items ≡ out.old.items ++ region_lines instance.now x (names_in regions.now)) }
 {
     for region in regions {
-        push_region(out, instance, laid, region)?;
+        let demand = region_demand(instance, region);
+        let cost = region_cost(instance, laid, region);
+        push_columns(out, &[aligned(10, demand), aligned(16, cost)], region)?;
     }
     Ok(())
 }
@@ -175,7 +158,7 @@ pub fn region_report(
     certificate: &Certificate,
 ) -> Result<Vec<u8>, AllocError>
     requires { IsPlanFor instance.now certificate.now }
-    ensures { IfOk result (λ text. IfSome (best_of certificate.now) (λ plan. text.items ≡ region_report instance.now plan)) }
+    ensures { IfOk result (λ text. IsRegionReport instance.now certificate.now text.items) }
 {
     let plan = certificate.as_best().unwrap();
     regions_text(alloc, instance, &plan)

@@ -1,14 +1,11 @@
 // The report of a shortage.
 
-ghost use Rattle.std.specs.Prelude.{◌≡◌, ◌++◌, ◌-◌, ◌<◌, ◌≤◌, All, IfOk, IfSome, OnOk, codes, length};
-ghost use Rattle.std.specs.List.{flat_map};
-ghost use Rattle.hsp_cert.specs.Certificate.{short_of};
+ghost use Rattle.std.specs.Prelude.{◌≡◌, ◌++◌, ◌<◌, ◌≤◌, All, IfOk, OnOk, length};
 ghost use Rattle.hsp_instance.specs.Instance.{IsInstance};
 ghost use Rattle.hsp_check.specs.Instance.{network_of};
 ghost use Rattle.hsp_check.specs.Valid.{IsValidSet};
-ghost use Rattle.hsp_report.specs.Columns.{difference_line};
 ghost use Rattle.hsp_report.specs.Conditions.{IsShortageFor};
-ghost use Rattle.hsp_report.specs.ShortageReport.{reached_line, row_line, shortage_report};
+ghost use Rattle.hsp_report.specs.ShortageReport.{IsShortageReport, missing_line, reached_line, reached_lines, row_line, row_lines, shortage_report};
 
 use crate::columns::{aligned, push_columns, push_difference};
 use hsp_cert::{Certificate, ShortRef};
@@ -36,7 +33,7 @@ fn push_row(out: &mut Vec<u8>, instance: &Instance, row: u32) -> Result<(), Allo
 // Appends the lines of rows.
 fn push_rows(out: &mut Vec<u8>, instance: &Instance, rows: &[u32]) -> Result<(), AllocError>
     requires { All (λ row. row < length instance.now.rows) rows.now }
-    ensures { OnOk result (out.new.items ≡ out.old.items ++ flat_map (row_line instance.now) rows.now) }
+    ensures { OnOk result (out.new.items ≡ out.old.items ++ row_lines instance.now rows.now) }
 {
     for row in rows {
         push_row(out, instance, *row)?;
@@ -66,7 +63,7 @@ fn push_server(out: &mut Vec<u8>, instance: &Instance, server: u32) -> Result<()
 fn push_servers(out: &mut Vec<u8>, instance: &Instance, servers: &[u32]) -> Result<(), AllocError>
     requires servers { All (λ server. server < length instance.now.servers) servers.now }
     requires within { IsInstance instance.now }
-    ensures { OnOk result (out.new.items ≡ out.old.items ++ flat_map (reached_line instance.now) servers.now) }
+    ensures { OnOk result (out.new.items ≡ out.old.items ++ reached_lines instance.now servers.now) }
 {
     for server in servers {
         push_server(out, instance, *server)?;
@@ -77,7 +74,7 @@ fn push_servers(out: &mut Vec<u8>, instance: &Instance, servers: &[u32]) -> Resu
 // Appends the line of what rows ask for, and what is missing of it.
 fn push_short(out: &mut Vec<u8>, demand: u64, capacity: u64) -> Result<(), AllocError>
     requires { capacity ≤ demand }
-    ensures { OnOk result (out.new.items ≡ out.old.items ++ difference_line (codes "short") demand capacity (demand - capacity)) }
+    ensures { OnOk result (out.new.items ≡ out.old.items ++ missing_line demand capacity) }
 {
     push_difference(
         out,
@@ -121,7 +118,7 @@ pub fn shortage_report(
     certificate: &Certificate,
 ) -> Result<Vec<u8>, AllocError>
     requires { IsShortageFor instance.now certificate.now }
-    ensures { IfOk result (λ text. IfSome (short_of certificate.now) (λ set. text.items ≡ shortage_report instance.now set)) }
+    ensures { IfOk result (λ text. IsShortageReport instance.now certificate.now text.items) }
 {
     let set = certificate.as_short().unwrap();
     shortage_text(alloc, instance, &set)

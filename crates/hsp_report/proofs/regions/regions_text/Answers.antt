@@ -1,8 +1,5 @@
-use Rattle.std.proofs.Common.{◌≡◌, []}
-use Rattle.std.specs.List.{flat_map}
-use Rattle.hsp_instance.specs.Instance.{regions_of}
+use Rattle.std.proofs.Common.{[]}
 use Rattle.hsp_check.specs.Uses.{table}
-use Rattle.hsp_report.specs.RegionReport.{region_line}
 use Rattle.hsp_report.proofs.Pieces.{three_pieces}
 use Rattle.hsp_report.proofs.regions.regions_text.Goals as goal
 
