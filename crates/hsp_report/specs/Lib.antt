@@ -4,3 +4,4 @@ pub mod Numbered
 pub mod LoadReport
 pub mod ShortageReport
 pub mod RegionReport
+pub mod Lent

@@ -1,11 +1,9 @@
 -- What each region asks for, and what that costs by a plan.
-use Rattle.std.specs.Prelude.{◌≡◌, ◌++◌, ◌∷◌, [], ◌*◌, ℕ, Bool, List, codes, decimal, map, sum_by, IfSome, if◌then◌else◌}
-use Rattle.std.specs.Borrow.{Bor}
+use Rattle.std.specs.Prelude.{◌≡◌, ◌++◌, ◌∷◌, [], ◌*◌, ℕ, Bool, List, codes, decimal, sum_by, IfSome, if◌then◌else◌}
 use Rattle.std.specs.List.{flat_map}
 use Rattle.std.specs.Str.{bytes_eq}
 use Rattle.hsp_cert.specs.Certificate.{Best, Claim, best_of}
 use Rattle.hsp_instance.specs.Instance.{Instance, Row, regions_of}
-use Rattle.hsp_check.specs.declared.sums.LaidArc.{LaidArc}
 use Rattle.hsp_check.specs.Instance.{network_of}
 use Rattle.hsp_check.specs.Plan.{Plan, planned, total}
 use Rattle.hsp_check.specs.Uses.{table}
@@ -50,11 +48,3 @@ region_report it plan =
 -- the report of a certificate that shows a plan
 abbrev pub IsRegionReport : Instance → Claim → List ℕ → Type 0
 IsRegionReport it claim text = IfSome (best_of claim) (λ plan. text ≡ region_report it plan)
-
--- names that are lent
-abbrev pub names_in : List (Bor (List ℕ)) → List (List ℕ)
-names_in names = map (λ n. n.now) names
-
--- what the queries over an arc cost, where its row is of the region
-abbrev pub cost_in : Instance → List ℕ → LaidArc → ℕ
-cost_in it region one = if is_of region (row_at it one.arc.row) then one.arc.cost * one.flow else 0

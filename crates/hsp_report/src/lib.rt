@@ -10,3 +10,6 @@ mod shortages;
 pub use loads::load_report;
 pub use regions::region_report;
 pub use shortages::shortage_report;
+
+#[cfg(test)]
+mod tests;

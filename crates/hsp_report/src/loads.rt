@@ -64,11 +64,7 @@ fn push_loads(
 }
 
 // The report of a plan.
-fn loads_text(
-    alloc: Global,
-    instance: &Instance,
-    plan: &BestRef<'_>,
-) -> Result<Vec<u8>, AllocError>
+fn loads_text(alloc: Global, instance: &Instance, plan: &BestRef<'_>) -> Result<Vec<u8>, AllocError>
     requires ranges { IsBest plan.now }
     requires valid { IsValidPlan (network_of instance.now) plan.now }
     ensures { IfOk result (λ text. text.items ≡ load_report instance.now plan.now) }

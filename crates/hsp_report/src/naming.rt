@@ -5,7 +5,7 @@ ghost use Rattle.std.specs.List.{list_any};
 ghost use Rattle.std.specs.Str.{bytes_eq};
 ghost use Rattle.indexmap.specs.IndexSet.{insert_key};
 ghost use Rattle.hsp_instance.specs.Instance.{regions_of};
-ghost use Rattle.hsp_report.specs.RegionReport.{names_in};
+ghost use Rattle.hsp_report.specs.Lent.{names_in};
 
 use hsp_instance::Instance;
 use std::alloc::{AllocError, Global};

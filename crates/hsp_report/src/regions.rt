@@ -9,8 +9,9 @@ ghost use Rattle.hsp_check.specs.Planned.{ArePlanned};
 ghost use Rattle.hsp_check.specs.Uses.{table};
 ghost use Rattle.hsp_check.specs.Valid.{IsValidPlan};
 ghost use Rattle.hsp_report.specs.Conditions.{IsPlanFor};
+ghost use Rattle.hsp_report.specs.Lent.{cost_in, names_in};
 ghost use Rattle.hsp_report.specs.Numbered.{row_at};
-ghost use Rattle.hsp_report.specs.RegionReport.{IsRegionReport, cost_in, is_of, names_in, region_cost, region_demand, region_lines, region_report, total_line};
+ghost use Rattle.hsp_report.specs.RegionReport.{IsRegionReport, is_of, region_cost, region_demand, region_lines, region_report, total_line};
 
 use crate::columns::{aligned, push_columns};
 use crate::naming::regions_of;
@@ -112,11 +113,7 @@ fn push_regions(
 }
 
 // Appends the line of what all rows ask for, and what the plan costs.
-fn push_total(
-    out: &mut Vec<u8>,
-    instance: &Instance,
-    plan: &BestRef<'_>,
-) -> Result<(), AllocError>
+fn push_total(out: &mut Vec<u8>, instance: &Instance, plan: &BestRef<'_>) -> Result<(), AllocError>
     requires { IsValidPlan (network_of instance.now) plan.now }
     ensures { OnOk result (out.new.items ≡ out.old.items ++ total_line instance.now (table plan.now.uses)) }
 {

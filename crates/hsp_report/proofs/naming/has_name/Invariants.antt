@@ -1,7 +1,7 @@
 use Rattle.std.proofs.Common.{◌≡◌, drop}
 use Rattle.std.specs.List.{list_any}
 use Rattle.std.specs.Str.{bytes_eq}
-use Rattle.hsp_report.specs.RegionReport.{names_in}
+use Rattle.hsp_report.specs.Lent.{names_in}
 use Rattle.hsp_report.proofs.naming.has_name.Given as goal
 
 abbrev pub invariant-loop-seen : goal.invariant-loop-seen

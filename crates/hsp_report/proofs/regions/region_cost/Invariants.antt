@@ -1,5 +1,5 @@
 use Rattle.std.proofs.Common.{◌≡◌, ◌≤◌, ◌*◌, ◌^◌, take, sum_by}
-use Rattle.hsp_report.specs.RegionReport.{cost_in}
+use Rattle.hsp_report.specs.Lent.{cost_in}
 use Rattle.hsp_report.proofs.regions.region_cost.Given as goal
 
 abbrev pub invariant-loop-place : goal.invariant-loop-place
