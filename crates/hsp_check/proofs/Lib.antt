@@ -12,3 +12,4 @@ pub mod PlanSummed
 pub mod InstanceNetwork
 pub mod Validity
 pub mod Reached
+pub mod PlannedArcs

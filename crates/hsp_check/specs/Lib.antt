@@ -15,3 +15,4 @@ pub mod Valid
 pub mod Judged
 pub mod Loads
 pub mod PlanSums
+pub mod Planned

@@ -10,11 +10,11 @@ ghost use Rattle.hsp_check.specs.Prices.{ArePrices};
 use crate::arc::NetworkArc;
 use std::alloc::{AllocError, Global};
 
-/// An arc with what a plan gives it.
+/// An arc with what a plan gives it, in queries.
 #[derive(Clone, Copy, Debug)]
-pub(crate) struct LaidArc {
-    pub(crate) arc: NetworkArc,
-    pub(crate) flow: u64,
+pub struct LaidArc {
+    pub arc: NetworkArc,
+    pub flow: u64,
 }
 
 /// The row of an arc, or its server.

@@ -1,0 +1,30 @@
+// The arcs of an instance with what a plan gives them.
+
+ghost use Rattle.std.specs.Prelude.{IfOk};
+ghost use Rattle.hsp_cert.specs.Certificate.{IsBest};
+ghost use Rattle.hsp_cert.specs.Certificate.Claim.{best};
+ghost use Rattle.hsp_check.specs.Instance.{network_of};
+ghost use Rattle.hsp_check.specs.Planned.{ArePlanned};
+ghost use Rattle.hsp_check.specs.Uses.{table};
+ghost use Rattle.hsp_check.specs.Valid.{IsValid};
+
+use crate::drawing::draw;
+use crate::laying::lay;
+use crate::sums::LaidArc;
+use hsp_cert::BestRef;
+use hsp_instance::Instance;
+use std::alloc::{AllocError, Global};
+
+/// The arcs of an instance, row by row, each with what a plan that [`check`](crate::check) says Yes to gives it.
+pub fn planned_arcs(
+    alloc: Global,
+    instance: &Instance,
+    plan: &BestRef<'_>,
+) -> Result<Vec<LaidArc>, AllocError>
+    requires ranges { IsBest plan.now }
+    requires valid { IsValid (network_of instance.now) (best plan.now) }
+    ensures { IfOk result (λ laid. ArePlanned instance.now (table plan.now.uses) laid.items) }
+{
+    let drawn = draw(alloc, instance)?;
+    Ok(lay(drawn.arcs, plan.uses()).unwrap())
+}

@@ -1,0 +1,15 @@
+// What a valid certificate says of an instance, as texts to read.
+#![tactic(auto)]
+
+mod columns;
+mod loads;
+mod naming;
+mod regions;
+mod shortages;
+
+pub use loads::load_report;
+pub use regions::region_report;
+pub use shortages::shortage_report;
+
+#[cfg(test)]
+mod tests;
