@@ -205,7 +205,7 @@ fn no_body(log: &'static [u8]) -> Case {
 }
 
 #[test]
-fn a_faulty_row_ends_the_run_after_the_others(rt: HostRuntime) {
+fn another_header_answers_nothing(rt: HostRuntime) {
     let cases = [
         plain(b"", Err(LogFault::Header), b"", WHOLE_PLAN),
         plain(
@@ -226,6 +226,15 @@ fn a_faulty_row_ends_the_run_after_the_others(rt: HostRuntime) {
             b"",
             WHOLE_PLAN,
         ),
+    ];
+    for case in cases {
+        comes(&rt, rt.alloc(), case);
+    }
+}
+
+#[test]
+fn a_faulty_row_ends_the_run_after_the_others(rt: HostRuntime) {
+    let cases = [
         plain(
             b"region,handle\nr1\n",
             Err(LogFault::Fields { row: 0 }),
