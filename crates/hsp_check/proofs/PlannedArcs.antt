@@ -1,5 +1,5 @@
 -- The arcs that a plan is laid on are those of the instance, within its limits.
-use Rattle.std.proofs.Common.{◌≡◌, ℕ, ◌<◌, ◌≤◌, ◌^◌, ◌∙◌, List, length, map, All, ap, sym, arith}
+use Rattle.std.proofs.Common.{◌≡◌, ◌<◌, ◌≤◌, ◌^◌, ◌∙◌, List, length, map, All, ap, sym, arith}
 use Rattle.std.proofs.lemmas.List.{length-map}
 use Rattle.hsp_instance.specs.Instance.{Instance, Row}
 use Rattle.hsp_check.specs.declared.arc.NetworkArc.{NetworkArc}

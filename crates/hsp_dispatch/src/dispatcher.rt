@@ -4,7 +4,7 @@ ghost use Rattle.std.specs.Prelude.{◌≡◌, ◌<◌, IfOk, IfSome, OnSome, Ok
 ghost use Rattle.hsp_names.specs.Handle.{handle_in};
 ghost use Rattle.hsp_instance.specs.Instance.{has_keys};
 ghost use Rattle.hsp_dispatch.specs.Dispatch.{IsSame};
-ghost use Rattle.hsp_dispatch.specs.Shares.{IsPlanFor, IsRestOf, answer_by, first_answer, left_of, plan_of, query, rest_of, taken_answer};
+ghost use Rattle.hsp_dispatch.specs.Shares.{IsLeftBy, IsPlanFor, IsRestOf, answer_by, first_answer, left_of, plan_of, query, taken_answer};
 
 use crate::answer::Answer;
 use crate::share::RowShare;
@@ -64,7 +64,7 @@ impl<'a> Dispatcher<'a> {
     pub fn assign(&mut self, region: &[u8], handle: HandleRef<'_>) -> Answer
         ensures instance { self.new.instance ≡ self.old.instance }
         ensures answer { result ≡ answer_by self.old (query region.now handle.entry) }
-        ensures rest { IsSame (left_of self.new) (rest_of self.old (query region.now handle.entry)) }
+        ensures rest { IsLeftBy self.old (query region.now handle.entry) self.new }
     {
         let Some(row) = self.row_of(region, handle.bytes()) else {
             return Answer::Unknown;
