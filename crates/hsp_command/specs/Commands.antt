@@ -41,6 +41,9 @@ check_app = with_needed (with_inputs (new_app (codes "check"))) (codes "plan")
 abbrev pub dispatch_app : App
 dispatch_app = with_needed (with_needed (with_inputs (new_app (codes "dispatch"))) (codes "plan")) (codes "log")
 
+abbrev pub report_app : App
+report_app = with_needed (with_needed (with_inputs (new_app (codes "report"))) (codes "plan")) (codes "kind")
+
 -- the words don't begin with the program's name
 abbrev pub unnamed : App → App
 unnamed app = record app { top = record app.top { no_binary_name = true } }
@@ -50,7 +53,8 @@ abbrev pub without_plans : App
 without_plans = with_subcommand (with_subcommand (unnamed (new_app (codes "hsplan"))) locate_app.top) site_app.top
 
 abbrev pub hsplan_app : App
-hsplan_app = with_subcommand (with_subcommand (with_subcommand without_plans plan_app.top) check_app.top) dispatch_app.top
+hsplan_app =
+    with_subcommand (with_subcommand (with_subcommand (with_subcommand without_plans plan_app.top) check_app.top) dispatch_app.top) report_app.top
 
 abbrev pub has_globals_of : Command → Bool
 has_globals_of c = (out-Command c).has_globals

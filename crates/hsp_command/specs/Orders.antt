@@ -5,6 +5,8 @@ use Rattle.hsp_command.specs.Commands.{hsplan_app}
 use Rattle.hsp_command.specs.declared.order.Order.{Order}
 use Rattle.hsp_command.specs.declared.order.InputFiles.{InputFiles}
 use Rattle.hsp_command.specs.declared.order.Order.TheVariants as order
+use Rattle.hsp_command.specs.declared.order.Kind.{Kind}
+use Rattle.hsp_command.specs.declared.order.Kind.TheVariants.{Load, Region, Shortage}
 
 -- the files of the inputs
 pub record HasInputs (rows : List Row) (inputs : InputFiles) : Type 0 where
@@ -13,6 +15,12 @@ pub record HasInputs (rows : List Row) (inputs : InputFiles) : Type 0 where
   pub demand : first_of (codes "demand") rows ≡ Some inputs.demand
   pub costs : first_of (codes "costs") rows ≡ Some inputs.costs
   pub capacity : first_of (codes "capacity") rows ≡ Some inputs.capacity
+
+-- the word for a kind of report
+abbrev pub kind_word : Kind → Text
+kind_word Load = codes "load"
+kind_word Region = codes "region"
+kind_word Shortage = codes "shortage"
 
 -- the values of a subcommand are the order's
 abbrev pub IsOrderIn : Order → Text → List Row → Type 0
@@ -27,6 +35,8 @@ IsOrderIn (order.Plan inputs) name rows = (name ≡ codes "plan") × HasInputs r
 IsOrderIn (order.Check inputs plan) name rows = (name ≡ codes "check") × HasInputs rows inputs × (first_of (codes "plan") rows ≡ Some plan)
 IsOrderIn (order.Dispatch inputs plan log) name rows =
     (name ≡ codes "dispatch") × HasInputs rows inputs × (first_of (codes "plan") rows ≡ Some plan) × (first_of (codes "log") rows ≡ Some log)
+IsOrderIn (order.Report inputs plan kind) name rows =
+    (name ≡ codes "report") × HasInputs rows inputs × (first_of (codes "plan") rows ≡ Some plan) × (first_of (codes "kind") rows ≡ Some (kind_word kind))
 
 -- the order of what clap's matches give
 abbrev pub IsOrderOf : Order → Option (Text × List Row) → Type 0

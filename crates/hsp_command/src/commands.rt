@@ -2,7 +2,7 @@
 
 ghost use Rattle.std.specs.Prelude.{◌≡◌, IfOk, false};
 ghost use Rattle.clap.specs.Words.{app_of, rule_of, with_rule, with_subcommand};
-ghost use Rattle.hsp_command.specs.Commands.{check_app, dispatch_app, has_globals_of, hsplan_app, locate_app, needed, option_rule, plan_app, site_app, with_inputs, with_needed, with_option, with_word};
+ghost use Rattle.hsp_command.specs.Commands.{check_app, dispatch_app, has_globals_of, hsplan_app, locate_app, needed, option_rule, plan_app, report_app, site_app, with_inputs, with_needed, with_option, with_word};
 
 use clap::{Arg, Command};
 use std::alloc::{AllocError, Global};
@@ -124,6 +124,15 @@ fn dispatch_command<'a>(alloc: Global) -> Result<Command<'a>, AllocError>
     with_needed(alloc, command, "log")
 }
 
+fn report_command<'a>(alloc: Global) -> Result<Command<'a>, AllocError>
+    ensures app { IfOk result (λ c. app_of c ≡ report_app) }
+    ensures local { IfOk result (λ c. has_globals_of c ≡ false) }
+{
+    let command = with_inputs(alloc, Command::new(alloc, "report"))?;
+    let command = with_needed(alloc, command, "plan")?;
+    with_needed(alloc, command, "kind")
+}
+
 // The command with one subcommand more.
 fn with_subcommand<'a>(
     command: Command<'a>,
@@ -144,5 +153,6 @@ pub(crate) fn hsplan_command<'a>(alloc: Global) -> Result<Command<'a>, AllocErro
     let command = with_subcommand(command, site_command(alloc)?)?;
     let command = with_subcommand(command, plan_command(alloc)?)?;
     let command = with_subcommand(command, check_command(alloc)?)?;
-    with_subcommand(command, dispatch_command(alloc)?)
+    let command = with_subcommand(command, dispatch_command(alloc)?)?;
+    with_subcommand(command, report_command(alloc)?)
 }

@@ -8,7 +8,7 @@ mod reading;
 mod words;
 
 pub use fault::CommandFault;
-pub use order::{InputFiles, Order, Word};
+pub use order::{InputFiles, Kind, Order, Word};
 pub use reading::read_command;
 pub use words::split_words;
 

@@ -48,6 +48,17 @@ pub struct InputFiles {
     pub capacity: Word,
 }
 
+/// What a report tells.
+#[derive(Debug, Clone, Copy, PartialEq, Eq)]
+pub enum Kind {
+    /// `load`: what each server takes by a plan.
+    Load,
+    /// `region`: what each region asks for, and what that costs by a plan.
+    Region,
+    /// `shortage`: the rows of a short set and the servers that they reach.
+    Shortage,
+}
+
 /// One command with its values.
 #[derive(Debug, Drop)]
 pub enum Order {
@@ -82,5 +93,11 @@ pub enum Order {
         inputs: InputFiles,
         plan: Word,
         log: Word,
+    },
+    /// `report` with the files of the inputs, `--plan F` and `--kind K`
+    Report {
+        inputs: InputFiles,
+        plan: Word,
+        kind: Kind,
     },
 }

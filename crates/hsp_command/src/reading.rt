@@ -1,17 +1,18 @@
 // The order that words give.
 
-ghost use Rattle.std.specs.Prelude.{◌≡◌, ◌↔◌, [], IfOk, OnOk, Err, Some, None, codes, map, string_bytes};
+ghost use Rattle.std.specs.Prelude.{◌≡◌, ◌↔◌, [], IfNone, IfOk, IfSome, OnOk, Err, Some, None, codes, map, string_bytes};
 ghost use Rattle.clap.specs.Words.{fault_of, found_of, kind_of, rows_of, first_of, subcommand_of};
 ghost use Rattle.clap.specs.declared.error.kind.ErrorKind.TheVariants as kind;
 ghost use Rattle.hsp_command.specs.Commands.{hsplan_app};
-ghost use Rattle.hsp_command.specs.Orders.{HasInputs, IsOrderIn, IsOrderOf, IsUsage};
+ghost use Rattle.hsp_command.specs.Orders.{HasInputs, IsOrderIn, IsOrderOf, IsUsage, kind_word};
 ghost use Rattle.hsp_command.specs.declared.fault.CommandFault.TheVariants as fault;
 ghost use Rattle.hsp_command.specs.declared.order.InputFiles.{InputFiles};
+ghost use Rattle.hsp_command.specs.declared.order.Kind.{Kind};
 ghost use Rattle.hsp_command.specs.declared.order.Order.{Order};
 
 use crate::commands::hsplan_command;
 use crate::fault::CommandFault;
-use crate::order::{InputFiles, Order, Word};
+use crate::order::{InputFiles, Kind, Order, Word};
 use clap::error::ErrorKind;
 use clap::{ArgMatches, Error};
 use std::alloc::{AllocError, Global};
@@ -80,6 +81,32 @@ fn locate_of(alloc: Global, matches: &ArgMatches<'_>) -> Result<Order, CommandFa
     }
 }
 
+// The kind of report that has the word.
+fn kind_of(word: &Word) -> Option<Kind>
+    ensures kind { IfSome result (λ kind. word.now ≡ kind_word kind) }
+    ensures none { IfNone result ((kind : Kind) → word.now ≡ kind_word kind → ⊥) }
+{
+    match word.as_str() {
+        "load" => Some(Kind::Load),
+        "region" => Some(Kind::Region),
+        "shortage" => Some(Kind::Shortage),
+        _ => None,
+    }
+}
+
+fn report_of(alloc: Global, matches: &ArgMatches<'_>) -> Result<Order, CommandFault>
+    ensures order { IfOk result (λ order. IsOrderIn order (codes "report") (rows_of (found_of matches.now))) }
+    ensures usage { result ≡ Err fault.Usage → (order : Order) → IsOrderIn order (codes "report") (rows_of (found_of matches.now)) → ⊥ }
+{
+    let inputs = inputs_of(alloc, matches)?;
+    let plan = needed_of(alloc, matches, "plan")?;
+    let word = needed_of(alloc, matches, "kind")?;
+    match kind_of(&word) {
+        Some(kind) => Ok(Order::Report { inputs, plan, kind }),
+        None => Err(CommandFault::Usage),
+    }
+}
+
 // The order of a subcommand with its values.
 fn order_of(alloc: Global, name: &str, matches: &ArgMatches<'_>) -> Result<Order, CommandFault>
     ensures order { IfOk result (λ order. IsOrderIn order name.now (rows_of (found_of matches.now))) }
@@ -107,6 +134,7 @@ fn order_of(alloc: Global, name: &str, matches: &ArgMatches<'_>) -> Result<Order
             let log = needed_of(alloc, matches, "log")?;
             Ok(Order::Dispatch { inputs, plan, log })
         }
+        "report" => report_of(alloc, matches),
         _ => Err(CommandFault::Usage),
     }
 }
@@ -123,7 +151,7 @@ fn command_fault(error: &Error) -> CommandFault
 }
 
 /// The order that the words give, the first of them being the command. What clap's parser refuses is `Usage`, a request for
-/// help too, and so is a mixture or a part of the two forms of `locate`.
+/// help too, and so is a mixture or a part of the two forms of `locate`, and a kind of report that is none.
 pub fn read_command(alloc: Global, words: &[String]) -> Result<Order, CommandFault>
     ensures order { IfOk result (λ order. IsOrderOf order (subcommand_of hsplan_app (map string_bytes words.now))) }
     ensures taken { OnOk result (fault_of hsplan_app (map string_bytes words.now) ≡ []) }

@@ -57,6 +57,11 @@ fn shown(alloc: Global, order: &Order) -> Option<String> {
             let (shown, log) = (shown.as_str(), log.as_str());
             format!(in alloc; "{shown}|{log}").ok()
         }
+        Order::Report { inputs, plan, kind } => {
+            let shown = shown_inputs(alloc, "report", inputs, plan.as_str())?;
+            let shown = shown.as_str();
+            format!(in alloc; "{shown}|{kind:?}").ok()
+        }
     }
 }
 
@@ -183,8 +188,30 @@ fn a_dispatch_is_ordered(rt: HostRuntime) -> Result<(), Fail> {
 }
 
 #[test]
+fn a_report_is_ordered(rt: HostRuntime) -> Result<(), Fail> {
+    let cases: [(&[u8], &str); 3] = [
+        (
+            b"report --settings s --demand d --costs c --capacity k --plan p --kind load",
+            "report|s|none|d|c|k|p|Load",
+        ),
+        (
+            b"report --settings s --values v --demand d --costs c --capacity k --plan p --kind region",
+            "report|s|v|d|c|k|p|Region",
+        ),
+        (
+            b"report --kind=shortage --settings s --demand d --costs c --capacity k --plan p",
+            "report|s|none|d|c|k|p|Shortage",
+        ),
+    ];
+    for (line, wanted) in cases {
+        gives(&rt, rt.alloc(), line, wanted)?;
+    }
+    Ok(())
+}
+
+#[test]
 fn other_words_are_no_order(rt: HostRuntime) -> Result<(), Fail> {
-    let lines: [&[u8]; 16] = [
+    let lines: [&[u8]; 20] = [
         b"",
         b"locate",
         b"plan",
@@ -201,6 +228,10 @@ fn other_words_are_no_order(rt: HostRuntime) -> Result<(), Fail> {
         b"check --settings s --demand d --costs c --capacity k",
         b"dispatch --settings s --demand d --costs c --capacity k --plan p",
         b"dispatch --settings s --demand d --costs c --capacity k --log l",
+        b"report --settings s --demand d --costs c --capacity k --plan p",
+        b"report --settings s --demand d --costs c --capacity k --kind load",
+        b"report --settings s --demand d --costs c --capacity k --plan p --kind loads",
+        b"report --settings s --demand d --costs c --capacity k --plan p --kind Load",
     ];
     for line in lines {
         refused(&rt, rt.alloc(), line)?;

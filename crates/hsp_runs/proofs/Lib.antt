@@ -2,3 +2,4 @@ pub mod Consuming
 pub mod Dispatching
 pub mod Printing
 pub mod Showing
+mod Reporting

@@ -10,3 +10,4 @@ pub mod VerdictText
 pub mod Plan
 pub mod SumsText
 pub mod Dispatch
+pub mod Report

@@ -13,6 +13,7 @@ mod instance;
 mod locate;
 mod plan;
 mod readings;
+mod report;
 mod site;
 mod site_lines;
 mod sums_text;
@@ -26,12 +27,15 @@ pub use input::{first_line, read_file};
 pub use inputs::Inputs;
 pub use locate::{Locate, locate_run};
 pub use plan::{PlanText, plan_run};
+pub use report::{ReportKind, report_run};
 pub use site::site_run;
 pub use sums_text::sums_line;
 pub use verdict_text::{verdict_line, verdict_status};
 
 #[cfg(test)]
 mod dispatch_tests;
+#[cfg(test)]
+mod report_tests;
 #[cfg(test)]
 mod run_tests;
 #[cfg(test)]

@@ -6,11 +6,16 @@ use Rattle.hsp_command.specs.Orders.{IsOrderOf, IsUsage}
 use Rattle.hsp_command.specs.declared.fault.CommandFault.{CommandFault}
 use Rattle.hsp_command.specs.declared.fault.CommandFault.TheVariants as command_fault
 use Rattle.hsp_command.specs.declared.order.InputFiles.{InputFiles}
+use Rattle.hsp_command.specs.declared.order.Kind.{Kind}
+use Rattle.hsp_command.specs.declared.order.Kind.TheVariants as kind
 use Rattle.hsp_command.specs.declared.order.Order.{Order}
 use Rattle.hsp_command.specs.declared.order.Order.TheVariants as order
 use Rattle.hsp_runs.specs.Locate.{AreLocated, placed}
 use Rattle.hsp_runs.specs.SiteText.{IsSiteRun}
 use Rattle.hsp_runs.specs.Dispatch.{IsDispatched}
+use Rattle.hsp_runs.specs.Report.{IsReported}
+use Rattle.hsp_runs.specs.declared.report.ReportKind.{ReportKind}
+use Rattle.hsp_runs.specs.declared.report.ReportKind.TheVariants.{Load, Region, Shortage}
 use Rattle.hsp_runs.specs.declared.fault.Fault.{Fault}
 use Rattle.hsp_runs.specs.declared.fault.Fault.TheVariants.{Log}
 use Rattle.hsp_runs.specs.declared.inputs.Inputs.{Inputs}
@@ -72,6 +77,18 @@ AnswersCheck disk files plan answer =
     LacksFile (OneFails disk files ⊎ disk.fails plan) answer
     ⊎ ((inputs : Inputs) × (octets : List ℕ) × AreHeld disk files inputs × disk.holds plan octets × IsAnswered verdict_told (IsShownVerdict inputs octets) answer)
 
+-- the kind of report that is asked for
+abbrev pub told_kind : Kind → ReportKind
+told_kind kind.Load = Load
+told_kind kind.Region = Region
+told_kind kind.Shortage = Shortage
+
+abbrev pub AnswersReport : Disk → InputFiles → List ℕ → Kind → Result Answer Failure → Type 0
+AnswersReport disk files plan asked answer =
+    LacksFile (OneFails disk files ⊎ disk.fails plan) answer
+    ⊎ ((inputs : Inputs) × (octets : List ℕ) × AreHeld disk files inputs × disk.holds plan octets
+    × IsAnswered text_told (IsReported inputs octets (told_kind asked)) answer)
+
 -- the answer to an order whose text is printed as one; a log's lines are not
 abbrev pub AnswersTo : Disk → Order → Result Answer Failure → Type 0
 AnswersTo disk (order.LocatePlace option servers handle) answer = IsAnswered text_told (λ text. text ≡ placed option servers handle) answer
@@ -79,6 +96,7 @@ AnswersTo disk (order.LocateSites settings values handle) answer = AnswersSites 
 AnswersTo disk (order.Site index file) answer = AnswersSite disk index file answer
 AnswersTo disk (order.Plan inputs) answer = AnswersPlan disk inputs answer
 AnswersTo disk (order.Check inputs plan) answer = AnswersCheck disk inputs plan answer
+AnswersTo disk (order.Report inputs plan kind) answer = AnswersReport disk inputs plan kind answer
 AnswersTo disk (order.Dispatch inputs plan log) answer = ⊥
 
 -- each file holds what was read of it, and the log's file what is left to be read

@@ -2,6 +2,7 @@
 
 ghost use Rattle.std.specs.Prelude.{◌≡◌, option_map};
 ghost use Rattle.hsp_runs.specs.Locate.{IsLocated};
+ghost use Rattle.hsp_runs.specs.Report.{IsReported};
 ghost use Rattle.hsp_runs.specs.SiteText.{IsSiteRun};
 ghost use Rattle.hsplan.specs.Answers.{IsAnswered, IsShownPlan, IsShownVerdict, fields_told, plan_status, plan_told, text_told, verdict_told};
 ghost use Rattle.hsplan.specs.Printing.{Prints};
@@ -10,7 +11,8 @@ use crate::failure::Failure;
 use crate::output::Output;
 use hsp_dispatch::LogSums;
 use hsp_runs::{
-    Inputs, Locate, check_run, locate_run, plan_run, site_run, verdict_line, verdict_status,
+    Inputs, Locate, ReportKind, check_run, locate_run, plan_run, report_run, site_run,
+    verdict_line, verdict_status,
 };
 use std::alloc::Global;
 
@@ -72,6 +74,19 @@ pub fn check_answer(alloc: Global, inputs: &Inputs, plan: &[u8]) -> Result<Answe
         text: verdict_line(alloc, &verdict)?,
         status: verdict_status(&verdict),
     })
+}
+
+/// The report of a certificate.
+pub fn report_answer(
+    alloc: Global,
+    inputs: &Inputs,
+    plan: &[u8],
+    kind: ReportKind,
+) -> Result<Answer, Failure>
+    ensures { IsAnswered text_told (IsReported inputs.now plan.now kind) result }
+{
+    let text = report_run(alloc, inputs, plan, kind)?;
+    Ok(Answer { text, status: 0 })
 }
 
 /// Writes the text of an answer, and gives its status.

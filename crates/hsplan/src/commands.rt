@@ -3,18 +3,18 @@
 ghost use Rattle.std.specs.Prelude.{◌≡◌, IfErr, IfOk, map, option_map, string_bytes};
 ghost use Rattle.hsp_runs.specs.Locate.{placed};
 ghost use Rattle.hsplan.specs.Answers.{IsAnswered, text_told};
-ghost use Rattle.hsplan.specs.Commands.{AnswersCheck, AnswersPlan, AnswersSite, AnswersSites, AreHeld, CarriesOut, FailsNamed, HoldsNamed, Obeys, OneFails};
+ghost use Rattle.hsplan.specs.Commands.{AnswersCheck, AnswersPlan, AnswersReport, AnswersSite, AnswersSites, AreHeld, CarriesOut, FailsNamed, HoldsNamed, Obeys, OneFails, told_kind};
 ghost use Rattle.hsplan.specs.Failing.{IsUnread};
 
 use crate::answer::{
-    Answer, Completed, check_answer, locate_answer, plan_answer, print, site_answer,
+    Answer, Completed, check_answer, locate_answer, plan_answer, print, report_answer, site_answer,
 };
 use crate::dispatch::{dispatch, open_log};
 use crate::failure::Failure;
 use crate::files::{FileSource, read_whole};
 use crate::output::Output;
-use hsp_command::{InputFiles, Order, Word, read_command};
-use hsp_runs::{Inputs, Locate};
+use hsp_command::{InputFiles, Kind, Order, Word, read_command};
+use hsp_runs::{Inputs, Locate, ReportKind};
 use std::alloc::Global;
 
 // Every octet of a file that may be named.
@@ -116,6 +116,31 @@ fn check<S: FileSource>(
     check_answer(alloc, &inputs, &plan)
 }
 
+// The kind of report that is asked for.
+fn told_kind(kind: Kind) -> ReportKind
+    ensures { result ≡ told_kind kind }
+{
+    match kind {
+        Kind::Load => ReportKind::Load,
+        Kind::Region => ReportKind::Region,
+        Kind::Shortage => ReportKind::Shortage,
+    }
+}
+
+fn report<S: FileSource>(
+    alloc: Global,
+    files: &S,
+    named: &InputFiles,
+    plan: &Word,
+    kind: Kind,
+) -> Result<Answer, Failure>
+    ensures { AnswersReport (S.disk files.now) named.now plan.now kind result }
+{
+    let inputs = read_inputs(alloc, files, named)?;
+    let plan = read_whole(alloc, files, plan)?;
+    report_answer(alloc, &inputs, &plan, told_kind(kind))
+}
+
 // Carries out the order: prints its answer on `out`, or answers a log there, and gives what to end with.
 fn carry_out<S: FileSource, O: Output>(
     alloc: Global,
@@ -139,6 +164,9 @@ fn carry_out<S: FileSource, O: Output>(
         Order::Site { index, file } => print(out, site(alloc, files, index, file)),
         Order::Plan { inputs } => print(out, plan(alloc, files, inputs)),
         Order::Check { inputs, plan } => print(out, check(alloc, files, inputs, plan)),
+        Order::Report { inputs, plan, kind } => {
+            print(out, report(alloc, files, inputs, plan, *kind))
+        }
         Order::Dispatch { inputs, plan, log } => {
             dispatch(alloc, open_log(alloc, files, inputs, plan, log)?, out)
         }

@@ -11,5 +11,6 @@ returns c =
     let site = c.in_ok-command-2.ensures ∙ ap₂ (λ (app : App) (sub : App). with_subcommand app sub.top) locate c.in_ok-site_command.ensures.app in
     let plan = c.in_ok-command-3.ensures ∙ ap₂ (λ (app : App) (sub : App). with_subcommand app sub.top) site c.in_ok-plan_command.ensures.app in
     let check = c.in_ok-command-4.ensures ∙ ap₂ (λ (app : App) (sub : App). with_subcommand app sub.top) plan c.in_ok-check_command.ensures.app in
-    IfOk-weaker c.with_subcommand-5.result _ _ (λ new h. h ∙ ap₂ (λ (app : App) (sub : App). with_subcommand app sub.top) check c.in_ok-dispatch_command.ensures.app)
-    c.with_subcommand-5.ensures
+    let dispatch = c.in_ok-command-5.ensures ∙ ap₂ (λ (app : App) (sub : App). with_subcommand app sub.top) check c.in_ok-dispatch_command.ensures.app in
+    IfOk-weaker c.with_subcommand-6.result _ _ (λ new h. h ∙ ap₂ (λ (app : App) (sub : App). with_subcommand app sub.top) dispatch c.in_ok-report_command.ensures.app)
+    c.with_subcommand-6.ensures

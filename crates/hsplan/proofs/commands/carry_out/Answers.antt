@@ -4,6 +4,9 @@ use Rattle.hsplan.proofs.commands.carry_out.Goals as goal
 pub returns-in-Check : goal.returns-in-Check
 returns-in-Check g c = rw c.in-Check.is (c.check.result, c.check.ensures, c.print-in-Check.ensures)
 
+pub returns-in-Report : goal.returns-in-Report
+returns-in-Report g c = rw c.in-Report.is (c.report.result, c.report.ensures, c.print-in-Report.ensures)
+
 pub returns-in_ok-open_log-in-Dispatch : goal.returns-in_ok-open_log-in-Dispatch
 returns-in_ok-open_log-in-Dispatch g c =
     let it = c.in_ok-open_log-in-Dispatch.field-0 in

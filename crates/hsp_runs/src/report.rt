@@ -1,0 +1,60 @@
+// Reports of certificates.
+
+ghost use Rattle.hsp_check.specs.Instance.{network_of};
+ghost use Rattle.hsp_check.specs.Valid.{IsValid};
+ghost use Rattle.hsp_runs.specs.Report.{IsReport, IsReported};
+ghost use Rattle.hsp_text.specs.Answers.{Stands};
+
+use crate::accepted::{Accepted, accepted_in};
+use crate::fault::Fault;
+use crate::inputs::Inputs;
+use hsp_report::{load_report, region_report, shortage_report};
+use std::alloc::Global;
+
+/// What a report tells.
+#[derive(Debug, Clone, Copy, PartialEq, Eq)]
+pub enum ReportKind {
+    /// What each server takes by a plan.
+    Load,
+    /// What each region asks for, and what that costs by a plan.
+    Region,
+    /// The rows of a short set and the servers that they reach.
+    Shortage,
+}
+
+// The report of a valid certificate.
+fn reported(alloc: Global, accepted: &Accepted, kind: ReportKind) -> Result<Vec<u8>, Fault>
+    requires { IsValid (network_of accepted.now.instance) accepted.now.certificate }
+    ensures { Stands Fault.OutOfMemory (λ text. text.items) (IsReport kind accepted.now) result }
+{
+    let (instance, certificate) = (&accepted.instance, &accepted.certificate);
+    match kind {
+        ReportKind::Load => {
+            let _plan = accepted.plan()?;
+            Ok(load_report(alloc, instance, certificate)?)
+        }
+        ReportKind::Region => {
+            let _plan = accepted.plan()?;
+            Ok(region_report(alloc, instance, certificate)?)
+        }
+        ReportKind::Shortage => {
+            let _set = accepted.shortage()?;
+            Ok(shortage_report(alloc, instance, certificate)?)
+        }
+    }
+}
+
+/// The report of the certificate that the octets of `certificate` spell. Faults in this order: those of the inputs (`Settings`,
+/// `Values`, `Demand`, `Costs`, `Capacity`, `Build`), `Cert`, `Refused` with the first reason, and `WrongKind` for `Load` or `Region`
+/// of a shortage and for `Shortage` of a plan.
+pub fn report_run(
+    alloc: Global,
+    inputs: &Inputs,
+    certificate: &[u8],
+    kind: ReportKind,
+) -> Result<Vec<u8>, Fault>
+    ensures { Stands Fault.OutOfMemory (λ text. text.items) (IsReported inputs.now certificate.now kind) result }
+{
+    let accepted = accepted_in(alloc, inputs, certificate)?;
+    reported(alloc, &accepted, kind)
+}
