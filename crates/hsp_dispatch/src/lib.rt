@@ -8,6 +8,8 @@ mod body;
 mod dispatcher;
 mod fault;
 mod form;
+mod front_share;
+mod fronts;
 pub mod laws;
 mod lines;
 mod reading;
@@ -15,9 +17,10 @@ mod run;
 mod share;
 mod sharing;
 
-pub use answer::{Answer, LogSums};
+pub use answer::{Answer, FrontAnswer, LogSums};
 pub use dispatcher::Dispatcher;
 pub use fault::LogFault;
+pub use fronts::Fronts;
 pub use run::run_log;
 
 #[cfg(test)]
