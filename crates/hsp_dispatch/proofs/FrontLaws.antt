@@ -72,8 +72,7 @@ taken_on it x fronts events event old new are taken = record {
         let was = are.each front before.0 before.1 in
         let step = taken.own before.0 own (ap (λ (n : ℕ). slice_get old n) here ∙ before.1) (ap (λ (n : ℕ). slice_get new n) here ∙ e) in
         let next : IsSame (left_of own) (rest it (left_of before.0) (event.entry ∷ [])) =
-        λ row site. step.1 row site ∙ ap (λ (i : Instance). rest i (left_of before.0) (event.entry ∷ []) row site) was.0 in
-        (
+        λ row site. step.1 row site ∙ ap (λ (i : Instance). rest i (left_of before.0) (event.entry ∷ []) row site) was.0 in (
           step.0 ∙ was.0,
           λ row site.
               rest_more it (share_of fronts front x) (left_of before.0) (left_of own) (entries_at front events) event.entry was.1 next row site
@@ -127,7 +126,7 @@ pub never_exceeds_together : NeverExceedsTogether
 never_exceeds_together it fronts x events row site some =
     let each : sum_below fronts (λ front. assigned_at it fronts x front events row site) ≤ sum_below fronts (λ front. share fronts front (x row site)) =
     sum_below_le fronts (λ front. assigned_at it fronts x front events row site) (λ front. share fronts front (x row site))
-        (λ front l. never_exceeds it (share_of fronts front x) (entries_at front events) row site) in
+    (λ front l. never_exceeds it (share_of fronts front x) (entries_at front events) row site) in
     omega (arith, each, shares_add_up fronts (x row site) some)
 
 -- more entries have no less assigned
@@ -157,7 +156,7 @@ spent_at it fronts x events row site front there was inside =
     let entries : entries_at front events ≡ entries_at front was.earlier ++ entries_at front (was.event ∷ was.later) =
     ap (λ (es : List Event). entries_at front es) was.parts ∙ entries_append front was.earlier (was.event ∷ was.later) in
     let same : assigned_at it fronts x front events row site
-        ≡ assigned_in it (share_of fronts front x) (entries_at front was.earlier ++ entries_at front (was.event ∷ was.later)) row site =
+    ≡ assigned_in it (share_of fronts front x) (entries_at front was.earlier ++ entries_at front (was.event ∷ was.later)) row site =
     ap (λ (es : List Entry). assigned_in it (share_of fronts front x) es row site) entries in
     let least = grows it (share_of fronts front x) (entries_at front was.earlier) (entries_at front (was.event ∷ was.later)) row site in
     let most : assigned_at it fronts x front events row site ≤ share fronts front (x row site) = never_exceeds it (share_of fronts front x) (entries_at front events) row site in
@@ -166,5 +165,5 @@ spent_at it fronts x events row site front there was inside =
 pub is_spent_together : IsSpentTogether
 is_spent_together it fronts x events row site some was inside =
     sum_below_same fronts (λ front. assigned_at it fronts x front events row site) (λ front. share fronts front (x row site))
-        (λ front l. spent_at it fronts x events row site front l (was front l) inside)
+    (λ front l. spent_at it fronts x events row site front l (was front l) inside)
     ∙ shares_add_up fronts (x row site) some

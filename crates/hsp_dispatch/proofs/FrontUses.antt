@@ -56,7 +56,7 @@ before_test : (u v : UseLine) → Before u v → is_before u v ≡ true
 before_test u v before = elim (cases_eq u.row v.row) [
   | inl same ↦
       or_right (nat_lt u.row v.row) (u.row == v.row && nat_lt u.site v.site)
-          (and_from (u.row == v.row) (nat_lt u.site v.site) (eq-eqb u.row v.row same) (lt-ltb u.site v.site (before.sites same)))
+      (and_from (u.row == v.row) (nat_lt u.site v.site) (eq-eqb u.row v.row same) (lt-ltb u.site v.site (before.sites same)))
   | inr other ↦ or_left (nat_lt u.row v.row) (u.row == v.row && nat_lt u.site v.site) (lt-ltb u.row v.row (omega (arith, before.rows, other)))
 ]
 
@@ -80,7 +80,7 @@ use_kept : (one : UseLine) (count : ℕ) → is_use one ≡ true → count ≢ 0
 use_kept one count is some most =
     let both = and_parts (nat_le one.row 8191 && nat_le one.site 31) (nat_le 1 one.count && nat_le one.count GREATEST_COUNT) is in
     and_from (nat_le one.row 8191 && nat_le one.site 31) (nat_le 1 count && nat_le count GREATEST_COUNT) both.0
-        (and_from (nat_le 1 count) (nat_le count GREATEST_COUNT) (le-leb 1 count (omega (arith, some))) (le-leb count GREATEST_COUNT (omega (arith, most, use_within one is))))
+    (and_from (nat_le 1 count) (nat_le count GREATEST_COUNT) (le-leb 1 count (omega (arith, some))) (le-leb count GREATEST_COUNT (omega (arith, most, use_within one is))))
 
 ranges_kept : (fronts front : ℕ) (uses : List UseLine) → 0 < fronts → list_all is_use uses ≡ true → list_all is_use (uses_at fronts front uses) ≡ true
 ranges_kept fronts front [] many all = refl

@@ -84,6 +84,11 @@ abbrev pub answer_of_front : Option Held → Entry → FrontAnswer
 answer_of_front None entry = NoFront
 answer_of_front (Some own) entry = Answered (answer_by own entry)
 
+-- what a front has left, nothing where there is no front
+abbrev pub left_of_front : Option Held → Plan
+left_of_front None row site = 0
+left_of_front (Some own) row site = left_of own row site
+
 -- an entry is taken of what its front holds; the other fronts hold what they held
 pub record IsTakenAt (front : ℕ) (entry : Entry) (old new : List Held) : Type 0 where
   pub many : length new ≡ length old

@@ -3,7 +3,7 @@
 ghost use Rattle.std.specs.Prelude.{◌≡◌, ◌≤◌, IfOk, length, slice_get};
 ghost use Rattle.hsp_text.specs.declared.limits.TheConstants.{MOST_FRONTS};
 ghost use Rattle.hsp_check.specs.Uses.{table};
-ghost use Rattle.hsp_dispatch.specs.Fronts.{AreFrontsOf, IsTakenAt, answer_of_front};
+ghost use Rattle.hsp_dispatch.specs.Fronts.{AreFrontsOf, IsTakenAt, answer_of_front, left_of_front};
 ghost use Rattle.hsp_dispatch.specs.Shares.{AreUsesOf, IsPlanFor, plan_of, query};
 
 use crate::answer::FrontAnswer;
@@ -83,5 +83,15 @@ impl<'a> Fronts<'a> {
         }
         let answer = self.fronts[front as usize].assign(region, handle);
         FrontAnswer::Answered(answer)
+    }
+
+    /// How many queries of a row a front has left for a site, 0 where the front, the row or the site is not there.
+    pub fn left(&self, front: u32, row: u32, site: u32) -> u64
+        ensures { result ≡ left_of_front (slice_get self.now front) row site }
+    {
+        match self.fronts.get(front as usize) {
+            Some(own) => own.left(row, site),
+            None => 0,
+        }
     }
 }

@@ -28,6 +28,8 @@ mod dispatcher_tests;
 #[cfg(test)]
 pub mod fakes;
 #[cfg(test)]
+mod fronts_tests;
+#[cfg(test)]
 mod run_tests;
 #[cfg(test)]
 mod worked;

@@ -17,4 +17,4 @@ loop-front-preserved c =
     rw c.in_ok-push.ensures.items
     (first_more c.args.instance.now (table uses) c.args.fronts front c.loop-front.all.items c.in_ok-over.field-0 c.loop-front.invariant c.in_ok-over.ensures.instance
     (λ row site. c.in_ok-over.ensures.table row site
-        ∙ rw (c.as_slice.ensures.value, c.in_ok-own.ensures) (front_table c.args.fronts front uses (in_order uses c.requires.uses.order) row site)))
+    ∙ rw (c.as_slice.ensures.value, c.in_ok-own.ensures) (front_table c.args.fronts front uses (in_order uses c.requires.uses.order) row site)))
