@@ -5,7 +5,7 @@ use Rattle.hsp_instance.specs.Instance.{Instance}
 use Rattle.hsp_check.specs.Plan.{Plan}
 use Rattle.hsp_dispatch.specs.Dispatch.{IsSame, row_of}
 use Rattle.hsp_dispatch.specs.Shares.{Held, left_of}
-use Rattle.hsp_dispatch.specs.Fronts.{AreFrontsOf, Event, IsTakenAt, answer_of_front, answers_at, assigned_by_all, entries_at, front_answer, front_answers, rest_at}
+use Rattle.hsp_dispatch.specs.Fronts.{AreFrontsOf, Event, IsTakenAt, answer_among, answers_at, assigned_by_all, entries_at, front_answer, front_answers, rest_at}
 use Rattle.hsp_dispatch.specs.declared.answer.Answer.TheVariants.{Spent}
 use Rattle.hsp_dispatch.specs.declared.answer.FrontAnswer.TheVariants.{Answered}
 
@@ -22,7 +22,7 @@ abbrev pub AnswersByShares : Type 0
 AnswersByShares =
     (it : Instance) (x : Plan) (fronts : ℕ) (events : List Event) (event : Event) (old new : List Held) → AreFrontsAfter it x fronts events old
     → IsTakenAt event.front event.entry old new
-    → (answer_of_front (slice_get old event.front) event.entry ≡ front_answer it fronts x events event) × AreFrontsAfter it x fronts (events ++ event ∷ []) new
+    → (answer_among old event.front event.entry ≡ front_answer it fronts x events event) × AreFrontsAfter it x fronts (events ++ event ∷ []) new
 
 -- lists of events with the same entries at a front have the same answers there, and leave the same of its share
 abbrev pub GoesByItsEntries : Type 0

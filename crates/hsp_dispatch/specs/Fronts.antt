@@ -84,6 +84,9 @@ abbrev pub answer_of_front : Option Held → Entry → FrontAnswer
 answer_of_front None entry = NoFront
 answer_of_front (Some own) entry = Answered (answer_by own entry)
 
+abbrev pub answer_among : List Held → ℕ → Entry → FrontAnswer
+answer_among held front entry = answer_of_front (slice_get held front) entry
+
 -- what a front has left, nothing where there is no front
 abbrev pub left_of_front : Option Held → Plan
 left_of_front None row site = 0

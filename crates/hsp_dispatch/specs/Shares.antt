@@ -101,6 +101,14 @@ pub record AreSharesOf (it : Instance) (uses : List UseLine) (shares : List (Lis
   pub one_a_row : length shares ≡ length it.rows
   pub each : (row : ℕ) → row < length it.rows → slice_get shares row ≡ Some (cells_of it row uses)
 
+-- the shares of the rows of an instance
+abbrev pub holding : Instance → List (List Cell) → Held
+holding it shares = record { instance = it; shares = shares }
+
+-- what is left is the table of the uses
+abbrev pub HoldsTable : List UseLine → Held → Type 0
+HoldsTable uses held = IsSame (left_of held) (table uses)
+
 -- uses in order and within their ranges, each of which goes where it may
 pub record AreUsesOf (it : Instance) (uses : List UseLine) : Type 0 where
   pub order : ascends is_before uses ≡ true
@@ -128,6 +136,10 @@ first_answer held row = answer_at held.instance row (slice_get (spread held.inst
 abbrev pub rest_of : Held → Entry → Plan
 rest_of held entry = rest held.instance (left_of held) (entry ∷ [])
 
+-- what is left is what the query leaves
+abbrev pub IsLeftBy : Held → Entry → Held → Type 0
+IsLeftBy held entry new = IsSame (left_of new) (rest_of held entry)
+
 -- what is left is what a query for the row leaves
 abbrev pub IsRestOf : Held → ℕ → Held → Type 0
-IsRestOf held row new = (entry : Entry) → row_of held.instance entry ≡ Some row → IsSame (left_of new) (rest_of held entry)
+IsRestOf held row new = (entry : Entry) → row_of held.instance entry ≡ Some row → IsLeftBy held entry new

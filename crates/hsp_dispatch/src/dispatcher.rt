@@ -4,8 +4,7 @@ ghost use Rattle.std.specs.Prelude.{◌≡◌, ◌<◌, IfOk, IfSome, OnSome, Ok
 ghost use Rattle.hsp_names.specs.Handle.{handle_in};
 ghost use Rattle.hsp_instance.specs.Instance.{has_keys};
 ghost use Rattle.hsp_dispatch.specs.Dispatch.{IsSame};
-ghost use Rattle.hsp_check.specs.Uses.{table};
-ghost use Rattle.hsp_dispatch.specs.Shares.{AreUsesOf, IsPlanFor, IsRestOf, answer_by, first_answer, left_of, plan_of, query, rest_of, taken_answer};
+ghost use Rattle.hsp_dispatch.specs.Shares.{AreUsesOf, HoldsTable, IsLeftBy, IsPlanFor, IsRestOf, answer_by, first_answer, left_of, plan_of, query, taken_answer};
 
 use crate::answer::Answer;
 use crate::share::RowShare;
@@ -60,7 +59,7 @@ impl<'a> Dispatcher<'a> {
     ) -> Result<Dispatcher<'a>, AllocError>
         requires { AreUsesOf instance.now uses.now }
         ensures instance { IfOk result (λ d. d.instance ≡ instance.now) }
-        ensures table { IfOk result (λ d. IsSame (left_of d) (table uses.now)) }
+        ensures table { IfOk result (HoldsTable uses.now) }
     {
         let shares = share_out(alloc, instance, uses)?;
         Ok(Dispatcher { instance, shares })
@@ -78,7 +77,7 @@ impl<'a> Dispatcher<'a> {
     pub fn assign(&mut self, region: &[u8], handle: HandleRef<'_>) -> Answer
         ensures instance { self.new.instance ≡ self.old.instance }
         ensures answer { result ≡ answer_by self.old (query region.now handle.entry) }
-        ensures rest { IsSame (left_of self.new) (rest_of self.old (query region.now handle.entry)) }
+        ensures rest { IsLeftBy self.old (query region.now handle.entry) self.new }
     {
         let Some(row) = self.row_of(region, handle.bytes()) else {
             return Answer::Unknown;

@@ -3,7 +3,7 @@
 ghost use Rattle.std.specs.Prelude.{◌≡◌, ◌≤◌, IfOk, length, slice_get};
 ghost use Rattle.hsp_text.specs.declared.limits.TheConstants.{MOST_FRONTS};
 ghost use Rattle.hsp_check.specs.Uses.{table};
-ghost use Rattle.hsp_dispatch.specs.Fronts.{AreFrontsOf, IsTakenAt, answer_of_front, left_of_front};
+ghost use Rattle.hsp_dispatch.specs.Fronts.{AreFrontsOf, IsTakenAt, answer_among, left_of_front};
 ghost use Rattle.hsp_dispatch.specs.Shares.{AreUsesOf, IsPlanFor, plan_of, query};
 
 use crate::answer::FrontAnswer;
@@ -74,7 +74,7 @@ impl<'a> Fronts<'a> {
     /// Answers a query at a front, for a handle from a region: as a dispatcher would by what the front has left, of which it takes
     /// the query. What the other fronts have left stays as it is.
     pub fn assign(&mut self, front: u32, region: &[u8], handle: HandleRef<'_>) -> FrontAnswer
-        ensures answer { result ≡ answer_of_front (slice_get self.old front) (query region.now handle.entry) }
+        ensures answer { result ≡ answer_among self.old front (query region.now handle.entry) }
         ensures taken { IsTakenAt front (query region.now handle.entry) self.old self.new }
         ensures none { length self.old ≤ front → self.new ≡ self.old }
     {

@@ -49,6 +49,8 @@ impl RowShare {
         requires { AreCells (self.old ++ cell ∷ []) }
         ensures { OnOk result (self.new ≡ self.old ++ cell ∷ []) }
     {
+        // Most rows have a cell or two; what they have no room for stays in the processor's cache.
+        self.cells.reserve_exact(1)?;
         self.cells.push(cell)?;
         Ok(())
     }

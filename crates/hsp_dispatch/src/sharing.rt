@@ -1,9 +1,8 @@
 // What the uses of a plan give each row of its instance.
 
 ghost use Rattle.std.specs.Prelude.{◌≡◌, ◌<◌, [], length, replicate, slice_get, IfOk};
-ghost use Rattle.hsp_check.specs.Uses.{table};
-ghost use Rattle.hsp_dispatch.specs.Dispatch.{IsSame, arc_to};
-ghost use Rattle.hsp_dispatch.specs.Shares.{AreUsesOf, IsHeld, left_of, number_of};
+ghost use Rattle.hsp_dispatch.specs.Dispatch.{arc_to};
+ghost use Rattle.hsp_dispatch.specs.Shares.{AreUsesOf, HoldsTable, IsHeld, holding, number_of};
 
 use crate::share::{Cell, RowShare};
 use hsp_cert::UseLine;
@@ -41,8 +40,8 @@ pub(crate) fn share_out(
     uses: &[UseLine],
 ) -> Result<Vec<RowShare>, AllocError>
     requires { AreUsesOf instance.now uses.now }
-    ensures held { IfOk result (λ shares. IsHeld (record { instance = instance.now; shares = shares.items })) }
-    ensures table { IfOk result (λ shares. IsSame (left_of (record { instance = instance.now; shares = shares.items })) (table uses.now)) }
+    ensures held { IfOk result (λ shares. IsHeld (holding instance.now shares.items)) }
+    ensures table { IfOk result (λ shares. HoldsTable uses.now (holding instance.now shares.items)) }
 {
     let mut shares = empty_shares(alloc, instance.rows())?;
     for one in uses {

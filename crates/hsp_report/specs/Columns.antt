@@ -15,4 +15,5 @@ column_line (c ∷ cs) name = right_aligned c.width (decimal c.number) ++ 32 ∷
 -- a word, two numbers, and what is left of the first without the second
 abbrev pub difference_line : List ℕ → ℕ → ℕ → ℕ → List ℕ
 difference_line word first second left =
-    word ++ 32 ∷ (decimal first ++ (codes " - " ++ (decimal second ++ (codes " = " ++ (decimal left ++ 10 ∷ [])))))
+    word ++ 32 ∷ (decimal first ++ (codes " - " ++ (decimal second ++ (codes " = "
+    ++ (decimal left ++ 10 ∷ [])))))

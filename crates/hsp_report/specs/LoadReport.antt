@@ -18,7 +18,8 @@ abbrev pub server_line : Instance → ℕ → ℕ → ℕ → List ℕ
 server_line it j taken price =
     let s = server_at it j in
     column_line
-    (aligned 5 s.place ∷ aligned 10 s.id ∷ aligned 10 taken ∷ aligned 10 s.capacity ∷ aligned 13 price ∷ [])
+    (aligned 5 s.place ∷ aligned 10 s.id ∷ aligned 10 taken ∷ aligned 10 s.capacity
+    ∷ aligned 13 price ∷ [])
     (site_name it s.site)
 
 -- a server with what the plan gives it, and its price

@@ -21,14 +21,17 @@ region_demand it region = sum_by (λ r. if is_of region r then r.count else 0) i
 -- what the queries of its rows cost
 abbrev pub region_cost : Instance → Plan → List ℕ → ℕ
 region_cost it x region =
-    sum_by (λ a. if is_of region (row_at it a.row) then a.cost * planned x a else 0) (network_of it).arcs
+    let n = network_of it in
+    sum_by (λ a. if is_of region (row_at it a.row) then a.cost * planned x a else 0) n.arcs
 
 abbrev pub region_header : List ℕ
 region_header = codes "    demand             cost region" ++ 10 ∷ []
 
 abbrev pub region_line : Instance → Plan → List ℕ → List ℕ
 region_line it x region =
-    column_line (aligned 10 (region_demand it region) ∷ aligned 16 (region_cost it x region) ∷ []) region
+    column_line
+    (aligned 10 (region_demand it region) ∷ aligned 16 (region_cost it x region) ∷ [])
+    region
 
 abbrev pub region_lines : Instance → Plan → List (List ℕ) → List ℕ
 region_lines it x regions = flat_map (region_line it x) regions
@@ -36,8 +39,9 @@ region_lines it x regions = flat_map (region_line it x) regions
 -- what all rows ask for, and what the plan costs
 abbrev pub total_line : Instance → Plan → List ℕ
 total_line it x =
-    codes "total "
-    ++ (decimal (sum_by (λ r. r.count) it.rows) ++ 32 ∷ (decimal (total (network_of it) x) ++ 10 ∷ []))
+    let demand = sum_by (λ r. r.count) it.rows in
+    let cost = total (network_of it) x in
+    codes "total " ++ (decimal demand ++ 32 ∷ (decimal cost ++ 10 ∷ []))
 
 -- the regions stand in the order in which the rows name them first
 abbrev pub region_report : Instance → Best → List ℕ

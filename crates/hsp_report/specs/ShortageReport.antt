@@ -46,7 +46,8 @@ reached_lines it servers = flat_map (reached_line it) servers
 abbrev pub shortage_report : Instance → Short → List ℕ
 shortage_report it set =
     let servers = reached (network_of it) (is_one_of set.rows) in
-    short_line it set ++ (rows_header ++ (row_lines it set.rows ++ (servers_header ++ reached_lines it servers)))
+    short_line it set
+    ++ (rows_header ++ (row_lines it set.rows ++ (servers_header ++ reached_lines it servers)))
 
 -- the report of a certificate that shows a short set
 abbrev pub IsShortageReport : Instance → Claim → List ℕ → Type 0

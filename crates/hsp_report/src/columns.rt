@@ -53,7 +53,8 @@ pub(crate) fn push_difference(
     second: u128,
     left: u128,
 ) -> Result<(), AllocError>
-    ensures { OnOk result (out.new.items ≡ out.old.items ++ difference_line word.now first second left) }
+    ensures { OnOk result (out.new.items
+        ≡ out.old.items ++ difference_line word.now first second left) }
 {
     out.extend_from_slice(word)?;
     push_term(out, b" ", first)?;

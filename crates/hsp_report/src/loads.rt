@@ -28,7 +28,8 @@ fn push_server(
 ) -> Result<(), AllocError>
     requires server { server < length instance.now.servers }
     requires within { IsInstance instance.now }
-    ensures { OnOk result (out.new.items ≡ out.old.items ++ server_line instance.now server load price) }
+    ensures { OnOk result (out.new.items
+        ≡ out.old.items ++ server_line instance.now server load price) }
 {
     let (site, place, id, capacity) = instance.server(server);
     push_columns(

@@ -24,7 +24,8 @@ fn has_name(names: &[&[u8]], name: &[u8]) -> bool
 
 // Adds a name to those that were seen.
 fn see<'a>(names: &mut Vec<&'a [u8]>, name: &'a [u8]) -> Result<(), AllocError>
-    ensures { OnOk result (names_in names.new.items ≡ insert_key bytes_eq (names_in names.old.items) name.now) }
+    ensures { OnOk result (names_in names.new.items
+        ≡ insert_key bytes_eq (names_in names.old.items) name.now) }
 {
     if !has_name(names.as_slice(), name) {
         names.push(name)?;

@@ -115,7 +115,8 @@ fn push_regions(
 // Appends the line of what all rows ask for, and what the plan costs.
 fn push_total(out: &mut Vec<u8>, instance: &Instance, plan: &BestRef<'_>) -> Result<(), AllocError>
     requires { IsValidPlan (network_of instance.now) plan.now }
-    ensures { OnOk result (out.new.items ≡ out.old.items ++ total_line instance.now (table plan.now.uses)) }
+    ensures { OnOk result (out.new.items
+        ≡ out.old.items ++ total_line instance.now (table plan.now.uses)) }
 {
     out.extend_from_slice(b"total ")?;
     push_wide(out, total_demand(instance))?;

@@ -63,7 +63,8 @@ fn push_server(out: &mut Vec<u8>, instance: &Instance, server: u32) -> Result<()
 fn push_servers(out: &mut Vec<u8>, instance: &Instance, servers: &[u32]) -> Result<(), AllocError>
     requires servers { All (λ server. server < length instance.now.servers) servers.now }
     requires within { IsInstance instance.now }
-    ensures { OnOk result (out.new.items ≡ out.old.items ++ reached_lines instance.now servers.now) }
+    ensures { OnOk result (out.new.items
+        ≡ out.old.items ++ reached_lines instance.now servers.now) }
 {
     for server in servers {
         push_server(out, instance, *server)?;

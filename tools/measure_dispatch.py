@@ -1,0 +1,90 @@
+#!/usr/bin/env python3
+"""Measures how many rows of a log the built program answers a second, over an instance at the limits.
+
+    tools/measure_dispatch.py [ROWS] [PROGRAM]
+
+ROWS is 10,000,000 at first, PROGRAM crates/hsplan/out/hsplan, which `rt run` leaves there. The instance has 8,192 rows, 64 regions,
+32 sites of 32 servers and 2,048 costs; the log draws its rows at random by their counts, so that most of it is assigned. A run of a
+log of its header alone tells what is spent before the first row.
+"""
+import os
+import random
+import subprocess
+import sys
+import tempfile
+import time
+
+TOP = os.path.dirname(os.path.dirname(os.path.abspath(__file__)))
+SITES, SERVERS, REGIONS, ROWS = 32, 32, 64, 8192
+
+
+def record(site):
+    """A site record of servers that have no key and no interface, hashing the whole handle."""
+    head = bytes.fromhex("0001" "0201" "0001" "00" "02") + bytes(4) + bytes(4) + SERVERS.to_bytes(4, "big")
+    servers = (b"".join((site * SERVERS + place).to_bytes(4, "big") + bytes(15) + b"\1" + bytes(8) for place in range(SERVERS)))
+    return (head + servers).hex()
+
+
+def write(folder, name, lines):
+    path = os.path.join(folder, name)
+    with open(path, "w") as file:
+        file.write("".join(line + "\n" for line in lines))
+    return path
+
+
+def inputs(folder, draw):
+    counts = [draw.randint(1, 3000) for _ in range(ROWS)]
+    rows = [f"region-{draw.randrange(REGIONS)},20.500.12345/object-{row:06}" for row in range(ROWS)]
+    capacity = 3 * sum(counts) // (2 * SITES * SERVERS)
+    return rows, counts, [
+        "--settings", write(folder, "settings.toml", (f'[[site]]\nname = "site-{site}"\nrecord = "{record(site)}"' for site in range(SITES))),
+        "--demand", write(folder, "demand.csv", ["region,handle,count"] + [f"{row},{count}" for row, count in zip(rows, counts)]),
+        "--costs", write(folder, "costs.csv", ["region,site,cost"] + [f"region-{region},site-{site},{draw.randrange(1000)}" for region in range(REGIONS) for site in range(SITES)]),
+        "--capacity", write(folder, "capacity.csv", ["site,server_id,capacity"] + [f"site-{site},{site * SERVERS + place},{capacity}" for site in range(SITES) for place in range(SERVERS)]),
+    ]
+
+
+def log(folder, name, rows, counts, many, draw):
+    """A log of so many rows; a block of a million is drawn and written again and again in other orders."""
+    path = os.path.join(folder, name)
+    with open(path, "w") as file:
+        file.write("region,handle\n")
+        block = draw.choices([row + "\n" for row in rows], counts, k=min(many, 1_000_000))
+        while many:
+            draw.shuffle(block)
+            file.write("".join(block[:many]))
+            many -= min(many, len(block))
+    return path
+
+
+def timed(words):
+    with open(os.devnull, "w") as sink:
+        begun = time.perf_counter()
+        ended = subprocess.run(words, stdout=sink, stderr=subprocess.PIPE, text=True)
+        return time.perf_counter() - begun, ended
+
+
+def main():
+    many = int(sys.argv[1]) if len(sys.argv) > 1 else 10_000_000
+    program = sys.argv[2] if len(sys.argv) > 2 else os.path.join(TOP, "crates", "hsplan", "out", "hsplan")
+    draw = random.Random(1)
+    with tempfile.TemporaryDirectory() as folder:
+        rows, counts, files = inputs(folder, draw)
+        plan = os.path.join(folder, "plan.txt")
+        with open(plan, "w") as file:
+            subprocess.run([program, "plan"] + files, stdout=file, check=True)
+        words = [program, "dispatch"] + files + ["--plan", plan, "--log"]
+        before, _ = timed(words + [log(folder, "none.csv", rows, counts, 0, draw)])
+        path = log(folder, "log.csv", rows, counts, many, draw)
+        print(f"{many} rows of {os.path.getsize(path)} octets, {before:.2f} s before the first row")
+        for _ in range(3):
+            spent, ended = timed(words + [path])
+            if ended.returncode:
+                print(ended.stderr, end="")
+                return 1
+            print(f"{spent:.2f} s, {many / (spent - before) / 1e6:.2f} million rows a second: {ended.stderr}", end="")
+    return 0
+
+
+if __name__ == "__main__":
+    sys.exit(main())
