@@ -1,5 +1,5 @@
 -- What holds of fronts.
-use Rattle.std.proofs.Common.{◌≡◌, ◌≢◌, ◌<◌, ◌≤◌, ◌+◌, ◌∙◌, ◌++◌, ℕ, zero, suc, List, [], ◌∷◌, length, take, drop, if◌then◌else◌, Some, None, arith, refl, sym, ap, ap₂, eq-eqb}
+use Rattle.std.proofs.Common.{◌≡◌, ◌≢◌, ◌<◌, ◌≤◌, ◌+◌, ◌∙◌, ◌++◌, ℕ, List, [], ◌∷◌, length, take, drop, if◌then◌else◌, arith, refl, sym, ap, ap₂, eq-eqb}
 use Rattle.std.proofs.Common.{inl, inr}
 use Rattle.std.specs.Prelude.{nat_lt}
 use Rattle.std.specs.List.{slice_get}
@@ -13,7 +13,7 @@ use Rattle.hsp_check.specs.Sums.{sum_below}
 use Rattle.hsp_check.proofs.Summing.{sum_below_le, sum_below_same}
 use Rattle.hsp_dispatch.specs.Dispatch.{Entry, IsSame, answer_to, assigned_in, count_for, rest, spread}
 use Rattle.hsp_dispatch.specs.FrontLaws.{AnswersByShares, AreFrontsAfter, BeginsWithShares, EndsInTheSame, GoesByItsEntries, IsSpentTogether, NeverExceedsTogether, WasSpentAt}
-use Rattle.hsp_dispatch.specs.Fronts.{AreFrontsOf, Event, IsTakenAt, answer_of_front, answers_at, assigned_at, entries_at, front_answer, front_answers_after, rest_at, share, share_of}
+use Rattle.hsp_dispatch.specs.Fronts.{Event, IsTakenAt, answer_of_front, answers_at, assigned_at, entries_at, front_answer, front_answers_after, share, share_of}
 use Rattle.hsp_dispatch.specs.Shares.{Held, left_of}
 use Rattle.hsp_dispatch.specs.declared.answer.Answer.{Answer}
 use Rattle.hsp_dispatch.specs.declared.answer.Answer.TheVariants.{Spent}
