@@ -1,13 +1,13 @@
 -- The sums of answers.
-use Rattle.std.proofs.Common.{◌≡◌, ◌≢◌, ◌<◌, ◌≤◌, ◌+◌, ◌∙◌, ◌++◌, ℕ, zero, suc, Bool, true, false, List, [], ◌∷◌, length, Option, Some, None, count_by, arith, refl, ap, sym, cond, add-zero}
+use Rattle.std.proofs.Common.{◌≡◌, ◌≢◌, ◌<◌, ◌≤◌, ◌+◌, ◌∙◌, ◌++◌, ℕ, zero, suc, Bool, List, [], ◌∷◌, length, Option, Some, None, count_by, arith, refl, ap, sym, cond, add-zero}
 use Rattle.std.proofs.lemmas.List.Sums.{count_by-le-length, sum_by_push}
 use Rattle.std.specs.List.{slice_get}
 use Rattle.hsp_instance.specs.Instance.{Instance, Server}
 use Rattle.hsp_check.specs.Plan.{Plan}
-use Rattle.hsp_dispatch.specs.Dispatch.{Entry, answer_to, answers, answers_after, is_assigned, is_spent, is_unknown, sums_of}
+use Rattle.hsp_dispatch.specs.Dispatch.{Entry, answers, answers_after, is_assigned, is_spent, is_unknown, sums_of}
 use Rattle.hsp_dispatch.specs.Lines.{AreBelow, IsAmong, answer_of, counted, served_by}
 use Rattle.hsp_dispatch.specs.declared.answer.Answer.{Answer}
-use Rattle.hsp_dispatch.specs.declared.answer.Answer.TheVariants.{Assigned, Spent, Unknown}
+use Rattle.hsp_dispatch.specs.declared.answer.Answer.TheVariants.{Spent, Unknown}
 use Rattle.hsp_dispatch.specs.declared.answer.LogSums.{LogSums}
 use Rattle.hsp_dispatch.specs.declared.answering.Given.{Given}
 use Rattle.hsp_dispatch.specs.declared.answering.Given.TheVariants.{Server as ByServer, Spent as IsSpent, Unknown as IsUnknown}

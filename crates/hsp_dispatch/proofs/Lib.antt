@@ -10,3 +10,7 @@ pub mod SharedOut
 pub mod Taking
 pub mod Dispatching
 pub mod ByHash
+pub mod FrontShares
+pub mod FrontUses
+pub mod FrontsHeld
+pub mod FrontLaws

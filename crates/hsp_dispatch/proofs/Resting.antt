@@ -17,7 +17,7 @@ use Rattle.hsp_dispatch.proofs.Spreads.{same_spread, spread_left, times, times_a
 count_more : (it : Instance) (row : ℕ) (before : List Entry) (entry : Entry) → count_for it row (before ++ entry ∷ []) ≡ count_for it row before + cond (is_for it row entry) 1 0
 count_more it row before entry = sum_by_push (λ (e : Entry). cond (is_for it row e) 1 0) before entry
 
-count_append : (it : Instance) (row : ℕ) (a b : List Entry) → count_for it row (a ++ b) ≡ count_for it row a + count_for it row b
+pub count_append : (it : Instance) (row : ℕ) (a b : List Entry) → count_for it row (a ++ b) ≡ count_for it row a + count_for it row b
 count_append it row a b = sum_by-append (λ (e : Entry). cond (is_for it row e) 1 0) a b
 
 -- ---- the entries that are assigned to a site: those of the front of the spread
@@ -105,7 +105,7 @@ get_left zero m xs = rw (zero-add m) refl
 get_left (suc k) m [] = refl
 get_left (suc k) m (x ∷ xs) = rw (suc-add k m) (get_left k m xs)
 
-take_over : (k m : ℕ) (xs : List ℕ) → take (k + m) xs ≡ take k xs ++ take m (drop k xs)
+pub take_over : (k m : ℕ) (xs : List ℕ) → take (k + m) xs ≡ take k xs ++ take m (drop k xs)
 take_over k m xs =
     sym (take-append-drop k (take (k + m) xs))
     ∙ ap (λ (front : List ℕ). front ++ drop k (take (k + m) xs)) (take-take k (k + m) xs (omega arith))

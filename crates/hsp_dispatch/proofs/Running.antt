@@ -1,18 +1,17 @@
 -- A run over a log, row by row, and how it ends.
-use Rattle.std.proofs.Common.{◌≡◌, ◌≢◌, ◌<◌, ◌≤◌, ◌+◌, ◌∙◌, ◌++◌, ◌⊎◌, inl, inr, ℕ, zero, suc, Bool, true, false, List, [], ◌∷◌, length, Option, Some, None, Ok, append_assoc, append-nil, length-append, count_by, arith, refl, ap, sym}
-use Rattle.std.proofs.KnownBytes.{Appends-nil, Appends-trans, Appends-kept}
+use Rattle.std.proofs.Common.{◌≡◌, ◌∙◌, ◌++◌, inl, inr, ℕ, suc, List, [], ◌∷◌, length, Option, Some, None, append_assoc, append-nil, refl, ap, sym}
+use Rattle.std.proofs.KnownBytes.{Appends-trans}
 use Rattle.std.specs.Io.KnownBytes.{Appends, Keeps}
 use Rattle.hsp_csv.specs.Records.{Fields}
 use Rattle.hsp_csv.specs.declared.fault.RecordsFault.{RecordsFault}
 use Rattle.hsp_csv.specs.declared.fault.RecordsFault.TheVariants as records_fault
 use Rattle.hsp_instance.specs.Instance.{Instance}
-use Rattle.hsp_check.specs.Plan.{Plan}
-use Rattle.hsp_dispatch.specs.Dispatch.{Entry, IsSame, answer_to, answers, answers_after, rest}
+use Rattle.hsp_dispatch.specs.Dispatch.{Entry, IsSame, answer_to, answers, answers_after}
 use Rattle.hsp_dispatch.specs.Lines.{answer_of, line_of, text_of}
 use Rattle.hsp_dispatch.specs.Log.{AreEntries, Begins, IsEntryIn, fault_of}
-use Rattle.hsp_dispatch.specs.Runs.{Answered, Outcome, Setting, Stops, StopsSomewhere}
+use Rattle.hsp_dispatch.specs.Runs.{Answered, Outcome, Setting, Stops}
 use Rattle.csv.specs.declared.reader.Reader.{Reader}
-use Rattle.hsp_dispatch.specs.Steps.{AnswersRow, CutsEntry, FailsForm, FailsRow, Stays, Takes, log_left}
+use Rattle.hsp_dispatch.specs.Steps.{AnswersRow, FailsForm, FailsRow, log_left}
 use Rattle.hsp_dispatch.specs.declared.answer.Answer.{Answer}
 use Rattle.hsp_dispatch.specs.declared.answering.Given.{Given}
 use Rattle.hsp_dispatch.specs.declared.fault.LogFault.{LogFault}

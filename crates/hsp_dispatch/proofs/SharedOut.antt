@@ -26,9 +26,9 @@ use Rattle.hsp_dispatch.proofs.Shares.{none_at}
 -- ---- uses in order
 
 -- a use before another one
-record Before (u v : UseLine) : Type 0 where
-  rows : u.row ≤ v.row
-  sites : u.row ≡ v.row → u.site < v.site
+pub record Before (u v : UseLine) : Type 0 where
+  pub rows : u.row ≤ v.row
+  pub sites : u.row ≡ v.row → u.site < v.site
 
 before_is : (u v : UseLine) → is_before u v ≡ true → Before u v
 before_is u v test = elim (cases_Bool (nat_lt u.row v.row)) [
@@ -50,7 +50,7 @@ before_both u v w a b = record {
       omega arith;
 }
 
-abbrev InOrder : List UseLine → Type 0
+abbrev pub InOrder : List UseLine → Type 0
 InOrder [] = Unit {0}
 InOrder (one ∷ uses) = AllByRecursion (Before one) uses × InOrder uses
 
@@ -66,7 +66,7 @@ order_from one (next ∷ uses) order =
     all_of_uses P Q so [] all = tt
     all_of_uses P Q so (u ∷ us) all = (so u all.0, all_of_uses P Q so us all.1)
 
-in_order : (uses : List UseLine) → ascends is_before uses ≡ true → InOrder uses
+pub in_order : (uses : List UseLine) → ascends is_before uses ≡ true → InOrder uses
 in_order [] order = tt
 in_order (one ∷ uses) order = order_from one uses (and_parts true (ascends_from is_before (Some one) uses) order).1
 
@@ -209,7 +209,7 @@ cell_is it one is allowed =
       there = rw number (slice_get_within it.servers has.arc.server own.0.server own.0.is_server);
     }
 
-all_of : (P : UseLine → Type 0) (uses : List UseLine) → All P uses → AllByRecursion P uses
+pub all_of : (P : UseLine → Type 0) (uses : List UseLine) → All P uses → AllByRecursion P uses
 all_of P uses all = all_from P uses (λ i one e. rw (get_or_from_slice_get uses i one one e) at (all i one (slice_get_within uses i one e)))
 
 abbrev Goes : Instance → UseLine → Type 0
@@ -272,7 +272,7 @@ use_there it uses k one is are e =
     let inside = row_there one.site one.row it.arcs (has_arc it one.row one.site goes) in
     omega (arith, is.one_list_a_row)
 
-take_next : (uses : List UseLine) (k : ℕ) (one : UseLine) → slice_get uses k ≡ Some one → take (k + 1) uses ≡ take k uses ++ one ∷ []
+pub take_next : (uses : List UseLine) (k : ℕ) (one : UseLine) → slice_get uses k ≡ Some one → take (k + 1) uses ≡ take k uses ++ one ∷ []
 take_next uses k one e =
     take_more uses k one (slice_get_within uses k one e) ∙ ap (λ (x : UseLine). take k uses ++ x ∷ []) (get_or_from_slice_get uses k one one e)
 

@@ -5,3 +5,5 @@ pub mod Log
 pub mod Runs
 pub mod Steps
 pub mod Laws
+pub mod Fronts
+pub mod FrontLaws

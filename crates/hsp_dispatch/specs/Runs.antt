@@ -1,5 +1,5 @@
 -- How a run over a log ends: what it has written, and what it leaves of the plan.
-use Rattle.std.specs.Prelude.{◌≡◌, ◌≢◌, ◌⊎◌, ◌<◌, ⊤, ℕ, List, [], ◌∷◌, ◌++◌, length, take, Option}
+use Rattle.std.specs.Prelude.{◌≡◌, ◌≢◌, ◌⊎◌, ⊤, ℕ, List, [], ◌∷◌, ◌++◌, length, Option}
 use Rattle.std.specs.Io.KnownBytes.{Appends}
 use Rattle.hsp_text.specs.Writing.{IsCut}
 use Rattle.hsp_csv.specs.Records.{Fields}

@@ -1,7 +1,7 @@
 -- What a dispatcher holds: for each row, how many of its queries are left for which site.
 use Rattle.std.specs.Prelude.{◌≡◌, ◌-◌, ◌<◌, ◌==◌, ⊤, true, ℕ, List, [], ◌∷◌, length, All, Option, None, Some, if◌then◌else◌}
 use Rattle.std.specs.List.{AllByRecursion, list_all, slice_get}
-use Rattle.hsp_instance.specs.Instance.{Instance, IsInstance, Server}
+use Rattle.hsp_instance.specs.Instance.{Instance, IsInstance}
 use Rattle.hsp_instance.specs.declared.arc.Arc.{Arc}
 use Rattle.hsp_check.specs.Instance.{network_of}
 use Rattle.hsp_check.specs.Network.{is_allowed}
@@ -16,7 +16,7 @@ use Rattle.hsp_names.specs.Lent.{octets_of}
 use Rattle.hsp_dispatch.specs.Dispatch.{Entry, IsSame, answer_at, answer_to, arc_to, rest, row_of, spread}
 use Rattle.hsp_dispatch.specs.Lines.{served_by}
 use Rattle.hsp_dispatch.specs.declared.answer.Answer.{Answer}
-use Rattle.hsp_dispatch.specs.declared.answer.Answer.TheVariants.{Assigned, Spent}
+use Rattle.hsp_dispatch.specs.declared.answer.Answer.TheVariants.{Spent}
 use Rattle.hsp_dispatch.specs.declared.share.Cell.{Cell}
 
 -- what is left at a site, 0 where no cell is of it

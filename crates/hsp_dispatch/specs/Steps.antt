@@ -7,7 +7,6 @@ use Rattle.csv.specs.declared.reader.Reader.{Reader}
 use Rattle.hsp_text.specs.Writing.{IsCut}
 use Rattle.hsp_csv.specs.Records.{Fields, IsKnown, records_from_state, records_left}
 use Rattle.hsp_names.specs.Handle.{handle_in}
-use Rattle.hsp_instance.specs.Instance.{Instance}
 use Rattle.hsp_dispatch.specs.Dispatch.{Entry, IsSame, answer_to, rest}
 use Rattle.hsp_dispatch.specs.Lines.{answer_of, line_of}
 use Rattle.hsp_dispatch.specs.Log.{Begins, IsBadBody, IsBadHandle, IsEntryIn, IsUnheaded, header_of}

@@ -21,6 +21,15 @@ pub enum Answer {
     Unknown,
 }
 
+/// What an entry at a front is answered.
+#[derive(Clone, Copy, Debug, PartialEq, Eq)]
+pub enum FrontAnswer {
+    /// The answer by the front's share of the plan.
+    Answered(Answer),
+    /// There is no front of the number.
+    NoFront,
+}
+
 /// How many entries of a log were answered by each kind of answer.
 #[derive(Clone, Copy, Debug, PartialEq, Eq)]
 pub struct LogSums {

@@ -4,12 +4,12 @@ ghost use Rattle.std.specs.Prelude.{◌≡◌, ◌<◌, IfOk, IfSome, OnSome, Ok
 ghost use Rattle.hsp_names.specs.Handle.{handle_in};
 ghost use Rattle.hsp_instance.specs.Instance.{has_keys};
 ghost use Rattle.hsp_dispatch.specs.Dispatch.{IsSame};
-ghost use Rattle.hsp_dispatch.specs.Shares.{IsLeftBy, IsPlanFor, IsRestOf, answer_by, first_answer, left_of, plan_of, query, taken_answer};
+ghost use Rattle.hsp_dispatch.specs.Shares.{AreUsesOf, HoldsTable, IsLeftBy, IsPlanFor, IsRestOf, answer_by, first_answer, left_of, plan_of, query, taken_answer};
 
 use crate::answer::Answer;
 use crate::share::RowShare;
 use crate::sharing::share_out;
-use hsp_cert::Certificate;
+use hsp_cert::{Certificate, UseLine};
 use hsp_instance::Instance;
 use hsp_names::HandleRef;
 use std::alloc::{AllocError, Global};
@@ -48,7 +48,20 @@ impl<'a> Dispatcher<'a> {
         ensures plan { IfOk result (λ d. IsSame (left_of d) (plan_of certificate.now)) }
     {
         let best = certificate.as_best().unwrap();
-        let shares = share_out(alloc, instance, best.uses())?;
+        Dispatcher::over(alloc, instance, best.uses())
+    }
+
+    /// A dispatcher by uses of the instance.
+    pub(crate) fn over(
+        alloc: Global,
+        instance: &'a Instance,
+        uses: &[UseLine],
+    ) -> Result<Dispatcher<'a>, AllocError>
+        requires { AreUsesOf instance.now uses.now }
+        ensures instance { IfOk result (λ d. d.instance ≡ instance.now) }
+        ensures table { IfOk result (HoldsTable uses.now) }
+    {
+        let shares = share_out(alloc, instance, uses)?;
         Ok(Dispatcher { instance, shares })
     }
 

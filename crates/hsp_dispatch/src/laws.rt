@@ -1,5 +1,6 @@
 // What holds of every plan and every log.
 
+ghost use Rattle.hsp_dispatch.specs.FrontLaws.{AnswersByShares, BeginsWithShares, EndsInTheSame, GoesByItsEntries, IsSpentTogether, NeverExceedsTogether};
 ghost use Rattle.hsp_dispatch.specs.Laws.{GoesByHash, GoesOnWithTheRest, IsSpentAfterAll, NeverExceeds};
 
 /// No log has more of a row's entries assigned to a site than the plan sends there; and where an entry is answered `Spent`, all that
@@ -18,4 +19,30 @@ pub fn log_in_parts()
 /// instance is that of inputs and the plan is feasible.
 pub fn goes_by_hash()
     ensures { GoesByHash }
+{}
+
+/// Each front begins with its share of the plan, and answers by it and by its own earlier entries.
+pub fn fronts_by_shares()
+    ensures begin { BeginsWithShares }
+    ensures answers { AnswersByShares }
+{}
+
+/// Two lists of events that have the same entries at a front have the same answers there, and leave the same of its share.
+pub fn front_apart()
+    ensures { GoesByItsEntries }
+{}
+
+/// Two interleavings of the same fronts' lists end in the same tables.
+pub fn order_of_fronts()
+    ensures { EndsInTheSame }
+{}
+
+/// All fronts together have no more of a row's entries assigned to a site than the plan sends there.
+pub fn fronts_within()
+    ensures { NeverExceedsTogether }
+{}
+
+/// Where each front has answered an entry of a row by `Spent`, all that the plan sends of the row was assigned.
+pub fn fronts_spent()
+    ensures { IsSpentTogether }
 {}

@@ -8,6 +8,8 @@ mod body;
 mod dispatcher;
 mod fault;
 mod form;
+mod front_share;
+mod fronts;
 pub mod laws;
 mod lines;
 mod reading;
@@ -15,15 +17,18 @@ mod run;
 mod share;
 mod sharing;
 
-pub use answer::{Answer, LogSums};
+pub use answer::{Answer, FrontAnswer, LogSums};
 pub use dispatcher::Dispatcher;
 pub use fault::LogFault;
+pub use fronts::Fronts;
 pub use run::run_log;
 
 #[cfg(test)]
 mod dispatcher_tests;
 #[cfg(test)]
 pub mod fakes;
+#[cfg(test)]
+mod fronts_tests;
 #[cfg(test)]
 mod run_tests;
 #[cfg(test)]

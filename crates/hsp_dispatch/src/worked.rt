@@ -1,6 +1,7 @@
 // The worked instance and its plan. None stands for want of memory.
 
 use crate::dispatcher::Dispatcher;
+use crate::fronts::Fronts;
 use hsp_cert::{Certificate, UseLine};
 use hsp_check::{Verdict, check};
 use hsp_instance::{Instance, build};
@@ -47,4 +48,17 @@ pub(crate) fn dispatcher<'a>(
         return None;
     }
     Dispatcher::new(alloc, instance, certificate).ok()
+}
+
+/// Two fronts by the certificate, which is valid.
+pub(crate) fn two_fronts<'a>(
+    alloc: Global,
+    instance: &'a Instance,
+    certificate: &Certificate,
+) -> Option<Fronts<'a>> {
+    let verdict = check(alloc, instance, certificate).ok()?;
+    if verdict != Verdict::Yes || certificate.as_best().is_none() {
+        return None;
+    }
+    Fronts::new(alloc, instance, certificate, 2).ok()
 }

@@ -24,6 +24,9 @@ pub const MOST_CAPACITY_ROWS: usize = 1024;
 /// How many rows a log may have.
 pub const MOST_LOG_ROWS: u32 = 10_000_000;
 
+/// How many fronts may share one plan.
+pub const MOST_FRONTS: u32 = 64;
+
 /// How many octets the name of a region or a site may have.
 pub const LONGEST_NAME: usize = 64;
 

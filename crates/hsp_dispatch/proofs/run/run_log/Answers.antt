@@ -1,4 +1,4 @@
-use Rattle.std.proofs.Common.{[], inl, refl, sym, ap}
+use Rattle.std.proofs.Common.{[], inl, refl}
 use Rattle.std.proofs.KnownBytes.{Appends-nil}
 use Rattle.std.proofs.lemmas.Result.{err_from_is_err_and}
 use Rattle.hsp_dispatch.specs.declared.form.Form.TheVariants.{Handles}

@@ -1,4 +1,4 @@
-use Rattle.std.proofs.Common.{◌≡◌, ◌≢◌, ◌≤◌, ◌+◌, ◌∷◌, ◌++◌, [], ◌∙◌, inl, inr, refl, ap, arith, length, length-append, lit≤}
+use Rattle.std.proofs.Common.{◌+◌, ◌∷◌, ◌++◌, [], ◌∙◌, inr, refl, ap, arith, length-append, lit≤}
 use Rattle.std.proofs.KnownBytes.{Appends-nil}
 use Rattle.std.proofs.lemmas.Result.{err_from_is_err_and}
 use Rattle.csv.specs.Records.{fields_of}
@@ -6,7 +6,7 @@ use Rattle.hsp_dispatch.specs.Dispatch.{answers_after}
 use Rattle.hsp_dispatch.specs.Shares.{left_of}
 use Rattle.hsp_dispatch.specs.Steps.{ended}
 use Rattle.hsp_dispatch.proofs.Counting.{counted_on, sums_below}
-use Rattle.hsp_dispatch.proofs.InTurn.{all_read, begins, begins_before, header_read, row_read, unheaded}
+use Rattle.hsp_dispatch.proofs.InTurn.{all_read, begins, begins_before, header_read, row_read}
 use Rattle.hsp_dispatch.proofs.Running.{answered_more, answered_none, answered_still, as_many, form_stops, keeps_appends, read_stops, row_stops}
 use Rattle.hsp_dispatch.proofs.run.run_rows.Goals as goal
 

@@ -1,9 +1,7 @@
-use Rattle.std.proofs.Common.{◌≡◌, ◌-◌, ◌≤◌, ℕ, List, length, map}
+use Rattle.std.proofs.Common.{◌≡◌, ◌-◌, ◌≤◌, List, length}
 use Rattle.hsp_csv.specs.Records.{Fields, IsReading}
 use Rattle.hsp_dispatch.specs.Dispatch.{Entry, answers, sums_of}
-use Rattle.hsp_dispatch.specs.Lines.{server_line}
 use Rattle.hsp_dispatch.specs.Runs.{Answered}
-use Rattle.hsp_dispatch.specs.Shares.{left_of}
 use Rattle.hsp_dispatch.specs.Steps.{IsRead, begun, ended, log_left}
 use Rattle.hsp_dispatch.proofs.run.run_rows.Given as goal
 

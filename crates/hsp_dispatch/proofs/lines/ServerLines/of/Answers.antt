@@ -1,5 +1,4 @@
 use Rattle.std.proofs.Common.{◌∙◌}
-use Rattle.hsp_instance.specs.Instance.{Server}
 use Rattle.hsp_instance.proofs.Reading.{read_more}
 use Rattle.hsp_dispatch.specs.Lines.{server_line}
 use Rattle.hsp_dispatch.proofs.lines.ServerLines.of.Goals as goal

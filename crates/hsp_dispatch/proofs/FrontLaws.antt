@@ -1,0 +1,169 @@
+-- What holds of fronts.
+use Rattle.std.proofs.Common.{◌≡◌, ◌≢◌, ◌<◌, ◌≤◌, ◌+◌, ◌∙◌, ◌++◌, ℕ, List, [], ◌∷◌, length, take, drop, if◌then◌else◌, arith, refl, sym, ap, ap₂, eq-eqb}
+use Rattle.std.proofs.Common.{inl, inr}
+use Rattle.std.specs.Prelude.{nat_lt}
+use Rattle.std.specs.List.{slice_get}
+use Rattle.std.proofs.lemmas.Bool.{cases_eq, cases_lt, le-ltb, lt-ltb, ne_eqb}
+use Rattle.std.proofs.lemmas.List.{append-nil}
+use Rattle.std.proofs.lemmas.Option.{slice_get_past, slice_get_within}
+use Rattle.hsp_instance.specs.Instance.{Instance}
+use Rattle.hsp_instance.proofs.Lists.{there}
+use Rattle.hsp_check.specs.Plan.{Plan}
+use Rattle.hsp_check.specs.Sums.{sum_below}
+use Rattle.hsp_check.proofs.Summing.{sum_below_le, sum_below_same}
+use Rattle.hsp_dispatch.specs.Dispatch.{Entry, IsSame, answer_to, assigned_in, count_for, rest, spread}
+use Rattle.hsp_dispatch.specs.FrontLaws.{AnswersByShares, AreFrontsAfter, BeginsWithShares, EndsInTheSame, GoesByItsEntries, IsSpentTogether, NeverExceedsTogether, WasSpentAt}
+use Rattle.hsp_dispatch.specs.Fronts.{Event, IsTakenAt, answer_of_front, answers_at, assigned_at, entries_at, front_answer, front_answers_after, share, share_of}
+use Rattle.hsp_dispatch.specs.Shares.{Held, left_of}
+use Rattle.hsp_dispatch.specs.declared.answer.Answer.{Answer}
+use Rattle.hsp_dispatch.specs.declared.answer.Answer.TheVariants.{Spent}
+use Rattle.hsp_dispatch.specs.declared.answer.FrontAnswer.{FrontAnswer}
+use Rattle.hsp_dispatch.specs.declared.answer.FrontAnswer.TheVariants.{Answered, NoFront}
+use Rattle.hsp_dispatch.proofs.Dispatching.{is_spent_after_all, never_exceeds}
+use Rattle.hsp_dispatch.proofs.FrontShares.{shares_add_up}
+use Rattle.hsp_dispatch.proofs.Resting.{answer_after, assigned_is, count_append, rest_more, rest_none, take_over}
+use Rattle.hsp_dispatch.proofs.Spreads.{times, times_append}
+
+-- ---- the entries at a front
+
+entries_append : (front : ℕ) (a b : List Event) → entries_at front (a ++ b) ≡ entries_at front a ++ entries_at front b
+entries_append front [] b = refl
+entries_append front (event ∷ a) b = elim (cases_eq event.front front) [
+  | inl here ↦ rw (eq-eqb event.front front here) (ap (λ (more : List Entry). event.entry ∷ more) (entries_append front a b))
+  | inr other ↦ rw (ne_eqb event.front front other) (entries_append front a b)
+]
+
+more_here : (front : ℕ) (events : List Event) (event : Event) → event.front ≡ front → entries_at front (events ++ event ∷ []) ≡ entries_at front events ++ event.entry ∷ []
+more_here front events event here = entries_append front events (event ∷ []) ∙ rw (eq-eqb event.front front here) refl
+
+more_elsewhere : (front : ℕ) (events : List Event) (event : Event) → event.front ≢ front → entries_at front (events ++ event ∷ []) ≡ entries_at front events
+more_elsewhere front events event other = entries_append front events (event ∷ []) ∙ rw (ne_eqb event.front front other) (append-nil (entries_at front events))
+
+-- ---- fronts that answer one event after the other
+
+pub begins : BeginsWithShares
+begins it x fronts held are = record {
+  many = are.many;
+  each = λ front own e.
+      let is = are.each front own e in
+      (is.0, λ row site. is.1 row site ∙ rest_none it (share_of fronts front x) row site);
+}
+
+answered : (it : Instance) (x : Plan) (fronts : ℕ) (events : List Event) (event : Event) (old : List Held) → AreFrontsAfter it x fronts events old
+    → answer_of_front (slice_get old event.front) event.entry ≡ front_answer it fronts x events event
+answered it x fronts events event old are = elim (cases_lt event.front fronts) [
+  | inl inside ↦
+      let own = there old event.front (omega (arith, are.many, inside)) in
+      let is = are.each event.front own.0 own.1 in
+      let same : answer_to own.0.instance (left_of own.0) [] event.entry ≡ answer_to it (share_of fronts event.front x) (entries_at event.front events) event.entry =
+      ap (λ (i : Instance). answer_to i (left_of own.0) [] event.entry) is.0
+      ∙ answer_after it (share_of fronts event.front x) (left_of own.0) (entries_at event.front events) event.entry is.1 in
+      rw (own.1, lt-ltb event.front fronts inside) (ap Answered same)
+  | inr past ↦ rw (slice_get_past old event.front (omega (arith, are.many, past)), le-ltb event.front fronts past) refl
+]
+
+taken_on : (it : Instance) (x : Plan) (fronts : ℕ) (events : List Event) (event : Event) (old new : List Held) → AreFrontsAfter it x fronts events old
+    → IsTakenAt event.front event.entry old new → AreFrontsAfter it x fronts (events ++ event ∷ []) new
+taken_on it x fronts events event old new are taken = record {
+  many = taken.many ∙ are.many;
+  each = λ front own e. elim (cases_eq event.front front) [
+    | inl here ↦
+        let before = there old front (omega (arith, slice_get_within new front own e, taken.many)) in
+        let was = are.each front before.0 before.1 in
+        let step = taken.own before.0 own (ap (λ (n : ℕ). slice_get old n) here ∙ before.1) (ap (λ (n : ℕ). slice_get new n) here ∙ e) in
+        let next : IsSame (left_of own) (rest it (left_of before.0) (event.entry ∷ [])) =
+        λ row site. step.1 row site ∙ ap (λ (i : Instance). rest i (left_of before.0) (event.entry ∷ []) row site) was.0 in (
+          step.0 ∙ was.0,
+          λ row site.
+              rest_more it (share_of fronts front x) (left_of before.0) (left_of own) (entries_at front events) event.entry was.1 next row site
+              ∙ ap (λ (entries : List Entry). rest it (share_of fronts front x) entries row site) (sym (more_here front events event here)),
+        )
+    | inr other ↦
+        let was = are.each front own (sym (taken.others front (λ same. other (sym same))) ∙ e) in
+        (was.0, λ row site. was.1 row site ∙ ap (λ (entries : List Entry). rest it (share_of fronts front x) entries row site) (sym (more_elsewhere front events event other)))
+  ];
+}
+
+pub answers_by_shares : AnswersByShares
+answers_by_shares it x fronts events event old new are taken = (answered it x fronts events event old are, taken_on it x fronts events event old new are taken)
+
+-- ---- each front apart
+
+abbrev own_answers : Instance → ℕ → Plan → ℕ → List Entry → List Entry → List FrontAnswer
+own_answers it fronts x front before [] = []
+own_answers it fronts x front before (entry ∷ entries) =
+    (if nat_lt front fronts then Answered (answer_to it (share_of fronts front x) before entry) else NoFront) ∷ own_answers it fronts x front (before ++ entry ∷ []) entries
+
+at_front : (it : Instance) (fronts : ℕ) (x : Plan) (front : ℕ) (before events : List Event)
+    → answers_at front events (front_answers_after it fronts x before events) ≡ own_answers it fronts x front (entries_at front before) (entries_at front events)
+unfolding front_answers_after
+at_front it fronts x front before [] = refl
+at_front it fronts x front before (event ∷ events) =
+    let later = at_front it fronts x front (before ++ event ∷ []) events in
+    elim (cases_eq event.front front) [
+      | inl here ↦
+          let first = ap (λ (n : ℕ). if nat_lt n fronts then Answered (answer_to it (share_of fronts n x) (entries_at n before) event.entry) else NoFront) here in
+          rw (eq-eqb event.front front here)
+          (ap₂ (λ (a : FrontAnswer) (more : List FrontAnswer). a ∷ more) first
+          (later ∙ ap (λ (entries : List Entry). own_answers it fronts x front entries (entries_at front events)) (more_here front before event here)))
+      | inr other ↦
+          rw (ne_eqb event.front front other)
+          (later ∙ ap (λ (entries : List Entry). own_answers it fronts x front entries (entries_at front events)) (more_elsewhere front before event other))
+    ]
+
+pub by_its_entries : GoesByItsEntries
+by_its_entries it fronts x front a b same = (
+  at_front it fronts x front [] a ∙ ap (λ (entries : List Entry). own_answers it fronts x front [] entries) same ∙ sym (at_front it fronts x front [] b),
+  λ row site. ap (λ (entries : List Entry). rest it (share_of fronts front x) entries row site) same,
+)
+
+pub in_the_same : EndsInTheSame
+in_the_same it fronts x a b same front row site = ap (λ (entries : List Entry). rest it (share_of fronts front x) entries row site) (same front)
+
+-- ---- all fronts together
+
+pub never_exceeds_together : NeverExceedsTogether
+never_exceeds_together it fronts x events row site some =
+    let each : sum_below fronts (λ front. assigned_at it fronts x front events row site) ≤ sum_below fronts (λ front. share fronts front (x row site)) =
+    sum_below_le fronts (λ front. assigned_at it fronts x front events row site) (λ front. share fronts front (x row site))
+    (λ front l. never_exceeds it (share_of fronts front x) (entries_at front events) row site) in
+    omega (arith, each, shares_add_up fronts (x row site) some)
+
+-- more entries have no less assigned
+grows : (it : Instance) (x : Plan) (a b : List Entry) (row site : ℕ) → assigned_in it x a row site ≤ assigned_in it x (a ++ b) row site
+grows it x a b row site =
+    let own = spread it x row in
+    let first = count_for it row a in
+    let second = count_for it row b in
+    let whole : times site (take (count_for it row (a ++ b)) own) ≡ times site (take first own) + times site (take second (drop first own)) =
+    ap (λ (k : ℕ). times site (take k own)) (count_append it row a b)
+    ∙ ap (λ (taken : List ℕ). times site taken) (take_over first second own)
+    ∙ times_append site (take first own) (take second (drop first own)) in
+    omega (arith, assigned_is it x a row site, assigned_is it x (a ++ b) row site, whole)
+
+inner : (a b : Answer) → Answered a ≡ Answered b → a ≡ b
+inner a b e = cc e
+
+-- a front that has answered by Spent has assigned its share
+spent_at : (it : Instance) (fronts : ℕ) (x : Plan) (events : List Event) (row site front : ℕ) → front < fronts → WasSpentAt it fronts x row front events → site < length it.sites
+    → assigned_at it fronts x front events row site ≡ share fronts front (x row site)
+spent_at it fronts x events row site front there was inside =
+    let at_own : (if nat_lt front fronts then Answered (answer_to it (share_of fronts front x) (entries_at front was.earlier) was.event.entry) else NoFront) ≡ Answered Spent =
+    sym (ap (λ (n : ℕ). if nat_lt n fronts then Answered (answer_to it (share_of fronts n x) (entries_at n was.earlier) was.event.entry) else NoFront) was.at) ∙ was.spent in
+    let spent : answer_to it (share_of fronts front x) (entries_at front was.earlier) was.event.entry ≡ Spent = inner _ _ (rw (lt-ltb front fronts there) at at_own) in
+    let all : assigned_in it (share_of fronts front x) (entries_at front was.earlier) row site ≡ share fronts front (x row site) =
+    is_spent_after_all it (share_of fronts front x) (entries_at front was.earlier) was.event.entry row site was.of_row spent inside in
+    let entries : entries_at front events ≡ entries_at front was.earlier ++ entries_at front (was.event ∷ was.later) =
+    ap (λ (es : List Event). entries_at front es) was.parts ∙ entries_append front was.earlier (was.event ∷ was.later) in
+    let same : assigned_at it fronts x front events row site
+    ≡ assigned_in it (share_of fronts front x) (entries_at front was.earlier ++ entries_at front (was.event ∷ was.later)) row site =
+    ap (λ (es : List Entry). assigned_in it (share_of fronts front x) es row site) entries in
+    let least = grows it (share_of fronts front x) (entries_at front was.earlier) (entries_at front (was.event ∷ was.later)) row site in
+    let most : assigned_at it fronts x front events row site ≤ share fronts front (x row site) = never_exceeds it (share_of fronts front x) (entries_at front events) row site in
+    omega (arith, all, same, least, most)
+
+pub is_spent_together : IsSpentTogether
+is_spent_together it fronts x events row site some was inside =
+    sum_below_same fronts (λ front. assigned_at it fronts x front events row site) (λ front. share fronts front (x row site))
+    (λ front l. spent_at it fronts x events row site front l (was front l) inside)
+    ∙ shares_add_up fronts (x row site) some

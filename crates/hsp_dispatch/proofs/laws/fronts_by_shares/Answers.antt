@@ -1,0 +1,8 @@
+use Rattle.hsp_dispatch.proofs.FrontLaws as lemmas
+use Rattle.hsp_dispatch.proofs.laws.fronts_by_shares.Goals as goal
+
+pub returns-clause-begin : goal.returns-clause-begin
+returns-clause-begin c = lemmas.begins
+
+pub returns-clause-answers : goal.returns-clause-answers
+returns-clause-answers c = lemmas.answers_by_shares

@@ -1,0 +1,60 @@
+-- What holds of fronts, for every instance, every plan and every list of events.
+use Rattle.std.specs.Prelude.{◌≡◌, ◌≤◌, ◌<◌, ℕ, List, [], ◌∷◌, ◌++◌, length, Some}
+use Rattle.std.specs.List.{slice_get}
+use Rattle.hsp_instance.specs.Instance.{Instance}
+use Rattle.hsp_check.specs.Plan.{Plan}
+use Rattle.hsp_dispatch.specs.Dispatch.{IsSame, row_of}
+use Rattle.hsp_dispatch.specs.Shares.{Held, left_of}
+use Rattle.hsp_dispatch.specs.Fronts.{AreFrontsOf, Event, IsTakenAt, answer_among, answers_at, assigned_by_all, entries_at, front_answer, front_answers, rest_at}
+use Rattle.hsp_dispatch.specs.declared.answer.Answer.TheVariants.{Spent}
+use Rattle.hsp_dispatch.specs.declared.answer.FrontAnswer.TheVariants.{Answered}
+
+-- the fronts hold what events leave of their shares
+pub record AreFrontsAfter (it : Instance) (x : Plan) (fronts : ℕ) (events : List Event) (held : List Held) : Type 0 where
+  pub many : length held ≡ fronts
+  pub each : (front : ℕ) (own : Held) → slice_get held front ≡ Some own → (own.instance ≡ it) × IsSame (left_of own) (rest_at it fronts x front events)
+
+-- fronts begin with no events behind them; each event is answered by its front's share and the earlier entries there
+abbrev pub BeginsWithShares : Type 0
+BeginsWithShares = (it : Instance) (x : Plan) (fronts : ℕ) (held : List Held) → AreFrontsOf it x fronts held → AreFrontsAfter it x fronts [] held
+
+abbrev pub AnswersByShares : Type 0
+AnswersByShares =
+    (it : Instance) (x : Plan) (fronts : ℕ) (events : List Event) (event : Event) (old new : List Held) → AreFrontsAfter it x fronts events old
+    → IsTakenAt event.front event.entry old new
+    → (answer_among old event.front event.entry ≡ front_answer it fronts x events event) × AreFrontsAfter it x fronts (events ++ event ∷ []) new
+
+-- lists of events with the same entries at a front have the same answers there, and leave the same of its share
+abbrev pub GoesByItsEntries : Type 0
+GoesByItsEntries =
+    (it : Instance) (fronts : ℕ) (x : Plan) (front : ℕ) (a b : List Event) → entries_at front a ≡ entries_at front b
+    → (answers_at front a (front_answers it fronts x a) ≡ answers_at front b (front_answers it fronts x b))
+    × IsSame (rest_at it fronts x front a) (rest_at it fronts x front b)
+
+-- two interleavings of the same lists of entries end in the same tables
+abbrev pub EndsInTheSame : Type 0
+EndsInTheSame =
+    (it : Instance) (fronts : ℕ) (x : Plan) (a b : List Event) → ((front : ℕ) → entries_at front a ≡ entries_at front b)
+    → (front : ℕ) → IsSame (rest_at it fronts x front a) (rest_at it fronts x front b)
+
+-- all fronts together have no more of a row's entries assigned to a site than the plan sends there
+abbrev pub NeverExceedsTogether : Type 0
+NeverExceedsTogether =
+    (it : Instance) (fronts : ℕ) (x : Plan) (events : List Event) (row site : ℕ) → 0 < fronts → assigned_by_all it fronts x events row site ≤ x row site
+
+-- among the events is one at the front, of the row, that is answered by Spent
+pub record WasSpentAt (it : Instance) (fronts : ℕ) (x : Plan) (row front : ℕ) (events : List Event) : Type 0 where
+  pub earlier : List Event
+  pub event : Event
+  pub later : List Event
+  pub parts : events ≡ earlier ++ event ∷ later
+  pub at : event.front ≡ front
+  pub of_row : row_of it event.entry ≡ Some row
+  pub spent : front_answer it fronts x earlier event ≡ Answered Spent
+
+-- where each front has answered an entry of a row by Spent, all that the plan sends of the row was assigned
+abbrev pub IsSpentTogether : Type 0
+IsSpentTogether =
+    (it : Instance) (fronts : ℕ) (x : Plan) (events : List Event) (row site : ℕ) → 0 < fronts
+    → ((front : ℕ) → front < fronts → WasSpentAt it fronts x row front events) → site < length it.sites
+    → assigned_by_all it fronts x events row site ≡ x row site
