@@ -1,6 +1,7 @@
 // Why nothing was measured.
 
 use hsp_cert::CertFault;
+use hsp_dispatch::LogFault;
 use hsp_instance::BuildFault;
 use hsp_record::RecordFault;
 use hsp_tables::TableFault;
@@ -24,8 +25,10 @@ pub enum Failure {
     Build(BuildFault),
     /// The text that was written is no certificate's.
     Text(CertFault),
-    /// The numbers are no certificate's.
+    /// The numbers are no certificate's, or none that is valid.
     Numbers,
+    /// The log that was made isn't answered to its end.
+    Log(LogFault),
 }
 
 impl From<AllocError> for Failure {
@@ -67,5 +70,11 @@ impl From<BuildFault> for Failure {
 impl From<CertFault> for Failure {
     fn from(fault: CertFault) -> Failure {
         Failure::Text(fault)
+    }
+}
+
+impl From<LogFault> for Failure {
+    fn from(fault: LogFault) -> Failure {
+        Failure::Log(fault)
     }
 }

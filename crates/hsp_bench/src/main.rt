@@ -5,6 +5,7 @@ mod certificates;
 mod failure;
 mod inputs;
 mod instances;
+mod logs;
 mod plans;
 mod random;
 mod size;
@@ -15,6 +16,7 @@ mod words;
 use certificates::measure_certificate;
 use failure::Failure;
 use instances::measure_instance;
+use logs::measure_log;
 use plans::{measure_plan, measure_plans};
 use std::env;
 use std::rt::{Clock, Env};
@@ -22,7 +24,7 @@ use std::time::CpuClock;
 use words::{Measurement, measurement_in};
 
 const USAGE: &str =
-    "hsp_bench: name what to measure: instance, certificate, plans, or plan ROWS PERCENT MOST";
+    "hsp_bench: name what to measure: instance, certificate, log, plans, or plan ROWS PERCENT MOST";
 
 // The words behind the program's name.
 fn arguments<R: Env + AllocGlobal>(rt: &R) -> Result<Vec<String>, Failure> {
@@ -40,6 +42,7 @@ fn measure<R: AllocGlobal + Clock + CpuClock + Print>(
     match measurement {
         Measurement::Instance => measure_instance(rt),
         Measurement::Certificate => measure_certificate(rt),
+        Measurement::Log => measure_log(rt),
         Measurement::Plan(size) => measure_plan(rt, size),
         Measurement::Plans => measure_plans(rt),
     }

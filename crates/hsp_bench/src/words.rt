@@ -8,6 +8,7 @@ use hsp_text::read_whole;
 pub enum Measurement {
     Instance,
     Certificate,
+    Log,
     Plan(Size),
     Plans,
 }
@@ -35,6 +36,7 @@ pub(crate) fn measurement_in(words: &[String]) -> Option<Measurement> {
     match words {
         [one] if one.as_str() == "instance" => Some(Measurement::Instance),
         [one] if one.as_str() == "certificate" => Some(Measurement::Certificate),
+        [one] if one.as_str() == "log" => Some(Measurement::Log),
         [one] if one.as_str() == "plans" => Some(Measurement::Plans),
         [one, rows, percent, most] if one.as_str() == "plan" => {
             Some(Measurement::Plan(size_in(rows, percent, most)?))

@@ -1,0 +1,168 @@
+// How long the answers to a log take, and the steps of them.
+
+ghost use Rattle.std.specs.Prelude.{◌<◌, length};
+
+use crate::failure::Failure;
+use crate::inputs::texts_of_size;
+use crate::random::Generator;
+use crate::size::LARGEST;
+use crate::tables::{build_instance, read_texts};
+use crate::watch::Watch;
+use csv::ByteRecord;
+use hsp_cert::Certificate;
+use hsp_check::{Verdict, check};
+use hsp_csv::{read_records, take_record};
+use hsp_dispatch::{Dispatcher, run_log};
+use hsp_flow::solve;
+use hsp_instance::Instance;
+use std::alloc::{AllocError, Global};
+use std::io::{self, BufWriter, Write};
+use std::rt::Clock;
+use std::time::CpuClock;
+
+// How many rows the log has.
+const ROWS: u32 = 2_000_000;
+
+// How many octets of answers go out together.
+const PIECE: usize = 65_536;
+
+// Takes what is written, and lets it go.
+#[derive(Drop)]
+struct Sink;
+
+impl Write for Sink {
+    fn write(&mut self, octets: &[u8]) -> io::Result<usize> {
+        Ok(octets.len())
+    }
+
+    fn flush(&mut self) -> io::Result<()> {
+        Ok(())
+    }
+}
+
+// Adds an entry for a row.
+fn push_entry(text: &mut Vec<u8>, instance: &Instance, row: u32) -> Result<(), AllocError>
+    requires { row < length instance.now.rows }
+{
+    let (region, handle, _) = instance.row(row);
+    text.extend_from_slice(region)?;
+    text.push(b',')?;
+    text.extend_from_slice(handle)?;
+    text.push(b'\n')?;
+    Ok(())
+}
+
+// A log of rows of the demand, each as likely as any other.
+fn log_text(alloc: Global, instance: &Instance) -> Result<Vec<u8>, AllocError> {
+    let mut generator = Generator::new();
+    let mut text = Vec::from_slice(alloc, b"region,handle\n")?;
+    let rows = instance.rows();
+    if rows == 0 {
+        return Ok(text);
+    }
+    for _ in 0..ROWS {
+        let row = generator.below(u64::from(rows)) as u32;
+        push_entry(&mut text, instance, row)?;
+    }
+    Ok(text)
+}
+
+// How many records a log has, its header among them.
+fn count_records(alloc: Global, log: &[u8]) -> u32 {
+    let mut reader = read_records(alloc, log);
+    let mut record = ByteRecord::new(alloc);
+    for count in 0..=ROWS {
+        match take_record(&mut reader, &mut record) {
+            Ok(true) => {}
+            _ => return count,
+        }
+    }
+    ROWS
+}
+
+// Whether a record names a row of the instance.
+fn is_found(instance: &Instance, record: &ByteRecord) -> bool {
+    match (record.get(0), record.get(1)) {
+        (Some(region), Some(handle)) => instance.find_row(region, handle).is_some(),
+        _ => false,
+    }
+}
+
+// How many of the records name a row of the instance.
+fn count_found(alloc: Global, instance: &Instance, log: &[u8]) -> u32 {
+    let mut reader = read_records(alloc, log);
+    let mut record = ByteRecord::new(alloc);
+    let mut found: u32 = 0;
+    for _place in 0..=ROWS {
+        match take_record(&mut reader, &mut record) {
+            Ok(true) => found = found.saturating_add(u32::from(is_found(instance, &record))),
+            _ => return found,
+        }
+    }
+    found
+}
+
+// Reads the records, then finds their rows as well, and prints the times.
+fn measure_steps<R: AllocGlobal + Clock + CpuClock + Print>(
+    rt: &R,
+    instance: &Instance,
+    log: &[u8],
+) -> Result<(), Failure> {
+    let reading = Watch::start(rt)?;
+    let records = count_records(rt.alloc(), log);
+    let read = reading.times(rt)?;
+    println!(rt; "{records} records read in {read}")?;
+    let finding = Watch::start(rt)?;
+    let rows = count_found(rt.alloc(), instance, log);
+    let found = finding.times(rt)?;
+    println!(rt; "{rows} rows read and found in {found}")?;
+    Ok(())
+}
+
+// The largest instance.
+fn largest(alloc: Global) -> Result<Instance, Failure> {
+    let texts = texts_of_size(alloc, &LARGEST)?;
+    let tables = read_texts(alloc, &texts)?;
+    build_instance(alloc, &tables)
+}
+
+// A dispatcher by the instance's best plan.
+fn dispatcher_by<'a>(
+    alloc: Global,
+    instance: &'a Instance,
+    certificate: &Certificate,
+) -> Result<Dispatcher<'a>, Failure> {
+    let verdict = check(alloc, instance, certificate)?;
+    if verdict != Verdict::Yes || certificate.as_best().is_none() {
+        return Err(Failure::Numbers);
+    }
+    Ok(Dispatcher::new(alloc, instance, certificate)?)
+}
+
+// Answers the log, and prints the time.
+fn measure_run<R: AllocGlobal + Clock + CpuClock + Print>(
+    rt: &R,
+    log: &[u8],
+    dispatcher: &mut Dispatcher<'_>,
+) -> Result<(), Failure> {
+    let mut writer = BufWriter::with_capacity(rt.alloc(), PIECE, Sink)?;
+    let running = Watch::start(rt)?;
+    let sums = run_log(rt.alloc(), log, &mut writer, dispatcher)?;
+    let run = running.times(rt)?;
+    let assigned = sums.assigned;
+    println!(rt; "{assigned} rows read, found, assigned and written in {run}")?;
+    Ok(())
+}
+
+/// Answers a log over the largest instance, and prints the times of reading its records alone, of finding their rows as well, and
+/// of the whole run.
+pub(crate) fn measure_log<R: AllocGlobal + Clock + CpuClock + Print>(
+    rt: &R,
+) -> Result<(), Failure> {
+    let instance = largest(rt.alloc())?;
+    let certificate = solve(rt.alloc(), &instance)?;
+    let mut dispatcher = dispatcher_by(rt.alloc(), &instance, &certificate)?;
+    let log = log_text(rt.alloc(), &instance)?;
+    measure_steps(rt, &instance, &log)?;
+    measure_run(rt, &log, &mut dispatcher)
+}
