@@ -1,0 +1,4 @@
+pub mod Answer
+pub mod Network
+pub mod Problem
+pub mod Sums

@@ -1,0 +1,14 @@
+-- A network's struct as the problem that it states.
+use Rattle.hsp_simplex.specs.Network.{Transport}
+use Rattle.hsp_simplex.specs.declared.network.Network.{Network}
+
+abbrev pub problem_of : Network → Transport
+problem_of n = record {
+  demands = n.demands.now;
+  capacities = n.capacities.now;
+  limits = n.limits.now;
+  hosts = n.hosts.now;
+  sources = n.sources.now;
+  servers = n.servers.now;
+  costs = n.costs.now;
+}

@@ -1,0 +1,7 @@
+// Transportation networks with hosts: the problem, what may become of it, a solver that proposes an outcome by the network
+// simplex method, and the test that accepts one (Ahuja, Magnanti and Orlin, Network Flows, chapters 9, 11 and 16).
+#![tactic(auto)]
+
+mod network;
+
+pub use network::{Network, Outcome, PricedFlow};
