@@ -6,6 +6,7 @@ use Rattle.hsp_instance.specs.declared.arc.Arc.{Arc}
 use Rattle.hsp_check.specs.Plan.{Plan}
 use Rattle.hsp_dispatch.specs.declared.answer.Answer.{Answer}
 use Rattle.hsp_dispatch.specs.declared.answer.Answer.TheVariants.{Assigned, Spent, Unknown}
+use Rattle.hsp_dispatch.specs.declared.answer.FrontSums.{FrontSums}
 use Rattle.hsp_dispatch.specs.declared.answer.LogSums.{LogSums}
 
 -- an entry of a log: a query for a handle, from a region
@@ -129,3 +130,7 @@ is_unknown Unknown = true
 -- how many answers there are of each kind
 abbrev pub sums_of : List Answer → LogSums
 sums_of given = record { assigned = count_by is_assigned given; spent = count_by is_spent given; unknown = count_by is_unknown given }
+
+-- the same, where there are no fronts
+abbrev pub all_of : LogSums → FrontSums
+all_of sums = record { assigned = sums.assigned; spent = sums.spent; unknown = sums.unknown; no_front = 0 }

@@ -1,26 +1,25 @@
 -- What holds of fronts, for every instance, every plan and every list of events.
 use Rattle.std.specs.Prelude.{◌≡◌, ◌≤◌, ◌<◌, ℕ, List, [], ◌∷◌, ◌++◌, length, Some}
-use Rattle.std.specs.List.{slice_get}
 use Rattle.hsp_instance.specs.Instance.{Instance}
 use Rattle.hsp_check.specs.Plan.{Plan}
 use Rattle.hsp_dispatch.specs.Dispatch.{IsSame, row_of}
-use Rattle.hsp_dispatch.specs.Shares.{Held, left_of}
-use Rattle.hsp_dispatch.specs.Fronts.{AreFrontsOf, Event, IsTakenAt, answer_among, answers_at, assigned_by_all, entries_at, front_answer, front_answers, rest_at}
+use Rattle.hsp_dispatch.specs.Fronts.{AreFrontsOf, Event, IsTakenAt, Tables, answer_among, answers_at, assigned_by_all, entries_at, front_answer, front_answers, rest_at}
 use Rattle.hsp_dispatch.specs.declared.answer.Answer.TheVariants.{Spent}
 use Rattle.hsp_dispatch.specs.declared.answer.FrontAnswer.TheVariants.{Answered}
 
 -- the fronts hold what events leave of their shares
-pub record AreFrontsAfter (it : Instance) (x : Plan) (fronts : ℕ) (events : List Event) (held : List Held) : Type 0 where
-  pub many : length held ≡ fronts
-  pub each : (front : ℕ) (own : Held) → slice_get held front ≡ Some own → (own.instance ≡ it) × IsSame (left_of own) (rest_at it fronts x front events)
+pub record AreFrontsAfter (it : Instance) (x : Plan) (fronts : ℕ) (events : List Event) (held : Tables) : Type 0 where
+  pub instance : held.instance ≡ it
+  pub many : held.fronts ≡ fronts
+  pub each : (front : ℕ) → front < fronts → IsSame (held.left front) (rest_at it fronts x front events)
 
 -- fronts begin with no events behind them; each event is answered by its front's share and the earlier entries there
 abbrev pub BeginsWithShares : Type 0
-BeginsWithShares = (it : Instance) (x : Plan) (fronts : ℕ) (held : List Held) → AreFrontsOf it x fronts held → AreFrontsAfter it x fronts [] held
+BeginsWithShares = (it : Instance) (x : Plan) (fronts : ℕ) (held : Tables) → AreFrontsOf it x fronts held → AreFrontsAfter it x fronts [] held
 
 abbrev pub AnswersByShares : Type 0
 AnswersByShares =
-    (it : Instance) (x : Plan) (fronts : ℕ) (events : List Event) (event : Event) (old new : List Held) → AreFrontsAfter it x fronts events old
+    (it : Instance) (x : Plan) (fronts : ℕ) (events : List Event) (event : Event) (old new : Tables) → AreFrontsAfter it x fronts events old
     → IsTakenAt event.front event.entry old new
     → (answer_among old event.front event.entry ≡ front_answer it fronts x events event) × AreFrontsAfter it x fronts (events ++ event ∷ []) new
 

@@ -1,14 +1,16 @@
 -- Fronts: dispatchers that share one plan, each with a fixed share of it.
-use Rattle.std.specs.Prelude.{◌≡◌, ◌≢◌, ◌+◌, ◌/◌, ◌%◌, ◌==◌, nat_lt, ℕ, List, [], ◌∷◌, ◌++◌, length, Option, None, Some, if◌then◌else◌}
+use Rattle.std.specs.Prelude.{◌≡◌, ◌≢◌, ◌<◌, ◌+◌, ◌/◌, ◌%◌, ◌==◌, nat_lt, Bool, true, false, ℕ, List, [], ◌∷◌, ◌++◌, count_by, length, Option, None, Some, if◌then◌else◌}
 use Rattle.std.specs.List.{slice_get}
 use Rattle.hsp_instance.specs.Instance.{Instance}
 use Rattle.hsp_cert.specs.declared.use_line.UseLine.{UseLine}
 use Rattle.hsp_check.specs.Plan.{Plan}
 use Rattle.hsp_check.specs.Sums.{sum_below}
-use Rattle.hsp_dispatch.specs.Dispatch.{Entry, IsSame, answer_to, assigned_in, rest}
-use Rattle.hsp_dispatch.specs.Shares.{Held, answer_by, left_of, rest_of}
+use Rattle.hsp_dispatch.specs.Dispatch.{Entry, IsSame, answer_to, assigned_in, is_assigned, is_spent, is_unknown, rest}
+use Rattle.hsp_dispatch.specs.Shares.{Held, left_of}
+use Rattle.hsp_dispatch.specs.declared.answer.Answer.{Answer}
 use Rattle.hsp_dispatch.specs.declared.answer.FrontAnswer.{FrontAnswer}
 use Rattle.hsp_dispatch.specs.declared.answer.FrontAnswer.TheVariants.{Answered, NoFront}
+use Rattle.hsp_dispatch.specs.declared.answer.FrontSums.{FrontSums}
 
 -- an entry at a front
 pub record Event : Type 0 where
@@ -41,19 +43,29 @@ abbrev pub entries_at : ℕ → List Event → List Entry
 entries_at front [] = []
 entries_at front (event ∷ events) = if event.front == front then event.entry ∷ entries_at front events else entries_at front events
 
--- An event is answered by the share of its front and the earlier entries there.
-abbrev pub front_answer : Instance → ℕ → Plan → List Event → Event → FrontAnswer
-front_answer it fronts x earlier event =
-    if nat_lt event.front fronts then Answered (answer_to it (share_of fronts event.front x) (entries_at event.front earlier) event.entry) else NoFront
+-- An event is answered by the table of its front and the earlier entries there.
+abbrev pub event_answer : Instance → ℕ → (ℕ → Plan) → List Event → Event → FrontAnswer
+event_answer it fronts tables earlier event =
+    if nat_lt event.front fronts then Answered (answer_to it (tables event.front) (entries_at event.front earlier) event.entry) else NoFront
 
 -- the answers to events, after earlier ones
-unfoldable pub front_answers_after : Instance → ℕ → Plan → List Event → List Event → List FrontAnswer
-front_answers_after it fronts x earlier [] = []
-front_answers_after it fronts x earlier (event ∷ more) =
-    front_answer it fronts x earlier event ∷ front_answers_after it fronts x (earlier ++ event ∷ []) more
+unfoldable pub event_answers_after : Instance → ℕ → (ℕ → Plan) → List Event → List Event → List FrontAnswer
+event_answers_after it fronts tables earlier [] = []
+event_answers_after it fronts tables earlier (event ∷ more) =
+    event_answer it fronts tables earlier event ∷ event_answers_after it fronts tables (earlier ++ event ∷ []) more
+
+abbrev pub event_answers : Instance → ℕ → (ℕ → Plan) → List Event → List FrontAnswer
+event_answers it fronts tables events = event_answers_after it fronts tables [] events
+
+-- the same by the shares in a plan
+abbrev pub shares_of : ℕ → Plan → ℕ → Plan
+shares_of fronts x front = share_of fronts front x
+
+abbrev pub front_answer : Instance → ℕ → Plan → List Event → Event → FrontAnswer
+front_answer it fronts x earlier event = event_answer it fronts (shares_of fronts x) earlier event
 
 abbrev pub front_answers : Instance → ℕ → Plan → List Event → List FrontAnswer
-front_answers it fronts x events = front_answers_after it fronts x [] events
+front_answers it fronts x events = event_answers it fronts (shares_of fronts x) events
 
 -- the answers at a front, of the answers to events
 abbrev pub answers_at : ℕ → List Event → List FrontAnswer → List FrontAnswer
@@ -72,29 +84,58 @@ assigned_at it fronts x front events = assigned_in it (share_of fronts front x) 
 abbrev pub assigned_by_all : Instance → ℕ → Plan → List Event → Plan
 assigned_by_all it fronts x events row site = sum_below fronts (λ front. assigned_at it fronts x front events row site)
 
+-- how many answers there are of each kind
+abbrev pub is_kind : (Answer → Bool) → FrontAnswer → Bool
+is_kind kind (Answered answer) = kind answer
+is_kind kind NoFront = false
+
+abbrev pub is_no_front : FrontAnswer → Bool
+is_no_front (Answered answer) = false
+is_no_front NoFront = true
+
+abbrev pub front_sums_of : List FrontAnswer → FrontSums
+front_sums_of given = record {
+  assigned = count_by (is_kind is_assigned) given;
+  spent = count_by (is_kind is_spent) given;
+  unknown = count_by (is_kind is_unknown) given;
+  no_front = count_by is_no_front given;
+}
+
 -- ---- what the fronts hold
 
--- so many fronts, each of which holds the instance and its share of the plan
-pub record AreFrontsOf (it : Instance) (x : Plan) (fronts : ℕ) (held : List Held) : Type 0 where
-  pub many : length held ≡ fronts
-  pub each : (front : ℕ) (own : Held) → slice_get held front ≡ Some own → (own.instance ≡ it) × IsSame (left_of own) (share_of fronts front x)
+-- an instance, a number of fronts, and what is left of the plan at each of them
+pub record Tables : Type 0 where
+  pub instance : Instance
+  pub fronts : ℕ
+  pub left : ℕ → Plan
 
--- the answer by what a front holds
-abbrev pub answer_of_front : Option Held → Entry → FrontAnswer
-answer_of_front None entry = NoFront
-answer_of_front (Some own) entry = Answered (answer_by own entry)
+-- so many fronts, each of which holds its share of the plan
+pub record AreFrontsOf (it : Instance) (x : Plan) (fronts : ℕ) (held : Tables) : Type 0 where
+  pub instance : held.instance ≡ it
+  pub many : held.fronts ≡ fronts
+  pub each : (front : ℕ) → front < fronts → IsSame (held.left front) (share_of fronts front x)
 
-abbrev pub answer_among : List Held → ℕ → Entry → FrontAnswer
-answer_among held front entry = answer_of_front (slice_get held front) entry
+-- the answer to an entry at a front, by what is left there
+abbrev pub answer_among : Tables → ℕ → Entry → FrontAnswer
+answer_among held front entry =
+    if nat_lt front held.fronts then Answered (answer_to held.instance (held.left front) [] entry) else NoFront
 
--- what a front has left, nothing where there is no front
+-- an entry is taken of what its front has left; the others have left what they had
+pub record IsTakenAt (front : ℕ) (entry : Entry) (old new : Tables) : Type 0 where
+  pub instance : new.instance ≡ old.instance
+  pub many : new.fronts ≡ old.fronts
+  pub own : front < old.fronts → IsSame (new.left front) (rest old.instance (old.left front) (entry ∷ []))
+  pub others : (other : ℕ) → other ≢ front → IsSame (new.left other) (old.left other)
+
+-- what one front has left
 abbrev pub left_of_front : Option Held → Plan
 left_of_front None row site = 0
 left_of_front (Some own) row site = left_of own row site
 
--- an entry is taken of what its front holds; the other fronts hold what they held
-pub record IsTakenAt (front : ℕ) (entry : Entry) (old new : List Held) : Type 0 where
-  pub many : length new ≡ length old
-  pub own : (before after : Held) → slice_get old front ≡ Some before → slice_get new front ≡ Some after
-      → (after.instance ≡ before.instance) × IsSame (left_of after) (rest_of before entry)
-  pub others : (other : ℕ) → other ≢ front → slice_get new other ≡ slice_get old other
+-- what fronts of an instance have left
+abbrev pub tables_of : Instance → List Held → Tables
+tables_of it held = record { instance = it; fronts = length held; left = λ front. left_of_front (slice_get held front) }
+
+-- each of them holds the instance
+abbrev pub HoldInstance : Instance → List Held → Type 0
+HoldInstance it held = (front : ℕ) (own : Held) → slice_get held front ≡ Some own → own.instance ≡ it

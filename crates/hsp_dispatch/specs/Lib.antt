@@ -3,6 +3,7 @@ pub mod Shares
 pub mod Lines
 pub mod Log
 pub mod Runs
+pub mod Desks
 pub mod Steps
 pub mod Laws
 pub mod Fronts

@@ -1,13 +1,15 @@
 -- The lines of answers.
-use Rattle.std.specs.Prelude.{⊤, ℕ, ◌+◌, ◌<◌, List, [], ◌∷◌, ◌++◌, codes, Option, None, Some}
+use Rattle.std.specs.Prelude.{⊤, ℕ, ◌+◌, ◌<◌, List, [], ◌∷◌, ◌++◌, codes, map, Option, None, Some}
 use Rattle.std.specs.List.{slice_get}
 use Rattle.hsp_text.specs.Writing.{numbered}
 use Rattle.hsp_instance.specs.Instance.{Instance, Server, Site}
 use Rattle.hsp_dispatch.specs.declared.answer.Answer.{Answer}
 use Rattle.hsp_dispatch.specs.declared.answer.Answer.TheVariants.{Assigned, Spent, Unknown}
-use Rattle.hsp_dispatch.specs.declared.answer.LogSums.{LogSums}
+use Rattle.hsp_dispatch.specs.declared.answer.FrontAnswer.{FrontAnswer}
+use Rattle.hsp_dispatch.specs.declared.answer.FrontAnswer.TheVariants.{Answered, NoFront}
+use Rattle.hsp_dispatch.specs.declared.answer.FrontSums.{FrontSums}
 use Rattle.hsp_dispatch.specs.declared.answering.Given.{Given}
-use Rattle.hsp_dispatch.specs.declared.answering.Given.TheVariants.{Server as ByServer, Spent as IsSpent, Unknown as IsUnknown}
+use Rattle.hsp_dispatch.specs.declared.answering.Given.TheVariants.{NoFront as IsNoFront, Server as ByServer, Spent as IsSpent, Unknown as IsUnknown}
 
 abbrev pub name_in : Option Site → List ℕ
 name_in None = []
@@ -27,30 +29,40 @@ line_of it (Assigned site place id) = assigned_line (name_at it site) place id
 line_of it Spent = codes "spent" ++ 10 ∷ []
 line_of it Unknown = codes "unknown" ++ 10 ∷ []
 
--- the text of answers, a line each
-abbrev pub text_of : Instance → List Answer → List ℕ
-text_of it [] = []
-text_of it (answer ∷ more) = line_of it answer ++ text_of it more
+-- the line of an answer at a front
+abbrev pub front_line : Instance → FrontAnswer → List ℕ
+front_line it (Answered answer) = line_of it answer
+front_line it NoFront = codes "nofront" ++ 10 ∷ []
+
+-- lines, one after another
+abbrev pub text_of : List (List ℕ) → List ℕ
+text_of [] = []
+text_of (line ∷ more) = line ++ text_of more
 
 -- the line of a query that is assigned to a server
 abbrev pub server_line : Instance → Server → List ℕ
 server_line it server = assigned_line (name_at it server.site) server.place server.id
+
+abbrev pub lines_of : Instance → List (List ℕ)
+lines_of it = map (server_line it) it.servers
 
 -- how an entry is answered: by the server of a number, or without one
 abbrev pub served_by : Option Server → Answer
 served_by None = Spent
 served_by (Some server) = Assigned server.site server.place server.id
 
-abbrev pub answer_of : Instance → Given → Answer
-answer_of it (ByServer number) = served_by (slice_get it.servers number)
-answer_of it IsSpent = Spent
-answer_of it IsUnknown = Unknown
+abbrev pub answer_of : Instance → Given → FrontAnswer
+answer_of it (ByServer number) = Answered (served_by (slice_get it.servers number))
+answer_of it IsSpent = Answered Spent
+answer_of it IsUnknown = Answered Unknown
+answer_of it IsNoFront = NoFront
 
 -- the server of the number is one of so many
 abbrev pub IsAmong : ℕ → Given → Type 0
 IsAmong servers (ByServer number) = number < servers
 IsAmong servers IsSpent = ⊤
 IsAmong servers IsUnknown = ⊤
+IsAmong servers IsNoFront = ⊤
 
 abbrev pub or_none : Option (List ℕ) → List ℕ
 or_none None = []
@@ -61,13 +73,15 @@ abbrev pub line_by : List (List ℕ) → Given → List ℕ
 line_by lines (ByServer number) = or_none (slice_get lines number)
 line_by lines IsSpent = codes "spent" ++ 10 ∷ []
 line_by lines IsUnknown = codes "unknown" ++ 10 ∷ []
+line_by lines IsNoFront = codes "nofront" ++ 10 ∷ []
 
 -- sums with one answer more
-abbrev pub counted : LogSums → Given → LogSums
+abbrev pub counted : FrontSums → Given → FrontSums
 counted sums (ByServer number) = record sums { assigned = sums.assigned + 1 }
 counted sums IsSpent = record sums { spent = sums.spent + 1 }
 counted sums IsUnknown = record sums { unknown = sums.unknown + 1 }
+counted sums IsNoFront = record sums { no_front = sums.no_front + 1 }
 
--- each sum is below a limit
-abbrev pub AreBelow : ℕ → LogSums → Type 0
-AreBelow limit sums = (sums.assigned < limit) × (sums.spent < limit) × (sums.unknown < limit)
+-- how many answers were counted
+abbrev pub count_all : FrontSums → ℕ
+count_all sums = sums.assigned + sums.spent + sums.unknown + sums.no_front

@@ -1,5 +1,5 @@
--- The records of a log: a header, which tells the form of the log, and rows, each of which spells an entry.
-use Rattle.std.specs.Prelude.{◌≡◌, ◌≢◌, ⊤, ℕ, List, [], ◌∷◌, ◌++◌, codes, Option, None, Some, Ok}
+-- The records of a log: a header, which tells the form of the log, and rows, each of which spells an entry, or an event at a front.
+use Rattle.std.specs.Prelude.{◌≡◌, ◌≢◌, ⊤, ℕ, List, [], ◌∷◌, codes, Ok}
 use Rattle.hex.specs.Hex.{decode_of}
 use Rattle.hsp_csv.specs.Records.{Fields}
 use Rattle.hsp_csv.specs.declared.fault.RecordsFault.{RecordsFault}
@@ -7,7 +7,9 @@ use Rattle.hsp_csv.specs.declared.fault.RecordsFault.TheVariants as records_faul
 use Rattle.hsp_names.specs.Handle.{handle_in}
 use Rattle.hsp_record.specs.Fields.{Means}
 use Rattle.hsp_record.specs.Request.{RequestBody, request_format}
+use Rattle.hsp_text.specs.Whole.{whole_within}
 use Rattle.hsp_dispatch.specs.Dispatch.{Entry}
+use Rattle.hsp_dispatch.specs.Fronts.{Event}
 use Rattle.hsp_dispatch.specs.declared.form.Form.{Form}
 use Rattle.hsp_dispatch.specs.declared.form.Form.TheVariants.{Handles, Bodies}
 use Rattle.hsp_dispatch.specs.declared.fault.LogFault.{LogFault}
@@ -17,6 +19,10 @@ use Rattle.hsp_dispatch.specs.declared.fault.LogFault.TheVariants as fault
 abbrev pub header_of : Form → Fields
 header_of Handles = codes "region" ∷ codes "handle" ∷ []
 header_of Bodies = codes "region" ∷ codes "body" ∷ []
+
+-- the header of a log of events
+abbrev pub front_header : Fields
+front_header = codes "front" ∷ codes "region" ∷ codes "handle" ∷ []
 
 -- the octets of a handle that the second field of a row gives: the field itself, or the handle of the body of a resolution
 -- request that its hexadecimal digits spell
@@ -56,13 +62,38 @@ abbrev pub fault_of : RecordsFault → LogFault
 fault_of records_fault.ReadFailed = fault.ReadFailed
 fault_of records_fault.OutOfMemory = fault.OutOfMemory
 
--- the log's records, where they are known: a header of the form, the rows, and what follows them
-abbrev pub Begins : Option (List Fields) → Form → List Fields → List Fields → Type 0
-Begins None form rows more = ⊤
-Begins (Some records) form rows more = records ≡ header_of form ∷ (rows ++ more)
+-- ---- events
 
--- there is no first record, or it is no header
-abbrev pub IsUnheaded : Option (List Fields) → Type 0
-IsUnheaded None = ⊤
-IsUnheaded (Some []) = ⊤
-IsUnheaded (Some (first ∷ more)) = (form : Form) → first ≢ header_of form
+-- the number of a front that a field spells
+abbrev pub IsFront : List ℕ → ℕ → Type 0
+IsFront field front = whole_within 4294967295 field ≡ Ok front
+
+-- the event that a row spells: the number of a front, a region and a handle
+abbrev pub IsEventIn : Fields → Event → Type 0
+IsEventIn [] event = ⊥
+IsEventIn (front ∷ []) event = ⊥
+IsEventIn (front ∷ region ∷ []) event = ⊥
+IsEventIn (front ∷ region ∷ handle ∷ []) event = IsFront front event.front × (event.entry.region ≡ region) × (event.entry.handle ≡ handle) × (handle_in handle ≡ Ok handle)
+IsEventIn (front ∷ region ∷ handle ∷ fourth ∷ more) event = ⊥
+
+-- rows with their events
+abbrev pub AreEvents : List Fields → List Event → Type 0
+AreEvents [] [] = ⊤
+AreEvents [] (event ∷ events) = ⊥
+AreEvents (row ∷ rows) [] = ⊥
+AreEvents (row ∷ rows) (event ∷ events) = IsEventIn row event × AreEvents rows events
+
+-- a row whose first field is no number of a front, or whose third is no handle
+abbrev pub IsBadFront : Fields → Type 0
+IsBadFront (front ∷ region ∷ handle ∷ []) = (number : ℕ) → IsFront front number → ⊥
+IsBadFront [] = ⊥
+IsBadFront (front ∷ []) = ⊥
+IsBadFront (front ∷ region ∷ []) = ⊥
+IsBadFront (front ∷ region ∷ handle ∷ fourth ∷ more) = ⊥
+
+abbrev pub IsBadEvent : Fields → Type 0
+IsBadEvent (front ∷ region ∷ handle ∷ []) = (number : ℕ) × IsFront front number × (handle_in handle ≢ Ok handle)
+IsBadEvent [] = ⊥
+IsBadEvent (front ∷ []) = ⊥
+IsBadEvent (front ∷ region ∷ []) = ⊥
+IsBadEvent (front ∷ region ∷ handle ∷ fourth ∷ more) = ⊥

@@ -1,72 +1,70 @@
--- What the answer to one row of a log changes, and how it fails.
-use Rattle.std.specs.Prelude.{◌≡◌, ◌≢◌, ⊤, ℕ, List, [], ◌∷◌, Option, None, Some, option_map, length, Ok}
-use Rattle.std.specs.Io.KnownBytes.{Appends}
+-- The steps of a run: reading the header and a row, and answering a row.
+use Rattle.std.specs.Prelude.{◌≡◌, ◌≢◌, ⊤, ℕ, List, [], ◌∷◌, ◌++◌, Option, None, Some, option_map, Ok}
 use Rattle.csv.specs.Reading.{reader_state, source_of}
 use Rattle.csv.specs.declared.parser.State.{State}
 use Rattle.csv.specs.declared.reader.Reader.{Reader}
-use Rattle.hsp_text.specs.Writing.{IsCut}
 use Rattle.hsp_csv.specs.Records.{Fields, IsKnown, records_from_state, records_left}
 use Rattle.hsp_names.specs.Handle.{handle_in}
-use Rattle.hsp_dispatch.specs.Dispatch.{Entry, IsSame, answer_to, rest}
-use Rattle.hsp_dispatch.specs.Lines.{answer_of, line_of}
-use Rattle.hsp_dispatch.specs.Log.{Begins, IsBadBody, IsBadHandle, IsEntryIn, IsUnheaded, header_of}
-use Rattle.hsp_dispatch.specs.Runs.{Outcome, Setting}
-use Rattle.hsp_dispatch.specs.Shares.{Held, left_of}
+use Rattle.hsp_dispatch.specs.Dispatch.{Entry}
+use Rattle.hsp_dispatch.specs.Fronts.{IsTakenAt, Tables, answer_among}
+use Rattle.hsp_dispatch.specs.Lines.{answer_of, counted}
+use Rattle.hsp_dispatch.specs.Runs.{Begins, IsUnheaded}
+use Rattle.hsp_dispatch.specs.Shares.{Held, IsLeftBy, answer_by}
+use Rattle.hsp_dispatch.specs.declared.answer.FrontAnswer.TheVariants.{Answered}
+use Rattle.hsp_dispatch.specs.declared.answer.FrontSums.{FrontSums}
 use Rattle.hsp_dispatch.specs.declared.answering.Given.{Given}
 use Rattle.hsp_dispatch.specs.declared.fault.LogFault.{LogFault}
 use Rattle.hsp_dispatch.specs.declared.fault.LogFault.TheVariants as fault
 use Rattle.hsp_dispatch.specs.declared.form.Form.{Form}
 use Rattle.hsp_dispatch.specs.declared.reading.LentEntry.{LentEntry}
 
+-- ---- entries
+
 -- an entry whose parts are lent
 abbrev pub entry_of : LentEntry → Entry
 entry_of lent = record { region = lent.region.now; handle = lent.handle.now }
 
--- a run from what a dispatcher and a writer hold, over a log's records, where they are known
-abbrev pub begun : Held → Option (List Fields) → Option (List ℕ) → Setting
-begun held log before = record { instance = held.instance; plan = left_of held; log = log; before = before }
-
-abbrev pub ended : Held → Option (List ℕ) → Outcome
-ended held after = record { left = left_of held; after = after }
-
--- nothing was written, and the plan is as it was
-abbrev pub Stays : Setting → Outcome → Type 0
-Stays run end = Appends run.before end.after [] × IsSame end.left run.plan
-
--- the first entry of a run takes from the plan what it is given
-pub record Takes (run : Setting) (entry : Entry) (end : Outcome) (given : Given) : Type 0 where
+-- an entry takes from what a dispatcher holds what it is given
+pub record Takes (old : Held) (entry : Entry) (new : Held) (given : Given) : Type 0 where
   pub handle : handle_in entry.handle ≡ Ok entry.handle
-  pub answer : answer_of run.instance given ≡ answer_to run.instance run.plan [] entry
-  pub left : IsSame end.left (rest run.instance run.plan (entry ∷ []))
+  pub answer : answer_of old.instance given ≡ Answered (answer_by old entry)
+  pub left : IsLeftBy old entry new
 
--- its line was written
-abbrev pub first_line : Setting → Entry → List ℕ
-first_line run entry = line_of run.instance (answer_to run.instance run.plan [] entry)
+-- the same of an entry at a front
+pub record TakesAt (front : ℕ) (old : Tables) (entry : Entry) (new : Tables) (given : Given) : Type 0 where
+  pub handle : handle_in entry.handle ≡ Ok entry.handle
+  pub answer : answer_of old.instance given ≡ answer_among old front entry
+  pub left : IsTakenAt front entry old new
 
-abbrev pub AnswersEntry : Setting → Entry → Outcome → Given → Type 0
-AnswersEntry run entry end given = Takes run entry end given × Appends run.before end.after (first_line run entry)
+-- ---- rows
 
--- less than its line was written
-abbrev pub CutsEntry : Setting → Entry → Outcome → Type 0
-CutsEntry run entry end = (given : Given) × Takes run entry end given × IsCut run.before end.after (first_line run entry)
+-- what rows are answered: their lines, and the sums
+abbrev pub RowAnswers : Type 1
+RowAnswers = Form → List Fields → List (List ℕ) → FrontSums → Type 0
 
--- why an entry isn't answered, or its line isn't written
-abbrev pub FailsEntry : Setting → ℕ → Entry → Outcome → LogFault → Type 0
-FailsEntry run number entry end (fault.BadHandle row) = (row ≡ number) × (handle_in entry.handle ≢ Ok entry.handle) × Stays run end
-FailsEntry run number entry end fault.WriteFailed = CutsEntry run entry end
-FailsEntry run number entry end other = ⊥
+-- the first row is yet to come
+abbrev pub none_counted : FrontSums
+none_counted = record { assigned = 0; spent = 0; unknown = 0; no_front = 0 }
 
--- the same of a row
-abbrev pub AnswersRow : Setting → Form → Fields → Outcome → Given → Type 0
-AnswersRow run form row end given = (entry : Entry) × IsEntryIn form row entry × AnswersEntry run entry end given
+abbrev pub BeginsWithNone : RowAnswers → Type 0
+BeginsWithNone Answers = (form : Form) → Answers form [] [] none_counted
 
-abbrev pub FailsRow : Setting → Form → ℕ → Fields → Outcome → LogFault → Type 0
-FailsRow run form number bad end (fault.Fields row) = (row ≡ number) × (length bad ≢ 2) × Stays run end
-FailsRow run form number bad end (fault.BadHandle row) = (row ≡ number) × IsBadHandle form bad × Stays run end
-FailsRow run form number bad end (fault.BadBody row) = (row ≡ number) × IsBadBody form bad × Stays run end
-FailsRow run form number bad end fault.WriteFailed = (entry : Entry) × IsEntryIn form bad entry × CutsEntry run entry end
-FailsRow run form number bad end fault.OutOfMemory = Stays run end
-FailsRow run form number bad end other = ⊥
+-- one row more is answered, by this line: whatever was answered before, since whatever start
+abbrev pub GoesOn : {S : Type 0} → (S → S → RowAnswers) → S → S → Form → Fields → List ℕ → Given → Type 0
+GoesOn {S} Answers old new form row line given =
+    (start : S) (rows : List Fields) (lines : List (List ℕ)) (sums : FrontSums) → Answers start old form rows lines sums
+    → Answers start new form (rows ++ row ∷ []) (lines ++ line ∷ []) (counted sums given)
+
+-- a row of this number is refused by a fault that names it, or memory runs out
+abbrev pub IsRefused : (Form → Fields → LogFault → Type 0) → ℕ → Form → Fields → LogFault → Type 0
+IsRefused Refuses number form bad (fault.Fields row) = (row ≡ number) × Refuses form bad (fault.Fields row)
+IsRefused Refuses number form bad (fault.BadFront row) = (row ≡ number) × Refuses form bad (fault.BadFront row)
+IsRefused Refuses number form bad (fault.BadBody row) = (row ≡ number) × Refuses form bad (fault.BadBody row)
+IsRefused Refuses number form bad (fault.BadHandle row) = (row ≡ number) × Refuses form bad (fault.BadHandle row)
+IsRefused Refuses number form bad fault.OutOfMemory = ⊤
+IsRefused Refuses number form bad other = ⊥
+
+-- ---- records
 
 -- the records that a reader has left, where its octets are known
 abbrev pub records_in : State → Option (List ℕ) → Option (List Fields)
@@ -76,17 +74,17 @@ abbrev pub log_left : {R : Type 0} → (R → Option (List ℕ)) → Reader R �
 log_left remaining reader = records_in (reader_state reader) (source_of remaining reader)
 
 -- the header was read, or the log has none, or a read failed
-abbrev pub TakesForm : {R : Type 0} → (R → Option (List ℕ)) → Reader R → Reader R → Form → Type 0
-TakesForm remaining old new form = IsKnown remaining old → (records_left remaining old ≡ header_of form ∷ records_left remaining new) × IsKnown remaining new
+abbrev pub TakesHeader : {R : Type 0} → (R → Option (List ℕ)) → Reader R → Reader R → Fields → Type 0
+TakesHeader remaining old new header = IsKnown remaining old → (records_left remaining old ≡ header ∷ records_left remaining new) × IsKnown remaining new
 
-abbrev pub FailsForm : {R : Type 0} → (R → Option (List ℕ)) → Reader R → LogFault → Type 0
-FailsForm remaining old fault.Header = IsKnown remaining old → IsUnheaded (Some (records_left remaining old))
-FailsForm remaining old fault.ReadFailed = ⊤
-FailsForm remaining old fault.OutOfMemory = ⊤
-FailsForm remaining old other = ⊥
+abbrev pub FailsHeader : {R : Type 0} → (R → Option (List ℕ)) → Reader R → (Form → Fields) → LogFault → Type 0
+FailsHeader remaining old header fault.Header = IsKnown remaining old → IsUnheaded header (Some (records_left remaining old))
+FailsHeader remaining old header fault.ReadFailed = ⊤
+FailsHeader remaining old header fault.OutOfMemory = ⊤
+FailsHeader remaining old header other = ⊥
 
 -- a log whose header and rows were read, and whose records `now` are left
-abbrev pub IsRead : Option (List Fields) → Form → List Fields → Option (List Fields) → Type 0
-IsRead None form rows now = ⊤
-IsRead (Some records) form rows None = ⊥
-IsRead (Some records) form rows (Some now) = Begins (Some records) form rows now
+abbrev pub IsRead : Fields → Option (List Fields) → List Fields → Option (List Fields) → Type 0
+IsRead header None rows now = ⊤
+IsRead header (Some records) rows None = ⊥
+IsRead header (Some records) rows (Some now) = Begins header (Some records) rows now

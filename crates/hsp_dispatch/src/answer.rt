@@ -1,8 +1,10 @@
 // What entries of a log are answered.
 
-ghost use Rattle.std.specs.Prelude.{◌≡◌};
+ghost use Rattle.std.specs.Prelude.{◌≡◌, ◌<◌};
 ghost use Rattle.hsp_text.specs.declared.limits.TheConstants.{MOST_LOG_ROWS};
-ghost use Rattle.hsp_dispatch.specs.Lines.{AreBelow, counted};
+ghost use Rattle.hsp_dispatch.specs.Dispatch.{all_of};
+ghost use Rattle.hsp_dispatch.specs.Lines.{count_all, counted};
+ghost use Rattle.hsp_dispatch.specs.Steps.{none_counted};
 
 use crate::answering::Given;
 
@@ -38,27 +40,50 @@ pub struct LogSums {
     pub unknown: u64,
 }
 
-impl LogSums {
+/// How many events were answered by each kind of answer.
+#[derive(Clone, Copy, Debug, PartialEq, Eq)]
+pub struct FrontSums {
+    pub assigned: u64,
+    pub spent: u64,
+    pub unknown: u64,
+    pub no_front: u64,
+}
+
+impl FrontSums {
     /// The sums of no answers.
-    pub(crate) fn none() -> LogSums
-        ensures { result ≡ record { assigned = 0; spent = 0; unknown = 0 } }
+    pub(crate) fn none() -> FrontSums
+        ensures { result ≡ none_counted }
     {
-        LogSums {
+        FrontSums {
             assigned: 0,
             spent: 0,
             unknown: 0,
+            no_front: 0,
         }
     }
 
     /// Counts one answer more.
     pub(crate) fn count(&mut self, given: Given)
-        requires { AreBelow MOST_LOG_ROWS self.old }
+        requires { count_all self.old < MOST_LOG_ROWS }
         ensures { self.new ≡ counted self.old given }
     {
         match given {
             Given::Server(_) => self.assigned += 1,
             Given::Spent => self.spent += 1,
             Given::Unknown => self.unknown += 1,
+            Given::NoFront => self.no_front += 1,
+        }
+    }
+
+    /// The sums of answers among which is no `NoFront`.
+    pub(crate) fn without_fronts(&self) -> LogSums
+        requires { self.now.no_front ≡ 0 }
+        ensures { all_of result ≡ self.now }
+    {
+        LogSums {
+            assigned: self.assigned,
+            spent: self.spent,
+            unknown: self.unknown,
         }
     }
 }

@@ -1,9 +1,9 @@
-// How an entry is answered.
+// How entries and events are answered.
 
-ghost use Rattle.std.specs.Prelude.{◌≡◌, ◌≢◌, IfErr, IfOk, None, Ok, OnErr, length};
+ghost use Rattle.std.specs.Prelude.{◌≡◌, ◌≢◌, IfErr, IfOk, Ok, OnErr, length};
 ghost use Rattle.hsp_names.specs.Handle.{handle_in};
 ghost use Rattle.hsp_dispatch.specs.Lines.{IsAmong, line_by};
-ghost use Rattle.hsp_dispatch.specs.Steps.{Takes, begun, ended, entry_of};
+ghost use Rattle.hsp_dispatch.specs.Steps.{Takes, entry_of};
 ghost use Rattle.hsp_dispatch.specs.declared.fault.LogFault.TheVariants.{BadHandle};
 
 use crate::dispatcher::Dispatcher;
@@ -21,6 +21,8 @@ pub(crate) enum Given {
     Spent,
     /// There is no row of the region and the handle.
     Unknown,
+    /// There is no front of the number.
+    NoFront,
 }
 
 /// Takes from the plan what the entry in the row of a number is answered by. What a row of the plan has is a handle, so that only
@@ -32,8 +34,9 @@ pub(crate) fn choose(
 ) -> Result<Given, LogFault>
     ensures instance { dispatcher.new.instance ≡ dispatcher.old.instance }
     ensures among { IfOk result (IsAmong (length dispatcher.old.instance.servers)) }
-    ensures takes { IfOk result (Takes (begun dispatcher.old None None) (entry_of lent.entry) (ended dispatcher.new None)) }
-    ensures fault { IfErr result (λ e. (e ≡ BadHandle number) × (handle_in lent.entry.handle.now ≢ Ok lent.entry.handle.now)) }
+    ensures takes { IfOk result (Takes dispatcher.old (entry_of lent.entry) dispatcher.new) }
+    ensures fault { IfErr result (λ e. e ≡ BadHandle number) }
+    ensures bad { OnErr result (handle_in lent.entry.handle.now ≢ Ok lent.entry.handle.now) }
     ensures stays { OnErr result (dispatcher.new ≡ dispatcher.old) }
 {
     match dispatcher.row_of(lent.region, lent.handle) {
@@ -57,5 +60,6 @@ pub(crate) fn line_in(lines: &ServerLines, given: Given) -> &[u8]
         Given::Server(server) => lines.line(server),
         Given::Spent => b"spent\n",
         Given::Unknown => b"unknown\n",
+        Given::NoFront => b"nofront\n",
     }
 }

@@ -17,7 +17,7 @@ pub enum LogFault {
     WriteFailed,
     /// The first record is no header of a log, or there is none.
     Header,
-    /// The row has not two fields.
+    /// The row has not two fields, or three in a log for fronts.
     Fields { row: u32 },
     /// The row's handle is none.
     BadHandle { row: u32 },
@@ -27,6 +27,8 @@ pub enum LogFault {
     OutOfMemory,
     /// The row's body is not in hexadecimal digits, or no body of a resolution request.
     BadBody { row: u32 },
+    /// The row's front is not a whole number up to 4,294,967,295.
+    BadFront { row: u32 },
 }
 
 impl From<AllocError> for LogFault {

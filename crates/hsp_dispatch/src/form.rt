@@ -2,7 +2,7 @@
 
 ghost use Rattle.std.specs.Prelude.{◌≡◌, ◌≢◌, IfNone, IfSome};
 ghost use Rattle.csv.specs.Records.{fields_of};
-ghost use Rattle.hsp_dispatch.specs.Log.{header_of};
+ghost use Rattle.hsp_dispatch.specs.Log.{front_header, header_of};
 ghost use Rattle.hsp_dispatch.specs.declared.form.Form.{Form};
 
 use csv::ByteRecord;
@@ -27,6 +27,17 @@ pub(crate) fn form_of(record: &ByteRecord) -> Option<Form>
     }
     if is_header(record, &[b"region", b"body"]) {
         return Some(Form::Bodies);
+    }
+    None
+}
+
+/// The form of a log of events; None where the record is not its header.
+pub(crate) fn event_form_of(record: &ByteRecord) -> Option<Form>
+    ensures header { IfSome result (λ form. fields_of «record».now ≡ front_header) }
+    ensures none { IfNone result (fields_of «record».now ≢ front_header) }
+{
+    if is_header(record, &[b"front", b"region", b"handle"]) {
+        return Some(Form::Handles);
     }
     None
 }

@@ -1,14 +1,21 @@
 // Fronts: dispatchers that share one plan, each with a fixed share of it.
 
-ghost use Rattle.std.specs.Prelude.{◌≡◌, ◌≤◌, IfOk, length, slice_get};
+ghost use Rattle.std.specs.Prelude.{◌≡◌, ◌≢◌, ◌≤◌, IfErr, IfOk, Ok, OnErr, length};
 ghost use Rattle.hsp_text.specs.declared.limits.TheConstants.{MOST_FRONTS};
+ghost use Rattle.hsp_names.specs.Handle.{handle_in};
 ghost use Rattle.hsp_check.specs.Uses.{table};
-ghost use Rattle.hsp_dispatch.specs.Fronts.{AreFrontsOf, IsTakenAt, answer_among, left_of_front};
+ghost use Rattle.hsp_dispatch.specs.Fronts.{AreFrontsOf, IsTakenAt, answer_among};
+ghost use Rattle.hsp_dispatch.specs.Lines.{IsAmong};
 ghost use Rattle.hsp_dispatch.specs.Shares.{AreUsesOf, IsPlanFor, plan_of, query};
+ghost use Rattle.hsp_dispatch.specs.Steps.{TakesAt, entry_of};
+ghost use Rattle.hsp_dispatch.specs.declared.fault.LogFault.TheVariants.{BadHandle};
 
 use crate::answer::FrontAnswer;
+use crate::answering::{Given, choose};
 use crate::dispatcher::Dispatcher;
+use crate::fault::LogFault;
 use crate::front_share::share_uses;
+use crate::reading::LentEntry;
 use hsp_cert::{Certificate, UseLine};
 use hsp_instance::Instance;
 use hsp_names::HandleRef;
@@ -19,16 +26,18 @@ use std::marker::Model;
 /// and 1 more where `f` is below the remainder.
 #[derive(Drop)]
 pub struct Fronts<'a> {
+    instance: &'a Instance,
     fronts: Vec<Dispatcher<'a>>,
 }
 
 impl<'a> Model for Fronts<'a> {
-    ghost use Rattle.std.specs.Prelude.{List};
-    ghost use Rattle.hsp_dispatch.specs.Shares.{Held};
+    ghost use Rattle.hsp_dispatch.specs.Fronts.{HoldInstance, Tables, tables_of};
 
-    ghost Value = { List Held };
+    ghost Value = { Tables };
 
-    ghost view = { λ fronts. fronts.fronts.items };
+    ghost view = { λ fronts. tables_of fronts.instance.now fronts.fronts.items };
+
+    ghost invariant = { λ fronts. HoldInstance fronts.instance.now fronts.fronts.items };
 }
 
 impl<'a> Fronts<'a> {
@@ -68,7 +77,17 @@ impl<'a> Fronts<'a> {
             let own = share_uses(alloc, uses, fronts, front)?;
             all.push(Dispatcher::over(alloc, instance, own.as_slice())?)?;
         }
-        Ok(Fronts { fronts: all })
+        Ok(Fronts {
+            instance,
+            fronts: all,
+        })
+    }
+
+    /// The instance whose queries are dispatched.
+    pub fn instance(&self) -> &'a Instance
+        ensures { result.now ≡ self.now.instance }
+    {
+        self.instance
     }
 
     /// Answers a query at a front, for a handle from a region: as a dispatcher would by what the front has left, of which it takes
@@ -76,7 +95,7 @@ impl<'a> Fronts<'a> {
     pub fn assign(&mut self, front: u32, region: &[u8], handle: HandleRef<'_>) -> FrontAnswer
         ensures answer { result ≡ answer_among self.old front (query region.now handle.entry) }
         ensures taken { IsTakenAt front (query region.now handle.entry) self.old self.new }
-        ensures none { length self.old ≤ front → self.new ≡ self.old }
+        ensures none { self.old.fronts ≤ front → self.new ≡ self.old }
     {
         if front as usize >= self.fronts.len() {
             return FrontAnswer::NoFront;
@@ -85,9 +104,32 @@ impl<'a> Fronts<'a> {
         FrontAnswer::Answered(answer)
     }
 
+    /// Takes from what a front has left what the entry in the row of a number is answered by. Where there is no such front, the
+    /// handle is read all the same.
+    pub(crate) fn choose(
+        &mut self,
+        front: u32,
+        lent: LentEntry<'_>,
+        number: u32,
+    ) -> Result<Given, LogFault>
+        ensures among { IfOk result (IsAmong (length self.old.instance.servers)) }
+        ensures takes { IfOk result (TakesAt front self.old (entry_of lent.entry) self.new) }
+        ensures fault { IfErr result (λ e. e ≡ BadHandle number) }
+        ensures bad { OnErr result (handle_in lent.entry.handle.now ≢ Ok lent.entry.handle.now) }
+        ensures stays { OnErr result (self.new ≡ self.old) }
+    {
+        if (front as usize) < self.fronts.len() {
+            return choose(&mut self.fronts[front as usize], lent, number);
+        }
+        match HandleRef::parse(lent.handle) {
+            Ok(_) => Ok(Given::NoFront),
+            Err(_) => Err(LogFault::BadHandle { row: number }),
+        }
+    }
+
     /// How many queries of a row a front has left for a site, 0 where the front, the row or the site is not there.
     pub fn left(&self, front: u32, row: u32, site: u32) -> u64
-        ensures { result ≡ left_of_front (slice_get self.now front) row site }
+        ensures { result ≡ self.now.left front row site }
     {
         match self.fronts.get(front as usize) {
             Some(own) => own.left(row, site),

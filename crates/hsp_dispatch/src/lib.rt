@@ -5,7 +5,10 @@
 mod answer;
 mod answering;
 mod body;
+mod desk;
 mod dispatcher;
+mod entries;
+mod events;
 mod fault;
 mod form;
 mod front_share;
@@ -17,11 +20,11 @@ mod run;
 mod share;
 mod sharing;
 
-pub use answer::{Answer, FrontAnswer, LogSums};
+pub use answer::{Answer, FrontAnswer, FrontSums, LogSums};
 pub use dispatcher::Dispatcher;
 pub use fault::LogFault;
 pub use fronts::Fronts;
-pub use run::run_log;
+pub use run::{run_fronts, run_log};
 
 #[cfg(test)]
 mod dispatcher_tests;

@@ -1,20 +1,22 @@
 // The run over a log: each of its rows is answered by a line.
 
-ghost use Rattle.std.specs.Prelude.{◌≡◌, IfErr, IfOk, None, length, map, option_map};
-ghost use Rattle.csv.specs.Records.{fields_of};
+ghost use Rattle.std.specs.Prelude.{◌≡◌, IfErr, IfOk, option_map};
 ghost use Rattle.hsp_csv.specs.Records.{IsReading, records_of};
-ghost use Rattle.hsp_dispatch.specs.Lines.{IsAmong, server_line};
-ghost use Rattle.hsp_dispatch.specs.Runs.{EndsWhole, Stops};
-ghost use Rattle.hsp_dispatch.specs.Steps.{AnswersEntry, AnswersRow, FailsEntry, FailsRow, begun, ended, entry_of, log_left};
+ghost use Rattle.hsp_dispatch.specs.Desks.{by_fronts, by_plan};
+ghost use Rattle.hsp_dispatch.specs.Dispatch.{all_of};
+ghost use Rattle.hsp_dispatch.specs.Lines.{lines_of};
+ghost use Rattle.hsp_dispatch.specs.Runs.{EndsWhole, Stops, desk_of, streams};
+ghost use Rattle.hsp_dispatch.specs.Shares.{left_of};
+ghost use Rattle.hsp_dispatch.specs.Steps.{log_left};
 
-use crate::answer::LogSums;
-use crate::answering::{Given, choose, line_in};
-use crate::body::{octets_in, request_in};
+use crate::answer::{FrontSums, LogSums};
+use crate::answering::line_in;
+use crate::desk::{Desk, Place};
 use crate::dispatcher::Dispatcher;
 use crate::fault::LogFault;
-use crate::form::Form;
+use crate::fronts::Fronts;
 use crate::lines::ServerLines;
-use crate::reading::{LentEntry, take_form, two_fields};
+use crate::reading::take_form;
 use csv::{ByteRecord, Reader};
 use hsp_csv::{read_records, take_record};
 use hsp_text::limits::MOST_LOG_ROWS;
@@ -29,91 +31,24 @@ struct Ready {
     lines: ServerLines,
 }
 
-// The form of a log, and the number of one of its rows.
-#[derive(Clone, Copy, Debug)]
-struct Place {
-    form: Form,
-    row: u32,
-}
-
-// Answers an entry of the row of a number, in a line.
-fn answer_entry<W: Write>(
-    lent: LentEntry<'_>,
-    row: u32,
-    lines: &ServerLines,
-    writer: &mut W,
-    dispatcher: &mut Dispatcher<'_>,
-) -> Result<Given, LogFault>
-    requires { lines.now ≡ map (server_line dispatcher.old.instance) dispatcher.old.instance.servers }
-    ensures instance { dispatcher.new.instance ≡ dispatcher.old.instance }
-    ensures among { IfOk result (IsAmong (length dispatcher.old.instance.servers)) }
-    ensures answers { IfOk result (AnswersEntry (begun dispatcher.old None (W.contents writer.old)) (entry_of lent.entry)
-        (ended dispatcher.new (W.contents writer.new))) }
-    ensures fails { IfErr result (FailsEntry (begun dispatcher.old None (W.contents writer.old)) row (entry_of lent.entry)
-        (ended dispatcher.new (W.contents writer.new))) }
-{
-    let given = choose(dispatcher, lent, row)?;
-    put_all(writer, line_in(lines, given))?;
-    Ok(given)
-}
-
-// Answers a row.
-fn answer_row<W: Write>(
-    record: &ByteRecord,
-    place: Place,
-    ready: &Ready,
-    writer: &mut W,
-    dispatcher: &mut Dispatcher<'_>,
-) -> Result<Given, LogFault>
-    requires { ready.now.lines ≡ map (server_line dispatcher.old.instance) dispatcher.old.instance.servers }
-    ensures instance { dispatcher.new.instance ≡ dispatcher.old.instance }
-    ensures among { IfOk result (IsAmong (length dispatcher.old.instance.servers)) }
-    ensures answers { IfOk result (AnswersRow (begun dispatcher.old None (W.contents writer.old)) place.form (fields_of «record».now)
-        (ended dispatcher.new (W.contents writer.new))) }
-    ensures fails { IfErr result (FailsRow (begun dispatcher.old None (W.contents writer.old)) place.form place.row (fields_of «record».now)
-        (ended dispatcher.new (W.contents writer.new))) }
-{
-    let Some((region, field)) = two_fields(record) else {
-        return Err(LogFault::Fields { row: place.row });
-    };
-    match place.form {
-        Form::Handles => {
-            let entry = LentEntry {
-                region,
-                handle: field,
-            };
-            answer_entry(entry, place.row, &ready.lines, writer, dispatcher)
-        }
-        Form::Bodies => {
-            let octets = octets_in(ready.alloc, field, place.row)?;
-            let request = request_in(&octets, place.row)?;
-            let entry = LentEntry {
-                region,
-                handle: request.handle(),
-            };
-            answer_entry(entry, place.row, &ready.lines, writer, dispatcher)
-        }
-    }
-}
-
 // Answers each row behind the header.
-fn run_rows<R: Read, W: Write>(
+fn run_rows<D: Desk, R: Read, W: Write>(
     reader: &mut Reader<R>,
     record: &mut ByteRecord,
     ready: &Ready,
     writer: &mut W,
-    dispatcher: &mut Dispatcher<'_>,
-) -> Result<LogSums, LogFault>
+    desk: &mut D,
+) -> Result<FrontSums, LogFault>
     requires reading { IsReading reader.old }
-    requires lines { ready.now.lines ≡ map (server_line dispatcher.old.instance) dispatcher.old.instance.servers }
-    ensures instance { dispatcher.new.instance ≡ dispatcher.old.instance }
-    ensures whole { IfOk result (EndsWhole (begun dispatcher.old (log_left R.remaining reader.old) (W.contents writer.old))
-        (ended dispatcher.new (W.contents writer.new))) }
-    ensures stops { IfErr result (Stops (begun dispatcher.old (log_left R.remaining reader.old) (W.contents writer.old))
-        (ended dispatcher.new (W.contents writer.new))) }
+    requires lines { ready.now.lines ≡ lines_of (D.instance desk.old) }
+    ensures instance { D.instance desk.new ≡ D.instance desk.old }
+    ensures whole { IfOk result (EndsWhole (desk_of D.header (D.Answers desk.old desk.new) D.Refuses)
+        (streams (log_left R.remaining reader.old) (W.contents writer.old) (W.contents writer.new))) }
+    ensures stops { IfErr result (Stops (desk_of D.header (D.Answers desk.old desk.new) D.Refuses)
+        (streams (log_left R.remaining reader.old) (W.contents writer.old) (W.contents writer.new))) }
 {
-    let form = take_form(reader, record)?;
-    let mut sums = LogSums::none();
+    let form = take_form::<D, R>(reader, record)?;
+    let mut sums = FrontSums::none();
     let mut row = 0;
     'rows: loop {
         if !take_record(reader, record)? {
@@ -122,7 +57,8 @@ fn run_rows<R: Read, W: Write>(
         if row == MOST_LOG_ROWS {
             return Err(LogFault::LogTooLong);
         }
-        let given = answer_row(record, Place { form, row }, ready, writer, dispatcher)?;
+        let given = desk.answer(ready.alloc, record, Place { form, row })?;
+        put_all(writer, line_in(&ready.lines, given))?;
         sums.count(given);
         row += 1;
     }
@@ -130,6 +66,28 @@ fn run_rows<R: Read, W: Write>(
         Ok(()) => Ok(sums),
         Err(_) => Err(LogFault::WriteFailed),
     }
+}
+
+// Makes the lines, and answers the log.
+fn run<D: Desk, R: Read + Drop, W: Write>(
+    alloc: Global,
+    reader: R,
+    writer: &mut W,
+    desk: &mut D,
+) -> Result<FrontSums, LogFault>
+    ensures instance { D.instance desk.new ≡ D.instance desk.old }
+    ensures whole { IfOk result (EndsWhole (desk_of D.header (D.Answers desk.old desk.new) D.Refuses)
+        (streams (option_map records_of (R.remaining reader)) (W.contents writer.old) (W.contents writer.new))) }
+    ensures stops { IfErr result (Stops (desk_of D.header (D.Answers desk.old desk.new) D.Refuses)
+        (streams (option_map records_of (R.remaining reader)) (W.contents writer.old) (W.contents writer.new))) }
+{
+    let ready = Ready {
+        alloc,
+        lines: ServerLines::of(alloc, desk.served())?,
+    };
+    let mut records = read_records(alloc, reader);
+    let mut record = ByteRecord::new(alloc);
+    run_rows(&mut records, &mut record, &ready, writer, desk)
 }
 
 /// Answers each row of the log that the reader gives, in a line to the writer, and counts the answers.
@@ -146,16 +104,32 @@ pub fn run_log<R: Read + Drop, W: Write>(
     dispatcher: &mut Dispatcher<'_>,
 ) -> Result<LogSums, LogFault>
     ensures instance { dispatcher.new.instance ≡ dispatcher.old.instance }
-    ensures whole { IfOk result (EndsWhole (begun dispatcher.old (option_map records_of (R.remaining reader)) (W.contents writer.old))
-        (ended dispatcher.new (W.contents writer.new))) }
-    ensures stops { IfErr result (Stops (begun dispatcher.old (option_map records_of (R.remaining reader)) (W.contents writer.old))
-        (ended dispatcher.new (W.contents writer.new))) }
+    ensures whole { IfOk result (λ sums. EndsWhole
+        (by_plan dispatcher.old.instance (left_of dispatcher.old) (left_of dispatcher.new))
+        (streams (option_map records_of (R.remaining reader)) (W.contents writer.old) (W.contents writer.new))
+        (all_of sums)) }
+    ensures stops { IfErr result (Stops (by_plan dispatcher.old.instance (left_of dispatcher.old) (left_of dispatcher.new))
+        (streams (option_map records_of (R.remaining reader)) (W.contents writer.old) (W.contents writer.new))) }
 {
-    let ready = Ready {
-        alloc,
-        lines: ServerLines::of(alloc, dispatcher.instance())?,
-    };
-    let mut records = read_records(alloc, reader);
-    let mut record = ByteRecord::new(alloc);
-    run_rows(&mut records, &mut record, &ready, writer, dispatcher)
+    let sums = run(alloc, reader, writer, dispatcher)?;
+    Ok(sums.without_fronts())
+}
+
+/// Answers each row of the log that the reader gives by the front that it names, in a line to the writer, and counts the answers.
+///
+/// The header is `front,region,handle`. As [`run_log`], with `BadFront` directly after `Fields`; a front that is not there is
+/// answered `nofront`.
+pub fn run_fronts<R: Read + Drop, W: Write>(
+    alloc: Global,
+    reader: R,
+    writer: &mut W,
+    fronts: &mut Fronts<'_>,
+) -> Result<FrontSums, LogFault>
+    ensures instance { fronts.new.instance ≡ fronts.old.instance }
+    ensures whole { IfOk result (EndsWhole (by_fronts fronts.old fronts.new)
+        (streams (option_map records_of (R.remaining reader)) (W.contents writer.old) (W.contents writer.new))) }
+    ensures stops { IfErr result (Stops (by_fronts fronts.old fronts.new)
+        (streams (option_map records_of (R.remaining reader)) (W.contents writer.old) (W.contents writer.new))) }
+{
+    run(alloc, reader, writer, fronts)
 }

@@ -1,0 +1,48 @@
+// Fronts answer logs whose rows are events: an entry with the number of a front.
+
+ghost use Rattle.hsp_dispatch.specs.Desks.{AnswersEvents, RefusesEvent};
+ghost use Rattle.hsp_dispatch.specs.Log.{front_header};
+
+use crate::answering::Given;
+use crate::desk::{Desk, Place};
+use crate::fault::LogFault;
+use crate::form::{Form, event_form_of};
+use crate::fronts::Fronts;
+use crate::reading::{LentEntry, three_fields};
+use csv::ByteRecord;
+use hsp_instance::Instance;
+use hsp_text::read_whole;
+use std::alloc::Global;
+
+impl<'a> Desk for Fronts<'a> {
+    ghost instance = { λ held. held.instance };
+
+    ghost header = { λ form. front_header };
+
+    ghost Answers = { AnswersEvents };
+
+    ghost Refuses = { RefusesEvent };
+
+    fn form_of(record: &ByteRecord) -> Option<Form> {
+        event_form_of(record)
+    }
+
+    fn served(&self) -> &Instance {
+        self.instance()
+    }
+
+    fn answer(
+        &mut self,
+        _alloc: Global,
+        record: &ByteRecord,
+        place: Place,
+    ) -> Result<Given, LogFault> {
+        let Some((front, region, handle)) = three_fields(record) else {
+            return Err(LogFault::Fields { row: place.row });
+        };
+        let Ok(front) = read_whole(front, 4_294_967_295) else {
+            return Err(LogFault::BadFront { row: place.row });
+        };
+        self.choose(front as u32, LentEntry { region, handle }, place.row)
+    }
+}
