@@ -7,9 +7,8 @@ use Rattle.hsp_dispatch.specs.Dispatch.{all_of, is_assigned, is_spent, is_unknow
 use Rattle.hsp_dispatch.specs.Fronts.{front_sums_of, is_kind, is_no_front}
 use Rattle.hsp_dispatch.specs.Lines.{IsAmong, answer_of, counted, served_by}
 use Rattle.hsp_dispatch.specs.declared.answer.Answer.{Answer}
-use Rattle.hsp_dispatch.specs.declared.answer.Answer.TheVariants.{Spent, Unknown}
 use Rattle.hsp_dispatch.specs.declared.answer.FrontAnswer.{FrontAnswer}
-use Rattle.hsp_dispatch.specs.declared.answer.FrontAnswer.TheVariants.{Answered, NoFront}
+use Rattle.hsp_dispatch.specs.declared.answer.FrontAnswer.TheVariants.{Answered}
 use Rattle.hsp_dispatch.specs.declared.answer.FrontSums.{FrontSums}
 use Rattle.hsp_dispatch.specs.declared.answering.Given.{Given}
 use Rattle.hsp_dispatch.specs.declared.answering.Given.TheVariants.{NoFront as IsNoFront, Server as ByServer, Spent as IsSpent, Unknown as IsUnknown}

@@ -1,5 +1,5 @@
 -- What one answer more adds to what a desk has answered.
-use Rattle.std.proofs.Common.{◌≡◌, ◌≢◌, ◌++◌, ◌∙◌, ℕ, List, [], ◌∷◌, length, map, Option, Some, None, option_map, Result, Ok, Err, IfOk, refl, sym, ap, arith}
+use Rattle.std.proofs.Common.{◌≡◌, ◌≢◌, ◌++◌, ◌∙◌, ℕ, List, [], ◌∷◌, length, Option, Some, None, option_map, Result, Ok, Err, IfOk, refl, sym, ap}
 use Rattle.std.specs.List.{slice_get}
 use Rattle.std.proofs.lemmas.List.{append-nil, append_assoc, map_push}
 use Rattle.std.proofs.lemmas.Option.{slice_get-map}
@@ -8,7 +8,7 @@ use Rattle.hsp_instance.specs.Instance.{Instance, Server}
 use Rattle.hsp_check.specs.Plan.{Plan}
 use Rattle.hsp_dispatch.specs.Desks.{AnswersEntries, AnswersEvents, answers_by}
 use Rattle.hsp_dispatch.specs.Dispatch.{Entry, IsSame, all_of, answer_to, answers, answers_after, rest, sums_of}
-use Rattle.hsp_dispatch.specs.Fronts.{Event, Tables, answer_among, event_answer, event_answers, event_answers_after, front_sums_of, fronts_of, left_at_front}
+use Rattle.hsp_dispatch.specs.Fronts.{Event, Tables, event_answer, event_answers_after, front_sums_of, fronts_of, left_at_front}
 use Rattle.hsp_dispatch.specs.Lines.{IsAmong, answer_of, counted, front_line, line_by, line_of, lines_of, or_none, server_line, served_by}
 use Rattle.hsp_dispatch.specs.Log.{AreEntries, AreEvents, Gives, IsEntryIn, IsEventIn, IsFront}
 use Rattle.hsp_names.specs.Handle.{handle_in}

@@ -2,7 +2,6 @@
 use Rattle.std.proofs.Common.{◌≡◌, ◌≢◌, ◌<◌, ◌≤◌, ◌+◌, ◌∙◌, ◌++◌, ℕ, List, [], ◌∷◌, length, take, drop, if◌then◌else◌, arith, refl, sym, ap, ap₂, eq-eqb}
 use Rattle.std.proofs.Common.{inl, inr}
 use Rattle.std.specs.Prelude.{nat_lt}
-use Rattle.std.specs.List.{slice_get}
 use Rattle.std.proofs.lemmas.Bool.{cases_eq, cases_lt, le-ltb, lt-ltb, ne_eqb}
 use Rattle.std.proofs.lemmas.List.{append-nil}
 use Rattle.hsp_instance.specs.Instance.{Instance}
@@ -10,7 +9,7 @@ use Rattle.hsp_check.specs.Plan.{Plan}
 use Rattle.hsp_check.specs.Sums.{sum_below}
 use Rattle.hsp_check.proofs.Summing.{sum_below_le, sum_below_same}
 use Rattle.hsp_dispatch.specs.Dispatch.{Entry, IsSame, answer_to, assigned_in, count_for, rest, spread}
-use Rattle.hsp_dispatch.specs.FrontLaws.{AnswersByShares, AreFrontsAfter, BeginsWithShares, EndsInTheSame, GoesByItsEntries, IsSpentTogether, NeverExceedsTogether, WasSpentAt}
+use Rattle.hsp_dispatch.specs.FrontLaws.{AnswersByShares, BeginsWithShares, EndsInTheSame, GoesByItsEntries, IsSpentTogether, NeverExceedsTogether, WasSpentAt}
 use Rattle.hsp_dispatch.specs.Fronts.{Event, IsTakenAt, Tables, answer_among, answers_at, assigned_at, entries_at, event_answer, event_answers_after, fronts_of, left_at_front, share, share_of, shares_of}
 use Rattle.hsp_dispatch.specs.declared.answer.Answer.{Answer}
 use Rattle.hsp_dispatch.specs.declared.answer.Answer.TheVariants.{Spent}

@@ -54,18 +54,18 @@ count_more sums given.NoFront = omega arith
 -- the row's answer is counted, and its line written
 pub row_more : {S : Type 0} (instance : S → Instance) (Answers : S → S → RowAnswers) (header : Form → Fields) (Refuses : Form → Fields → LogFault → Type 0) (start old new : S)
     (log : Option (List Fields)) (before middle after : Option (List ℕ)) (form : Form) (now later : Option (List Fields)) (number : ℕ) (sums : FrontSums)
-    (row : Fields) (line : List ℕ) (how : Given)
+    (row : Fields) (line text : List ℕ) (how : Given)
     (so_far : SoFar (desk_of header (Answers start old) Refuses) (record { log = log; before = before; after = middle }) form now number sums)
     → IsRead (header form) log (so_far.rows ++ row ∷ []) later → instance old ≡ instance start → GoesOn instance Answers old new form row line how
-    → Appends middle after line
+    → text ≡ line → Appends middle after text
     → SoFar (desk_of header (Answers start new) Refuses) (record { log = log; before = before; after = after }) form later (number + 1) (counted sums how)
-row_more instance Answers header Refuses start old new log before middle after form now later number sums row line how so_far read same on line_written = record {
+row_more instance Answers header Refuses start old new log before middle after form now later number sums row line text how so_far read same on is_line line_written = record {
   rows = so_far.rows ++ row ∷ [];
   lines = so_far.lines ++ line ∷ [];
   many = length-append so_far.rows (row ∷ []) ∙ ap (λ n. n + 1) so_far.many;
   read = read;
   answers = on start so_far.rows so_far.lines sums same so_far.answers;
-  written = rw (text_more so_far.lines line) (Appends-trans before middle after (text_of so_far.lines) line so_far.written line_written);
+  written = rw (text_more so_far.lines line) (Appends-trans before middle after (text_of so_far.lines) line so_far.written (rw is_line at line_written));
   counted_all = count_more sums how ∙ ap (λ n. n + 1) so_far.counted_all;
 }
 
@@ -128,12 +128,12 @@ module _ (desk : Desk) (run : Streams) (form : Form) (now : Option (List Fields)
 -- where less than the row's line was written
 pub line_stops : {S : Type 0} (instance : S → Instance) (Answers : S → S → RowAnswers) (header : Form → Fields) (Refuses : Form → Fields → LogFault → Type 0) (start old new : S)
     (log : Option (List Fields)) (before middle after : Option (List ℕ)) (form : Form) (now later : Option (List Fields)) (number : ℕ) (sums : FrontSums)
-    (row : Fields) (line : List ℕ) (how : Given)
+    (row : Fields) (line text : List ℕ) (how : Given)
     (so_far : SoFar (desk_of header (Answers start old) Refuses) (record { log = log; before = before; after = middle }) form now number sums)
     → IsRead (header form) log (so_far.rows ++ row ∷ []) later → instance old ≡ instance start → GoesOn instance Answers old new form row line how
-    → IsCut middle after line
+    → text ≡ line → IsCut middle after text
     → Stops (desk_of header (Answers start new) Refuses) (record { log = log; before = before; after = after }) fault.WriteFailed
-line_stops instance Answers header Refuses start old new log before middle after form now later number sums row line how so_far read same on cut =
+line_stops instance Answers header Refuses start old new log before middle after form now later number sums row line text how so_far read same on is_line cut =
     let begun = begins (header form) log later (so_far.rows ++ row ∷ []) read in
     inl (
       form,
@@ -146,7 +146,7 @@ line_stops instance Answers header Refuses start old new log before middle after
       begun.1,
       on start so_far.rows so_far.lines sums same so_far.answers,
       so_far.written,
-      cut,
+      rw is_line at cut,
     )
 
 -- at the end of the log, where nothing more is written

@@ -2,7 +2,7 @@
 
 ghost use Rattle.std.specs.Prelude.{◌≡◌, ◌<◌, [], length, replicate, slice_get, IfOk};
 ghost use Rattle.hsp_dispatch.specs.Dispatch.{arc_to};
-ghost use Rattle.hsp_dispatch.specs.Shares.{AreUsesOf, HoldsTable, IsHeld, holding, number_of};
+ghost use Rattle.hsp_dispatch.specs.Shares.{AreUsesOf, HoldsTable, IsHeld, cell_of, holding, number_of};
 
 use crate::share::{Cell, RowShare};
 use hsp_cert::UseLine;
@@ -20,6 +20,18 @@ fn server_at(instance: &Instance, row: u32, site: u32) -> u32
         }
     }
     0
+}
+
+// The cell that a use gives its row.
+fn cell_for(instance: &Instance, one: UseLine) -> Cell
+    requires { one.row < length instance.now.rows }
+    ensures { result ≡ cell_of instance.now one }
+{
+    Cell {
+        site: one.site,
+        server: server_at(instance, one.row, one.site),
+        left: one.count,
+    }
 }
 
 // So many shares of nothing.
@@ -45,11 +57,7 @@ pub(crate) fn share_out(
 {
     let mut shares = empty_shares(alloc, instance.rows())?;
     for one in uses {
-        let cell = Cell {
-            site: one.site,
-            server: server_at(instance, one.row, one.site),
-            left: one.count,
-        };
+        let cell = cell_for(instance, *one);
         shares[one.row as usize].push(cell)?;
     }
     Ok(shares)

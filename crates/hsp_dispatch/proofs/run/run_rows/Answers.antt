@@ -5,7 +5,7 @@ use Rattle.csv.specs.Records.{fields_of}
 use Rattle.hsp_dispatch.specs.Lines.{line_by, lines_of}
 use Rattle.hsp_dispatch.specs.Runs.{desk_of}
 use Rattle.hsp_dispatch.proofs.InTurn.{all_read, header_read, row_read}
-use Rattle.hsp_dispatch.proofs.Running.{SoFar, ends, header_stops, line_stops, read_stops, refused_stops, row_more, too_long}
+use Rattle.hsp_dispatch.proofs.Running.{ends, header_stops, line_stops, read_stops, refused_stops, row_more, too_long}
 use Rattle.hsp_dispatch.specs.declared.form.Form.TheVariants.{Handles}
 use Rattle.hsp_dispatch.proofs.run.run_rows.Goals as goal
 
@@ -61,8 +61,8 @@ returns-in_err-put_all-clause-stops g c =
     (rw c.if-not-branch.false at c.in_ok-take_record.ensures.takes) in
     let told = err_from_is_err_and c.from_residual-in_err-put_all.result c.from_residual-in_err-put_all.ensures.1 in
     let line = c.line_in.ensures ∙ ap (λ lines. line_by lines c.in_ok-given.given) (c.requires.lines ∙ ap lines_of (sym c.rows.invariant.instance)) in
-    rw (told.1, told.2) (line_stops g.D.Desk.instance g.D.Desk.Answers g.D.Desk.header g.D.Desk.Refuses c.args.desk.now c.rows.desk c.answer.new.self _ _ _ _ _ _ _ _ _ row _
-    c.in_ok-given.given so_far read c.rows.invariant.instance c.in_ok-given.ensures.answers (rw line at c.in_err-put_all.ensures.cut))
+    rw (told.1, told.2) (line_stops g.D.Desk.instance g.D.Desk.Answers g.D.Desk.header g.D.Desk.Refuses c.args.desk.now c.rows.desk c.answer.new.self _ _ _ _ _ _ _ _ _ row _ c.line_in.result.now
+    c.in_ok-given.given so_far read c.rows.invariant.instance c.in_ok-given.ensures.answers line c.in_err-put_all.ensures.cut)
 
 pub rows-preserved : goal.rows-preserved
 rows-preserved g c =
@@ -76,7 +76,8 @@ rows-preserved g c =
       instance = c.answer.ensures.instance ∙ c.rows.invariant.instance;
       within = omega (arith, c.rows.invariant.within, c.if-row-eq-MOST_LOG_ROWS.false);
       so_far = rw c.count.ensures (row_more g.D.Desk.instance g.D.Desk.Answers g.D.Desk.header g.D.Desk.Refuses c.args.desk.now c.rows.desk c.answer.new.self
-          _ _ _ _ _ _ _ _ _ row _ c.in_ok-given.given so_far read c.rows.invariant.instance c.in_ok-given.ensures.answers (rw line at c.in_ok-put_all.ensures.whole));
+          _ _ _ _ _ _ _ _ _ row _ c.line_in.result.now c.in_ok-given.given so_far read c.rows.invariant.instance c.in_ok-given.ensures.answers line
+          c.in_ok-put_all.ensures.whole);
     }
 
 pub returns-in-Err-clause-stops : goal.returns-in-Err-clause-stops

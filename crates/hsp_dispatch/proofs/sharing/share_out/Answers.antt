@@ -6,8 +6,8 @@ use Rattle.hsp_dispatch.specs.Shares.{cell_of, cells_of}
 use Rattle.hsp_dispatch.proofs.SharedOut.{are_held, cells_stay, shared_more, table_held, use_there}
 use Rattle.hsp_dispatch.proofs.sharing.share_out.Goals as goal
 
-pub server_at-requires : goal.server_at-requires
-server_at-requires c =
+pub cell_for-cell-requires : goal.cell_for-cell-requires
+cell_for-cell-requires c =
     let uses = c.args.uses.now in
     let k = c.loop-one.one-index in
     use_there c.args.instance.now uses k _ c.rows.ensures.within c.requires (slice_get-get_or uses k (record { row = 0; site = 0; count = 0 }) (omega arith))
@@ -29,7 +29,7 @@ push-requires c =
     let inside = use_there it uses k one c.rows.ensures.within c.requires at in
     let own : c.index_mut.result.now ≡ cells_of it one.row (take k uses) =
     c.index_mut.ensures.value ∙ get_or_from_slice_get c.loop-one.shares.items one.row (cells_of it one.row (take k uses)) _ (c.loop-one.invariant.each one.row inside) in
-    rw (own, c.server_at.ensures) (cells_stay it uses k one c.requires at)
+    rw (own, c.cell_for-cell.ensures) (cells_stay it uses k one c.requires at)
 
 pub loop-one-preserved : goal.loop-one-preserved
 loop-one-preserved c =
@@ -41,7 +41,7 @@ loop-one-preserved c =
     let inside = use_there it uses k one c.rows.ensures.within c.requires at in
     let own : c.index_mut.result.now ≡ cells_of it one.row (take k uses) =
     c.index_mut.ensures.value ∙ get_or_from_slice_get c.loop-one.shares.items one.row (cells_of it one.row (take k uses)) _ (c.loop-one.invariant.each one.row inside) in
-    let new : c.push.new.self ≡ cells_of it one.row (take k uses) ++ cell_of it one ∷ [] = c.in_ok-push.ensures ∙ rw (own, c.server_at.ensures) refl in
+    let new : c.push.new.self ≡ cells_of it one.row (take k uses) ++ cell_of it one ∷ [] = c.in_ok-push.ensures ∙ rw (own, c.cell_for-cell.ensures) refl in
     shared_more it uses k one c.loop-one.shares.items c.push.new.self at c.loop-one.invariant inside new
 
 pub returns-clause-held : goal.returns-clause-held
