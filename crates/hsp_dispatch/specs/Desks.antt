@@ -8,6 +8,7 @@ use Rattle.hsp_dispatch.specs.Fronts.{Event, Tables, entries_at, event_answers, 
 use Rattle.hsp_dispatch.specs.Lines.{front_line, line_of}
 use Rattle.hsp_dispatch.specs.Log.{AreEntries, AreEvents, IsBadBody, IsBadEvent, IsBadFront, IsBadHandle, front_header, header_of}
 use Rattle.hsp_dispatch.specs.Runs.{Desk}
+use Rattle.hsp_dispatch.specs.Shares.{Held, left_of}
 use Rattle.hsp_dispatch.specs.declared.answer.FrontAnswer.{FrontAnswer}
 use Rattle.hsp_dispatch.specs.declared.answer.FrontSums.{FrontSums}
 use Rattle.hsp_dispatch.specs.declared.fault.LogFault.{LogFault}
@@ -31,6 +32,10 @@ RefusesEntry form bad other = ⊥
 
 abbrev pub by_plan : Instance → Plan → Plan → Desk
 by_plan it x left = record { header = header_of; Answers = AnswersEntries it x left; Refuses = RefusesEntry }
+
+-- what a dispatcher holds before a run and after it
+abbrev pub by_dispatcher : Held → Held → Desk
+by_dispatcher old new = by_plan old.instance (left_of old) (left_of new)
 
 -- ---- fronts
 

@@ -1,5 +1,5 @@
 -- The lines of answers.
-use Rattle.std.specs.Prelude.{⊤, ℕ, ◌+◌, ◌<◌, List, [], ◌∷◌, ◌++◌, codes, map, Option, None, Some}
+use Rattle.std.specs.Prelude.{◌≡◌, ⊤, ℕ, ◌+◌, ◌<◌, List, [], ◌∷◌, ◌++◌, codes, map, Option, None, Some, option_map}
 use Rattle.std.specs.List.{slice_get}
 use Rattle.hsp_text.specs.Writing.{numbered}
 use Rattle.hsp_instance.specs.Instance.{Instance, Server, Site}
@@ -43,6 +43,11 @@ text_of (line ∷ more) = line ++ text_of more
 abbrev pub server_line : Instance → Server → List ℕ
 server_line it server = assigned_line (name_at it server.site) server.place server.id
 
+-- the line of the server of a number
+abbrev pub IsLineOf : Instance → ℕ → List ℕ → Type 0
+IsLineOf it number line = option_map (server_line it) (slice_get it.servers number) ≡ Some line
+
+-- those of all servers
 abbrev pub lines_of : Instance → List (List ℕ)
 lines_of it = map (server_line it) it.servers
 

@@ -1,7 +1,7 @@
 // The lines of answers, made before the first of them is written.
 
-ghost use Rattle.std.specs.Prelude.{◌≡◌, ◌<◌, IfOk, Some, length, map, option_map, slice_get};
-ghost use Rattle.hsp_dispatch.specs.Lines.{server_line};
+ghost use Rattle.std.specs.Prelude.{◌≡◌, ◌<◌, IfOk, Some, length, slice_get};
+ghost use Rattle.hsp_dispatch.specs.Lines.{IsLineOf, lines_of};
 
 use hsp_instance::Instance;
 use hsp_text::push_line;
@@ -39,7 +39,7 @@ impl Model for ServerLines {
 // The line of a server.
 fn line_of(alloc: Global, instance: &Instance, server: u32) -> Result<Line, AllocError>
     requires { server < length instance.now.servers }
-    ensures { IfOk result (λ line. option_map (server_line instance.now) (slice_get instance.now.servers server) ≡ Some line) }
+    ensures { IfOk result (IsLineOf instance.now server) }
 {
     let (site, place, server_id, _) = instance.server(server);
     let mut text = Vec::new(alloc);
@@ -52,7 +52,7 @@ fn line_of(alloc: Global, instance: &Instance, server: u32) -> Result<Line, Allo
 impl ServerLines {
     /// The lines of all servers.
     pub(crate) fn of(alloc: Global, instance: &Instance) -> Result<ServerLines, AllocError>
-        ensures { IfOk result (λ lines. lines ≡ map (server_line instance.now) instance.now.servers) }
+        ensures { IfOk result (λ lines. lines ≡ lines_of instance.now) }
     {
         let mut lines = Vec::new(alloc);
         for server in 0..instance.servers() {

@@ -2,11 +2,10 @@
 
 ghost use Rattle.std.specs.Prelude.{◌≡◌, IfErr, IfOk, option_map};
 ghost use Rattle.hsp_csv.specs.Records.{IsReading, records_of};
-ghost use Rattle.hsp_dispatch.specs.Desks.{by_fronts, by_plan};
+ghost use Rattle.hsp_dispatch.specs.Desks.{by_dispatcher, by_fronts};
 ghost use Rattle.hsp_dispatch.specs.Dispatch.{all_of};
 ghost use Rattle.hsp_dispatch.specs.Lines.{lines_of};
 ghost use Rattle.hsp_dispatch.specs.Runs.{EndsWhole, Stops, desk_of, streams};
-ghost use Rattle.hsp_dispatch.specs.Shares.{left_of};
 ghost use Rattle.hsp_dispatch.specs.Steps.{BeginsWithNone, log_left};
 
 use crate::answer::{FrontSums, LogSums};
@@ -106,10 +105,10 @@ pub fn run_log<R: Read + Drop, W: Write>(
 ) -> Result<LogSums, LogFault>
     ensures instance { dispatcher.new.instance ≡ dispatcher.old.instance }
     ensures whole { IfOk result (λ sums. EndsWhole
-        (by_plan dispatcher.old.instance (left_of dispatcher.old) (left_of dispatcher.new))
+        (by_dispatcher dispatcher.old dispatcher.new)
         (streams (option_map records_of (R.remaining reader)) (W.contents writer.old) (W.contents writer.new))
         (all_of sums)) }
-    ensures stops { IfErr result (Stops (by_plan dispatcher.old.instance (left_of dispatcher.old) (left_of dispatcher.new))
+    ensures stops { IfErr result (Stops (by_dispatcher dispatcher.old dispatcher.new)
         (streams (option_map records_of (R.remaining reader)) (W.contents writer.old) (W.contents writer.new))) }
 {
     let sums = run(alloc, reader, writer, dispatcher)?;
