@@ -4,4 +4,4 @@
 
 mod network;
 
-pub use network::{Network, Outcome, PricedFlow};
+pub use network::{Network, NetworkLists, Outcome, PricedFlow};
