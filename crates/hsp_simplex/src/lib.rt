@@ -2,6 +2,11 @@
 // simplex method, and the test that accepts one (Ahuja, Magnanti and Orlin, Network Flows, chapters 9, 11 and 16).
 #![tactic(auto)]
 
+mod accept;
+mod accept_prices;
+mod accept_set;
 mod network;
+mod sums;
 
+pub use accept::{accepts, greatest};
 pub use network::{Network, NetworkLists, Outcome, PricedFlow};

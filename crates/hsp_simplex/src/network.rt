@@ -1,6 +1,7 @@
 // Networks, and what becomes of them.
 
-ghost use Rattle.std.specs.Prelude.{◌≡◌, ℕ, ◌<◌, ◌≤◌, ◌↔◌, IfSome, IfNone, IsTrue, None, Some, length, slice_index, slice_index_or};
+ghost use Rattle.std.specs.Prelude.{◌≡◌, ◌↔◌, IfSome, IfNone, IsTrue};
+ghost use Rattle.hsp_simplex.specs.Lists.{AreBelow, AreOrdered, HostsAreBelow};
 ghost use Rattle.hsp_simplex.specs.Network.{IsNetwork};
 
 /// The lists of a network: an entry of `demands` for each source, of `capacities` and `hosts` for each server, of `limits`
@@ -34,7 +35,7 @@ pub struct Network<'a> {
 
 // Whether each end of an arc is below the bound.
 fn are_below(ends: &[u32], bound: usize) -> bool
-    ensures { IsTrue result ↔ ((k : ℕ) → k < length ends.now → slice_index ends.now k < bound) }
+    ensures { IsTrue result ↔ AreBelow bound ends.now }
 {
     for place in 0..ends.len() {
         if ends[place] as usize >= bound {
@@ -46,7 +47,7 @@ fn are_below(ends: &[u32], bound: usize) -> bool
 
 // Whether each host is below the bound.
 fn hosts_are_below(hosts: &[Option<u32>], bound: usize) -> bool
-    ensures { IsTrue result ↔ ((j h : ℕ) → slice_index_or hosts.now j None ≡ Some h → h < bound) }
+    ensures { IsTrue result ↔ HostsAreBelow bound hosts.now }
 {
     for server in 0..hosts.len() {
         if let Some(host) = hosts[server] {
@@ -60,7 +61,7 @@ fn hosts_are_below(hosts: &[Option<u32>], bound: usize) -> bool
 
 // Whether no end is below an earlier one.
 fn are_ordered(ends: &[u32]) -> bool
-    ensures { IsTrue result ↔ ((j k : ℕ) → j ≤ k → k < length ends.now → slice_index ends.now j ≤ slice_index ends.now k) }
+    ensures { IsTrue result ↔ AreOrdered ends.now }
 {
     for place in 1..ends.len() {
         if ends[place] < ends[place - 1] {
