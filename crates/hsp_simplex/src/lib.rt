@@ -6,7 +6,9 @@ mod accept;
 mod accept_prices;
 mod accept_set;
 mod network;
+mod proposal;
 mod sums;
 
 pub use accept::{accepts, greatest};
 pub use network::{Network, NetworkLists, Outcome, PricedFlow};
+pub use proposal::{SimplexEffort, propose, propose_counted};
