@@ -12,3 +12,6 @@ mod sums;
 pub use accept::{accepts, greatest};
 pub use network::{Network, NetworkLists, Outcome, PricedFlow};
 pub use proposal::{SimplexEffort, propose, propose_counted};
+
+#[cfg(test)]
+mod accept_tests;
