@@ -14,9 +14,6 @@ pub record AreFair (net : Transport) (flows u paid : List ℕ) : Type 0 where
 module _ (net : Transport) (is : IsNetwork net) (plan : PricedFlow) (given : HasLengths net plan) (paid sums loads hosts : List ℕ)
     (many : length loads ≡ length net.capacities) (hosts_many : length hosts ≡ length net.limits)
     (loaded : AreCarried net.servers plan.flows.items loads) (hosted_are : AreHosted net.hosts loads hosts) where
-  flow : ℕ → ℕ
-  flow k = slice_index plan.flows.items k
-
   pub load_is : (j : ℕ) → j < length net.capacities → slice_index loads j ≡ load net (λ k. slice_index plan.flows.items k) j
   load_is j l = loaded j (omega arith) ∙ ap (λ n. carried net.servers plan.flows.items n j) is.servers_many
 
