@@ -2,7 +2,7 @@
 
 ghost use Rattle.std.specs.Prelude.{◌≡◌, ℕ, ◌+◌, ◌*◌, ◌<◌, ◌≤◌, ◌⊎◌, IfOk, IsTrue, length, slice_index};
 ghost use Rattle.hsp_simplex.specs.Accepted.{AreKept, ArePlanPaid, HasBoundedPrices, HasLengths, IsBalanced};
-ghost use Rattle.hsp_simplex.specs.Answer.{Answers, IsMet};
+ghost use Rattle.hsp_simplex.specs.Answer.{Answers, IsMet, IsShortAnswer};
 ghost use Rattle.hsp_simplex.specs.Problem.{problem_of};
 
 use crate::accept_prices::{PricedArcs, are_loaded, paid_at};
@@ -123,7 +123,9 @@ fn is_met(alloc: Global, network: &Network<'_>, plan: &PricedFlow) -> Result<boo
 /// once more; or sources that demand more than the servers that they may use can take. It takes time in proportion to the
 /// network's lists, and refuses prices or flows whose sums are above 64 bits.
 pub fn accepts(alloc: Global, network: &Network<'_>, outcome: &Outcome) -> Result<bool, AllocError>
-    ensures { IfOk result (λ yes. IsTrue yes → Answers (problem_of network.now) outcome.now) }
+    ensures right { IfOk result (λ yes. IsTrue yes → Answers (problem_of network.now) outcome.now) }
+    // No short set is refused.
+    ensures short { IfOk result (λ yes. IsShortAnswer (problem_of network.now) outcome.now → IsTrue yes) }
 {
     match outcome {
         Outcome::Met(plan) => is_met(alloc, network, plan),

@@ -1,6 +1,6 @@
 // The test of a short set: what it demands against what the servers that it may use can take.
 
-ghost use Rattle.std.specs.Prelude.{◌≡◌, ℕ, ◌<◌, ◌≤◌, ◌*◌, ◌^◌, false, IfOk, IsTrue, length, vec_len};
+ghost use Rattle.std.specs.Prelude.{◌≡◌, ℕ, ◌<◌, ◌≤◌, ◌*◌, ◌^◌, ◌↔◌, false, IfOk, IsTrue, length, vec_len};
 ghost use Rattle.hsp_simplex.specs.Answer.{IsShortSet};
 ghost use Rattle.hsp_simplex.specs.Lists.{HostsAreBelow};
 ghost use Rattle.hsp_simplex.specs.Network.{capacity_of};
@@ -151,7 +151,7 @@ pub(crate) fn is_short(
     network: &Network<'_>,
     set: &[bool],
 ) -> Result<bool, AllocError>
-    ensures { IfOk result (λ yes. IsTrue yes → IsShortSet (problem_of network.now) set.now) }
+    ensures { IfOk result (λ yes. IsTrue yes ↔ IsShortSet (problem_of network.now) set.now) }
 {
     if set.len() != network.demands.len() {
         return Ok(false);
