@@ -1,7 +1,7 @@
 -- The index of links by heads, as it is filled.
 use Rattle.std.proofs.Common.{◌≡◌, ◌≢◌, ℕ, zero, suc, ◌+◌, ◌<◌, ◌≤◌, inl, inr, List, length, slice_index, set, refl, ap, sym, ◌∙◌, arith, add-one, length-set, get_or-set_same, get_or-set_other}
 use Rattle.std.proofs.lemmas.Bool.{cases_eq, cases_lt}
-use Rattle.hsp_flow.specs.Sums.{only, sum_below}
+use Rattle.hsp_simplex.specs.Sums.{only, sum_below}
 use Rattle.hsp_flow.specs.Index.{ByHead, Entry, Places, entering}
 use Rattle.hsp_flow.proofs.Sums.{only_here, only_there}
 

@@ -7,13 +7,13 @@ use Rattle.std.proofs.lemmas.Bool.{cases_Bool, cases_eq}
 use Rattle.hsp_instance.specs.Instance.{Instance, Row, Server, Host, IsInstance}
 use Rattle.hsp_instance.specs.Groups.{Groups, AreGroups}
 use Rattle.hsp_check.specs.Instance.{arcs_from}
-use Rattle.hsp_flow.specs.Answer.{IsMet, IsShortSet, BoundsCosts}
+use Rattle.hsp_simplex.specs.Answer.{IsMet, IsShortSet, BoundsCosts}
 use Rattle.hsp_flow.specs.Grouping.{group_of, group_demand, grouped, AreFirsts, AreGroupPlaces, AreGroupLists, group_arcs, arcs_at, lists_at}
-use Rattle.hsp_flow.specs.Network.{Transport, IsNetwork, HasLowPrices, load, host_load, is_on, host_of, reaches, reached_capacity, capacity_of, demand_of}
+use Rattle.hsp_simplex.specs.Network.{Transport, IsNetwork, HasLowPrices, load, host_load, is_on, host_of, reaches, reached_capacity, capacity_of, demand_of}
 use Rattle.hsp_flow.specs.Planning.{transport_of, row_of, server_of, cost_of}
 use Rattle.hsp_flow.specs.Spreads.{Spread}
-use Rattle.hsp_flow.specs.Sums.{sum_below, only, any_below}
-use Rattle.hsp_flow.specs.declared.network.PricedFlow.{PricedFlow}
+use Rattle.hsp_simplex.specs.Sums.{sum_below, only, any_below}
+use Rattle.hsp_simplex.specs.declared.network.PricedFlow.{PricedFlow}
 use Rattle.hsp_flow.proofs.Sums.{sum_below_same, only_here, only_there}
 use Rattle.hsp_flow.proofs.Totals.{sum_below_zero, by_key}
 use Rattle.hsp_flow.proofs.SpreadFlows as spread

@@ -4,7 +4,7 @@ use Rattle.std.specs.Prelude.{◌&&◌, ◌||◌, Option, Some, None, nat_lt}
 use Rattle.std.specs.List.{AllByRecursion, list_all}
 use Rattle.std.proofs.lemmas.Bool.{cases_eq, and_from}
 use Rattle.std.proofs.lemmas.Bool.Decides.{nat_tests}
-use Rattle.hsp_flow.specs.Sums.{sum_below}
+use Rattle.hsp_simplex.specs.Sums.{sum_below}
 use Rattle.hsp_cert.specs.declared.use_line.UseLine.{UseLine}
 use Rattle.hsp_cert.specs.Certificate.{is_use, is_before, is_price, is_row, goes_on_from, ascends_from, ascends}
 use Rattle.hsp_instance.specs.Instance.{Instance}

@@ -1,7 +1,7 @@
 -- Flows of groups, spread over their rows.
 use Rattle.std.proofs.Common.{◌≡◌, ℕ, zero, suc, ◌+◌, ◌-◌, ◌<◌, ◌≤◌, ◌⊎◌, ◌∙◌, List, length, slice_index, refl, ap, ap₂, sym, inl, inr, arith, slice_set, get_or-set_same, get_or-set_other}
 use Rattle.std.proofs.lemmas.Bool.{cases_eq}
-use Rattle.hsp_flow.specs.Sums.{sum_below, only}
+use Rattle.hsp_simplex.specs.Sums.{sum_below, only}
 use Rattle.hsp_flow.specs.Spreads.{Spread}
 use Rattle.hsp_flow.proofs.Sums.{sum_below_same, term_within, only_here, only_there, only_split}
 use Rattle.hsp_flow.proofs.Totals.{sum_below_zero, sum_below_one, sum_below_add}

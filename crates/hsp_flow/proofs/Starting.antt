@@ -2,7 +2,8 @@
 use Rattle.std.proofs.Common.{◌≡◌, ℕ, ◌+◌, ◌*◌, ◌++◌, ◌∷◌, [], ap, length-append, ◌<◌, ◌≤◌, mul-le-mul_right, inl, inr, Bool, true, false, List, length, slice_index, ◌∙◌, arith}
 use Rattle.std.proofs.lemmas.Bool.{cases_eq, cases_lt}
 use Rattle.std.proofs.lemmas.List.{get_or_append_left, get_or-append-add}
-use Rattle.hsp_flow.specs.Sums.{only, through}
+use Rattle.hsp_simplex.specs.Sums.{only}
+use Rattle.hsp_flow.specs.Sums.{through}
 use Rattle.hsp_instance.specs.Runs.{AreRuns}
 use Rattle.hsp_flow.specs.Index.{ByHead, Carries}
 use Rattle.hsp_flow.specs.Opening.{FirstPrices, LeastCost}

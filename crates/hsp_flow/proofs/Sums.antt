@@ -2,7 +2,8 @@
 use Rattle.std.proofs.Common.{◌≡◌, ◌≢◌, ℕ, zero, suc, ◌+◌, ◌-◌, ◌<◌, ◌≤◌, ◌==◌, inl, inr, true, false, List, length, slice_index, set, if◌then◌else◌, refl, ap, arith, eq-eqb, ne_eqb, length-set, get_or-set_same, get_or-set_other}
 use Rattle.std.proofs.lemmas.Bool.{cases_eq}
 pub use Rattle.hsp_check.proofs.Summing.{sum_below_same, sum_below_le}
-use Rattle.hsp_flow.specs.Sums.{sum_below, through, only}
+use Rattle.hsp_simplex.specs.Sums.{sum_below, only}
+use Rattle.hsp_flow.specs.Sums.{through}
 
 -- sums that differ in one term
 pub sum_below_change : (n : ℕ) (f g : ℕ → ℕ) (i : ℕ) → i < n → ((k : ℕ) → k < n → k ≢ i → f k ≡ g k) → sum_below n f + g i ≡ sum_below n g + f i

@@ -1,7 +1,7 @@
 -- A path is augmented arc by arc, from the sink back to the root.
 use Rattle.std.proofs.Common.{◌≡◌, ◌≢◌, ℕ, ◌+◌, ◌-◌, ◌<◌, ◌≤◌, ◌==◌, ◌⊎◌, inl, inr, Bool, true, false, List, length, slice_index, set, refl, ap, sym, ◌∙◌, arith, length-set, get_or-set_same, get_or-set_other, ne_eqb}
 use Rattle.std.proofs.lemmas.Bool.{cases_eq}
-use Rattle.hsp_flow.specs.Sums.{only}
+use Rattle.hsp_simplex.specs.Sums.{only}
 use Rattle.hsp_flow.specs.Residual.{Graph, Sound, Tree, TreeArc, Walk, Shifted, from, to, width, gives, takes}
 use Rattle.hsp_flow.proofs.Sums.{through_more, through_less}
 use Rattle.hsp_flow.proofs.Directions.{from_in}

@@ -6,9 +6,9 @@ use Rattle.hsp_instance.specs.Groups.{Groups}
 use Rattle.hsp_check.specs.declared.arc.NetworkArc.{NetworkArc}
 use Rattle.hsp_check.specs.Instance.{arcs_from}
 use Rattle.hsp_flow.specs.declared.group_lists.GroupLists.{GroupLists}
-use Rattle.hsp_flow.specs.Network.{Transport}
+use Rattle.hsp_simplex.specs.Network.{Transport}
 use Rattle.hsp_flow.specs.Planning.{row_of, server_of, cost_of}
-use Rattle.hsp_flow.specs.Sums.{only, sum_below}
+use Rattle.hsp_simplex.specs.Sums.{only, sum_below}
 
 -- the group of a row
 abbrev pub group_of : Groups → ℕ → ℕ

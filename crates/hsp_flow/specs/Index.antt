@@ -1,6 +1,6 @@
 -- The index of a network's links by their ends.
 use Rattle.std.specs.Prelude.{◌≡◌, ◌≢◌, ℕ, ◌+◌, ◌<◌, ◌≤◌, List, length, slice_index}
-use Rattle.hsp_flow.specs.Sums.{only, sum_below}
+use Rattle.hsp_simplex.specs.Sums.{only, sum_below}
 
 -- where an entry of the index by heads stands: at its link's slot, among those of the link's head
 pub record Entry (heads slots : List ℕ) (v i k : ℕ) : Type 0 where

@@ -1,8 +1,6 @@
-pub mod Answer
 pub mod Frontier
 pub mod Index
 pub mod Layout
-pub mod Network
 pub mod Problem
 pub mod Residual
 pub mod Search

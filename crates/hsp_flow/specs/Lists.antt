@@ -1,6 +1,6 @@
 -- The network that lists hold.
 use Rattle.hsp_flow.specs.declared.amounts.TransportLists.{TransportLists}
-use Rattle.hsp_flow.specs.Network.{Transport}
+use Rattle.hsp_simplex.specs.Network.{Transport}
 
 -- the network that the lists are
 abbrev pub transport_in : TransportLists → Transport

@@ -3,7 +3,7 @@ use Rattle.std.specs.Prelude.{ℕ, ◌+◌, ◌≤◌, length}
 use Rattle.hsp_instance.specs.Instance.{Instance}
 use Rattle.hsp_instance.specs.Groups.{Groups, AreGroups}
 use Rattle.hsp_flow.specs.Layout.{first_of}
-use Rattle.hsp_flow.specs.Network.{Transport}
+use Rattle.hsp_simplex.specs.Network.{Transport}
 
 -- the sink, the hosts, the servers and the sources
 abbrev pub nodes_of : Transport → ℕ

@@ -1,21 +1,10 @@
--- A network's struct as the network that it stands for.
+-- The links and the cost bounds of a network.
 use Rattle.std.specs.Prelude.{ℕ, ◌≤◌}
-use Rattle.hsp_flow.specs.Answer.{BoundsCosts}
+use Rattle.hsp_simplex.specs.Answer.{BoundsCosts}
 use Rattle.hsp_flow.specs.Layout.{LinksOf}
-use Rattle.hsp_flow.specs.Network.{Transport}
 use Rattle.hsp_flow.specs.declared.links.Links.{Links}
-use Rattle.hsp_flow.specs.declared.network.Network.{Network}
-
-abbrev pub problem_of : Network → Transport
-problem_of n = record {
-  demands = n.demands.now;
-  capacities = n.capacities.now;
-  limits = n.limits.now;
-  hosts = n.hosts.now;
-  sources = n.sources.now;
-  servers = n.servers.now;
-  costs = n.costs.now;
-}
+use Rattle.hsp_simplex.specs.Problem.{problem_of}
+use Rattle.hsp_simplex.specs.declared.network.Network.{Network}
 
 -- the links are the network's
 abbrev pub IsLinksOf : Network → Links → Type 0

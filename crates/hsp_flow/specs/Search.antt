@@ -1,7 +1,7 @@
 -- A search for the sink by Dijkstra's algorithm over reduced costs (Network Flows, sections 4.5 and 9.7), in the middle of its work.
 use Rattle.std.specs.Prelude.{◌≡◌, ◌≢◌, ℕ, ◌+◌, ◌*◌, ◌<◌, ◌≤◌, ◌==◌, ◌&&◌, Bool, List, length, slice_index, slice_set, Option, Some, None, is_none, nat_lt, if◌then◌else◌}
 use Rattle.hsp_flow.specs.Frontier.{Changes}
-use Rattle.hsp_flow.specs.Sums.{sum_below}
+use Rattle.hsp_simplex.specs.Sums.{sum_below}
 use Rattle.hsp_flow.specs.Residual.{Relaxed, from, to, width, gives, takes}
 
 -- the node has a key below `top`, and doesn't wait any more

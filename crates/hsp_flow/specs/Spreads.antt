@@ -1,6 +1,6 @@
 -- A flow through groups, spread over their rows as far as it goes.
 use Rattle.std.specs.Prelude.{◌≡◌, ◌⊎◌, ℕ, ◌+◌, ◌<◌}
-use Rattle.hsp_flow.specs.Sums.{only, sum_below}
+use Rattle.hsp_simplex.specs.Sums.{only, sum_below}
 
 -- Flows `f` of the arcs of groups, spread over those of the rows: what is left of each, and what each row still needs.
 pub record Spread (rows many groups_many : ℕ) (count row group_place x f need left : ℕ → ℕ) : Type 0 where

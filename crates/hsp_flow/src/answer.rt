@@ -1,11 +1,12 @@
 ghost use Rattle.std.specs.Prelude.{◌≡◌, ℕ, ◌+◌, ◌-◌, ◌<◌, ◌≤◌, IfOk, length, slice_index};
-ghost use Rattle.hsp_flow.specs.Answer.{IsMet, IsShortSet};
+ghost use Rattle.hsp_simplex.specs.Answer.{IsMet, IsShortSet};
 ghost use Rattle.hsp_flow.specs.Layout.{IsSmall};
-ghost use Rattle.hsp_flow.specs.Problem.{IsLeastBound, IsLinksOf, problem_of};
+ghost use Rattle.hsp_simplex.specs.Problem.{problem_of};
+ghost use Rattle.hsp_flow.specs.Problem.{IsLeastBound, IsLinksOf};
 ghost use Rattle.hsp_flow.specs.Shapes.{IsClosed, Ready, nodes};
 
 use crate::links::{Flow, Links, SearchTree};
-use crate::network::{Network, PricedFlow};
+use hsp_simplex::{Network, PricedFlow};
 use std::alloc::{AllocError, Global};
 
 /// By how much the price at the tail of each link from `start` up to `end` is above that at its head.

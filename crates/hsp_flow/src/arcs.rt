@@ -1,6 +1,7 @@
 // The arcs of an instance, row by row, and their parts in lists.
 
 ghost use Rattle.std.specs.Prelude.{◌≡◌, ◌++◌, IfOk, OnOk, map};
+ghost use Rattle.hsp_instance.specs.Instance.{IsInstance};
 ghost use Rattle.hsp_check.specs.Instance.{arc_of, arcs_from};
 ghost use Rattle.hsp_flow.specs.Planning.{cost_of, row_of, server_of};
 
@@ -25,7 +26,9 @@ pub(crate) fn push_arcs(all: &mut Vec<NetworkArc>, row: u32, arcs: &[Arc]) -> Re
 
 /// The arcs of all rows in turn.
 pub(crate) fn arcs_of(alloc: Global, instance: &Instance) -> Result<Vec<NetworkArc>, AllocError>
-    ensures { IfOk result (λ arcs. arcs.items ≡ arcs_from 0 instance.now.arcs) }
+    ensures arcs { IfOk result (λ arcs. arcs.items ≡ arcs_from 0 instance.now.arcs) }
+    // The instance is within its limits.
+    ensures within { IfOk result (λ _. IsInstance instance.now) }
 {
     let mut all = Vec::new(alloc);
     for row in 0..instance.rows() {

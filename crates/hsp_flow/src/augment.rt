@@ -1,5 +1,5 @@
 ghost use Rattle.std.specs.Prelude.{◌≡◌, ◌≢◌, ℕ, ◌+◌, ◌<◌, ◌≤◌, length, slice_index};
-ghost use Rattle.hsp_flow.specs.Sums.{only};
+ghost use Rattle.hsp_simplex.specs.Sums.{only};
 ghost use Rattle.hsp_flow.specs.Shapes.{Indexed, IsSoundAt, IsTree, nodes, raised_prices};
 
 use crate::links::{Flow, Links, SearchTree};

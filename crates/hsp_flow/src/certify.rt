@@ -7,14 +7,14 @@ ghost use Rattle.hsp_cert.specs.Certificate.Claim.{best};
 ghost use Rattle.hsp_instance.specs.Instance.{IsInstance};
 ghost use Rattle.hsp_check.specs.Instance.{arcs_from, network_of};
 ghost use Rattle.hsp_check.specs.Valid.{IsValid};
-ghost use Rattle.hsp_flow.specs.Answer.{IsMet};
+ghost use Rattle.hsp_simplex.specs.Answer.{IsMet};
 ghost use Rattle.hsp_flow.specs.Planning.{HasLimitedPrices, cost_of, transport_of, uses_of};
-ghost use Rattle.hsp_flow.specs.Sums.{sum_below};
+ghost use Rattle.hsp_simplex.specs.Sums.{sum_below};
 
-use crate::network::PricedFlow;
 use hsp_cert::{Certificate, UseLine};
 use hsp_check::NetworkArc;
 use hsp_instance::Instance;
+use hsp_simplex::PricedFlow;
 use std::alloc::{AllocError, Global};
 
 /// The uses of the arcs that have flow.

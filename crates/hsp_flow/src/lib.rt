@@ -16,7 +16,6 @@ mod grouping;
 mod heap;
 mod index;
 mod links;
-mod network;
 mod opening;
 mod phase;
 mod planning;
@@ -33,7 +32,7 @@ mod tables;
 pub use frontier::Frontier;
 pub use heap::HeapFrontier;
 pub use links::Effort;
-pub use planning::{solve, solve_counted, solve_with};
+pub use planning::{solve, solve_counted, solve_proposed, solve_with};
 pub use scan::ScanFrontier;
 
 #[cfg(test)]

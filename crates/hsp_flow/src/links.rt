@@ -40,12 +40,14 @@ pub struct Flow<'a> {
 }
 
 /// How much work a solver's run took: the searches that were begun, the nodes that they settled, and the paths along which
-/// flow was sent.
+/// flow was sent; and the proposals that were accepted, and the pivots of all that were made.
 #[derive(Clone, Copy, Default)]
 pub struct Effort {
     pub searches: u64,
     pub settled: u64,
     pub augmentations: u64,
+    pub proposals: u64,
+    pub pivots: u64,
 }
 
 /// What a search knows of each node: its distance, the link by which the search came to it, what can be sent to it that

@@ -1,11 +1,12 @@
 // The planner: for every instance a certificate that is valid.
 
-ghost use Rattle.std.specs.Prelude.{◌≡◌, IfOk, length};
+ghost use Rattle.std.specs.Prelude.{◌≡◌, IfOk, IfSome, length};
 ghost use Rattle.hsp_instance.specs.Groups.{AreGroups};
 ghost use Rattle.hsp_instance.specs.Instance.{IsInstance};
 ghost use Rattle.hsp_check.specs.Instance.{arcs_from, network_of};
 ghost use Rattle.hsp_check.specs.Valid.{IsValid};
-ghost use Rattle.hsp_flow.specs.Answer.{Answers, IsMet, IsShortSet};
+ghost use Rattle.hsp_simplex.specs.Answer.{Answers, IsMet, IsShortSet};
+ghost use Rattle.hsp_simplex.specs.Problem.{problem_of};
 ghost use Rattle.hsp_flow.specs.Grouping.{AreFirsts, AreGroupLists, grouped};
 ghost use Rattle.hsp_flow.specs.Lists.{transport_in};
 ghost use Rattle.hsp_flow.specs.Nodes.{MayHaveNodesOf, MayHaveUpTo, nodes_by};
@@ -19,14 +20,32 @@ use crate::group_lists::{GroupLists, group_lists};
 use crate::grouping::firsts_of;
 use crate::heap::HeapFrontier;
 use crate::links::Effort;
-use crate::network::{Network, Outcome, PricedFlow};
 use crate::shortfall::short_certificate;
 use crate::solving::solve_network;
 use crate::spreading::{spread_flags, spread_flows, spread_prices};
 use hsp_cert::Certificate;
 use hsp_check::NetworkArc;
 use hsp_instance::{Groups, Instance, groups};
+use hsp_simplex::{Network, Outcome, PricedFlow, SimplexEffort, accepts, propose_counted};
 use std::alloc::{AllocError, Global};
+
+// The network whose sources are the rows.
+fn row_network<'a>(instance: &Instance, rows: &'a TransportLists) -> Network<'a>
+    requires within { IsInstance instance.now }
+    requires rows { transport_in rows.now ≡ transport_of instance.now }
+    ensures { problem_of result ≡ transport_of instance.now }
+{
+    let _ = instance;
+    Network {
+        demands: &rows.demands,
+        capacities: &rows.capacities,
+        limits: &rows.limits,
+        hosts: &rows.hosts,
+        sources: &rows.sources,
+        servers: &rows.servers,
+        costs: &rows.costs,
+    }
+}
 
 // What becomes of the groups' network.
 fn solve_groups<'a, F: Frontier>(
@@ -109,15 +128,7 @@ fn certify_short(
     ensures valid { IfOk result (IsValid (network_of instance.now)) }
     ensures low { IfOk result (HasLimitedPrices (network_of instance.now)) }
 {
-    let network = Network {
-        demands: &rows.demands,
-        capacities: &rows.capacities,
-        limits: &rows.limits,
-        hosts: &rows.hosts,
-        sources: &rows.sources,
-        servers: &rows.servers,
-        costs: &rows.costs,
-    };
+    let network = row_network(instance, rows);
     short_certificate(alloc, instance, &network, set)
 }
 
@@ -204,17 +215,70 @@ fn solve_rows<F: Frontier>(
     requires nodes { MayHaveUpTo F.may_have (nodes_by instance.now (length instance.now.rows)) }
     ensures { IfOk result (Answers (transport_of instance.now)) }
 {
-    let _ = instance;
-    let network = Network {
-        demands: &rows.demands,
-        capacities: &rows.capacities,
-        limits: &rows.limits,
-        hosts: &rows.hosts,
-        sources: &rows.sources,
-        servers: &rows.servers,
-        costs: &rows.costs,
-    };
+    let network = row_network(instance, rows);
     solve_network::<F>(alloc, &network, effort)
+}
+
+// What becomes of the rows' network, by the loop of searches.
+fn solve_by_searches<F: Frontier>(
+    alloc: Global,
+    instance: &Instance,
+    rows: &TransportLists,
+    effort: &mut Effort,
+) -> Result<Outcome, AllocError>
+    requires within { IsInstance instance.now }
+    requires rows { transport_in rows.now ≡ transport_of instance.now }
+    requires nodes { MayHaveNodesOf F.may_have instance.now }
+    ensures { IfOk result (Answers (transport_of instance.now)) }
+{
+    let groups = groups(alloc, instance)?;
+    if groups.len() == instance.rows() {
+        solve_rows::<F>(alloc, instance, rows, effort)
+    } else {
+        solve_grouped::<F>(alloc, instance, &groups, rows, effort)
+    }
+}
+
+// What is proposed for the network and accepted; None where nothing is.
+fn accepted_proposal(
+    alloc: Global,
+    network: &Network<'_>,
+    effort: &mut Effort,
+) -> Result<Option<Outcome>, AllocError>
+    ensures { IfOk result (λ found. IfSome found (Answers (problem_of network.now))) }
+{
+    let mut simplex = SimplexEffort {
+        pivots: 0,
+        sweeps: 0,
+    };
+    let proposal = propose_counted(alloc, network, &mut simplex)?;
+    effort.pivots = effort.pivots.saturating_add(simplex.pivots);
+    let Some(outcome) = proposal else {
+        return Ok(None);
+    };
+    if !accepts(alloc, network, &outcome)? {
+        return Ok(None);
+    }
+    effort.proposals = effort.proposals.saturating_add(1);
+    Ok(Some(outcome))
+}
+
+// What becomes of the rows' network: what is proposed, where it is accepted, and else what the loop of searches finds.
+fn solve_proposed_rows(
+    alloc: Global,
+    instance: &Instance,
+    rows: &TransportLists,
+    effort: &mut Effort,
+) -> Result<Outcome, AllocError>
+    requires within { IsInstance instance.now }
+    requires rows { transport_in rows.now ≡ transport_of instance.now }
+    ensures { IfOk result (Answers (transport_of instance.now)) }
+{
+    let network = row_network(instance, rows);
+    match accepted_proposal(alloc, &network, effort)? {
+        Some(outcome) => Ok(outcome),
+        None => solve_by_searches::<HeapFrontier>(alloc, instance, rows, effort),
+    }
 }
 
 // The certificate of what becomes of the rows' network.
@@ -248,15 +312,9 @@ pub fn solve_counted<F: Frontier>(
     ensures valid { IfOk result (IsValid (network_of instance.now)) }
     ensures low { IfOk result (HasLimitedPrices (network_of instance.now)) }
 {
-    let many = instance.rows();
     let arcs = arcs_of(alloc, instance)?;
     let rows = lists_of(alloc, instance, &arcs)?;
-    let groups = groups(alloc, instance)?;
-    let outcome = if groups.len() == many {
-        solve_rows::<F>(alloc, instance, &rows, effort)?
-    } else {
-        solve_grouped::<F>(alloc, instance, &groups, &rows, effort)?
-    };
+    let outcome = solve_by_searches::<F>(alloc, instance, &rows, effort)?;
     certify(alloc, instance, &arcs, &rows, outcome)
 }
 
@@ -277,10 +335,26 @@ pub fn solve_with<F: Frontier>(
     solve_counted::<F>(alloc, instance, &mut effort)
 }
 
-/// As [`solve_with`], with [`HeapFrontier`].
+/// As [`solve`], and adds to `effort` the work that it took: no clause speaks of those counts.
+pub fn solve_proposed(
+    alloc: Global,
+    instance: &Instance,
+    effort: &mut Effort,
+) -> Result<Certificate, AllocError>
+    ensures valid { IfOk result (IsValid (network_of instance.now)) }
+    ensures low { IfOk result (HasLimitedPrices (network_of instance.now)) }
+{
+    let arcs = arcs_of(alloc, instance)?;
+    let rows = lists_of(alloc, instance, &arcs)?;
+    let outcome = solve_proposed_rows(alloc, instance, &rows, effort)?;
+    certify(alloc, instance, &arcs, &rows, outcome)
+}
+
+/// As [`solve_with`] with [`HeapFrontier`], but takes what the network simplex method proposes where the test accepts it.
 pub fn solve(alloc: Global, instance: &Instance) -> Result<Certificate, AllocError>
     ensures valid { IfOk result (IsValid (network_of instance.now)) }
     ensures low { IfOk result (HasLimitedPrices (network_of instance.now)) }
 {
-    solve_with::<HeapFrontier>(alloc, instance)
+    let mut effort = Effort::default();
+    solve_proposed(alloc, instance, &mut effort)
 }

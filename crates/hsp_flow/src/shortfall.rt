@@ -7,15 +7,15 @@ ghost use Rattle.hsp_cert.specs.Certificate.Claim.{short};
 ghost use Rattle.hsp_instance.specs.Instance.{IsInstance};
 ghost use Rattle.hsp_check.specs.Instance.{network_of};
 ghost use Rattle.hsp_check.specs.Valid.{IsValid};
-ghost use Rattle.hsp_flow.specs.Answer.{IsShortSet};
-ghost use Rattle.hsp_flow.specs.Network.{capacity_of, demand_of, is_on, on_host, reached_capacity, reaches};
+ghost use Rattle.hsp_simplex.specs.Answer.{IsShortSet};
+ghost use Rattle.hsp_simplex.specs.Network.{capacity_of, demand_of, is_on, on_host, reached_capacity, reaches};
 ghost use Rattle.hsp_flow.specs.Planning.{HasLimitedPrices, flagged_from, transport_of};
-ghost use Rattle.hsp_flow.specs.Problem.{problem_of};
-ghost use Rattle.hsp_flow.specs.Sums.{any_below, sum_below};
+ghost use Rattle.hsp_simplex.specs.Problem.{problem_of};
+ghost use Rattle.hsp_simplex.specs.Sums.{any_below, sum_below};
 
-use crate::network::Network;
 use hsp_cert::Certificate;
 use hsp_instance::Instance;
+use hsp_simplex::Network;
 use std::alloc::{AllocError, Global};
 
 // The numbers of the flagged sources.

@@ -1,35 +1,22 @@
-ghost use Rattle.std.specs.Prelude.{◌≡◌, ℕ, ◌+◌, ◌*◌, ◌<◌, ◌≤◌, ◌⊎◌, IfOk, length, slice_index};
-ghost use Rattle.hsp_flow.specs.Answer.{Answers};
+ghost use Rattle.std.specs.Prelude.{◌≡◌, ℕ, ◌+◌, ◌<◌, IfOk, length, slice_index};
+ghost use Rattle.hsp_simplex.specs.Answer.{Answers};
 ghost use Rattle.hsp_flow.specs.Index.{ByHead, Places};
 ghost use Rattle.hsp_flow.specs.Layout.{IsSmall, LinksOf};
 ghost use Rattle.hsp_flow.specs.Nodes.{MayHaveUpTo, nodes_of};
-ghost use Rattle.hsp_flow.specs.Problem.{IsLeastBound, IsLinksOf, problem_of};
+ghost use Rattle.hsp_simplex.specs.Problem.{problem_of};
+ghost use Rattle.hsp_flow.specs.Problem.{IsLeastBound, IsLinksOf};
 ghost use Rattle.hsp_flow.specs.Shapes.{Ready, nodes};
 
 use crate::answer::{priced_flow, short_set};
 use crate::frontier::Frontier;
 use crate::index::{count_heads, fill_order, head_places};
 use crate::links::{Effort, Flow, Links, SearchTree};
-use crate::network::{Network, Outcome};
 use crate::opening::first_prices;
 use crate::phase::meet_all;
 use crate::tables::{link_capacities, link_costs, link_heads, link_tails, node_supplies};
 use hsp_instance::Runs;
+use hsp_simplex::{Network, Outcome, greatest};
 use std::alloc::{AllocError, Global};
-
-/// The greatest cost, 0 where there is none.
-fn greatest(costs: &[u64]) -> u64
-    ensures bound { (k : ℕ) → k < length costs.now → slice_index costs.now k ≤ result }
-    ensures attained { (result ≡ 0) ⊎ ((k : ℕ) × (k < length costs.now) × (slice_index costs.now k ≡ result)) }
-{
-    let mut most = 0;
-    for cost in costs {
-        if *cost > most {
-            most = *cost;
-        }
-    }
-    most
-}
 
 /// Runs the solver from a flow with its prices.
 fn solve_from<F: Frontier>(

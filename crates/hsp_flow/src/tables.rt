@@ -1,8 +1,8 @@
 ghost use Rattle.std.specs.Prelude.{◌≡◌, ℕ, ◌+◌, ◌-◌, ◌<◌, ◌≤◌, [], IfOk, None, OnOk, length, replicate, slice_index, slice_index_or};
 ghost use Rattle.hsp_flow.specs.Layout.{Appends, CapacitiesOf, CostsOf, HeadsOf, IsSmall, SuppliesOf, TailsOf, host_node};
-ghost use Rattle.hsp_flow.specs.Problem.{problem_of};
+ghost use Rattle.hsp_simplex.specs.Problem.{problem_of};
 
-use crate::network::Network;
+use hsp_simplex::Network;
 use std::alloc::{AllocError, Global};
 
 /// Appends each number, raised by `shift`.

@@ -1,13 +1,13 @@
 ghost use Rattle.std.specs.Prelude.{ℕ};
 ghost use Rattle.hsp_flow.specs.Layout.{IsSmall};
-ghost use Rattle.hsp_flow.specs.Problem.{problem_of};
+ghost use Rattle.hsp_simplex.specs.Problem.{problem_of};
 
 use crate::frontier::Frontier;
 use crate::heap::HeapFrontier;
 use crate::links::Effort;
-use crate::network::{Network, Outcome};
 use crate::scan::ScanFrontier;
 use crate::solving::solve_network;
+use hsp_simplex::{Network, Outcome};
 use std::alloc::Global;
 use std::process::Abort;
 use std::test::Fail;

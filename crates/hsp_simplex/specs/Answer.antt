@@ -27,3 +27,8 @@ pub record IsShortSet (net : Transport) (set : List Bool) : Type 0 where
 abbrev pub Answers : Transport → Outcome → Type 0
 Answers net (Met plan) = IsMet net plan
 Answers net (Short set) = IsShortSet net set.items
+
+-- the outcome is such a set
+abbrev pub IsShortAnswer : Transport → Outcome → Type 0
+IsShortAnswer net (Met plan) = ⊥
+IsShortAnswer net (Short set) = IsShortSet net set.items

@@ -1,6 +1,7 @@
 -- A transportation network with hosts: sources send their demands over arcs to servers, each server takes up to its capacity,
 -- and the servers on a host together take up to its limit (Network Flows, sections 1.2, 9.4 and 9.7).
-use Rattle.std.specs.Prelude.{◌≡◌, ℕ, ◌+◌, ◌<◌, ◌≤◌, ◌==◌, ◌&&◌, Bool, false, List, length, slice_index, slice_index_or, Option, Some, None, is_none, min, if◌then◌else◌}
+use Rattle.std.specs.Prelude.{◌≡◌, ℕ, ◌+◌, ◌<◌, ◌≤◌, ◌==◌, ◌&&◌, Bool, List, length, slice_index, slice_index_or, Option, Some, None, is_none, min, if◌then◌else◌}
+pub use Rattle.hsp_simplex.specs.Sums.{is_on}
 use Rattle.hsp_simplex.specs.Sums.{any_below, only, sum_below}
 
 -- the demand of each source, the capacity of each server, the limit of each host, the host of each server,
@@ -34,11 +35,6 @@ sent net flow i = sum_below (length net.sources) (λ k. only (slice_index net.so
 -- what the server j takes
 abbrev pub load : Transport → (ℕ → ℕ) → ℕ → ℕ
 load net flow j = sum_below (length net.sources) (λ k. only (slice_index net.servers k) j (flow k))
-
--- whether that host is the host h
-abbrev pub is_on : Option ℕ → ℕ → Bool
-is_on None h = false
-is_on (Some g) h = g == h
 
 -- the sum of g over the servers on the host h
 abbrev pub on_host : Transport → (ℕ → ℕ) → ℕ → ℕ

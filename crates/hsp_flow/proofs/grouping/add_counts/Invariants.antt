@@ -1,6 +1,6 @@
 use Rattle.std.proofs.Common.{◌≡◌, ℕ, ◌<◌, ◌≤◌, ◌*◌, length, map, slice_index}
 use Rattle.hsp_flow.specs.Grouping.{group_of}
-use Rattle.hsp_flow.specs.Sums.{only, sum_below}
+use Rattle.hsp_simplex.specs.Sums.{only, sum_below}
 use Rattle.hsp_flow.proofs.grouping.add_counts.Given as goal
 
 abbrev pub invariant-loop-row : goal.invariant-loop-row

@@ -1,6 +1,6 @@
 use Rattle.std.proofs.Common.{◌≡◌, ℕ, ◌+◌, ◌<◌, length, slice_index, vec_len}
 use Rattle.hsp_flow.specs.Index.{entering}
-use Rattle.hsp_flow.specs.Sums.{sum_below}
+use Rattle.hsp_simplex.specs.Sums.{sum_below}
 use Rattle.hsp_flow.proofs.index.head_places.Given as goal
 
 abbrev pub invariant-loop-count : goal.invariant-loop-count

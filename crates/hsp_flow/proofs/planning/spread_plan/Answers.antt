@@ -1,5 +1,5 @@
 use Rattle.std.proofs.Common.{◌∙◌, ap, refl}
-use Rattle.hsp_flow.specs.Network.{Transport}
+use Rattle.hsp_simplex.specs.Network.{Transport}
 use Rattle.hsp_flow.proofs.GroupsMet.{group_places_many, sources_low, group_places_low, spread_met}
 use Rattle.hsp_flow.proofs.planning.spread_plan.Goals as goal
 

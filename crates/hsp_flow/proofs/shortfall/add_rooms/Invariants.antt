@@ -1,6 +1,6 @@
 use Rattle.std.proofs.Common.{◌≡◌, ℕ, ◌<◌, ◌≤◌, ◌*◌, None, false, length, slice_index, slice_index_or, if◌then◌else◌}
-use Rattle.hsp_flow.specs.Sums.{sum_below}
-use Rattle.hsp_flow.specs.Network.{is_on}
+use Rattle.hsp_simplex.specs.Sums.{sum_below}
+use Rattle.hsp_simplex.specs.Network.{is_on}
 use Rattle.hsp_flow.proofs.shortfall.add_rooms.Given as goal
 
 abbrev pub invariant-loop-server : goal.invariant-loop-server

@@ -1,5 +1,5 @@
 use Rattle.std.proofs.Common.{◌≡◌, ◌≤◌, ◌*◌, false, slice_index, slice_index_or, if◌then◌else◌}
-use Rattle.hsp_flow.specs.Sums.{sum_below}
+use Rattle.hsp_simplex.specs.Sums.{sum_below}
 use Rattle.hsp_flow.proofs.shortfall.demand_of.Given as goal
 
 abbrev pub invariant-loop-source : goal.invariant-loop-source

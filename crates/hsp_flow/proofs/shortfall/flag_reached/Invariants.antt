@@ -1,5 +1,5 @@
 use Rattle.std.proofs.Common.{◌≡◌, ℕ, ◌<◌, ◌==◌, ◌&&◌, false, length, slice_index, slice_index_or}
-use Rattle.hsp_flow.specs.Sums.{any_below}
+use Rattle.hsp_simplex.specs.Sums.{any_below}
 use Rattle.hsp_flow.proofs.shortfall.flag_reached.Given as goal
 
 abbrev pub invariant-loop-arc : goal.invariant-loop-arc

@@ -1,6 +1,6 @@
 use Rattle.std.proofs.Common.{◌≡◌, ◌≤◌, ◌*◌, None, false, slice_index, slice_index_or, if◌then◌else◌}
 use Rattle.std.specs.Prelude.{is_none}
-use Rattle.hsp_flow.specs.Sums.{sum_below}
+use Rattle.hsp_simplex.specs.Sums.{sum_below}
 use Rattle.hsp_flow.proofs.shortfall.free_room.Given as goal
 
 abbrev pub invariant-loop-server : goal.invariant-loop-server

@@ -1,6 +1,6 @@
 use Rattle.std.proofs.Common.{◌≡◌, ◌≤◌, ◌*◌, slice_index}
 use Rattle.std.specs.Prelude.{min}
-use Rattle.hsp_flow.specs.Sums.{sum_below}
+use Rattle.hsp_simplex.specs.Sums.{sum_below}
 use Rattle.hsp_flow.proofs.shortfall.limited_room.Given as goal
 
 abbrev pub invariant-loop-host : goal.invariant-loop-host

@@ -1,5 +1,5 @@
 use Rattle.std.proofs.Common.{false, slice_index_or}
-use Rattle.hsp_flow.specs.Problem.{problem_of}
+use Rattle.hsp_simplex.specs.Problem.{problem_of}
 use Rattle.hsp_flow.proofs.ShortRows.{capacity_from}
 use Rattle.hsp_flow.proofs.shortfall.room_of.Goals as goal
 

@@ -1,5 +1,5 @@
 use Rattle.std.proofs.Common.{◌≡◌, ℕ, ◌<◌, ◌≤◌, false, length, slice_index, slice_index_or, sym, subst, arith}
-use Rattle.hsp_flow.specs.Network.{Transport, capacity_of, demand_of}
+use Rattle.hsp_simplex.specs.Network.{Transport, capacity_of, demand_of}
 use Rattle.hsp_flow.proofs.Claiming.{short_is, short_valid}
 use Rattle.hsp_flow.proofs.Limits.{counts_low, capacities_low, limits_low}
 use Rattle.hsp_flow.proofs.shortfall.short_certificate.Goals as goal

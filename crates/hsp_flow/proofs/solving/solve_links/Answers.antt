@@ -1,5 +1,5 @@
 use Rattle.std.proofs.Common.{◌≡◌, ◌+◌, ◌*◌, ◌<◌, length, refl, arith, add-mul, one-mul}
-use Rattle.hsp_flow.specs.Problem.{problem_of}
+use Rattle.hsp_simplex.specs.Problem.{problem_of}
 use Rattle.hsp_flow.proofs.Building.{ascends_of, costs_fit, graph_of, scale_of}
 use Rattle.hsp_flow.proofs.solving.solve_links.Goals as goal
 

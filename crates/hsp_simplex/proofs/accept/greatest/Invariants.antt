@@ -1,5 +1,5 @@
 use Rattle.std.proofs.Common.{◌≡◌, ℕ, ◌<◌, ◌≤◌, ◌⊎◌, slice_index}
-use Rattle.hsp_flow.proofs.solving.greatest.Given as goal
+use Rattle.hsp_simplex.proofs.accept.greatest.Given as goal
 
 abbrev pub invariant-loop-cost : goal.invariant-loop-cost
 invariant-loop-cost l =
