@@ -2,6 +2,22 @@
 // simplex method, and the test that accepts one (Ahuja, Magnanti and Orlin, Network Flows, chapters 9, 11 and 16).
 #![tactic(auto)]
 
+mod cycle;
+mod first_prices;
+mod first_tree;
+mod graph;
+mod lists;
 mod network;
+mod pivot;
+mod preorder;
+mod pricing;
+mod proposal;
+mod read_off;
+mod regret;
+mod shortage;
+mod tree;
+mod update;
 
 pub use network::{Network, Outcome, PricedFlow};
+pub use proposal::{propose, propose_counted};
+pub use tree::SimplexEffort;
