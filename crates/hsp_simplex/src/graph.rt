@@ -204,10 +204,7 @@ fn outlet_capacities(
 ) -> Result<Vec<u64>, AllocError> {
     let ample = total_demand.saturating_add(1);
     let mut capacities = vec![in alloc; 0; 1]?;
-    for limit in network.limits {
-        capacities.push((*limit).min(ample))?;
-    }
-    for capacity in network.capacities {
+    for capacity in network.limits.iter().chain(network.capacities) {
         capacities.push((*capacity).min(ample))?;
     }
     Ok(capacities)

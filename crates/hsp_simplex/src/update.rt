@@ -135,7 +135,7 @@ impl Tree {
                 parent: number_of(parent),
                 arc,
                 weight: weight.wrapping_add(u32::from(is_source)),
-                // a source whose only child is on the stem has the node above it as its only child
+                // a source that had no other child is led by its old parent, which is its child now
                 lead: if count > first {
                     get_or(&self.gathered, first, 0)
                 } else {
