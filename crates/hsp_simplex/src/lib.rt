@@ -12,6 +12,8 @@ mod pivot;
 mod preorder;
 mod pricing;
 mod proposal;
+#[cfg(test)]
+mod propose_tests;
 mod read_off;
 mod regret;
 mod shortage;
