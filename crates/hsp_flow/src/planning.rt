@@ -247,10 +247,7 @@ fn accepted_proposal(
 ) -> Result<Option<Outcome>, AllocError>
     ensures { IfOk result (λ found. IfSome found (Answers (problem_of network.now))) }
 {
-    let mut simplex = SimplexEffort {
-        pivots: 0,
-        sweeps: 0,
-    };
+    let mut simplex = SimplexEffort::default();
     let proposal = propose_counted(alloc, network, &mut simplex)?;
     effort.pivots = effort.pivots.saturating_add(simplex.pivots);
     let Some(outcome) = proposal else {

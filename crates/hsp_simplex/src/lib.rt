@@ -5,13 +5,29 @@
 mod accept;
 mod accept_prices;
 mod accept_set;
+mod cycle;
+mod first_prices;
+mod first_tree;
+mod graph;
+mod lists;
 mod network;
+mod pivot;
+mod preorder;
+mod pricing;
 mod proposal;
+mod read_off;
+mod regret;
+mod shortage;
 mod sums;
+mod tree;
+mod update;
 
 pub use accept::{accepts, greatest};
 pub use network::{Network, NetworkLists, Outcome, PricedFlow};
-pub use proposal::{SimplexEffort, propose, propose_counted};
+pub use proposal::{propose, propose_counted};
+pub use tree::SimplexEffort;
 
 #[cfg(test)]
 mod accept_tests;
+#[cfg(test)]
+mod propose_tests;

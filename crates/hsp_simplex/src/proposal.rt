@@ -1,28 +1,68 @@
-// What is proposed for a network.
+// The network simplex from a network to an outcome.
 
+use crate::accept::greatest;
+use crate::first_prices::FirstPrices;
+use crate::graph::Graph;
+use crate::lists::saturating_sum;
 use crate::network::{Network, Outcome};
+use crate::regret::by_regret;
+use crate::shortage::total_capacity;
+use crate::tree::{SimplexEffort, Tree};
 use std::alloc::{AllocError, Global};
 
-/// How much work a proposal took: the pivots, and the sweeps over the sources.
-#[derive(Clone, Copy, Default)]
-pub struct SimplexEffort {
-    pub pivots: u64,
-    pub sweeps: u64,
+/// An outcome that may be the network's; `None` where the network is too large for the solver's numbers, with a cost
+/// from 2^31, demands of 2^60 together, 16 million servers or hosts or a thousand million sources or arcs, or where
+/// the solver gave up after many pivots. The proposal is the same for the same network. An error says that memory is
+/// wanting.
+///
+/// No clause says more of it, since nothing rests on it: a proposal counts where the test `accepts` says so, which
+/// knows nothing of how it came about. A mistake here would cost time alone.
+pub fn propose(alloc: Global, network: &Network<'_>) -> Result<Option<Outcome>, AllocError> {
+    let mut effort = SimplexEffort {
+        pivots: 0,
+        sweeps: 0,
+    };
+    propose_counted(alloc, network, &mut effort)
 }
 
-/// As [`propose`], and adds to `effort` the work that it took.
+/// What `propose` answers, and what it took, which is added to `effort`.
 pub fn propose_counted(
     alloc: Global,
     network: &Network<'_>,
     effort: &mut SimplexEffort,
 ) -> Result<Option<Outcome>, AllocError> {
-    let _ = alloc;
-    let _ = network;
-    let _ = effort;
-    Ok(None)
+    let greatest_cost = greatest(network.costs);
+    let total_demand = saturating_sum(network.demands);
+    if !has_room(network, greatest_cost, total_demand) {
+        return Ok(None);
+    }
+    if total_capacity(alloc, network)? < total_demand {
+        let all = vec![in alloc; true; network.demands.len()]?;
+        return Ok(Some(Outcome::Short(all)));
+    }
+    let graph = Graph::new(alloc, network, greatest_cost, total_demand)?;
+    let mut tree = first_tree(alloc, &graph)?;
+    let is_optimal = tree.optimize(&graph);
+    effort.add(&tree.effort);
+    if is_optimal {
+        Ok(Some(tree.outcome(alloc, &graph)?))
+    } else {
+        Ok(None)
+    }
 }
 
-/// None as yet.
-pub fn propose(alloc: Global, network: &Network<'_>) -> Result<Option<Outcome>, AllocError> {
-    propose_counted(alloc, network, &mut SimplexEffort::default())
+// Whether the network's numbers have room in the solver's.
+fn has_room(network: &Network<'_>, greatest_cost: u64, total_demand: u64) -> bool {
+    network.sources.len() < 1_000_000_000
+        && network.demands.len() < 1_000_000_000
+        && network.capacities.len() < 16_000_000
+        && network.limits.len() < 16_000_000
+        && greatest_cost < 2_147_483_648
+        && total_demand < 1_152_921_504_606_846_976
+}
+
+fn first_tree(alloc: Global, graph: &Graph) -> Result<Tree, AllocError> {
+    let prices = FirstPrices::new(alloc, graph)?;
+    let order = by_regret(alloc, graph, &prices)?;
+    Tree::greedy(alloc, graph, &prices, &order)
 }

@@ -1,0 +1,162 @@
+// First prices, by subgradient steps on the Lagrangian dual (Network Flows, 16.3).
+//
+// The capacities are relaxed: each server and host has a price, and a source takes the server that is cheapest by
+// cost and price. A price rises with what is taken from its node, in proportion to the capacity, and all prices fall
+// by what a full node's price would rise. Sources take their turns one by one, and see the prices as they are then.
+// The steps get smaller from round to round. Costs are multiplied by a power of two, so that small costs leave room
+// for steps between them.
+
+use crate::graph::{Arc, Graph, ROOT};
+use crate::lists::{get_or, increase, set};
+use crate::tree::INFINITE_COST;
+use std::alloc::{AllocError, Global};
+
+const ROUNDS: u32 = 10;
+
+/// How often all prices fall in a round.
+const FALLS: usize = 32;
+
+/// Prices in the making, of each node that is no source.
+#[derive(Drop)]
+pub struct FirstPrices {
+    /// The price of a host, or of a server with its host's.
+    totals: Vec<u64>,
+    /// The price of a server alone.
+    prices: Vec<u64>,
+    /// What a unit adds to the price, in 1/65536.
+    unit_rises: Vec<u64>,
+    /// What was taken of a host since prices last fell.
+    loads: Vec<u64>,
+    scale: u64,
+}
+
+// How far prices move in a round: by what a full node's price rises, or falls at a time, and the most by which one
+// source may raise a price.
+#[derive(Clone, Copy, Drop)]
+struct Step {
+    rise: u64,
+    fall: u64,
+    limit: u64,
+}
+
+impl Step {
+    fn new(rise: u64) -> Step {
+        Step {
+            rise,
+            fall: rise / FALLS as u64,
+            limit: rise.wrapping_mul(4),
+        }
+    }
+}
+
+// A power of two by which costs come near 2^30.
+fn scale_for(greatest_cost: u64) -> u64 {
+    let mut scale = 1u64;
+    for _ in 0..24 {
+        if greatest_cost.saturating_mul(scale) < 1_073_741_824 {
+            scale = scale.saturating_mul(2);
+        }
+    }
+    scale
+}
+
+impl FirstPrices {
+    pub(crate) fn new(alloc: Global, graph: &Graph) -> Result<FirstPrices, AllocError> {
+        let nodes = graph.transit_count();
+        let scale = scale_for(graph.greatest_cost);
+        let mut prices = FirstPrices {
+            totals: vec![in alloc; 0; nodes]?,
+            prices: vec![in alloc; 0; nodes]?,
+            unit_rises: vec![in alloc; 0; nodes]?,
+            loads: vec![in alloc; 0; nodes]?,
+            scale,
+        };
+        let mut rise = graph.greatest_cost.wrapping_mul(scale) / 2;
+        for _ in 0..ROUNDS {
+            let step = Step::new(rise);
+            prices.set_unit_rises(graph, step);
+            prices.round(graph, step);
+            rise = (rise / 8).wrapping_mul(5);
+        }
+        Ok(prices)
+    }
+
+    /// What a unit on the arc costs with the prices where it leads, scaled.
+    #[inline(always)]
+    pub(crate) fn cost_with_price(&self, arc: Arc) -> u64 {
+        let cost = u64::from(arc.cost).wrapping_mul(self.scale);
+        get_or(&self.totals, arc.head as usize, 0).wrapping_add(cost)
+    }
+
+    fn set_unit_rises(&mut self, graph: &Graph, step: Step) {
+        let rise = step.rise.wrapping_mul(65_536);
+        for node in graph.transshipment_nodes() {
+            let unit_rise = rise / graph.outlet_capacity(node).max(1);
+            set(&mut self.unit_rises, node, unit_rise);
+        }
+    }
+
+    // Lets each source take its cheapest server once.
+    fn round(&mut self, graph: &Graph, step: Step) {
+        let block = (graph.source_count / FALLS).saturating_add(1);
+        let mut wait = 0usize;
+        for source in 0..graph.source_count {
+            let server = self.cheapest_server(graph, source);
+            self.take(graph, server, get_or(&graph.demands, source, 0), step);
+            wait = wait.wrapping_add(1);
+            if wait == block {
+                wait = 0;
+                self.move_hosts(graph, step);
+                self.lower_servers(graph, step);
+            }
+        }
+    }
+
+    #[inline(always)]
+    fn cheapest_server(&self, graph: &Graph, source: usize) -> usize {
+        let mut least = INFINITE_COST;
+        let mut server = 0u32;
+        for arc in graph.arcs_of(source) {
+            let cost = self.cost_with_price(*arc);
+            server = if cost < least { arc.head } else { server };
+            least = least.min(cost);
+        }
+        server as usize
+    }
+
+    #[inline(always)]
+    fn take(&mut self, graph: &Graph, server: usize, demand: u64, step: Step) {
+        let rise = self.rise_for(server, demand, step);
+        increase(&mut self.prices, server, rise);
+        increase(&mut self.totals, server, rise);
+        increase(&mut self.loads, graph.outlet_head(server), demand);
+    }
+
+    #[inline(always)]
+    fn rise_for(&self, node: usize, units: u64, step: Step) -> u64 {
+        let unit_rise = get_or(&self.unit_rises, node, 0);
+        (unit_rise.wrapping_mul(units) / 65_536).min(step.limit)
+    }
+
+    // Raises the hosts' prices by what was taken of them, and lowers them.
+    fn move_hosts(&mut self, graph: &Graph, step: Step) {
+        for host in graph.hosts() {
+            let rise = self.rise_for(host, get_or(&self.loads, host, 0), step);
+            let price = get_or(&self.totals, host, 0)
+                .wrapping_add(rise)
+                .saturating_sub(step.fall);
+            set(&mut self.totals, host, price);
+            set(&mut self.loads, host, 0);
+        }
+        set(&mut self.totals, ROOT, 0);
+    }
+
+    fn lower_servers(&mut self, graph: &Graph, step: Step) {
+        for server in graph.servers() {
+            let price = get_or(&self.prices, server, 0).saturating_sub(step.fall);
+            let of_host = get_or(&self.totals, graph.outlet_head(server), 0);
+            set(&mut self.prices, server, price);
+            set(&mut self.totals, server, price.wrapping_add(of_host));
+        }
+    }
+}

@@ -1,0 +1,211 @@
+// The graph of a network, which stays as it is while the flow changes.
+//
+// The nodes are numbered: first the root, to which all flow goes, then the hosts, the servers and the sources. Hosts
+// and servers are the transshipment nodes. Each of them has one arc that leads on, its outlet: a server's goes to its
+// host, or to the root where it is on none, and has the server's capacity; a host's goes to the root and has the
+// host's limit. A source has its arcs to servers, without bounds, and an artificial arc to the root, which costs more
+// than any path. So each arc leads from a node to one with a smaller number, and the greater end of an arc is its
+// tail.
+
+use crate::lists::{ABSENT, between, get_or, increase, number_of};
+use crate::network::Network;
+use std::alloc::{AllocError, Global};
+use std::ops::Range;
+
+/// The node to which all flow goes.
+pub const ROOT: usize = 0;
+
+/// An arc from a source to the server at the node `head`.
+#[derive(Clone, Copy, Drop)]
+pub struct Arc {
+    pub cost: u32,
+    pub head: u32,
+}
+
+/// The graph, with arcs in forward star order: source by source.
+#[derive(Drop)]
+pub struct Graph {
+    pub source_count: usize,
+    pub host_count: usize,
+    /// How many hosts and servers there are, and so the number of the last one.
+    pub transshipment_count: usize,
+    pub greatest_cost: u64,
+    pub artificial_cost: u64,
+    pub demands: Vec<u64>,
+    pub arcs: Vec<Arc>,
+    /// The first arc of each source, and the number of all arcs.
+    first_arcs: Vec<u32>,
+    outlet_heads: Vec<u32>,
+    pub outlet_capacities: Vec<u64>,
+}
+
+impl Graph {
+    #[inline(always)]
+    pub(crate) fn node_count(&self) -> usize {
+        self.transit_count().saturating_add(self.source_count)
+    }
+
+    /// How many nodes are no sources.
+    #[inline(always)]
+    pub(crate) fn transit_count(&self) -> usize {
+        self.transshipment_count.saturating_add(1)
+    }
+
+    #[inline(always)]
+    pub(crate) fn hosts(&self) -> Range<usize> {
+        1..self.host_count.saturating_add(1)
+    }
+
+    #[inline(always)]
+    pub(crate) fn servers(&self) -> Range<usize> {
+        self.host_count.saturating_add(1)..self.transit_count()
+    }
+
+    #[inline(always)]
+    pub(crate) fn transshipment_nodes(&self) -> Range<usize> {
+        1..self.transit_count()
+    }
+
+    #[inline(always)]
+    pub(crate) fn is_source(&self, node: usize) -> bool {
+        node > self.transshipment_count
+    }
+
+    #[inline(always)]
+    pub(crate) fn source_node(&self, source: usize) -> usize {
+        self.transshipment_count
+            .wrapping_add(1)
+            .wrapping_add(source)
+    }
+
+    #[inline(always)]
+    pub(crate) fn first_arc(&self, source: usize) -> u32 {
+        get_or(&self.first_arcs, source, 0)
+    }
+
+    #[inline(always)]
+    pub(crate) fn arcs_of(&self, source: usize) -> &[Arc] {
+        let start = self.first_arc(source) as usize;
+        let end = self.first_arc(source.wrapping_add(1)) as usize;
+        between(&self.arcs, start, end)
+    }
+
+    /// What a unit on a source's arc costs.
+    #[inline(always)]
+    pub(crate) fn cost_of(&self, arc: u32) -> u64 {
+        let free = Arc { cost: 0, head: 0 };
+        u64::from(get_or(&self.arcs, arc as usize, free).cost)
+    }
+
+    /// The number of a transshipment node's outlet: they stand behind the arcs of the sources.
+    #[inline(always)]
+    pub(crate) fn outlet_of(&self, node: usize) -> u32 {
+        number_of(self.arcs.len().wrapping_add(node))
+    }
+
+    #[inline(always)]
+    pub(crate) fn is_outlet(&self, arc: u32) -> bool {
+        arc != ABSENT && arc as usize >= self.arcs.len()
+    }
+
+    /// The node whose outlet that is.
+    #[inline(always)]
+    pub(crate) fn outlet_tail(&self, outlet: u32) -> usize {
+        (outlet as usize).wrapping_sub(self.arcs.len())
+    }
+
+    #[inline(always)]
+    pub(crate) fn outlet_head(&self, node: usize) -> usize {
+        get_or(&self.outlet_heads, node, 0) as usize
+    }
+
+    #[inline(always)]
+    pub(crate) fn outlet_capacity(&self, node: usize) -> u64 {
+        get_or(&self.outlet_capacities, node, 0)
+    }
+
+    /// The graph of a network whose costs are below 2^31. A residual path visits each server once, so its cost is at
+    /// most the greatest cost for each server, and an artificial arc costs one more than that.
+    pub(crate) fn new(
+        alloc: Global,
+        network: &Network<'_>,
+        greatest_cost: u64,
+        total_demand: u64,
+    ) -> Result<Graph, AllocError> {
+        let host_count = network.limits.len();
+        let server_count = network.capacities.len();
+        Ok(Graph {
+            source_count: network.demands.len(),
+            host_count,
+            transshipment_count: host_count.saturating_add(server_count),
+            greatest_cost,
+            artificial_cost: greatest_cost
+                .saturating_mul(server_count as u64)
+                .saturating_add(1),
+            demands: network.demands.to_vec(alloc)?,
+            arcs: source_arcs(alloc, network)?,
+            first_arcs: first_arcs(alloc, network)?,
+            outlet_heads: outlet_heads(alloc, network)?,
+            outlet_capacities: outlet_capacities(alloc, network, total_demand)?,
+        })
+    }
+}
+
+fn source_arcs(alloc: Global, network: &Network<'_>) -> Result<Vec<Arc>, AllocError> {
+    let mut arcs = Vec::new(alloc);
+    let first_server = number_of(network.limits.len()).wrapping_add(1);
+    for arc in 0..network.servers.len() {
+        let cost = get_or(network.costs, arc, 0);
+        let head = get_or(network.servers, arc, 0).wrapping_add(first_server);
+        let cost = if cost < 2_147_483_648 {
+            cost as u32
+        } else {
+            ABSENT
+        };
+        arcs.push(Arc { cost, head })?;
+    }
+    Ok(arcs)
+}
+
+fn arc_counts(alloc: Global, network: &Network<'_>) -> Result<Vec<u64>, AllocError> {
+    let mut counts = vec![in alloc; 0; network.demands.len().saturating_add(1)]?;
+    for source in network.sources {
+        increase(&mut counts, (*source as usize).wrapping_add(1), 1);
+    }
+    Ok(counts)
+}
+
+fn first_arcs(alloc: Global, network: &Network<'_>) -> Result<Vec<u32>, AllocError> {
+    let mut first_arcs = Vec::new(alloc);
+    let mut sum = 0u64;
+    for count in &arc_counts(alloc, network)? {
+        sum = sum.wrapping_add(*count);
+        first_arcs.push(number_of(sum as usize))?;
+    }
+    Ok(first_arcs)
+}
+
+fn outlet_heads(alloc: Global, network: &Network<'_>) -> Result<Vec<u32>, AllocError> {
+    let mut heads = vec![in alloc; 0; network.limits.len().saturating_add(1)]?;
+    for host in network.hosts {
+        match *host {
+            Some(host) => heads.push(host.wrapping_add(1))?,
+            None => heads.push(0)?,
+        }
+    }
+    Ok(heads)
+}
+
+// Capacities that no flow can use up are lowered to one more than all demands, so that sums stay small.
+fn outlet_capacities(
+    alloc: Global,
+    network: &Network<'_>,
+    total_demand: u64,
+) -> Result<Vec<u64>, AllocError> {
+    let ample = total_demand.saturating_add(1);
+    let mut capacities = vec![in alloc; 0; 1]?;
+    for capacity in network.limits.iter().chain(network.capacities) {
+        capacities.push((*capacity).min(ample))?;
+    }
+    Ok(capacities)
+}

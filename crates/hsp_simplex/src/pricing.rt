@@ -1,0 +1,182 @@
+// Pricing: which arc enters next (Network Flows, 11.5).
+//
+// The sources are swept over in turn. Of each source the arc by which a unit costs least enters, if it violates the
+// optimality conditions by more than a threshold; outlets are priced in between. The threshold begins high, so that
+// the worst violations go first, and falls to 0. When a sweep at 0 finds nothing, the tree is optimal.
+
+use crate::cycle::Entering;
+use crate::graph::Graph;
+use crate::lists::get_or;
+use crate::tree::{INFINITE_COST, OutletState, Tree};
+use std::ops::Range;
+
+/// How many sweeps are made at each threshold above 0, and how many at 0.
+const SWEEPS: u32 = 5;
+
+const LAST_SWEEPS: u32 = 1_000;
+
+/// How many pivots are made for each node, about, before the solver gives up.
+const PIVOTS_EACH: u64 = 20;
+
+// When outlets are priced in a sweep: `batch` of them after each `stride` sources.
+#[derive(Clone, Copy, Drop)]
+struct Schedule {
+    stride: usize,
+    batch: usize,
+}
+
+impl Schedule {
+    fn of(graph: &Graph) -> Schedule {
+        let sources = graph.source_count;
+        let outlets = graph.transshipment_count;
+        Schedule {
+            stride: (sources / outlets.max(1)).max(1),
+            batch: (outlets / sources.max(1)).saturating_add(1),
+        }
+    }
+}
+
+impl Tree {
+    /// Improves the tree until it is optimal; whether that came to pass.
+    pub(crate) fn optimize(&mut self, graph: &Graph) -> bool {
+        let mut threshold = graph.greatest_cost / 4;
+        for _ in 0..64 {
+            if threshold == 0 {
+                break;
+            }
+            self.sweep_at(graph, threshold);
+            threshold /= 4;
+        }
+        self.finish(graph)
+    }
+
+    // Sweeps at a threshold until few arcs enter.
+    fn sweep_at(&mut self, graph: &Graph, threshold: u64) {
+        let few = graph.source_count as u64 / 32;
+        for _ in 0..SWEEPS {
+            if self.sweep(graph, threshold) <= few {
+                break;
+            }
+        }
+    }
+
+    fn finish(&mut self, graph: &Graph) -> bool {
+        let pivot_limit = (graph.node_count() as u64)
+            .saturating_add(1_000)
+            .saturating_mul(PIVOTS_EACH);
+        for _ in 0..LAST_SWEEPS {
+            if self.sweep(graph, 0) == 0 {
+                return true;
+            }
+            if self.effort.pivots > pivot_limit {
+                return false;
+            }
+        }
+        false
+    }
+
+    // Prices all sources and the outlets; how many arcs entered.
+    fn sweep(&mut self, graph: &Graph, threshold: u64) -> u64 {
+        let schedule = Schedule::of(graph);
+        let before = self.effort.pivots;
+        let mut outlet = 1usize;
+        let mut wait = 0usize;
+        for source in 0..graph.source_count {
+            self.price_source(graph, source, threshold);
+            wait = wait.wrapping_add(1);
+            if wait == schedule.stride {
+                wait = 0;
+                let next = outlet.saturating_add(schedule.batch);
+                self.price_outlets(graph, outlet..next, threshold);
+                outlet = next;
+            }
+        }
+        self.effort.sweeps = self.effort.sweeps.wrapping_add(1);
+        self.effort.pivots.wrapping_sub(before)
+    }
+
+    #[inline(always)]
+    fn price_source(&mut self, graph: &Graph, source: usize, threshold: u64) {
+        let tail = graph.source_node(source);
+        let least = self.least_potential(graph, source);
+        let violation = self.source_potential(graph, tail).saturating_sub(least);
+        if violation > threshold {
+            self.enter_cheapest(graph, source, least, violation);
+        }
+    }
+
+    // What a unit of the source costs by its cheapest arc.
+    #[inline(always)]
+    fn least_potential(&self, graph: &Graph, source: usize) -> u64 {
+        let mut least = INFINITE_COST;
+        for arc in graph.arcs_of(source) {
+            let by_arc = get_or(&self.potentials, arc.head as usize, INFINITE_COST).wrapping_add(
+                u64::from(arc.cost),
+            );
+            least = least.min(by_arc);
+        }
+        least
+    }
+
+    // Lets the first arc of the source enter by which a unit costs that much.
+    fn enter_cheapest(&mut self, graph: &Graph, source: usize, least: u64, violation: u64) {
+        let mut number = graph.first_arc(source);
+        for arc in graph.arcs_of(source) {
+            let by_arc = get_or(&self.potentials, arc.head as usize, INFINITE_COST).wrapping_add(
+                u64::from(arc.cost),
+            );
+            if by_arc == least {
+                let entering = Entering {
+                    arc: number,
+                    tail: graph.source_node(source),
+                    head: arc.head as usize,
+                    residual: u64::MAX,
+                    violation,
+                };
+                self.pivot(graph, &entering);
+                break;
+            }
+            number = number.wrapping_add(1);
+        }
+    }
+
+    fn price_outlets(&mut self, graph: &Graph, nodes: Range<usize>, threshold: u64) {
+        for node in nodes {
+            if node <= graph.transshipment_count {
+                let violation = self.outlet_violation(graph, node);
+                if violation > threshold {
+                    self.enter_outlet(graph, node, violation);
+                }
+            }
+        }
+    }
+
+    // By how much an outlet at a bound would gain from flow towards the other.
+    fn outlet_violation(&self, graph: &Graph, node: usize) -> u64 {
+        let below = self.potential(node);
+        let above = self.potential(graph.outlet_head(node));
+        match self.outlet(node) {
+            OutletState::Basic => 0,
+            OutletState::AtLower => below.saturating_sub(above),
+            OutletState::AtUpper => above.saturating_sub(below),
+        }
+    }
+
+    fn enter_outlet(&mut self, graph: &Graph, node: usize, violation: u64) {
+        let above = graph.outlet_head(node);
+        let is_full = self.outlet(node) == OutletState::AtUpper;
+        let (tail, head) = if is_full {
+            (above, node)
+        } else {
+            (node, above)
+        };
+        let entering = Entering {
+            arc: graph.outlet_of(node),
+            tail,
+            head,
+            residual: graph.outlet_capacity(node),
+            violation,
+        };
+        self.pivot(graph, &entering);
+    }
+}
