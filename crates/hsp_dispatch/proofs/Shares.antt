@@ -1,11 +1,8 @@
 -- A row's cells, and the spread of what is left in them.
-use Rattle.std.proofs.Common.{◌≡◌, ◌<◌, ◌≤◌, ◌+◌, ◌-◌, ◌∙◌, ◌++◌, ℕ, zero, suc, List, [], ◌∷◌, length, drop, get_or, replicate, arith, refl, sym, ap, eq-eqb, add-one}
+use Rattle.std.proofs.Common.{◌≡◌, ◌<◌, ◌≤◌, ◌+◌, ◌-◌, ◌∙◌, ◌++◌, ℕ, zero, suc, List, [], ◌∷◌, drop, replicate, arith, refl, sym, ap, eq-eqb}
 use Rattle.std.proofs.Common.{inl, inr}
 use Rattle.std.proofs.lemmas.Bool.{ne_eqb, cases_eq}
 use Rattle.std.specs.List.{AllByRecursion}
-use Rattle.std.proofs.lemmas.List.{drop-set}
-use Rattle.std.proofs.Math.Seq.{drop-cons}
-use Rattle.std.proofs.Math.ListN.{set}
 use Rattle.hsp_dispatch.proofs.Spreads.{same_spread}
 use Rattle.hsp_dispatch.specs.Dispatch.{spread_from}
 use Rattle.hsp_dispatch.specs.Shares.{AreCells, without_first, left_at}
@@ -19,30 +16,6 @@ sites_of (cell ∷ cells) = replicate cell.left cell.site ++ sites_of cells
 -- every cell is of a site from s on and before s + n
 abbrev pub Within : ℕ → ℕ → List Cell → Type 0
 Within n s cells = AllByRecursion (λ (cell : Cell). (s ≤ cell.site) × (cell.site < s + n)) cells
-
--- the first cell lowered, while something is left in it
-with_less : (cell new : Cell) (cells : List Cell) → AreCells (cell ∷ cells) → new.site ≡ cell.site → 0 < new.left → AreCells (new ∷ cells)
-with_less cell new cells are same left = (left, (rw same are.1.0, are.1.1))
-
-pub lowered : (cells : List Cell) (i : ℕ) (d new : Cell) → i < length cells → AreCells (drop i cells) → new.site ≡ (get_or cells i d).site → 0 < new.left → AreCells (drop i (set cells i new))
-lowered cells i d new h are same left =
-    rw (drop-set cells i new h, add-one) (with_less (get_or cells i d) new (drop (suc i) cells) (rw (drop-cons cells i d h) at are) same left)
-
--- which value stands for a place that is not there is the same at a place that is
-same_at : (cells : List Cell) (i : ℕ) (d e : Cell) → i < length cells → get_or cells i d ≡ get_or cells i e
-same_at [] i d e h = absurd (omega arith)
-same_at (cell ∷ cells) zero d e h = refl
-same_at (cell ∷ cells) (suc i) d e h = same_at cells i d e (omega arith)
-
--- the cell that was read and the one that is written are one, and more than 1 is left in it
-pub more_left : (cells : List Cell) (i : ℕ) (read written : Cell) → i < length cells → AreCells (drop i cells) → read ≡ get_or cells i read → written ≡ get_or cells i written
-    → (read.left ≡ 1 → ⊥) → 0 < written.left - 1
-more_left cells i read written h are r w not_one =
-    let one : written ≡ read = w ∙ same_at cells i written read h ∙ sym r in
-    let some = (rw (drop-cons cells i read h) at are).0 in
-    let some_read : 0 < read.left = rw (sym r) at some in
-    let left : written.left ≡ read.left = ap (λ (c : Cell). c.left) one in
-    omega (arith, not_one)
 
 pub all_so : (P Q : Cell → Type 0) → ((cell : Cell) → P cell → Q cell) → (cells : List Cell) → AllByRecursion P cells → AllByRecursion Q cells
 all_so P Q so [] all = tt

@@ -34,6 +34,10 @@ abbrev pub first_of : List Cell → Option Cell
 first_of [] = None
 first_of (cell ∷ cells) = Some cell
 
+-- a first cell, where something is left in it, and more
+abbrev pub with_first : Cell → List Cell → List Cell
+with_first cell cells = if cell.left == 0 then [] else cell ∷ cells
+
 -- the cells without the first of what is left
 abbrev pub without_first : List Cell → List Cell
 without_first [] = []

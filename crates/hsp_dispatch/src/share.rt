@@ -14,23 +14,26 @@ pub(crate) struct Cell {
     pub(crate) left: u64,
 }
 
-/// What is left for a row: cells in ascending order of their sites, each with something left.
+/// What is left for a row: cells in ascending order of their sites, each with something left. The first stands in place, so that
+/// most queries touch no other memory; it is spent where nothing is left.
 #[derive(Debug, Drop)]
 pub(crate) struct RowShare {
-    cells: Vec<Cell>,
+    first: Cell,
+    more: Vec<Cell>,
     next: usize,
 }
 
 impl Model for RowShare {
-    ghost use Rattle.std.specs.Prelude.{List, drop, length, ◌≤◌};
+    ghost use Rattle.std.specs.Prelude.{List, drop, length, [], ◌≡◌, ◌≤◌};
     ghost use Rattle.hsp_dispatch.specs.declared.share.Cell.{Cell};
-    ghost use Rattle.hsp_dispatch.specs.Shares.{AreCells};
+    ghost use Rattle.hsp_dispatch.specs.Shares.{AreCells, with_first};
 
     ghost Value = { List Cell };
 
-    ghost view = { λ s. drop s.next s.cells.items };
+    ghost view = { λ s. with_first s.first (drop s.next s.more.items) };
 
-    ghost invariant = { λ s. (s.next ≤ length s.cells.items) × AreCells (drop s.next s.cells.items) };
+    ghost invariant = { λ s. (s.next ≤ length s.more.items) × AreCells (with_first s.first (drop s.next s.more.items))
+        × (s.first.left ≡ 0 → drop s.next s.more.items ≡ []) };
 }
 
 impl RowShare {
@@ -38,8 +41,14 @@ impl RowShare {
     pub(crate) fn new(alloc: Global) -> RowShare
         ensures { result ≡ [] }
     {
+        let spent = Cell {
+            site: 0,
+            server: 0,
+            left: 0,
+        };
         RowShare {
-            cells: Vec::new(alloc),
+            first: spent,
+            more: Vec::new(alloc),
             next: 0,
         }
     }
@@ -49,9 +58,12 @@ impl RowShare {
         requires { AreCells (self.old ++ cell ∷ []) }
         ensures { OnOk result (self.new ≡ self.old ++ cell ∷ []) }
     {
-        // Most rows have a cell or two; what they have no room for stays in the processor's cache.
-        self.cells.reserve_exact(1)?;
-        self.cells.push(cell)?;
+        if self.first.left == 0 {
+            self.first = cell;
+            return Ok(());
+        }
+        self.more.reserve_exact(1)?;
+        self.more.push(cell)?;
         Ok(())
     }
 
@@ -60,14 +72,15 @@ impl RowShare {
         ensures taken { result ≡ first_of self.old }
         ensures rest { self.new ≡ without_first self.old }
     {
-        if self.next == self.cells.len() {
+        let cell = self.first;
+        if cell.left == 0 {
             return None;
         }
-        let cell = self.cells[self.next];
-        if cell.left == 1 {
-            self.next += 1;
+        if cell.left > 1 || self.next == self.more.len() {
+            self.first.left -= 1;
         } else {
-            self.cells[self.next].left -= 1;
+            self.first = self.more[self.next];
+            self.next += 1;
         }
         Some(cell)
     }
@@ -76,7 +89,10 @@ impl RowShare {
     pub(crate) fn left(&self, site: u32) -> u64
         ensures { result ≡ left_at self.now site }
     {
-        for cell in &self.cells[self.next..] {
+        if self.first.site == site {
+            return self.first.left;
+        }
+        for cell in &self.more[self.next..] {
             if cell.site == site {
                 return cell.left;
             }
