@@ -1,60 +1,82 @@
 -- The sums of answers.
-use Rattle.std.proofs.Common.{◌≡◌, ◌≢◌, ◌<◌, ◌≤◌, ◌+◌, ◌∙◌, ◌++◌, ℕ, zero, suc, Bool, List, [], ◌∷◌, length, Option, Some, None, count_by, arith, refl, ap, sym, cond, add-zero}
-use Rattle.std.proofs.lemmas.List.Sums.{count_by-le-length, sum_by_push}
+use Rattle.std.proofs.Common.{◌≡◌, ◌≢◌, ◌<◌, ◌+◌, ◌∙◌, ◌++◌, ℕ, zero, suc, Bool, List, [], ◌∷◌, length, map, Option, Some, None, count_by, arith, refl, ap, sym, cond, add-zero}
+use Rattle.std.proofs.lemmas.List.Sums.{sum_by-cons, sum_by_push}
 use Rattle.std.specs.List.{slice_get}
 use Rattle.hsp_instance.specs.Instance.{Instance, Server}
-use Rattle.hsp_check.specs.Plan.{Plan}
-use Rattle.hsp_dispatch.specs.Dispatch.{Entry, answers, answers_after, is_assigned, is_spent, is_unknown, sums_of}
-use Rattle.hsp_dispatch.specs.Lines.{AreBelow, IsAmong, answer_of, counted, served_by}
+use Rattle.hsp_dispatch.specs.Dispatch.{all_of, is_assigned, is_spent, is_unknown, sums_of}
+use Rattle.hsp_dispatch.specs.Fronts.{front_sums_of, is_kind, is_no_front}
+use Rattle.hsp_dispatch.specs.Lines.{IsAmong, answer_of, counted, served_by}
 use Rattle.hsp_dispatch.specs.declared.answer.Answer.{Answer}
 use Rattle.hsp_dispatch.specs.declared.answer.Answer.TheVariants.{Spent, Unknown}
-use Rattle.hsp_dispatch.specs.declared.answer.LogSums.{LogSums}
+use Rattle.hsp_dispatch.specs.declared.answer.FrontAnswer.{FrontAnswer}
+use Rattle.hsp_dispatch.specs.declared.answer.FrontAnswer.TheVariants.{Answered, NoFront}
+use Rattle.hsp_dispatch.specs.declared.answer.FrontSums.{FrontSums}
 use Rattle.hsp_dispatch.specs.declared.answering.Given.{Given}
-use Rattle.hsp_dispatch.specs.declared.answering.Given.TheVariants.{Server as ByServer, Spent as IsSpent, Unknown as IsUnknown}
+use Rattle.hsp_dispatch.specs.declared.answering.Given.TheVariants.{NoFront as IsNoFront, Server as ByServer, Spent as IsSpent, Unknown as IsUnknown}
 
-one_more : (kind : Answer → Bool) (given : List Answer) (answer : Answer) → count_by kind (given ++ answer ∷ []) ≡ count_by kind given + cond (kind answer) 1 0
-one_more kind given answer = sum_by_push (λ (a : Answer). cond (kind a) 1 0) given answer
+one_more : (kind : FrontAnswer → Bool) (given : List FrontAnswer) (answer : FrontAnswer) → count_by kind (given ++ answer ∷ []) ≡ count_by kind given + cond (kind answer) 1 0
+one_more kind given answer = sum_by_push (λ (a : FrontAnswer). cond (kind a) 1 0) given answer
 
--- the sums of answers with one more
-all_more : (given : List Answer) (answer : Answer) (sums : LogSums) → sums ≡ sums_of given
-    → sums_of (given ++ answer ∷ []) ≡ record { assigned = sums.assigned + cond (is_assigned answer) 1 0; spent = sums.spent + cond (is_spent answer) 1 0; unknown = sums.unknown + cond (is_unknown answer) 1 0 }
-all_more given answer sums are = rw (are, one_more is_assigned given answer, one_more is_spent given answer, one_more is_unknown given answer) refl
+-- sums with one answer more
+abbrev with_one : FrontSums → FrontAnswer → FrontSums
+with_one sums answer = record {
+  assigned = sums.assigned + cond (is_kind is_assigned answer) 1 0;
+  spent = sums.spent + cond (is_kind is_spent answer) 1 0;
+  unknown = sums.unknown + cond (is_kind is_unknown answer) 1 0;
+  no_front = sums.no_front + cond (is_no_front answer) 1 0;
+}
 
-is_there : (servers : List Server) (number : ℕ) → number < length servers → slice_get servers number ≡ None → ⊥
+all_more : (given : List FrontAnswer) (answer : FrontAnswer) → front_sums_of (given ++ answer ∷ []) ≡ with_one (front_sums_of given) answer
+all_more given answer =
+    rw (one_more (is_kind is_assigned) given answer, one_more (is_kind is_spent) given answer, one_more (is_kind is_unknown) given answer, one_more is_no_front given answer) refl
+
+pub is_there : (servers : List Server) (number : ℕ) → number < length servers → slice_get servers number ≡ None → ⊥
 is_there [] number there none = absurd (omega (arith, there))
 is_there (server ∷ servers) zero there none = cc none
 is_there (server ∷ servers) (suc number) there none = is_there servers number (omega (arith, there)) none
 
 -- an answer by a server that is there
-served : (sums : LogSums) (server : Option Server) (number : ℕ) → server ≢ None
-    → counted sums (ByServer number) ≡ record { assigned = sums.assigned + cond (is_assigned (served_by server)) 1 0; spent = sums.spent + cond (is_spent (served_by server)) 1 0; unknown = sums.unknown + cond (is_unknown (served_by server)) 1 0 }
+served : (sums : FrontSums) (server : Option Server) (number : ℕ) → server ≢ None → counted sums (ByServer number) ≡ with_one sums (Answered (served_by server))
 served sums None number there = absurd (there refl)
-served sums (Some server) number there = rw (add-zero, add-zero) refl
+served sums (Some server) number there = rw (add-zero, add-zero, add-zero) refl
+
+counted_one : (it : Instance) (how : Given) (sums : FrontSums) → IsAmong (length it.servers) how → counted sums how ≡ with_one sums (answer_of it how)
+counted_one it (ByServer number) sums among =
+    served sums (slice_get it.servers number) number (λ none. is_there it.servers number among none)
+counted_one it IsSpent sums among = rw (add-zero, add-zero, add-zero) refl
+counted_one it IsUnknown sums among = rw (add-zero, add-zero, add-zero) refl
+counted_one it IsNoFront sums among = rw (add-zero, add-zero, add-zero) refl
 
 -- the sums with one answer more, as they are counted
-counted_more : (it : Instance) (given : Given) (answered : List Answer) (sums : LogSums) → IsAmong (length it.servers) given → sums ≡ sums_of answered
-    → counted sums given ≡ sums_of (answered ++ answer_of it given ∷ [])
-counted_more it (ByServer number) answered sums among are =
-    served sums (slice_get it.servers number) number (λ none. is_there it.servers number among none) ∙ sym (all_more answered (served_by (slice_get it.servers number)) sums are)
-counted_more it IsSpent answered sums among are = rw (all_more answered Spent sums are, add-zero, add-zero) refl
-counted_more it IsUnknown answered sums among are = rw (all_more answered Unknown sums are, add-zero, add-zero) refl
+pub counted_more : (it : Instance) (how : Given) (given : List FrontAnswer) (sums : FrontSums) → IsAmong (length it.servers) how → sums ≡ front_sums_of given
+    → counted sums how ≡ front_sums_of (given ++ answer_of it how ∷ [])
+counted_more it how given sums among are =
+    counted_one it how sums among ∙ ap (λ (s : FrontSums). with_one s (answer_of it how)) are ∙ sym (all_more given (answer_of it how))
 
--- the same of the answers to entries
-pub counted_on : (it : Instance) (x : Plan) (entries more : List Entry) (given : Given) (sums : LogSums) → IsAmong (length it.servers) given → sums ≡ sums_of (answers it x entries)
-    → answers it x more ≡ answers it x entries ++ answer_of it given ∷ [] → counted sums given ≡ sums_of (answers it x more)
-counted_on it x entries more given sums among are one = rw one (counted_more it given (answers it x entries) sums among are)
+-- ---- answers of a dispatcher
 
-answers_many : (it : Instance) (x : Plan) (earlier entries : List Entry) → length (answers_after it x earlier entries) ≡ length entries
-unfolding answers_after
-answers_many it x earlier [] = refl
-answers_many it x earlier (entry ∷ entries) = ap suc (answers_many it x (earlier ++ entry ∷ []) entries)
+count_answered : (kind : Answer → Bool) (given : List Answer) → count_by (is_kind kind) (map Answered given) ≡ count_by kind given
+count_answered kind [] = refl
+count_answered kind (answer ∷ given) =
+    sum_by-cons (λ (a : FrontAnswer). cond (is_kind kind a) 1 0) (Answered answer) (map Answered given)
+    ∙ ap (λ (n : ℕ). cond (kind answer) 1 0 + n) (count_answered kind given) ∙ sym (sum_by-cons (λ (a : Answer). cond (kind a) 1 0) answer given)
 
-below : (kind : Answer → Bool) (given : List Answer) (limit : ℕ) → length given < limit → count_by kind given < limit
-below kind given limit few = omega (arith, few, count_by-le-length kind given)
+no_fronts : (given : List Answer) → count_by is_no_front (map Answered given) ≡ 0
+no_fronts [] = refl
+no_fronts (answer ∷ given) = sum_by-cons (λ (a : FrontAnswer). cond (is_no_front a) 1 0) (Answered answer) (map Answered given)
+    ∙ ap (λ (n : ℕ). 0 + n) (no_fronts given)
 
--- the sums of fewer entries than a limit are below it
-pub sums_below : (it : Instance) (x : Plan) (entries : List Entry) (sums : LogSums) (number limit : ℕ) → sums ≡ sums_of (answers_after it x [] entries) → length entries ≡ number
-    → number ≤ limit → number ≢ limit → AreBelow limit sums
-sums_below it x entries sums number limit are many most not_all =
-    let few : length (answers_after it x [] entries) < limit = omega (arith, answers_many it x [] entries, many, most, not_all) in
-    rw are (below is_assigned _ limit few, below is_spent _ limit few, below is_unknown _ limit few)
+all_sums : (given : List Answer) → front_sums_of (map Answered given) ≡ all_of (sums_of given)
+all_sums given = rw (count_answered is_assigned given, count_answered is_spent given, count_answered is_unknown given, no_fronts given) refl
+
+one_answered : (given : List Answer) (answer : Answer) → map Answered (given ++ answer ∷ []) ≡ map Answered given ++ Answered answer ∷ []
+one_answered [] answer = refl
+one_answered (first ∷ given) answer = ap (λ (more : List FrontAnswer). Answered first ∷ more) (one_answered given answer)
+
+-- the same of a dispatcher's answers
+pub counted_answer : (it : Instance) (how : Given) (given : List Answer) (answer : Answer) (sums : FrontSums) → IsAmong (length it.servers) how
+    → sums ≡ all_of (sums_of given) → answer_of it how ≡ Answered answer → counted sums how ≡ all_of (sums_of (given ++ answer ∷ []))
+counted_answer it how given answer sums among are is =
+    counted_more it how (map Answered given) sums among (are ∙ sym (all_sums given))
+    ∙ ap (λ (last : FrontAnswer). front_sums_of (map Answered given ++ last ∷ [])) is
+    ∙ ap (λ (all : List FrontAnswer). front_sums_of all) (sym (one_answered given answer)) ∙ all_sums (given ++ answer ∷ [])

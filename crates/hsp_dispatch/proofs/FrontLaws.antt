@@ -5,16 +5,13 @@ use Rattle.std.specs.Prelude.{nat_lt}
 use Rattle.std.specs.List.{slice_get}
 use Rattle.std.proofs.lemmas.Bool.{cases_eq, cases_lt, le-ltb, lt-ltb, ne_eqb}
 use Rattle.std.proofs.lemmas.List.{append-nil}
-use Rattle.std.proofs.lemmas.Option.{slice_get_past, slice_get_within}
 use Rattle.hsp_instance.specs.Instance.{Instance}
-use Rattle.hsp_instance.proofs.Lists.{there}
 use Rattle.hsp_check.specs.Plan.{Plan}
 use Rattle.hsp_check.specs.Sums.{sum_below}
 use Rattle.hsp_check.proofs.Summing.{sum_below_le, sum_below_same}
 use Rattle.hsp_dispatch.specs.Dispatch.{Entry, IsSame, answer_to, assigned_in, count_for, rest, spread}
 use Rattle.hsp_dispatch.specs.FrontLaws.{AnswersByShares, AreFrontsAfter, BeginsWithShares, EndsInTheSame, GoesByItsEntries, IsSpentTogether, NeverExceedsTogether, WasSpentAt}
-use Rattle.hsp_dispatch.specs.Fronts.{Event, IsTakenAt, answer_of_front, answers_at, assigned_at, entries_at, front_answer, front_answers_after, share, share_of}
-use Rattle.hsp_dispatch.specs.Shares.{Held, left_of}
+use Rattle.hsp_dispatch.specs.Fronts.{Event, IsTakenAt, Tables, answer_among, answers_at, assigned_at, entries_at, event_answer, event_answers_after, fronts_of, left_at_front, share, share_of, shares_of}
 use Rattle.hsp_dispatch.specs.declared.answer.Answer.{Answer}
 use Rattle.hsp_dispatch.specs.declared.answer.Answer.TheVariants.{Spent}
 use Rattle.hsp_dispatch.specs.declared.answer.FrontAnswer.{FrontAnswer}
@@ -42,50 +39,53 @@ more_elsewhere front events event other = entries_append front events (event ∷
 -- ---- fronts that answer one event after the other
 
 pub begins : BeginsWithShares
-begins it x fronts held are = record {
+begins it x fronts tables are = record {
+  instance = are.instance;
   many = are.many;
-  each = λ front own e.
-      let is = are.each front own e in
-      (is.0, λ row site. is.1 row site ∙ rest_none it (share_of fronts front x) row site);
+  each = λ front inside row site. are.each front inside row site ∙ rest_none it (share_of fronts front x) row site;
 }
 
-answered : (it : Instance) (x : Plan) (fronts : ℕ) (events : List Event) (event : Event) (old : List Held) → AreFrontsAfter it x fronts events old
-    → answer_of_front (slice_get old event.front) event.entry ≡ front_answer it fronts x events event
-answered it x fronts events event old are = elim (cases_lt event.front fronts) [
+-- fronts that hold what events leave of their tables answer the next event by those tables
+pub answered_by : (it : Instance) (fronts : ℕ) (tables : ℕ → Plan) (events : List Event) (event : Event) (old : Tables) → old.instance ≡ it → fronts_of old ≡ fronts
+    → ((front : ℕ) → front < fronts → IsSame (left_at_front old front) (rest it (tables front) (entries_at front events)))
+    → answer_among old event.front event.entry ≡ event_answer it fronts tables events event
+answered_by it fronts tables events event old same many left = elim (cases_lt event.front fronts) [
   | inl inside ↦
-      let own = there old event.front (omega (arith, are.many, inside)) in
-      let is = are.each event.front own.0 own.1 in
-      let same : answer_to own.0.instance (left_of own.0) [] event.entry ≡ answer_to it (share_of fronts event.front x) (entries_at event.front events) event.entry =
-      ap (λ (i : Instance). answer_to i (left_of own.0) [] event.entry) is.0
-      ∙ answer_after it (share_of fronts event.front x) (left_of own.0) (entries_at event.front events) event.entry is.1 in
-      rw (own.1, lt-ltb event.front fronts inside) (ap Answered same)
-  | inr past ↦ rw (slice_get_past old event.front (omega (arith, are.many, past)), le-ltb event.front fronts past) refl
+      let by_table : answer_to old.instance (left_at_front old event.front) [] event.entry ≡ answer_to it (tables event.front) (entries_at event.front events) event.entry =
+      ap (λ (i : Instance). answer_to i (left_at_front old event.front) [] event.entry) same
+      ∙ answer_after it (tables event.front) (left_at_front old event.front) (entries_at event.front events) event.entry (left event.front inside) in
+      rw (many, lt-ltb event.front fronts inside) (ap Answered by_table)
+  | inr past ↦ rw (many, le-ltb event.front fronts past) refl
 ]
 
-taken_on : (it : Instance) (x : Plan) (fronts : ℕ) (events : List Event) (event : Event) (old new : List Held) → AreFrontsAfter it x fronts events old
-    → IsTakenAt event.front event.entry old new → AreFrontsAfter it x fronts (events ++ event ∷ []) new
-taken_on it x fronts events event old new are taken = record {
-  many = taken.many ∙ are.many;
-  each = λ front own e. elim (cases_eq event.front front) [
-    | inl here ↦
-        let before = there old front (omega (arith, slice_get_within new front own e, taken.many)) in
-        let was = are.each front before.0 before.1 in
-        let step = taken.own before.0 own (ap (λ (n : ℕ). slice_get old n) here ∙ before.1) (ap (λ (n : ℕ). slice_get new n) here ∙ e) in
-        let next : IsSame (left_of own) (rest it (left_of before.0) (event.entry ∷ [])) =
-        λ row site. step.1 row site ∙ ap (λ (i : Instance). rest i (left_of before.0) (event.entry ∷ []) row site) was.0 in (
-          step.0 ∙ was.0,
-          λ row site.
-              rest_more it (share_of fronts front x) (left_of before.0) (left_of own) (entries_at front events) event.entry was.1 next row site
-              ∙ ap (λ (entries : List Entry). rest it (share_of fronts front x) entries row site) (sym (more_here front events event here)),
-        )
-    | inr other ↦
-        let was = are.each front own (sym (taken.others front (λ same. other (sym same))) ∙ e) in
-        (was.0, λ row site. was.1 row site ∙ ap (λ (entries : List Entry). rest it (share_of fronts front x) entries row site) (sym (more_elsewhere front events event other)))
-  ];
-}
+-- and hold then what one event more leaves
+pub left_on : (it : Instance) (fronts : ℕ) (tables : ℕ → Plan) (events : List Event) (event : Event) (old new : Tables) → old.instance ≡ it → fronts_of old ≡ fronts
+    → ((front : ℕ) → front < fronts → IsSame (left_at_front old front) (rest it (tables front) (entries_at front events)))
+    → IsTakenAt event.front event.entry old new
+    → (front : ℕ) → front < fronts → IsSame (left_at_front new front) (rest it (tables front) (entries_at front (events ++ event ∷ [])))
+left_on it fronts tables events event old new same many left taken front inside = elim (cases_eq event.front front) [
+  | inl here ↦
+      let own = rw here at taken.own in
+      let next : IsSame (left_at_front new front) (rest it (left_at_front old front) (event.entry ∷ [])) =
+      λ row site. own (omega (arith, many, inside)) row site ∙ ap (λ (i : Instance). rest i (left_at_front old front) (event.entry ∷ []) row site) same in
+      λ row site.
+          rest_more it (tables front) (left_at_front old front) (left_at_front new front) (entries_at front events) event.entry (left front inside) next row site
+          ∙ ap (λ (entries : List Entry). rest it (tables front) entries row site) (sym (more_here front events event here))
+  | inr other ↦
+      λ row site.
+          taken.others front (λ is. other (sym is)) row site ∙ left front inside row site
+          ∙ ap (λ (entries : List Entry). rest it (tables front) entries row site) (sym (more_elsewhere front events event other))
+]
 
 pub answers_by_shares : AnswersByShares
-answers_by_shares it x fronts events event old new are taken = (answered it x fronts events event old are, taken_on it x fronts events event old new are taken)
+answers_by_shares it x fronts events event old new are taken = (
+  answered_by it fronts (shares_of fronts x) events event old are.instance are.many are.each,
+  record {
+    instance = taken.instance ∙ are.instance;
+    many = taken.many ∙ are.many;
+    each = left_on it fronts (shares_of fronts x) events event old new are.instance are.many are.each taken;
+  },
+)
 
 -- ---- each front apart
 
@@ -95,8 +95,8 @@ own_answers it fronts x front before (entry ∷ entries) =
     (if nat_lt front fronts then Answered (answer_to it (share_of fronts front x) before entry) else NoFront) ∷ own_answers it fronts x front (before ++ entry ∷ []) entries
 
 at_front : (it : Instance) (fronts : ℕ) (x : Plan) (front : ℕ) (before events : List Event)
-    → answers_at front events (front_answers_after it fronts x before events) ≡ own_answers it fronts x front (entries_at front before) (entries_at front events)
-unfolding front_answers_after
+    → answers_at front events (event_answers_after it fronts (shares_of fronts x) before events) ≡ own_answers it fronts x front (entries_at front before) (entries_at front events)
+unfolding event_answers_after
 at_front it fronts x front before [] = refl
 at_front it fronts x front before (event ∷ events) =
     let later = at_front it fronts x front (before ++ event ∷ []) events in

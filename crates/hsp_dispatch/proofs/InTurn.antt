@@ -4,72 +4,78 @@ use Rattle.csv.specs.Reading.{reader_state, source_of}
 use Rattle.csv.specs.declared.parser.State.{State}
 use Rattle.csv.specs.declared.reader.Reader.{Reader}
 use Rattle.hsp_csv.specs.Records.{Fields, IsKnown, TakesRecord, records_from_state, records_left, records_of}
-use Rattle.hsp_dispatch.specs.Log.{Begins, IsUnheaded, header_of}
-use Rattle.hsp_dispatch.specs.Steps.{FailsForm, IsRead, TakesForm, log_left, records_in}
+use Rattle.hsp_dispatch.specs.Runs.{Begins, IsUnheaded}
+use Rattle.hsp_dispatch.specs.Steps.{FailsHeader, IsRead, TakesHeader, log_left, records_in}
 use Rattle.hsp_dispatch.specs.declared.fault.LogFault.TheVariants as fault
 use Rattle.hsp_dispatch.specs.declared.form.Form.{Form}
 
 -- ---- the header
 
-header_read_in : (form : Form) (s t : State) (o p : Option (List ℕ)) → (IsSome o → (records_from_state s o ≡ header_of form ∷ records_from_state t p) × IsSome p)
-    → IsRead (records_in s o) form [] (records_in t p)
-header_read_in form s t None p takes = tt
-header_read_in form s t (Some octets) None takes = cc ((takes refl).1)
-header_read_in form s t (Some octets) (Some left) takes = (takes refl).0
+header_read_in : (header : Fields) (s t : State) (o p : Option (List ℕ)) → (IsSome o → (records_from_state s o ≡ header ∷ records_from_state t p) × IsSome p)
+    → IsRead header (records_in s o) [] (records_in t p)
+header_read_in header s t None p takes = tt
+header_read_in header s t (Some octets) None takes = cc ((takes refl).1)
+header_read_in header s t (Some octets) (Some left) takes = (takes refl).0
 
-pub header_read : {R : Type 0} (remaining : R → Option (List ℕ)) (old new : Reader R) (form : Form) → TakesForm remaining old new form
-    → IsRead (log_left remaining old) form [] (log_left remaining new)
-header_read remaining old new form takes = header_read_in form (reader_state old) (reader_state new) (source_of remaining old) (source_of remaining new) takes
+pub header_read : {R : Type 0} (remaining : R → Option (List ℕ)) (old new : Reader R) (header : Fields) → TakesHeader remaining old new header
+    → IsRead header (log_left remaining old) [] (log_left remaining new)
+header_read remaining old new header takes =
+    header_read_in header (reader_state old) (reader_state new) (source_of remaining old) (source_of remaining new) takes
 
-unheaded_in : (s : State) (o : Option (List ℕ)) → (IsSome o → IsUnheaded (Some (records_from_state s o))) → IsUnheaded (records_in s o)
-unheaded_in s None fails = tt
-unheaded_in s (Some octets) fails = fails refl
+unheaded_in : (header : Form → Fields) (s : State) (o : Option (List ℕ)) → (IsSome o → IsUnheaded header (Some (records_from_state s o)))
+    → IsUnheaded header (records_in s o)
+unheaded_in header s None fails = tt
+unheaded_in header s (Some octets) fails = fails refl
 
-pub unheaded : {R : Type 0} (remaining : R → Option (List ℕ)) (old : Reader R) → FailsForm remaining old fault.Header → IsUnheaded (log_left remaining old)
-unheaded remaining old fails = unheaded_in (reader_state old) (source_of remaining old) fails
+pub unheaded : {R : Type 0} (remaining : R → Option (List ℕ)) (old : Reader R) (header : Form → Fields) → FailsHeader remaining old header fault.Header
+    → IsUnheaded header (log_left remaining old)
+unheaded remaining old header fails = unheaded_in header (reader_state old) (source_of remaining old) fails
 
 -- ---- the rows
 
-one_more : (form : Form) (records : List Fields) (rows : List Fields) (row : Fields) (now left : List Fields) → Begins (Some records) form rows now → now ≡ row ∷ left
-    → Begins (Some records) form (rows ++ row ∷ []) left
-one_more form records rows row now left begins next = rw (append_assoc rows (row ∷ []) left) (rw next at begins)
+one_more : (header : Fields) (records : List Fields) (rows : List Fields) (row : Fields) (now left : List Fields) → Begins header (Some records) rows now
+    → now ≡ row ∷ left → Begins header (Some records) (rows ++ row ∷ []) left
+one_more header records rows row now left begins next = rw (append_assoc rows (row ∷ []) left) (rw next at begins)
 
-row_read_in : (form : Form) (log : Option (List Fields)) (rows : List Fields) (row : Fields) (s t : State) (o p : Option (List ℕ)) → IsRead log form rows (records_in s o)
-    → (IsSome o → (records_from_state s o ≡ row ∷ records_from_state t p) × IsSome p) → IsRead log form (rows ++ row ∷ []) (records_in t p)
-row_read_in form None rows row s t o p read takes = tt
-row_read_in form (Some records) rows row s t None p read takes = absurd read
-row_read_in form (Some records) rows row s t (Some octets) None read takes = cc ((takes refl).1)
-row_read_in form (Some records) rows row s t (Some octets) (Some left) read takes = one_more form records rows row _ _ read (takes refl).0
+row_read_in : (header : Fields) (log : Option (List Fields)) (rows : List Fields) (row : Fields) (s t : State) (o p : Option (List ℕ))
+    → IsRead header log rows (records_in s o) → (IsSome o → (records_from_state s o ≡ row ∷ records_from_state t p) × IsSome p)
+    → IsRead header log (rows ++ row ∷ []) (records_in t p)
+row_read_in header None rows row s t o p read takes = tt
+row_read_in header (Some records) rows row s t None p read takes = absurd read
+row_read_in header (Some records) rows row s t (Some octets) None read takes = cc ((takes refl).1)
+row_read_in header (Some records) rows row s t (Some octets) (Some left) read takes = one_more header records rows row _ _ read (takes refl).0
 
 -- one row more was read
-pub row_read : {R : Type 0} (remaining : R → Option (List ℕ)) (old new : Reader R) (form : Form) (log : Option (List Fields)) (rows : List Fields) (row : Fields)
-    → IsRead log form rows (log_left remaining old) → TakesRecord remaining old new true row → IsRead log form (rows ++ row ∷ []) (log_left remaining new)
-row_read remaining old new form log rows row read takes =
-    row_read_in form log rows row (reader_state old) (reader_state new) (source_of remaining old) (source_of remaining new) read takes
+pub row_read : {R : Type 0} (remaining : R → Option (List ℕ)) (old new : Reader R) (header : Fields) (log : Option (List Fields)) (rows : List Fields)
+    (row : Fields) → IsRead header log rows (log_left remaining old) → TakesRecord remaining old new true row
+    → IsRead header log (rows ++ row ∷ []) (log_left remaining new)
+row_read remaining old new header log rows row read takes =
+    row_read_in header log rows row (reader_state old) (reader_state new) (source_of remaining old) (source_of remaining new) read takes
 
-all_read_in : (form : Form) (log : Option (List Fields)) (rows : List Fields) (s : State) (o : Option (List ℕ)) → IsRead log form rows (records_in s o)
-    → (IsSome o → records_from_state s o ≡ []) → Begins log form rows []
-all_read_in form None rows s o read ends = tt
-all_read_in form (Some records) rows s None read ends = absurd read
-all_read_in form (Some records) rows s (Some octets) read ends = rw (ends refl) at read
+all_read_in : (header : Fields) (log : Option (List Fields)) (rows : List Fields) (s : State) (o : Option (List ℕ)) → IsRead header log rows (records_in s o)
+    → (IsSome o → records_from_state s o ≡ []) → Begins header log rows []
+all_read_in header None rows s o read ends = tt
+all_read_in header (Some records) rows s None read ends = absurd read
+all_read_in header (Some records) rows s (Some octets) read ends = rw (ends refl) at read
 
 -- no row was left
-pub all_read : {R : Type 0} (remaining : R → Option (List ℕ)) (old new : Reader R) (form : Form) (log : Option (List Fields)) (rows : List Fields) (row : Fields)
-    → IsRead log form rows (log_left remaining old) → TakesRecord remaining old new false row → Begins log form rows []
-all_read remaining old new form log rows row read ends = all_read_in form log rows (reader_state old) (source_of remaining old) read ends
+pub all_read : {R : Type 0} (remaining : R → Option (List ℕ)) (old new : Reader R) (header : Fields) (log : Option (List Fields)) (rows : List Fields)
+    (row : Fields) → IsRead header log rows (log_left remaining old) → TakesRecord remaining old new false row → Begins header log rows []
+all_read remaining old new header log rows row read ends = all_read_in header log rows (reader_state old) (source_of remaining old) read ends
 
 -- ---- what is read begins the log
 
-pub begins : (form : Form) (log now : Option (List Fields)) (rows : List Fields) → IsRead log form rows now → (more : List Fields) × Begins log form rows more
-begins form None now rows read = ([], tt)
-begins form (Some records) None rows read = absurd read
-begins form (Some records) (Some now) rows read = (now, read)
+pub begins : (header : Fields) (log now : Option (List Fields)) (rows : List Fields) → IsRead header log rows now
+    → (more : List Fields) × Begins header log rows more
+begins header None now rows read = ([], tt)
+begins header (Some records) None rows read = absurd read
+begins header (Some records) (Some now) rows read = (now, read)
 
 -- the last row that was read
-pub begins_before : (form : Form) (log : Option (List Fields)) (rows : List Fields) (row : Fields) (more : List Fields) → Begins log form (rows ++ row ∷ []) more
-    → Begins log form rows (row ∷ more)
-begins_before form None rows row more is = tt
-begins_before form (Some records) rows row more is = rw (append_assoc rows (row ∷ []) more) at is
+pub begins_before : (header : Fields) (log : Option (List Fields)) (rows : List Fields) (row : Fields) (more : List Fields)
+    → Begins header log (rows ++ row ∷ []) more → Begins header log rows (row ∷ more)
+begins_before header None rows row more is = tt
+begins_before header (Some records) rows row more is = rw (append_assoc rows (row ∷ []) more) at is
 
 -- ---- the records before the first read
 

@@ -3,6 +3,7 @@ mod Bodies
 mod InTurn
 mod Running
 mod Counting
+mod Desks
 pub mod Spreads
 pub mod Shares
 pub mod Resting

@@ -1,5 +1,5 @@
 -- The fields of a record of a log.
-use Rattle.std.proofs.Common.{◌≡◌, ℕ, true, false, List, [], ◌∷◌, length, Some, arith, refl}
+use Rattle.std.proofs.Common.{◌≡◌, ◌≢◌, ℕ, true, false, List, [], ◌∷◌, length, Some, arith, refl}
 use Rattle.std.specs.Cmp.Lexicographic.{bytes_decides}
 use Rattle.std.specs.Str.{bytes_eq}
 use Rattle.csv.specs.Records.{field_at}
@@ -18,6 +18,16 @@ two_fields_are (x ∷ []) a b n p q = absurd (omega arith)
 two_fields_are (x ∷ y ∷ []) a b n p q = cc
 two_fields_are (x ∷ y ∷ z ∷ fields) a b n p q = absurd (omega arith)
 
+-- three fields, by their places
+pub three_fields_are : (fields : Fields) (a b c : List ℕ) → length fields ≡ 3 → Some a ≡ field_at fields 0 → Some b ≡ field_at fields 1
+    → Some c ≡ field_at fields 2 → fields ≡ a ∷ b ∷ c ∷ []
+unfolding field_at
+three_fields_are [] a b c n p q r = absurd (omega arith)
+three_fields_are (x ∷ []) a b c n p q r = absurd (omega arith)
+three_fields_are (x ∷ y ∷ []) a b c n p q r = absurd (omega arith)
+three_fields_are (x ∷ y ∷ z ∷ []) a b c n p q r = cc
+three_fields_are (x ∷ y ∷ z ∷ w ∷ fields) a b c n p q r = absurd (omega arith)
+
 -- records of the same fields are one
 pub same_fields_are : (one other : Fields) → same_fields one other ≡ true → one ≡ other
 same_fields_are [] [] same = refl
@@ -33,7 +43,11 @@ pub are_same_fields : (fields : Fields) → same_fields fields fields ≡ true
 are_same_fields [] = refl
 are_same_fields (a ∷ as') = rw ((bytes_decides a a).1 refl, are_same_fields as') refl
 
+-- a record that is not the header
+pub is_other : (fields header : Fields) → same_fields fields header ≡ false → fields ≢ header
+is_other fields header other same = let is = are_same_fields header in let bad = rw same at other in cc (is, bad)
+
 -- a record that is neither of the headers
 pub is_no_header : (fields : Fields) → same_fields fields (header_of Handles) ≡ false → same_fields fields (header_of Bodies) ≡ false → (form : Form) → fields ≡ header_of form → ⊥
-is_no_header fields one other Handles same = let is = are_same_fields (header_of Handles) in let bad = rw same at one in cc (is, bad)
-is_no_header fields one other Bodies same = let is = are_same_fields (header_of Bodies) in let bad = rw same at other in cc (is, bad)
+is_no_header fields one other Handles same = is_other fields (header_of Handles) one same
+is_no_header fields one other Bodies same = is_other fields (header_of Bodies) other same

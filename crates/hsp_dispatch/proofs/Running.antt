@@ -1,146 +1,164 @@
--- A run over a log, row by row, and how it ends.
-use Rattle.std.proofs.Common.{◌≡◌, ◌∙◌, ◌++◌, inl, inr, ℕ, suc, List, [], ◌∷◌, length, Option, Some, None, append_assoc, append-nil, refl, ap, sym}
-use Rattle.std.proofs.KnownBytes.{Appends-trans}
+-- A run over a log: what was answered so far, one row more, and how it stops.
+use Rattle.std.proofs.Common.{◌≡◌, ◌++◌, ◌∙◌, ◌+◌, ℕ, List, [], ◌∷◌, length, length-append, Option, Some, None, inl, inr, refl, sym, ap, arith}
 use Rattle.std.specs.Io.KnownBytes.{Appends, Keeps}
+use Rattle.std.proofs.KnownBytes.{Appends-trans}
+use Rattle.std.proofs.lemmas.List.{append-nil, append_assoc}
+use Rattle.csv.specs.declared.reader.Reader.{Reader}
+use Rattle.hsp_text.specs.Writing.{IsCut}
+use Rattle.hsp_text.specs.declared.limits.TheConstants.{MOST_LOG_ROWS}
 use Rattle.hsp_csv.specs.Records.{Fields}
 use Rattle.hsp_csv.specs.declared.fault.RecordsFault.{RecordsFault}
 use Rattle.hsp_csv.specs.declared.fault.RecordsFault.TheVariants as records_fault
 use Rattle.hsp_instance.specs.Instance.{Instance}
-use Rattle.hsp_dispatch.specs.Dispatch.{Entry, IsSame, answer_to, answers, answers_after}
-use Rattle.hsp_dispatch.specs.Lines.{answer_of, line_of, text_of}
-use Rattle.hsp_dispatch.specs.Log.{AreEntries, Begins, IsEntryIn, fault_of}
-use Rattle.hsp_dispatch.specs.Runs.{Answered, Outcome, Setting, Stops}
-use Rattle.csv.specs.declared.reader.Reader.{Reader}
-use Rattle.hsp_dispatch.specs.Steps.{AnswersRow, FailsForm, FailsRow, log_left}
-use Rattle.hsp_dispatch.specs.declared.answer.Answer.{Answer}
+use Rattle.hsp_dispatch.specs.Lines.{count_all, counted, text_of}
+use Rattle.hsp_dispatch.specs.Log.{fault_of}
+use Rattle.hsp_dispatch.specs.Runs.{Answered, Begins, Desk, EndsWhole, Stops, Streams, desk_of}
+use Rattle.hsp_dispatch.specs.Steps.{FailsHeader, GoesOn, IsRead, IsRefused, RowAnswers, log_left, none_counted}
+use Rattle.hsp_dispatch.specs.declared.answer.FrontSums.{FrontSums}
 use Rattle.hsp_dispatch.specs.declared.answering.Given.{Given}
+use Rattle.hsp_dispatch.specs.declared.answering.Given.TheVariants as given
 use Rattle.hsp_dispatch.specs.declared.fault.LogFault.{LogFault}
 use Rattle.hsp_dispatch.specs.declared.fault.LogFault.TheVariants as fault
 use Rattle.hsp_dispatch.specs.declared.form.Form.{Form}
 use Rattle.hsp_dispatch.specs.declared.form.Form.TheVariants.{Handles}
-use Rattle.hsp_dispatch.proofs.InTurn.{begins_before, unheaded}
-use Rattle.hsp_dispatch.proofs.Resting.{answer_after, answers_more, rest_more, rest_none}
+use Rattle.hsp_dispatch.proofs.InTurn.{begins, begins_before, unheaded}
 
--- what a row's answer begins from, in the midst of a run
-abbrev pub midst : Setting → Outcome → Setting
-midst run end = record { instance = run.instance; plan = end.left; log = None; before = end.after }
+-- ---- what was answered so far
 
--- ---- texts and entries, one more
+-- so many rows were read and answered; `now` are the records that are left
+pub record SoFar (desk : Desk) (run : Streams) (form : Form) (now : Option (List Fields)) (number : ℕ) (sums : FrontSums) : Type 0 where
+  pub rows : List Fields
+  pub lines : List (List ℕ)
+  pub many : length rows ≡ number
+  pub read : IsRead (desk.header form) run.log rows now
+  pub answers : desk.Answers form rows lines sums
+  pub written : Appends run.before run.after (text_of lines)
+  pub counted_all : count_all sums ≡ number
 
-text_more : (it : Instance) (given : List Answer) (answer : Answer) → text_of it (given ++ answer ∷ []) ≡ text_of it given ++ line_of it answer
-text_more it [] answer = append-nil (line_of it answer)
-text_more it (first ∷ given) answer = ap (λ more. line_of it first ++ more) (text_more it given answer) ∙ sym (append_assoc (line_of it first) (text_of it given) (line_of it answer))
+pub answered : (desk : Desk) (run : Streams) (form : Form) (now : Option (List Fields)) (number : ℕ) (sums : FrontSums)
+    (so_far : SoFar desk run form now number sums) → Answered desk run form so_far.rows sums
+answered desk run form now number sums so_far = (so_far.lines, so_far.answers, so_far.written)
 
-entries_more : (form : Form) (rows : List Fields) (entries : List Entry) (row : Fields) (entry : Entry) → AreEntries form rows entries → IsEntryIn form row entry
-    → AreEntries form (rows ++ row ∷ []) (entries ++ entry ∷ [])
-entries_more form [] [] row entry are is = (is, tt)
-entries_more form [] (e ∷ entries) row entry are is = absurd are
-entries_more form (r ∷ rows) [] row entry are is = absurd are
-entries_more form (r ∷ rows) (e ∷ entries) row entry are is = (are.0, entries_more form rows entries row entry are.1 is)
+-- ---- one row more
 
-pub as_many : (form : Form) (rows : List Fields) (entries : List Entry) → AreEntries form rows entries → length entries ≡ length rows
-as_many form [] [] are = refl
-as_many form [] (e ∷ entries) are = absurd are
-as_many form (r ∷ rows) [] are = absurd are
-as_many form (r ∷ rows) (e ∷ entries) are = ap suc (as_many form rows entries are.1)
+text_more : (lines : List (List ℕ)) (line : List ℕ) → text_of (lines ++ line ∷ []) ≡ text_of lines ++ line
+text_more [] line = append-nil line
+text_more (first ∷ lines) line = ap (λ more. first ++ more) (text_more lines line) ∙ sym (append_assoc first (text_of lines) line)
 
--- ---- rows that were answered
+count_more : (sums : FrontSums) (how : Given) → count_all (counted sums how) ≡ count_all sums + 1
+count_more sums (given.Server number) = omega arith
+count_more sums given.Spent = omega arith
+count_more sums given.Unknown = omega arith
+count_more sums given.NoFront = omega arith
 
-pub answered_none : (run : Setting) (form : Form) (end : Outcome) → Appends run.before end.after [] → IsSame end.left run.plan → Answered run form [] [] end
-unfolding answers_after
-answered_none run form end none same = record {
-  spelled = tt;
-  written = none;
-  left = λ row site. same row site ∙ rest_none run.instance run.plan row site;
+-- the row's answer is counted, and its line written
+pub row_more : {S : Type 0} (instance : S → Instance) (Answers : S → S → RowAnswers) (header : Form → Fields) (Refuses : Form → Fields → LogFault → Type 0) (start old new : S)
+    (log : Option (List Fields)) (before middle after : Option (List ℕ)) (form : Form) (now later : Option (List Fields)) (number : ℕ) (sums : FrontSums)
+    (row : Fields) (line : List ℕ) (how : Given)
+    (so_far : SoFar (desk_of header (Answers start old) Refuses) (record { log = log; before = before; after = middle }) form now number sums)
+    → IsRead (header form) log (so_far.rows ++ row ∷ []) later → instance old ≡ instance start → GoesOn instance Answers old new form row line how
+    → Appends middle after line
+    → SoFar (desk_of header (Answers start new) Refuses) (record { log = log; before = before; after = after }) form later (number + 1) (counted sums how)
+row_more instance Answers header Refuses start old new log before middle after form now later number sums row line how so_far read same on line_written = record {
+  rows = so_far.rows ++ row ∷ [];
+  lines = so_far.lines ++ line ∷ [];
+  many = length-append so_far.rows (row ∷ []) ∙ ap (λ n. n + 1) so_far.many;
+  read = read;
+  answers = on start so_far.rows so_far.lines sums same so_far.answers;
+  written = rw (text_more so_far.lines line) (Appends-trans before middle after (text_of so_far.lines) line so_far.written line_written);
+  counted_all = count_more sums how ∙ ap (λ n. n + 1) so_far.counted_all;
 }
-
--- the answer in the midst of a run is that of the whole
-answer_is : (run : Setting) (form : Form) (rows : List Fields) (entries : List Entry) (now : Outcome) (entry : Entry) → Answered run form rows entries now
-    → answer_to run.instance now.left [] entry ≡ answer_to run.instance run.plan entries entry
-answer_is run form rows entries now entry answered = answer_after run.instance run.plan now.left entries entry answered.left
-
--- one row more
-pub answered_more : (run : Setting) (form : Form) (rows : List Fields) (entries : List Entry) (now end : Outcome) (row : Fields) (given : Given) → Answered run form rows entries now
-    → AnswersRow (midst run now) form row end given
-    → (entry : Entry) × Answered run form (rows ++ row ∷ []) (entries ++ entry ∷ []) end
-    × (answers run.instance run.plan (entries ++ entry ∷ []) ≡ answers run.instance run.plan entries ++ answer_of run.instance given ∷ [])
-answered_more run form rows entries now end row given answered answers_row =
-    let entry = answers_row.0 in
-    let takes = answers_row.2.0 in
-    let is = answer_is run form rows entries now entry answered in
-    let more = answers_more run.instance run.plan [] entries entry in
-    let line : text_of run.instance (answers run.instance run.plan (entries ++ entry ∷ [])) ≡ text_of run.instance (answers run.instance run.plan entries) ++ line_of run.instance (answer_to run.instance now.left [] entry) =
-    rw (more, is) (text_more run.instance (answers run.instance run.plan entries) (answer_to run.instance run.plan entries entry)) in (
-      entry,
-      record {
-        spelled = entries_more form rows entries row entry answered.spelled answers_row.1;
-        written = rw line (Appends-trans run.before now.after end.after _ _ answered.written answers_row.2.1);
-        left = rest_more run.instance run.plan now.left end.left entries entry answered.left takes.left;
-      },
-      rw (more, takes.answer, is) refl,
-    )
-
--- nothing more
-pub answered_still : (run : Setting) (form : Form) (rows : List Fields) (entries : List Entry) (now end : Outcome) → Answered run form rows entries now
-    → Appends now.after end.after [] → IsSame end.left now.left → Answered run form rows entries end
-answered_still run form rows entries now end answered none same = record {
-  spelled = answered.spelled;
-  written = rw (append-nil (text_of run.instance (answers run.instance run.plan entries))) at (Appends-trans run.before now.after end.after _ [] answered.written none);
-  left = λ row site. same row site ∙ answered.left row site;
-}
-
-pub keeps_appends : (a b : Option (List ℕ)) → Keeps a b → Appends a b []
-keeps_appends None b keeps = tt
-keeps_appends (Some x) None keeps = absurd keeps
-keeps_appends (Some x) (Some y) keeps = keeps ∙ sym (append-nil x)
 
 -- ---- how a run stops
 
 -- at the header
-pub form_stops : {R : Type 0} (remaining : R → Option (List ℕ)) (old : Reader R) (run : Setting) (end : Outcome) (e : LogFault) → run.log ≡ log_left remaining old
-    → Appends run.before end.after [] → IsSame end.left run.plan → FailsForm remaining old e → Stops run end e
-form_stops remaining old run end fault.Header log none same fails = (rw log (unheaded remaining old fails), none, same)
-form_stops remaining old run end fault.ReadFailed log none same fails = (Handles, [], [], [], inl refl, answered_none run Handles end none same)
-form_stops remaining old run end fault.OutOfMemory log none same fails = (Handles, [], [], [], inl refl, answered_none run Handles end none same)
-form_stops remaining old run end fault.WriteFailed log none same fails = absurd fails
-form_stops remaining old run end fault.LogTooLong log none same fails = absurd fails
-form_stops remaining old run end (fault.Fields row) log none same fails = absurd fails
-form_stops remaining old run end (fault.BadHandle row) log none same fails = absurd fails
-form_stops remaining old run end (fault.BadBody row) log none same fails = absurd fails
+pub header_stops : {R : Type 0} (remaining : R → Option (List ℕ)) (old : Reader R) (desk : Desk) (run : Streams) (e : LogFault)
+    → run.log ≡ log_left remaining old → desk.Answers Handles [] [] none_counted → Appends run.before run.after [] → FailsHeader remaining old desk.header e
+    → Stops desk run e
+header_stops remaining old desk run fault.Header log none written fails =
+    (rw log (unheaded remaining old desk.header fails), (Handles, none_counted, ([], none, written)))
+header_stops remaining old desk run fault.ReadFailed log none written fails = (Handles, [], [], none_counted, inl refl, ([], none, written))
+header_stops remaining old desk run fault.OutOfMemory log none written fails = (Handles, [], [], none_counted, inl refl, ([], none, written))
+header_stops remaining old desk run fault.WriteFailed log none written fails = absurd fails
+header_stops remaining old desk run fault.LogTooLong log none written fails = absurd fails
+header_stops remaining old desk run (fault.Fields row) log none written fails = absurd fails
+header_stops remaining old desk run (fault.BadHandle row) log none written fails = absurd fails
+header_stops remaining old desk run (fault.BadBody row) log none written fails = absurd fails
+header_stops remaining old desk run (fault.BadFront row) log none written fails = absurd fails
 
--- at a read that fails
-pub read_stops : (run : Setting) (form : Form) (rows : List Fields) (entries : List Entry) (more : List Fields) (end : Outcome) (e : RecordsFault) → Begins run.log form rows more
-    → Answered run form rows entries end → Stops run end (fault_of e)
-read_stops run form rows entries more end records_fault.ReadFailed begins answered = (form, rows, entries, more, inr begins, answered)
-read_stops run form rows entries more end records_fault.OutOfMemory begins answered = (form, rows, entries, more, inr begins, answered)
+-- before it
+pub memory_stops : (desk : Desk) (run : Streams) → desk.Answers Handles [] [] none_counted → Appends run.before run.after [] → Stops desk run fault.OutOfMemory
+memory_stops desk run none written = (Handles, [], [], none_counted, inl refl, ([], none, written))
 
--- at a row that is not answered, or whose line is not written
-pub row_stops : (run : Setting) (form : Form) (rows : List Fields) (entries : List Entry) (bad : Fields) (more : List Fields) (now end : Outcome) (number : ℕ) (e : LogFault)
-    → Begins run.log form (rows ++ bad ∷ []) more → length rows ≡ number → Answered run form rows entries now → FailsRow (midst run now) form number bad end e → Stops run end e
-row_stops run form rows entries bad more now end number (fault.Fields row) begins many answered fails =
-    (form, rows, entries, bad, more, begins_before form run.log rows bad more begins, many ∙ sym fails.0, fails.1, answered_still run form rows entries now end answered fails.2.0 fails.2.1)
-row_stops run form rows entries bad more now end number (fault.BadHandle row) begins many answered fails =
-    (form, rows, entries, bad, more, begins_before form run.log rows bad more begins, many ∙ sym fails.0, fails.1, answered_still run form rows entries now end answered fails.2.0 fails.2.1)
-row_stops run form rows entries bad more now end number (fault.BadBody row) begins many answered fails =
-    (form, rows, entries, bad, more, begins_before form run.log rows bad more begins, many ∙ sym fails.0, fails.1, answered_still run form rows entries now end answered fails.2.0 fails.2.1)
-row_stops run form rows entries bad more now end number fault.OutOfMemory begins many answered fails =
-    (form, rows, entries, bad ∷ more, inr (begins_before form run.log rows bad more begins), answered_still run form rows entries now end answered fails.0 fails.1)
-row_stops run form rows entries bad more now end number fault.WriteFailed begins many answered fails =
-    let entry = fails.0 in
-    let takes = fails.2.1 in
+module _ (desk : Desk) (run : Streams) (form : Form) (now : Option (List Fields)) (number : ℕ) (sums : FrontSums)
+    (so_far : SoFar desk run form now number sums) where
+
+  -- at a read that fails
+  pub read_stops : (e : RecordsFault) → Stops desk run (fault_of e)
+  read_stops records_fault.ReadFailed =
+      let begun = begins (desk.header form) run.log now so_far.rows so_far.read in
+      (form, so_far.rows, begun.0, sums, inr begun.1, answered desk run form now number sums so_far)
+  read_stops records_fault.OutOfMemory =
+      let begun = begins (desk.header form) run.log now so_far.rows so_far.read in
+      (form, so_far.rows, begun.0, sums, inr begun.1, answered desk run form now number sums so_far)
+
+  -- at a row that was read
+  module _ (row : Fields) (later : Option (List Fields)) (read : IsRead (desk.header form) run.log (so_far.rows ++ row ∷ []) later) where
+
+    abbrev more : List Fields
+    more = (begins (desk.header form) run.log later (so_far.rows ++ row ∷ []) read).0
+
+    before_row : Begins (desk.header form) run.log so_far.rows (row ∷ more)
+    before_row = begins_before (desk.header form) run.log so_far.rows row more (begins (desk.header form) run.log later (so_far.rows ++ row ∷ []) read).1
+
+    pub too_long : number ≡ MOST_LOG_ROWS → Stops desk run fault.LogTooLong
+    too_long last = (form, so_far.rows, row, more, sums, before_row, so_far.many ∙ last, tt, answered desk run form now number sums so_far)
+
+    pub refused_stops : (e : LogFault) → IsRefused desk.Refuses number form row e → Stops desk run e
+    refused_stops (fault.Fields n) refused = (form, so_far.rows, row, more, sums, before_row, so_far.many ∙ sym refused.0, refused.1, answered desk run form now number sums so_far)
+    refused_stops (fault.BadHandle n) refused = (form, so_far.rows, row, more, sums, before_row, so_far.many ∙ sym refused.0, refused.1, answered desk run form now number sums so_far)
+    refused_stops (fault.BadBody n) refused = (form, so_far.rows, row, more, sums, before_row, so_far.many ∙ sym refused.0, refused.1, answered desk run form now number sums so_far)
+    refused_stops (fault.BadFront n) refused = (form, so_far.rows, row, more, sums, before_row, so_far.many ∙ sym refused.0, refused.1, answered desk run form now number sums so_far)
+    refused_stops fault.OutOfMemory refused = (form, so_far.rows, row ∷ more, sums, inr before_row, answered desk run form now number sums so_far)
+    refused_stops fault.ReadFailed refused = absurd refused
+    refused_stops fault.WriteFailed refused = absurd refused
+    refused_stops fault.Header refused = absurd refused
+    refused_stops fault.LogTooLong refused = absurd refused
+
+-- where less than the row's line was written
+pub line_stops : {S : Type 0} (instance : S → Instance) (Answers : S → S → RowAnswers) (header : Form → Fields) (Refuses : Form → Fields → LogFault → Type 0) (start old new : S)
+    (log : Option (List Fields)) (before middle after : Option (List ℕ)) (form : Form) (now later : Option (List Fields)) (number : ℕ) (sums : FrontSums)
+    (row : Fields) (line : List ℕ) (how : Given)
+    (so_far : SoFar (desk_of header (Answers start old) Refuses) (record { log = log; before = before; after = middle }) form now number sums)
+    → IsRead (header form) log (so_far.rows ++ row ∷ []) later → instance old ≡ instance start → GoesOn instance Answers old new form row line how
+    → IsCut middle after line
+    → Stops (desk_of header (Answers start new) Refuses) (record { log = log; before = before; after = after }) fault.WriteFailed
+line_stops instance Answers header Refuses start old new log before middle after form now later number sums row line how so_far read same on cut =
+    let begun = begins (header form) log later (so_far.rows ++ row ∷ []) read in
     inl (
       form,
-      rows ++ bad ∷ [],
-      more,
-      entries,
-      entry,
-      now.after,
-      begins,
-      entries_more form rows entries bad entry answered.spelled fails.1,
-      rest_more run.instance run.plan now.left end.left entries entry answered.left takes.left,
-      answered.written,
-      rw (answer_is run form rows entries now entry answered) at fails.2.2,
+      so_far.rows ++ row ∷ [],
+      begun.0,
+      so_far.lines,
+      line,
+      counted sums how,
+      middle,
+      begun.1,
+      on start so_far.rows so_far.lines sums same so_far.answers,
+      so_far.written,
+      cut,
     )
-row_stops run form rows entries bad more now end number fault.ReadFailed begins many answered fails = absurd fails
-row_stops run form rows entries bad more now end number fault.Header begins many answered fails = absurd fails
-row_stops run form rows entries bad more now end number fault.LogTooLong begins many answered fails = absurd fails
+
+-- at the end of the log, where nothing more is written
+pub ends : (desk : Desk) (log : Option (List Fields)) (before middle after : Option (List ℕ)) (form : Form) (now : Option (List Fields)) (number : ℕ)
+    (sums : FrontSums) (so_far : SoFar desk (record { log = log; before = before; after = middle }) form now number sums) → Keeps middle after
+    → Begins (desk.header form) log so_far.rows [] → EndsWhole desk (record { log = log; before = before; after = after }) sums
+ends desk log before middle after form now number sums so_far keeps whole =
+    let written : Appends before after (text_of so_far.lines) =
+    rw (append-nil (text_of so_far.lines)) at (Appends-trans before middle after (text_of so_far.lines) [] so_far.written (keeps_appends middle after keeps)) in
+    (form, so_far.rows, whole, (so_far.lines, so_far.answers, written))
+  where
+    keeps_appends : (a b : Option (List ℕ)) → Keeps a b → Appends a b []
+    keeps_appends None b keeps = tt
+    keeps_appends (Some x) None keeps = absurd keeps
+    keeps_appends (Some x) (Some y) keeps = keeps ∙ sym (append-nil x)

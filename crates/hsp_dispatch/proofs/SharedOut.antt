@@ -224,12 +224,12 @@ each_is it row (one ∷ uses) is goes = elim (cases_eq one.row row) [
 
 -- ---- lists with one element written
 
-pub set_here : (xs : List (List Cell)) (i : ℕ) (x : List Cell) → i < length xs → slice_get (set xs i x) i ≡ Some x
+pub set_here : {X : Type 0} (xs : List X) (i : ℕ) (x : X) → i < length xs → slice_get (set xs i x) i ≡ Some x
 set_here [] i x l = absurd (omega arith)
 set_here (y ∷ xs) zero x l = refl
 set_here (y ∷ xs) (suc i) x l = set_here xs i x (omega arith)
 
-pub set_other : (xs : List (List Cell)) (i j : ℕ) (x : List Cell) → i ≢ j → slice_get (set xs i x) j ≡ slice_get xs j
+pub set_other : {X : Type 0} (xs : List X) (i j : ℕ) (x : X) → i ≢ j → slice_get (set xs i x) j ≡ slice_get xs j
 set_other [] i j x other = refl
 set_other (y ∷ xs) zero zero x other = absurd (other refl)
 set_other (y ∷ xs) zero (suc j) x other = refl

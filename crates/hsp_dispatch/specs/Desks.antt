@@ -4,10 +4,11 @@ use Rattle.hsp_csv.specs.Records.{Fields}
 use Rattle.hsp_instance.specs.Instance.{Instance}
 use Rattle.hsp_check.specs.Plan.{Plan}
 use Rattle.hsp_dispatch.specs.Dispatch.{Entry, IsSame, all_of, answers, rest, sums_of}
-use Rattle.hsp_dispatch.specs.Fronts.{Event, Tables, entries_at, event_answers, front_sums_of}
+use Rattle.hsp_dispatch.specs.Fronts.{Event, Tables, entries_at, event_answers, front_sums_of, fronts_of, left_at_front}
 use Rattle.hsp_dispatch.specs.Lines.{front_line, line_of}
 use Rattle.hsp_dispatch.specs.Log.{AreEntries, AreEvents, IsBadBody, IsBadEvent, IsBadFront, IsBadHandle, front_header, header_of}
 use Rattle.hsp_dispatch.specs.Runs.{Desk}
+use Rattle.hsp_dispatch.specs.declared.answer.FrontAnswer.{FrontAnswer}
 use Rattle.hsp_dispatch.specs.declared.answer.FrontSums.{FrontSums}
 use Rattle.hsp_dispatch.specs.declared.fault.LogFault.{LogFault}
 use Rattle.hsp_dispatch.specs.declared.fault.LogFault.TheVariants as fault
@@ -33,13 +34,25 @@ by_plan it x left = record { header = header_of; Answers = AnswersEntries it x l
 
 -- ---- fronts
 
--- the rows spell events; these are answered by the tables of `old`, of which those of `new` are left
+-- the answers to events, by what the fronts hold
+abbrev pub answers_by : Tables → List Event → List FrontAnswer
+answers_by tables events = event_answers tables.instance (fronts_of tables) (left_at_front tables) events
+
+-- what events leave of what a front holds
+abbrev pub rest_by : Tables → ℕ → List Event → Plan
+rest_by tables front events = rest tables.instance (left_at_front tables front) (entries_at front events)
+
+-- so many fronts of the instance, each of which has left what events leave of what it held
+pub record IsLeftBy (old : Tables) (events : List Event) (new : Tables) : Type 0 where
+  pub instance : new.instance ≡ old.instance
+  pub many : fronts_of new ≡ fronts_of old
+  pub each : (front : ℕ) → front < fronts_of old → IsSame (left_at_front new front) (rest_by old front events)
+
+-- the rows spell events; these are answered by what the fronts hold, and leave what they hold then
 abbrev pub AnswersEvents : Tables → Tables → Form → List Fields → List (List ℕ) → FrontSums → Type 0
 AnswersEvents old new form rows lines sums =
-    (events : List Event) × AreEvents rows events
-    × (lines ≡ map (front_line old.instance) (event_answers old.instance old.fronts old.left events))
-    × (sums ≡ front_sums_of (event_answers old.instance old.fronts old.left events))
-    × ((front : ℕ) → front < old.fronts → IsSame (new.left front) (rest old.instance (old.left front) (entries_at front events)))
+    (events : List Event) × AreEvents rows events × (lines ≡ map (front_line old.instance) (answers_by old events))
+    × (sums ≡ front_sums_of (answers_by old events)) × IsLeftBy old events new
 
 -- a row of three fields that spells no event, or a row of another number of fields
 abbrev pub RefusesEvent : Form → Fields → LogFault → Type 0

@@ -3,19 +3,19 @@ use Rattle.std.specs.Prelude.{◌≡◌, ◌≤◌, ◌<◌, ℕ, List, [], ◌�
 use Rattle.hsp_instance.specs.Instance.{Instance}
 use Rattle.hsp_check.specs.Plan.{Plan}
 use Rattle.hsp_dispatch.specs.Dispatch.{IsSame, row_of}
-use Rattle.hsp_dispatch.specs.Fronts.{AreFrontsOf, Event, IsTakenAt, Tables, answer_among, answers_at, assigned_by_all, entries_at, front_answer, front_answers, rest_at}
+use Rattle.hsp_dispatch.specs.Fronts.{AreFrontsOf, Event, IsTakenAt, Tables, answer_among, answers_at, assigned_by_all, entries_at, front_answer, front_answers, fronts_of, left_at_front, rest_at}
 use Rattle.hsp_dispatch.specs.declared.answer.Answer.TheVariants.{Spent}
 use Rattle.hsp_dispatch.specs.declared.answer.FrontAnswer.TheVariants.{Answered}
 
 -- the fronts hold what events leave of their shares
-pub record AreFrontsAfter (it : Instance) (x : Plan) (fronts : ℕ) (events : List Event) (held : Tables) : Type 0 where
-  pub instance : held.instance ≡ it
-  pub many : held.fronts ≡ fronts
-  pub each : (front : ℕ) → front < fronts → IsSame (held.left front) (rest_at it fronts x front events)
+pub record AreFrontsAfter (it : Instance) (x : Plan) (fronts : ℕ) (events : List Event) (tables : Tables) : Type 0 where
+  pub instance : tables.instance ≡ it
+  pub many : fronts_of tables ≡ fronts
+  pub each : (front : ℕ) → front < fronts → IsSame (left_at_front tables front) (rest_at it fronts x front events)
 
 -- fronts begin with no events behind them; each event is answered by its front's share and the earlier entries there
 abbrev pub BeginsWithShares : Type 0
-BeginsWithShares = (it : Instance) (x : Plan) (fronts : ℕ) (held : Tables) → AreFrontsOf it x fronts held → AreFrontsAfter it x fronts [] held
+BeginsWithShares = (it : Instance) (x : Plan) (fronts : ℕ) (tables : Tables) → AreFrontsOf it x fronts tables → AreFrontsAfter it x fronts [] tables
 
 abbrev pub AnswersByShares : Type 0
 AnswersByShares =

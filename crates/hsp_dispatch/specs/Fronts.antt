@@ -103,39 +103,41 @@ front_sums_of given = record {
 
 -- ---- what the fronts hold
 
--- an instance, a number of fronts, and what is left of the plan at each of them
+-- an instance, and what a dispatcher of each front holds
 pub record Tables : Type 0 where
   pub instance : Instance
-  pub fronts : ℕ
-  pub left : ℕ → Plan
+  pub held : List Held
+
+-- how many fronts there are
+abbrev pub fronts_of : Tables → ℕ
+fronts_of tables = length tables.held
+
+-- what is left of the plan at a front, nothing where there is no such front
+abbrev pub left_in : Option Held → Plan
+left_in None row site = 0
+left_in (Some own) row site = left_of own row site
+
+abbrev pub left_at_front : Tables → ℕ → Plan
+left_at_front tables front = left_in (slice_get tables.held front)
+
+-- each of them holds the instance
+abbrev pub HoldInstance : Tables → Type 0
+HoldInstance tables = (front : ℕ) (own : Held) → slice_get tables.held front ≡ Some own → own.instance ≡ tables.instance
 
 -- so many fronts, each of which holds its share of the plan
-pub record AreFrontsOf (it : Instance) (x : Plan) (fronts : ℕ) (held : Tables) : Type 0 where
-  pub instance : held.instance ≡ it
-  pub many : held.fronts ≡ fronts
-  pub each : (front : ℕ) → front < fronts → IsSame (held.left front) (share_of fronts front x)
+pub record AreFrontsOf (it : Instance) (x : Plan) (fronts : ℕ) (tables : Tables) : Type 0 where
+  pub instance : tables.instance ≡ it
+  pub many : fronts_of tables ≡ fronts
+  pub each : (front : ℕ) → front < fronts → IsSame (left_at_front tables front) (share_of fronts front x)
 
 -- the answer to an entry at a front, by what is left there
 abbrev pub answer_among : Tables → ℕ → Entry → FrontAnswer
-answer_among held front entry =
-    if nat_lt front held.fronts then Answered (answer_to held.instance (held.left front) [] entry) else NoFront
+answer_among tables front entry =
+    if nat_lt front (fronts_of tables) then Answered (answer_to tables.instance (left_at_front tables front) [] entry) else NoFront
 
 -- an entry is taken of what its front has left; the others have left what they had
 pub record IsTakenAt (front : ℕ) (entry : Entry) (old new : Tables) : Type 0 where
   pub instance : new.instance ≡ old.instance
-  pub many : new.fronts ≡ old.fronts
-  pub own : front < old.fronts → IsSame (new.left front) (rest old.instance (old.left front) (entry ∷ []))
-  pub others : (other : ℕ) → other ≢ front → IsSame (new.left other) (old.left other)
-
--- what one front has left
-abbrev pub left_of_front : Option Held → Plan
-left_of_front None row site = 0
-left_of_front (Some own) row site = left_of own row site
-
--- what fronts of an instance have left
-abbrev pub tables_of : Instance → List Held → Tables
-tables_of it held = record { instance = it; fronts = length held; left = λ front. left_of_front (slice_get held front) }
-
--- each of them holds the instance
-abbrev pub HoldInstance : Instance → List Held → Type 0
-HoldInstance it held = (front : ℕ) (own : Held) → slice_get held front ≡ Some own → own.instance ≡ it
+  pub many : fronts_of new ≡ fronts_of old
+  pub own : front < fronts_of old → IsSame (left_at_front new front) (rest old.instance (left_at_front old front) (entry ∷ []))
+  pub others : (other : ℕ) → other ≢ front → IsSame (left_at_front new other) (left_at_front old other)

@@ -4,6 +4,7 @@ use Rattle.csv.specs.Reading.{reader_state, source_of}
 use Rattle.csv.specs.declared.parser.State.{State}
 use Rattle.csv.specs.declared.reader.Reader.{Reader}
 use Rattle.hsp_csv.specs.Records.{Fields, IsKnown, records_from_state, records_left}
+use Rattle.hsp_instance.specs.Instance.{Instance}
 use Rattle.hsp_names.specs.Handle.{handle_in}
 use Rattle.hsp_dispatch.specs.Dispatch.{Entry}
 use Rattle.hsp_dispatch.specs.Fronts.{IsTakenAt, Tables, answer_among}
@@ -49,10 +50,10 @@ none_counted = record { assigned = 0; spent = 0; unknown = 0; no_front = 0 }
 abbrev pub BeginsWithNone : RowAnswers → Type 0
 BeginsWithNone Answers = (form : Form) → Answers form [] [] none_counted
 
--- one row more is answered, by this line: whatever was answered before, since whatever start
-abbrev pub GoesOn : {S : Type 0} → (S → S → RowAnswers) → S → S → Form → Fields → List ℕ → Given → Type 0
-GoesOn {S} Answers old new form row line given =
-    (start : S) (rows : List Fields) (lines : List (List ℕ)) (sums : FrontSums) → Answers start old form rows lines sums
+-- One row more is answered, by this line: whatever was answered before, since any start with the same instance.
+abbrev pub GoesOn : {S : Type 0} → (S → Instance) → (S → S → RowAnswers) → S → S → Form → Fields → List ℕ → Given → Type 0
+GoesOn {S} instance Answers old new form row line given =
+    (start : S) (rows : List Fields) (lines : List (List ℕ)) (sums : FrontSums) → instance old ≡ instance start → Answers start old form rows lines sums
     → Answers start new form (rows ++ row ∷ []) (lines ++ line ∷ []) (counted sums given)
 
 -- a row of this number is refused by a fault that names it, or memory runs out

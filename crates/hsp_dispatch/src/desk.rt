@@ -2,10 +2,8 @@
 
 ghost use Rattle.std.specs.Prelude.{◌≡◌, ◌≢◌, IfErr, IfNone, IfOk, IfSome, OnErr, ℕ, List, length};
 ghost use Rattle.csv.specs.Records.{fields_of};
-ghost use Rattle.hsp_csv.specs.Records.{Fields};
 ghost use Rattle.hsp_instance.specs.Instance.{Instance};
-ghost use Rattle.hsp_dispatch.specs.Lines.{IsAmong, line_by};
-ghost use Rattle.hsp_dispatch.specs.Lines.{lines_of};
+ghost use Rattle.hsp_dispatch.specs.Lines.{IsAmong, line_by, lines_of};
 ghost use Rattle.hsp_dispatch.specs.Steps.{BeginsWithNone, GoesOn, IsRefused};
 ghost use Rattle.hsp_dispatch.specs.declared.answer.FrontSums.{FrontSums};
 ghost use Rattle.hsp_dispatch.specs.declared.fault.LogFault.{LogFault};
@@ -58,8 +56,8 @@ pub(crate) trait Desk: Drop {
     ) -> Result<Given, LogFault>
         ensures instance { instance self.new ≡ instance self.old }
         ensures among { IfOk result (IsAmong (length (instance self.old).servers)) }
-        ensures answers { IfOk result (λ given. GoesOn Answers self.old self.new place.form (fields_of «record».now)
-            (line_by (lines_of (instance self.old)) given) given) }
+        ensures answers { IfOk result (λ given. GoesOn instance Answers self.old self.new place.form
+            (fields_of «record».now) (line_by (lines_of (instance self.old)) given) given) }
         ensures refuses { IfErr result (IsRefused Refuses place.row place.form (fields_of «record».now)) }
         ensures stays { OnErr result (self.new ≡ self.old) };
 }

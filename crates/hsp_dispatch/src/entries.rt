@@ -1,8 +1,11 @@
 // A dispatcher answers logs whose rows are entries.
 
+ghost use Rattle.std.specs.Prelude.{◌≡◌, ◌≢◌, IfNone, IfSome};
+ghost use Rattle.csv.specs.Records.{fields_of};
 ghost use Rattle.hsp_dispatch.specs.Desks.{AnswersEntries, RefusesEntry};
 ghost use Rattle.hsp_dispatch.specs.Log.{header_of};
 ghost use Rattle.hsp_dispatch.specs.Shares.{left_of};
+ghost use Rattle.hsp_dispatch.specs.declared.form.Form.{Form};
 
 use crate::answering::{Given, choose};
 use crate::body::{octets_in, request_in};
@@ -24,7 +27,10 @@ impl<'a> Desk for Dispatcher<'a> {
 
     ghost Refuses = { RefusesEntry };
 
-    fn form_of(record: &ByteRecord) -> Option<Form> {
+    fn form_of(record: &ByteRecord) -> Option<Form>
+        ensures header { IfSome result (λ form. fields_of «record».now ≡ header_of form) }
+        ensures none { IfNone result ((form : Form) → fields_of «record».now ≢ header_of form) }
+    {
         form_of(record)
     }
 

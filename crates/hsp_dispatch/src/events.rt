@@ -1,7 +1,10 @@
 // Fronts answer logs whose rows are events: an entry with the number of a front.
 
+ghost use Rattle.std.specs.Prelude.{◌≡◌, ◌≢◌, IfNone, IfSome};
+ghost use Rattle.csv.specs.Records.{fields_of};
 ghost use Rattle.hsp_dispatch.specs.Desks.{AnswersEvents, RefusesEvent};
 ghost use Rattle.hsp_dispatch.specs.Log.{front_header};
+ghost use Rattle.hsp_dispatch.specs.declared.form.Form.{Form};
 
 use crate::answering::Given;
 use crate::desk::{Desk, Place};
@@ -23,7 +26,10 @@ impl<'a> Desk for Fronts<'a> {
 
     ghost Refuses = { RefusesEvent };
 
-    fn form_of(record: &ByteRecord) -> Option<Form> {
+    fn form_of(record: &ByteRecord) -> Option<Form>
+        ensures header { IfSome result (λ form. fields_of «record».now ≡ front_header) }
+        ensures none { IfNone result ((form : Form) → fields_of «record».now ≢ front_header) }
+    {
         event_form_of(record)
     }
 

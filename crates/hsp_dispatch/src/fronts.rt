@@ -4,7 +4,7 @@ ghost use Rattle.std.specs.Prelude.{◌≡◌, ◌≢◌, ◌≤◌, IfErr, IfOk
 ghost use Rattle.hsp_text.specs.declared.limits.TheConstants.{MOST_FRONTS};
 ghost use Rattle.hsp_names.specs.Handle.{handle_in};
 ghost use Rattle.hsp_check.specs.Uses.{table};
-ghost use Rattle.hsp_dispatch.specs.Fronts.{AreFrontsOf, IsTakenAt, answer_among};
+ghost use Rattle.hsp_dispatch.specs.Fronts.{AreFrontsOf, IsTakenAt, answer_among, fronts_of, left_at_front};
 ghost use Rattle.hsp_dispatch.specs.Lines.{IsAmong};
 ghost use Rattle.hsp_dispatch.specs.Shares.{AreUsesOf, IsPlanFor, plan_of, query};
 ghost use Rattle.hsp_dispatch.specs.Steps.{TakesAt, entry_of};
@@ -31,13 +31,13 @@ pub struct Fronts<'a> {
 }
 
 impl<'a> Model for Fronts<'a> {
-    ghost use Rattle.hsp_dispatch.specs.Fronts.{HoldInstance, Tables, tables_of};
+    ghost use Rattle.hsp_dispatch.specs.Fronts.{HoldInstance, Tables};
 
     ghost Value = { Tables };
 
-    ghost view = { λ fronts. tables_of fronts.instance.now fronts.fronts.items };
+    ghost view = { λ fronts. record { instance = fronts.instance.now; held = fronts.fronts.items } };
 
-    ghost invariant = { λ fronts. HoldInstance fronts.instance.now fronts.fronts.items };
+    ghost invariant = { λ fronts. HoldInstance (record { instance = fronts.instance.now; held = fronts.fronts.items }) };
 }
 
 impl<'a> Fronts<'a> {
@@ -95,7 +95,7 @@ impl<'a> Fronts<'a> {
     pub fn assign(&mut self, front: u32, region: &[u8], handle: HandleRef<'_>) -> FrontAnswer
         ensures answer { result ≡ answer_among self.old front (query region.now handle.entry) }
         ensures taken { IsTakenAt front (query region.now handle.entry) self.old self.new }
-        ensures none { self.old.fronts ≤ front → self.new ≡ self.old }
+        ensures none { fronts_of self.old ≤ front → self.new ≡ self.old }
     {
         if front as usize >= self.fronts.len() {
             return FrontAnswer::NoFront;
@@ -129,7 +129,7 @@ impl<'a> Fronts<'a> {
 
     /// How many queries of a row a front has left for a site, 0 where the front, the row or the site is not there.
     pub fn left(&self, front: u32, row: u32, site: u32) -> u64
-        ensures { result ≡ self.now.left front row site }
+        ensures { result ≡ left_at_front self.now front row site }
     {
         match self.fronts.get(front as usize) {
             Some(own) => own.left(row, site),

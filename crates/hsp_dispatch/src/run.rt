@@ -7,7 +7,7 @@ ghost use Rattle.hsp_dispatch.specs.Dispatch.{all_of};
 ghost use Rattle.hsp_dispatch.specs.Lines.{lines_of};
 ghost use Rattle.hsp_dispatch.specs.Runs.{EndsWhole, Stops, desk_of, streams};
 ghost use Rattle.hsp_dispatch.specs.Shares.{left_of};
-ghost use Rattle.hsp_dispatch.specs.Steps.{log_left};
+ghost use Rattle.hsp_dispatch.specs.Steps.{BeginsWithNone, log_left};
 
 use crate::answer::{FrontSums, LogSums};
 use crate::answering::line_in;
@@ -41,6 +41,7 @@ fn run_rows<D: Desk, R: Read, W: Write>(
 ) -> Result<FrontSums, LogFault>
     requires reading { IsReading reader.old }
     requires lines { ready.now.lines ≡ lines_of (D.instance desk.old) }
+    requires begins { BeginsWithNone (D.Answers desk.old desk.old) }
     ensures instance { D.instance desk.new ≡ D.instance desk.old }
     ensures whole { IfOk result (EndsWhole (desk_of D.header (D.Answers desk.old desk.new) D.Refuses)
         (streams (log_left R.remaining reader.old) (W.contents writer.old) (W.contents writer.new))) }

@@ -1,23 +1,21 @@
-use Rattle.std.proofs.Common.{◌≡◌, ◌-◌, ◌≤◌, List, length}
-use Rattle.hsp_csv.specs.Records.{Fields, IsReading}
-use Rattle.hsp_dispatch.specs.Dispatch.{Entry, answers, sums_of}
-use Rattle.hsp_dispatch.specs.Runs.{Answered}
-use Rattle.hsp_dispatch.specs.Steps.{IsRead, begun, ended, log_left}
+use Rattle.std.proofs.Common.{◌≡◌, ◌-◌, ◌≤◌}
+use Rattle.hsp_csv.specs.Records.{IsReading}
+use Rattle.hsp_dispatch.specs.Runs.{desk_of, streams}
+use Rattle.hsp_dispatch.specs.Steps.{log_left}
+use Rattle.hsp_dispatch.proofs.Running.{SoFar}
 use Rattle.hsp_dispatch.proofs.run.run_rows.Given as goal
 
 abbrev pub invariant-rows : goal.invariant-rows
 invariant-rows g l =
     let remaining = g.R.Read.remaining in
     let contents = g.W.Write.contents in
-    let run = begun l.fn.dispatcher (log_left remaining l.fn.reader) (contents l.fn.writer) in
+    let desk = g.D.Desk in
     record {
       reading : IsReading l.reader;
-      instance : l.dispatcher.instance ≡ l.fn.dispatcher.instance;
+      instance : desk.instance l.desk ≡ desk.instance l.fn.desk;
       within : l.row ≤ 10000000;
-      so_far : (rows : List Fields) × (entries : List Entry) × (length rows ≡ l.row)
-          × IsRead run.log l.form rows (log_left remaining l.reader)
-          × Answered run l.form rows entries (ended l.dispatcher (contents l.writer))
-          × (l.sums ≡ sums_of (answers run.instance run.plan entries));
+      so_far : SoFar (desk_of desk.header (desk.Answers l.fn.desk l.desk) desk.Refuses)
+          (streams (log_left remaining l.fn.reader) (contents l.fn.writer) (contents l.writer)) l.form (log_left remaining l.reader) l.row l.sums;
     }
 
 abbrev pub decreases-rows : goal.decreases-rows
