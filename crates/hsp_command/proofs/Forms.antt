@@ -20,5 +20,5 @@ one_form rows (order.LocateSites settings values handle) h = inr (h.1, h.2, (set
 one_form rows (order.Site index file) h = let e = ap (λ (t : Text). slice_index t 0) h.0 in absurd (omega arith)
 one_form rows (order.Plan inputs) h = let e = ap (λ (t : Text). slice_index t 0) h.0 in absurd (omega arith)
 one_form rows (order.Check inputs plan) h = let e = ap (λ (t : Text). slice_index t 0) h.0 in absurd (omega arith)
-one_form rows (order.Dispatch inputs plan log) h = let e = ap (λ (t : Text). slice_index t 0) h.0 in absurd (omega arith)
+one_form rows (order.Dispatch inputs plan log fronts) h = let e = ap (λ (t : Text). slice_index t 0) h.0 in absurd (omega arith)
 one_form rows (order.Report inputs plan kind) h = let e = ap (λ (t : Text). slice_index t 0) h.0 in absurd (omega arith)

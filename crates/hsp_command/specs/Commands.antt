@@ -39,7 +39,7 @@ abbrev pub check_app : App
 check_app = with_needed (with_inputs (new_app (codes "check"))) (codes "plan")
 
 abbrev pub dispatch_app : App
-dispatch_app = with_needed (with_needed (with_inputs (new_app (codes "dispatch"))) (codes "plan")) (codes "log")
+dispatch_app = with_option (with_needed (with_needed (with_inputs (new_app (codes "dispatch"))) (codes "plan")) (codes "log")) (codes "fronts")
 
 abbrev pub report_app : App
 report_app = with_needed (with_needed (with_inputs (new_app (codes "report"))) (codes "plan")) (codes "kind")

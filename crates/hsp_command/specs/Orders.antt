@@ -33,8 +33,9 @@ IsOrderIn (order.LocateSites settings values handle) name rows =
 IsOrderIn (order.Site index file) name rows = (name ≡ codes "site") × (first_of (codes "index") rows ≡ index) × (first_of (codes "file") rows ≡ Some file)
 IsOrderIn (order.Plan inputs) name rows = (name ≡ codes "plan") × HasInputs rows inputs
 IsOrderIn (order.Check inputs plan) name rows = (name ≡ codes "check") × HasInputs rows inputs × (first_of (codes "plan") rows ≡ Some plan)
-IsOrderIn (order.Dispatch inputs plan log) name rows =
+IsOrderIn (order.Dispatch inputs plan log fronts) name rows =
     (name ≡ codes "dispatch") × HasInputs rows inputs × (first_of (codes "plan") rows ≡ Some plan) × (first_of (codes "log") rows ≡ Some log)
+    × (first_of (codes "fronts") rows ≡ fronts)
 IsOrderIn (order.Report inputs plan kind) name rows =
     (name ≡ codes "report") × HasInputs rows inputs × (first_of (codes "plan") rows ≡ Some plan) × (first_of (codes "kind") rows ≡ Some (kind_word kind))
 

@@ -121,7 +121,8 @@ fn dispatch_command<'a>(alloc: Global) -> Result<Command<'a>, AllocError>
 {
     let command = with_inputs(alloc, Command::new(alloc, "dispatch"))?;
     let command = with_needed(alloc, command, "plan")?;
-    with_needed(alloc, command, "log")
+    let command = with_needed(alloc, command, "log")?;
+    with_option(alloc, command, "fronts")
 }
 
 fn report_command<'a>(alloc: Global) -> Result<Command<'a>, AllocError>

@@ -88,11 +88,12 @@ pub enum Order {
         inputs: InputFiles,
         plan: Word,
     },
-    /// `dispatch` with the files of the inputs, `--plan F` and `--log F`
+    /// `dispatch` with the files of the inputs, `--plan F`, `--log F` and `[--fronts N]`
     Dispatch {
         inputs: InputFiles,
         plan: Word,
         log: Word,
+        fronts: Option<Word>,
     },
     /// `report` with the files of the inputs, `--plan F` and `--kind K`
     Report {

@@ -132,7 +132,13 @@ fn order_of(alloc: Global, name: &str, matches: &ArgMatches<'_>) -> Result<Order
             let inputs = inputs_of(alloc, matches)?;
             let plan = needed_of(alloc, matches, "plan")?;
             let log = needed_of(alloc, matches, "log")?;
-            Ok(Order::Dispatch { inputs, plan, log })
+            let fronts = word_of(alloc, matches, "fronts")?;
+            Ok(Order::Dispatch {
+                inputs,
+                plan,
+                log,
+                fronts,
+            })
         }
         "report" => report_of(alloc, matches),
         _ => Err(CommandFault::Usage),

@@ -52,10 +52,19 @@ fn shown(alloc: Global, order: &Order) -> Option<String> {
         }
         Order::Plan { inputs } => shown_inputs(alloc, "plan", inputs, ""),
         Order::Check { inputs, plan } => shown_inputs(alloc, "check", inputs, plan.as_str()),
-        Order::Dispatch { inputs, plan, log } => {
+        Order::Dispatch {
+            inputs,
+            plan,
+            log,
+            fronts,
+        } => {
             let shown = shown_inputs(alloc, "dispatch", inputs, plan.as_str())?;
             let (shown, log) = (shown.as_str(), log.as_str());
-            format!(in alloc; "{shown}|{log}").ok()
+            let fronts = match fronts {
+                Some(fronts) => fronts.as_str(),
+                None => "none",
+            };
+            format!(in alloc; "{shown}|{log}|{fronts}").ok()
         }
         Order::Report { inputs, plan, kind } => {
             let shown = shown_inputs(alloc, "report", inputs, plan.as_str())?;
@@ -183,8 +192,30 @@ fn a_dispatch_is_ordered(rt: HostRuntime) -> Result<(), Fail> {
         &rt,
         rt.alloc(),
         b"dispatch --settings s --demand d --costs c --capacity k --plan p --log l",
-        "dispatch|s|none|d|c|k|p|l",
+        "dispatch|s|none|d|c|k|p|l|none",
     )
+}
+
+#[test]
+fn a_dispatch_at_fronts_is_ordered(rt: HostRuntime) -> Result<(), Fail> {
+    let cases: [(&[u8], &str); 3] = [
+        (
+            b"dispatch --settings s --demand d --costs c --capacity k --plan p --log l --fronts 2",
+            "dispatch|s|none|d|c|k|p|l|2",
+        ),
+        (
+            b"dispatch --fronts=-1 --settings s --values v --demand d --costs c --capacity k --plan p --log l",
+            "dispatch|s|v|d|c|k|p|l|-1",
+        ),
+        (
+            b"dispatch --settings s --demand d --costs c --capacity k --fronts x --plan p --log l",
+            "dispatch|s|none|d|c|k|p|l|x",
+        ),
+    ];
+    for (line, wanted) in cases {
+        gives(&rt, rt.alloc(), line, wanted)?;
+    }
+    Ok(())
 }
 
 #[test]
@@ -211,7 +242,7 @@ fn a_report_is_ordered(rt: HostRuntime) -> Result<(), Fail> {
 
 #[test]
 fn other_words_are_no_order(rt: HostRuntime) -> Result<(), Fail> {
-    let lines: [&[u8]; 20] = [
+    let lines: [&[u8]; 24] = [
         b"",
         b"locate",
         b"plan",
@@ -228,6 +259,10 @@ fn other_words_are_no_order(rt: HostRuntime) -> Result<(), Fail> {
         b"check --settings s --demand d --costs c --capacity k",
         b"dispatch --settings s --demand d --costs c --capacity k --plan p",
         b"dispatch --settings s --demand d --costs c --capacity k --log l",
+        b"dispatch --settings s --demand d --costs c --capacity k --plan p --log l --fronts",
+        b"dispatch --settings s --demand d --costs c --capacity k --plan p --log l --fronts -1",
+        b"dispatch --settings s --demand d --costs c --capacity k --plan p --log l --fronts 2 --fronts 2",
+        b"check --settings s --demand d --costs c --capacity k --plan p --fronts 2",
         b"report --settings s --demand d --costs c --capacity k --plan p",
         b"report --settings s --demand d --costs c --capacity k --kind load",
         b"report --settings s --demand d --costs c --capacity k --plan p --kind loads",

@@ -1,56 +1,98 @@
--- What a run of dispatching answers, and what it has written by then.
-use Rattle.std.specs.Prelude.{◌≡◌, ◌⊎◌, ℕ, List, Option, Result, Ok, Err}
-use Rattle.hsp_csv.specs.Records.{Fields}
+-- What a run over a log answers, and what it has written by then: by a dispatcher, or by fronts that share a plan.
+use Rattle.std.specs.Prelude.{◌≡◌, ◌⊎◌, ℕ, List, Option, option_map, Result, Ok, Err}
+use Rattle.hsp_csv.specs.Records.{records_of}
 use Rattle.hsp_instance.specs.Instance.{Instance}
 use Rattle.hsp_cert.specs.Certificate.{Claim}
 use Rattle.hsp_cert.specs.Certificate.Claim.{best, short}
 use Rattle.hsp_check.specs.Plan.{Plan}
-use Rattle.hsp_dispatch.specs.Dispatch.{IsSame}
-use Rattle.hsp_dispatch.specs.Runs.{EndsWhole, Outcome, Setting, Stops}
+use Rattle.hsp_dispatch.specs.Desks.{by_fronts, by_plan}
+use Rattle.hsp_dispatch.specs.Dispatch.{IsSame, all_of}
+use Rattle.hsp_dispatch.specs.Fronts.{AreFrontsOf, Tables}
+use Rattle.hsp_dispatch.specs.Runs.{Desk, EndsWhole, Stops, Streams, streams}
 use Rattle.hsp_dispatch.specs.Shares.{plan_of}
+use Rattle.hsp_dispatch.specs.declared.answer.FrontSums.{FrontSums}
 use Rattle.hsp_dispatch.specs.declared.answer.LogSums.{LogSums}
 use Rattle.hsp_dispatch.specs.declared.fault.LogFault.TheVariants as log_fault
+use Rattle.hsp_text.specs.declared.limits.TheConstants.{MOST_FRONTS}
 use Rattle.hsp_runs.specs.Accepted.{IsAcceptedOf}
+use Rattle.hsp_runs.specs.Counts.{count_at}
 use Rattle.hsp_runs.specs.declared.accepted.Accepted.{Accepted}
 use Rattle.hsp_runs.specs.declared.fault.Fault.{Fault}
-use Rattle.hsp_runs.specs.declared.fault.Fault.TheVariants.{Log, OutOfMemory, WrongKind}
+use Rattle.hsp_runs.specs.declared.fault.Fault.TheVariants.{BadFronts, Log, OutOfMemory, WrongKind}
 use Rattle.hsp_runs.specs.declared.inputs.Inputs.{Inputs}
 
--- the log's records, where they are known, and what the writer holds before the run and after it, where that is known
-pub record LogRun : Type 0 where
-  pub log : Option (List Fields)
-  pub before : Option (List ℕ)
-  pub after : Option (List ℕ)
+-- ---- who answers
 
--- the log was answered to its end, with its sums, or up to a fault
-abbrev pub EndsLog : Setting → Outcome → Result LogSums Fault → Type 0
-EndsLog run end (Ok sums) = EndsWhole run end sums
-EndsLog run end (Err OutOfMemory) = Stops run end log_fault.OutOfMemory
-EndsLog run end (Err (Log fault)) = Stops run end fault
-EndsLog run end (Err e) = ⊥
+-- Who answers logs by plans: what is so of a desk that has the plan of an instance at the start, with what is then left of it; and how
+-- the sums that are told count the answers.
+pub record Staff (S : Type 0) : Type 1 where
+  pub At : Instance → Plan → (Desk → Type 0) → Type 0
+  pub all : S → FrontSums
 
--- the log was answered by the plan, of which some table is left
-abbrev pub AnswersBy : Instance → Plan → LogRun → Result LogSums Fault → Type 0
-AnswersBy it x run answer =
-    (plan : Plan) × (left : Plan) × IsSame plan x
-    × EndsLog (record { instance = it; plan = plan; log = run.log; before = run.before }) (record { left = left; after = run.after }) answer
+-- a dispatcher
+abbrev pub a_dispatcher : Staff LogSums
+a_dispatcher = record {
+  At = λ it x Is. (held : Plan) × (left : Plan) × IsSame held x × Is (by_plan it held left);
+  all = all_of;
+}
+
+-- so many fronts, each with its share of the plan
+abbrev pub so_many : ℕ → Staff FrontSums
+so_many fronts = record {
+  At = λ it x Is. (old : Tables) × (new : Tables) × AreFrontsOf it x fronts old × Is (by_fronts old new);
+  all = λ sums. sums;
+}
+
+-- ---- what is answered
+
+-- the log, whose octets are known or not, and what the writer holds before the run and after it
+abbrev pub over : Option (List ℕ) → Option (List ℕ) → Option (List ℕ) → Streams
+over octets before after = streams (option_map records_of octets) before after
+
+-- the log was answered at the desk to its end, with its sums, or up to a fault
+abbrev pub EndsLog : {S : Type 0} → (S → FrontSums) → Streams → Result S Fault → Desk → Type 0
+EndsLog all run (Ok sums) desk = EndsWhole desk run (all sums)
+EndsLog all run (Err OutOfMemory) desk = Stops desk run log_fault.OutOfMemory
+EndsLog all run (Err (Log fault)) desk = Stops desk run fault
+EndsLog all run (Err e) desk = ⊥
 
 -- there is a fault, and nothing was written
-abbrev pub Refuses : LogRun → Fault → Result LogSums Fault → Type 0
+abbrev pub Refuses : {S : Type 0} → Streams → Fault → Result S Fault → Type 0
 Refuses run fault answer = (run.after ≡ run.before) × (answer ≡ Err fault)
 
 -- the log is answered by a plan, and not by a shortage
-abbrev pub AnswersAs : Instance → Claim → LogRun → Result LogSums Fault → Type 0
-AnswersAs it (best c) run answer = AnswersBy it (plan_of (best c)) run answer
-AnswersAs it (short c) run answer = Refuses run WrongKind answer
+abbrev pub AnswersAs : {S : Type 0} → Staff S → Instance → Claim → Streams → Result S Fault → Type 0
+AnswersAs staff it (best c) run answer = staff.At it (plan_of (best c)) (EndsLog staff.all run answer)
+AnswersAs staff it (short c) run answer = Refuses run WrongKind answer
+
+-- by what is accepted, or memory ran out before that
+abbrev pub AnswersBy : {S : Type 0} → Staff S → Accepted → Streams → Result S Fault → Type 0
+AnswersBy staff accepted run answer = Refuses run OutOfMemory answer ⊎ AnswersAs staff accepted.instance accepted.certificate run answer
 
 -- by what is accepted; where nothing is, its fault is told
-abbrev pub AnswersWhere : Result Accepted Fault → LogRun → Result LogSums Fault → Type 0
-AnswersWhere (Ok accepted) run answer = AnswersAs accepted.instance accepted.certificate run answer
-AnswersWhere (Err e) run answer = Refuses run e answer
+abbrev pub AnswersWhere : {S : Type 0} → Staff S → Result Accepted Fault → Streams → Result S Fault → Type 0
+AnswersWhere staff (Ok accepted) run answer = AnswersAs staff accepted.instance accepted.certificate run answer
+AnswersWhere staff (Err e) run answer = Refuses run e answer
 
 -- first the inputs are read, then the certificate, and then it is judged; where it is accepted, the log is answered. Or memory ran
 -- out before that.
-abbrev pub IsDispatched : Inputs → List ℕ → LogRun → Result LogSums Fault → Type 0
-IsDispatched inputs octets run answer =
-    Refuses run OutOfMemory answer ⊎ ((accepted : Result Accepted Fault) × IsAcceptedOf inputs octets accepted × AnswersWhere accepted run answer)
+abbrev pub IsAnsweredBy : {S : Type 0} → Staff S → Inputs → List ℕ → Streams → Result S Fault → Type 0
+IsAnsweredBy staff inputs octets run answer =
+    Refuses run OutOfMemory answer ⊎ ((accepted : Result Accepted Fault) × IsAcceptedOf inputs octets accepted × AnswersWhere staff accepted run answer)
+
+abbrev pub IsDispatched : Inputs → List ℕ → Streams → Result LogSums Fault → Type 0
+IsDispatched inputs octets run answer = IsAnsweredBy a_dispatcher inputs octets run answer
+
+-- ---- fronts
+
+-- the number of fronts that a word spells
+abbrev pub fronts_at : List ℕ → Result ℕ Fault
+fronts_at word = count_at BadFronts MOST_FRONTS word
+
+-- the same by so many fronts; where there is no number of them, its fault is told
+abbrev pub AreAnsweredBy : Result ℕ Fault → Inputs → List ℕ → Streams → Result FrontSums Fault → Type 0
+AreAnsweredBy (Ok fronts) inputs octets run answer = IsAnsweredBy (so_many fronts) inputs octets run answer
+AreAnsweredBy (Err e) inputs octets run answer = Refuses run e answer
+
+abbrev pub IsDispatchedAt : List ℕ → Inputs → List ℕ → Streams → Result FrontSums Fault → Type 0
+IsDispatchedAt word inputs octets run answer = AreAnsweredBy (fronts_at word) inputs octets run answer

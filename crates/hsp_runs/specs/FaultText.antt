@@ -15,7 +15,7 @@ use Rattle.hsp_cert.specs.declared.fault.CertFault.TheVariants as cert_fault
 use Rattle.hsp_dispatch.specs.declared.fault.LogFault.{LogFault}
 use Rattle.hsp_dispatch.specs.declared.fault.LogFault.TheVariants as log_fault
 use Rattle.hsp_runs.specs.declared.fault.Fault.{Fault}
-use Rattle.hsp_runs.specs.declared.fault.Fault.TheVariants.{BadOption, BadServers, BadIndex, Handle, Site, Settings, Values, NoValue, NotSiteValue, Demand, Costs, Capacity, Build, Cert, Refused, WrongKind, OutOfMemory, Log}
+use Rattle.hsp_runs.specs.declared.fault.Fault.TheVariants.{BadOption, BadServers, BadIndex, Handle, Site, Settings, Values, NoValue, NotSiteValue, Demand, Costs, Capacity, Build, Cert, Refused, WrongKind, OutOfMemory, Log, BadFronts}
 use Rattle.hsp_runs.specs.VerdictText.{reason_word}
 
 abbrev pub handle_words : HandleFault → List ℕ
@@ -92,6 +92,7 @@ log_words (log_fault.BadHandle row) = row_words (codes "BadHandle") row
 log_words log_fault.LogTooLong = codes "LogTooLong"
 log_words log_fault.OutOfMemory = codes "OutOfMemory"
 log_words (log_fault.BadBody row) = row_words (codes "BadBody") row
+log_words (log_fault.BadFront row) = row_words (codes "BadFront") row
 
 -- a fault of a run over a log; want of memory is told without a part
 abbrev pub log_told : LogFault → Fault
@@ -118,6 +119,7 @@ fault_words (Refused reason) = codes "check: " ++ reason_word reason
 fault_words WrongKind = codes "WrongKind"
 fault_words OutOfMemory = codes "OutOfMemory"
 fault_words (Log e) = codes "log: " ++ log_words e
+fault_words BadFronts = codes "BadFronts"
 
 abbrev pub fault_text : Fault → List ℕ
 fault_text fault = codes "hsplan: " ++ (fault_words fault ++ 10 ∷ [])
@@ -132,6 +134,7 @@ log_status (log_fault.BadHandle row) = 1
 log_status log_fault.LogTooLong = 1
 log_status log_fault.OutOfMemory = 4
 log_status (log_fault.BadBody row) = 1
+log_status (log_fault.BadFront row) = 1
 
 -- 4 for want of memory, 3 for a certificate that is refused or of the wrong kind, that of a log's fault, 1 for any other refused input
 abbrev pub status_in : Fault → ℕ
@@ -153,3 +156,4 @@ status_in (Refused reason) = 3
 status_in WrongKind = 3
 status_in OutOfMemory = 4
 status_in (Log e) = log_status e
+status_in BadFronts = 1

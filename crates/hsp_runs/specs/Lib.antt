@@ -9,5 +9,6 @@ pub mod Accepted
 pub mod VerdictText
 pub mod Plan
 pub mod SumsText
+pub mod Counts
 pub mod Dispatch
 pub mod Report

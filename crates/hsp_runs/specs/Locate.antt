@@ -1,15 +1,14 @@
 -- The texts that tell where a handle is served.
-use Rattle.std.specs.Prelude.{◌≡◌, ◌==◌, ◌++◌, ◌∷◌, [], ℕ, List, length, codes, decimal, option_map, slice_get, Option, Some, None, Result, Ok, Err, if◌then◌else◌}
+use Rattle.std.specs.Prelude.{◌≡◌, ◌++◌, ◌∷◌, [], ℕ, List, length, codes, decimal, option_map, slice_get, Option, Some, None, Result, Ok, Err, if◌then◌else◌}
 use Rattle.std.specs.Str.{bytes_eq}
-use Rattle.hsp_text.specs.Whole.{whole_within}
 use Rattle.hsp_text.specs.declared.limits.TheConstants.{MOST_SERVERS}
-use Rattle.hsp_text.specs.declared.whole.WholeFault.{WholeFault}
 use Rattle.hsp_names.specs.Handle.{handle_in}
 use Rattle.hsp_names.specs.declared.fault.HandleFault.{HandleFault}
 use Rattle.hsp_hash.specs.declared.option.HashOption.{HashOption}
 use Rattle.hsp_hash.specs.declared.option.HashOption.TheVariants.{ByNa, ByLocal, ByHandle}
 use Rattle.hsp_hash.specs.Place.{server_place}
 use Rattle.hsp_instance.specs.Instance.{Site, SiteServer}
+use Rattle.hsp_runs.specs.Counts.{count_at}
 use Rattle.hsp_runs.specs.declared.fault.Fault.{Fault}
 use Rattle.hsp_runs.specs.declared.fault.Fault.TheVariants.{BadOption, BadServers, Handle}
 use Rattle.hsp_runs.specs.declared.locate.Locate.{Locate}
@@ -27,12 +26,8 @@ option_at word =
     else Err BadOption
 
 -- a number of servers, from 1 to 1,024
-abbrev pub servers_or : Result ℕ WholeFault → Result ℕ Fault
-servers_or (Ok n) = if n == 0 then Err BadServers else Ok n
-servers_or (Err e) = Err BadServers
-
 abbrev pub servers_at : List ℕ → Result ℕ Fault
-servers_at word = servers_or (whole_within MOST_SERVERS word)
+servers_at word = count_at BadServers MOST_SERVERS word
 
 -- a handle's octets
 abbrev pub handle_or : Result (List ℕ) HandleFault → Result (List ℕ) Fault

@@ -1,11 +1,8 @@
 // Logs, answered by the plans of certificates.
 
-ghost use Rattle.std.specs.Prelude.{◌⊎◌, IfErr, IfOk, option_map};
 ghost use Rattle.hsp_check.specs.Instance.{network_of};
 ghost use Rattle.hsp_check.specs.Valid.{IsValid};
-ghost use Rattle.hsp_csv.specs.Records.{records_of};
-ghost use Rattle.hsp_runs.specs.Dispatch.{AnswersAs, IsDispatched, Refuses};
-ghost use Rattle.hsp_runs.specs.declared.fault.Fault.TheVariants.{OutOfMemory};
+ghost use Rattle.hsp_runs.specs.Dispatch.{AnswersBy, IsDispatched, a_dispatcher, over};
 
 use crate::accepted::{Accepted, accepted_in};
 use crate::fault::Fault;
@@ -22,9 +19,8 @@ fn dispatched<R: Read + Drop, W: Write>(
     writer: &mut W,
 ) -> Result<LogSums, Fault>
     requires { IsValid (network_of accepted.now.instance) accepted.now.certificate }
-    ensures { Refuses (record { log = option_map records_of (R.remaining reader); before = W.contents writer.old; after = W.contents writer.new }) OutOfMemory result
-        ⊎ AnswersAs accepted.now.instance accepted.now.certificate
-        (record { log = option_map records_of (R.remaining reader); before = W.contents writer.old; after = W.contents writer.new }) result }
+    ensures { AnswersBy a_dispatcher accepted.now
+        (over (R.remaining reader) (W.contents writer.old) (W.contents writer.new)) result }
 {
     let _plan = accepted.plan()?;
     let mut dispatcher = Dispatcher::new(alloc, &accepted.instance, &accepted.certificate)?;
@@ -43,7 +39,7 @@ pub fn dispatch_run<R: Read + Drop, W: Write>(
     writer: &mut W,
 ) -> Result<LogSums, Fault>
     ensures { IsDispatched inputs.now certificate.now
-        (record { log = option_map records_of (R.remaining reader); before = W.contents writer.old; after = W.contents writer.new }) result }
+        (over (R.remaining reader) (W.contents writer.old) (W.contents writer.new)) result }
 {
     let accepted = accepted_in(alloc, inputs, certificate)?;
     dispatched(alloc, &accepted, reader, writer)

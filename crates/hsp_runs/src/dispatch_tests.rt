@@ -9,8 +9,8 @@ use std::test::Fail;
 
 // Takes octets while there is room for them, and then none.
 #[derive(Drop)]
-struct Page {
-    taken: Vec<u8>,
+pub(crate) struct Page {
+    pub(crate) taken: Vec<u8>,
     room: usize,
 }
 
@@ -32,7 +32,7 @@ impl Write for Page {
 }
 
 // A page with room for so many octets. Where this growth is refused, the second finds memory.
-fn page_of(alloc: Global, room: usize) -> Result<Page, AllocError> {
+pub(crate) fn page_of(alloc: Global, room: usize) -> Result<Page, AllocError> {
     let taken = match Vec::with_capacity(alloc, room) {
         Ok(taken) => taken,
         Err(_) => Vec::with_capacity(alloc, room)?,
@@ -177,7 +177,7 @@ fn what_is_not_accepted_answers_nothing(rt: HostRuntime) -> Result<(), Fail> {
 
 #[test]
 fn faults_of_logs_have_their_lines(rt: HostRuntime) -> Result<(), Fail> {
-    let cases: [(LogFault, u8, &[u8]); 7] = [
+    let cases: [(LogFault, u8, &[u8]); 8] = [
         (LogFault::ReadFailed, 5, b"hsplan: log: ReadFailed\n"),
         (LogFault::WriteFailed, 5, b"hsplan: log: WriteFailed\n"),
         (LogFault::Header, 1, b"hsplan: log: Header\n"),
@@ -196,6 +196,11 @@ fn faults_of_logs_have_their_lines(rt: HostRuntime) -> Result<(), Fail> {
             LogFault::BadBody { row: 0 },
             1,
             b"hsplan: log: BadBody row 0\n",
+        ),
+        (
+            LogFault::BadFront { row: 2 },
+            1,
+            b"hsplan: log: BadFront row 2\n",
         ),
     ];
     for (fault, status, wanted) in cases {

@@ -69,6 +69,9 @@ pub enum Fault {
     /// The run over a log stopped.
     #[error("log: {0:?}")]
     Log(LogFault),
+    /// The number of fronts isn't a whole number from 1 to 64.
+    #[error("bad fronts")]
+    BadFronts,
 }
 
 impl From<AllocError> for Fault {

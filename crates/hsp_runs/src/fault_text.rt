@@ -67,6 +67,7 @@ fn put_fault(out: &mut Vec<u8>, fault: &Fault) -> Result<(), AllocError>
             out.extend_from_slice(b"log: ")?;
             put_log_fault(out, inner)
         }
+        Fault::BadFronts => out.extend_from_slice(b"BadFronts"),
     }
 }
 
@@ -92,7 +93,8 @@ fn log_status(fault: LogFault) -> u8
         | LogFault::Fields { .. }
         | LogFault::BadHandle { .. }
         | LogFault::LogTooLong
-        | LogFault::BadBody { .. } => 1,
+        | LogFault::BadBody { .. }
+        | LogFault::BadFront { .. } => 1,
     }
 }
 
@@ -115,7 +117,8 @@ pub fn status_of(fault: &Fault) -> u8
         | Fault::Costs(_)
         | Fault::Capacity(_)
         | Fault::Build(_)
-        | Fault::Cert(_) => 1,
+        | Fault::Cert(_)
+        | Fault::BadFronts => 1,
         Fault::Refused(_) | Fault::WrongKind => 3,
         Fault::OutOfMemory => 4,
         Fault::Log(inner) => log_status(*inner),

@@ -176,5 +176,6 @@ pub(crate) fn put_log_fault(out: &mut Vec<u8>, fault: &LogFault) -> Result<(), A
         LogFault::LogTooLong => out.extend_from_slice(b"LogTooLong"),
         LogFault::OutOfMemory => out.extend_from_slice(b"OutOfMemory"),
         LogFault::BadBody { row } => put_row(out, b"BadBody", *row),
+        LogFault::BadFront { row } => put_row(out, b"BadFront", *row),
     }
 }

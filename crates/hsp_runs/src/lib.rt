@@ -3,10 +3,12 @@
 
 mod accepted;
 mod checking;
+mod counts;
 mod dispatch;
 mod fault;
 mod fault_text;
 mod fault_words;
+mod fronts;
 mod input;
 mod inputs;
 mod instance;
@@ -23,6 +25,7 @@ pub use checking::check_run;
 pub use dispatch::dispatch_run;
 pub use fault::Fault;
 pub use fault_text::{fault_line, status_of};
+pub use fronts::fronts_run;
 pub use input::{first_line, read_file};
 pub use inputs::Inputs;
 pub use locate::{Locate, locate_run};
@@ -34,6 +37,8 @@ pub use verdict_text::{verdict_line, verdict_status};
 
 #[cfg(test)]
 mod dispatch_tests;
+#[cfg(test)]
+mod fronts_tests;
 #[cfg(test)]
 mod report_tests;
 #[cfg(test)]

@@ -1,17 +1,18 @@
 // The servers that are responsible for a handle.
 
-ghost use Rattle.std.specs.Prelude.{◌≡◌, ◌++◌, ◌∷◌, [], IfOk, decimal, option_map};
+ghost use Rattle.std.specs.Prelude.{◌≡◌, ◌≤◌, ◌++◌, ◌∷◌, [], IfOk, decimal, option_map};
 ghost use Rattle.hsp_text.specs.Answers.{Gives, GivesUnless, Stands};
 ghost use Rattle.hsp_names.specs.Lent.{octets_of};
 ghost use Rattle.hsp_runs.specs.Locate.{AreLocated, IsLocated, handle_at, option_at, placed, servers_at};
 
+use crate::counts::count_at;
 use crate::fault::Fault;
 use crate::readings::sites_in;
 use crate::site_lines::site_lines;
 use hsp_hash::{HashOption, server_number};
 use hsp_names::HandleRef;
 use hsp_text::limits::MOST_SERVERS;
-use hsp_text::{push_whole, read_whole};
+use hsp_text::push_whole;
 use std::alloc::{AllocError, Global};
 
 /// What decides the server of a handle.
@@ -45,12 +46,10 @@ fn option_at(text: &[u8]) -> Result<HashOption, Fault>
 }
 
 fn servers_at(text: &[u8]) -> Result<u32, Fault>
-    ensures { Gives (λ servers. servers) result (servers_at text.now) }
+    ensures given { Gives (λ servers. servers) result (servers_at text.now) }
+    ensures some { IfOk result (λ servers. 1 ≤ servers) }
 {
-    match read_whole(text, MOST_SERVERS as u64) {
-        Ok(0) | Err(_) => Err(Fault::BadServers),
-        Ok(servers) => Ok(servers as u32),
-    }
+    count_at(text, MOST_SERVERS as u32, Fault::BadServers)
 }
 
 fn handle_at(octets: &[u8]) -> Result<HandleRef<'_>, Fault>

@@ -1,0 +1,64 @@
+// Logs of events, answered by fronts that share the plans of certificates.
+
+ghost use Rattle.std.specs.Prelude.{◌≤◌, IfOk};
+ghost use Rattle.hsp_text.specs.Answers.{Gives};
+ghost use Rattle.hsp_text.specs.declared.limits.TheConstants.{MOST_FRONTS};
+ghost use Rattle.hsp_check.specs.Instance.{network_of};
+ghost use Rattle.hsp_check.specs.Valid.{IsValid};
+ghost use Rattle.hsp_runs.specs.Dispatch.{AnswersBy, IsDispatchedAt, fronts_at, over, so_many};
+
+use crate::accepted::{Accepted, accepted_in};
+use crate::counts::count_at;
+use crate::fault::Fault;
+use crate::inputs::Inputs;
+use hsp_dispatch::{FrontSums, Fronts, run_fronts};
+use hsp_text::limits::MOST_FRONTS;
+use std::alloc::Global;
+use std::io::{Read, Write};
+
+// The number of fronts that a word spells.
+fn fronts_at(word: &[u8]) -> Result<u32, Fault>
+    ensures given { Gives (λ fronts. fronts) result (fronts_at word.now) }
+    ensures some { IfOk result (λ fronts. 1 ≤ fronts) }
+    ensures most { IfOk result (λ fronts. fronts ≤ MOST_FRONTS) }
+{
+    count_at(word, MOST_FRONTS, Fault::BadFronts)
+}
+
+// The log, answered by so many fronts that share the plan of a certificate.
+fn dispatched_at<R: Read + Drop, W: Write>(
+    alloc: Global,
+    accepted: &Accepted,
+    fronts: u32,
+    reader: R,
+    writer: &mut W,
+) -> Result<FrontSums, Fault>
+    requires valid { IsValid (network_of accepted.now.instance) accepted.now.certificate }
+    requires some { 1 ≤ fronts }
+    requires most { fronts ≤ MOST_FRONTS }
+    ensures { AnswersBy (so_many fronts) accepted.now
+        (over (R.remaining reader) (W.contents writer.old) (W.contents writer.new)) result }
+{
+    let _plan = accepted.plan()?;
+    let mut all = Fronts::new(alloc, &accepted.instance, &accepted.certificate, fronts)?;
+    Ok(run_fronts(alloc, reader, writer, &mut all)?)
+}
+
+/// Answers the events of the log that `reader` gives as [`dispatch_run`] does entries, each by the front that it names, which has
+/// its share of the plan alone. The word `fronts` spells how many fronts there are, from 1 to 64; else the fault is `BadFronts`,
+/// before any other.
+pub fn fronts_run<R: Read + Drop, W: Write>(
+    alloc: Global,
+    inputs: &Inputs,
+    certificate: &[u8],
+    fronts: &[u8],
+    reader: R,
+    writer: &mut W,
+) -> Result<FrontSums, Fault>
+    ensures { IsDispatchedAt fronts.now inputs.now certificate.now
+        (over (R.remaining reader) (W.contents writer.old) (W.contents writer.new)) result }
+{
+    let fronts = fronts_at(fronts)?;
+    let accepted = accepted_in(alloc, inputs, certificate)?;
+    dispatched_at(alloc, &accepted, fronts, reader, writer)
+}
