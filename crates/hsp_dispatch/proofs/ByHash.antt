@@ -97,14 +97,14 @@ by_arc inputs it entry row n built found allowed =
     subst (λ (server : Option Server). IsByHash it entry (assigned_to n server)) (sym to) is
 
 pub goes_by_hash : GoesByHash
-goes_by_hash inputs it x earlier entry built feasible = by_row (row_of it entry) refl
+goes_by_hash inputs it x earlier entry built keeps = by_row (row_of it entry) refl
   where
     by_element : (row : ℕ) → row_of it entry ≡ Some row → (given : Option ℕ) → slice_get (spread it x row) (count_for it row earlier) ≡ given → IsByHash it entry (answer_at it row given)
     by_element row found None e = tt
     by_element row found (Some site) e = elim (cases_Bool (is_allowed (network_of it) row site)) [
       | inl allowed ↦ by_arc inputs it entry row site built found allowed
       | inr not_allowed ↦
-          let none = feasible.allowed row site not_allowed in
+          let none = keeps row site not_allowed in
           absurd (omega (arith, is_sent (length it.sites) 0 (count_for it row earlier) site (x row) e))
     ]
 

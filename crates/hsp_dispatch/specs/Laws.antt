@@ -1,11 +1,12 @@
 -- What holds of every plan and every log.
-use Rattle.std.specs.Prelude.{◌≡◌, ◌≤◌, ◌<◌, ⊤, ℕ, List, ◌++◌, length, Some, Ok, option_map}
+use Rattle.std.specs.Prelude.{◌≡◌, ◌≤◌, ◌<◌, ⊤, false, ℕ, List, ◌++◌, length, Some, Ok, option_map}
 use Rattle.std.specs.List.{slice_get}
 use Rattle.hsp_hash.specs.Place.{server_place}
 use Rattle.hsp_instance.specs.Building.{Inputs, IsBuilt}
 use Rattle.hsp_instance.specs.Instance.{Instance, Site}
 use Rattle.hsp_check.specs.Instance.{network_of}
-use Rattle.hsp_check.specs.Plan.{Feasible, Plan}
+use Rattle.hsp_check.specs.Network.{is_allowed}
+use Rattle.hsp_check.specs.Plan.{Plan}
 use Rattle.hsp_dispatch.specs.Dispatch.{Entry, answer_to, answers, assigned_in, rest, row_of}
 use Rattle.hsp_dispatch.specs.declared.answer.Answer.{Answer}
 use Rattle.hsp_dispatch.specs.declared.answer.Answer.TheVariants.{Assigned, Spent, Unknown}
@@ -32,7 +33,11 @@ IsByHash it entry (Assigned site place id) =
 IsByHash it entry Spent = ⊤
 IsByHash it entry Unknown = ⊤
 
+-- the plan sends nothing where it may not, as no feasible plan and no front's share of one does
+abbrev pub KeepsToArcs : Instance → Plan → Type 0
+KeepsToArcs it x = (row site : ℕ) → is_allowed (network_of it) row site ≡ false → x row site ≡ 0
+
 abbrev pub GoesByHash : Type 0
 GoesByHash =
-    (inputs : Inputs) (it : Instance) (x : Plan) (earlier : List Entry) (entry : Entry) → IsBuilt inputs (Ok it) → Feasible (network_of it) x
+    (inputs : Inputs) (it : Instance) (x : Plan) (earlier : List Entry) (entry : Entry) → IsBuilt inputs (Ok it) → KeepsToArcs it x
     → IsByHash it entry (answer_to it x earlier entry)

@@ -16,7 +16,7 @@ pub fn log_in_parts()
 {}
 
 /// A query that is assigned goes to the server of the site that is responsible for its handle, by the handle's hash, where the
-/// instance is that of inputs and the plan is feasible.
+/// instance is that of inputs and the plan sends nothing where it may not.
 pub fn goes_by_hash()
     ensures { GoesByHash }
 {}

@@ -3,3 +3,4 @@ pub mod Dispatching
 pub mod Printing
 pub mod Showing
 mod Reporting
+pub mod ByHash

@@ -12,3 +12,4 @@ pub mod SumsText
 pub mod Counts
 pub mod Dispatch
 pub mod Report
+pub mod Laws

@@ -12,6 +12,7 @@ mod fronts;
 mod input;
 mod inputs;
 mod instance;
+pub mod laws;
 mod locate;
 mod plan;
 mod readings;

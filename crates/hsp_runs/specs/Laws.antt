@@ -1,0 +1,23 @@
+-- What holds of all runs over logs.
+use Rattle.std.specs.Prelude.{◌≡◌, ℕ, List, Ok}
+use Rattle.hsp_cert.specs.Certificate.{Best}
+use Rattle.hsp_cert.specs.Certificate.Claim.{best}
+use Rattle.hsp_check.specs.Uses.{table}
+use Rattle.hsp_dispatch.specs.Dispatch.{Entry, answer_to}
+use Rattle.hsp_dispatch.specs.Fronts.{share_of}
+use Rattle.hsp_dispatch.specs.Laws.{IsByHash}
+use Rattle.hsp_runs.specs.Accepted.{IsAcceptedOf}
+use Rattle.hsp_runs.specs.declared.accepted.Accepted.{Accepted}
+use Rattle.hsp_runs.specs.declared.inputs.Inputs.{Inputs}
+
+-- Where inputs and a certificate are accepted, each entry is answered by the server that is responsible for its handle by the hash option
+-- of the site, among the servers of the site's record: by the certificate's plan, and by any front's share of it.
+pub record AnswersByHash (accepted : Accepted) (claim : Best) : Type 0 where
+  pub plan : (earlier : List Entry) (entry : Entry) → IsByHash accepted.instance entry (answer_to accepted.instance (table claim.uses) earlier entry)
+  pub share : (fronts front : ℕ) (earlier : List Entry) (entry : Entry)
+      → IsByHash accepted.instance entry (answer_to accepted.instance (share_of fronts front (table claim.uses)) earlier entry)
+
+abbrev pub LogsGoByHash : Type 0
+LogsGoByHash =
+    (inputs : Inputs) (octets : List ℕ) (accepted : Accepted) (claim : Best) → IsAcceptedOf inputs octets (Ok accepted) → accepted.certificate ≡ best claim
+    → AnswersByHash accepted claim
