@@ -12,22 +12,15 @@ use Rattle.hsp_command.specs.declared.order.Order.{Order}
 use Rattle.hsp_command.specs.declared.order.Order.TheVariants as order
 use Rattle.hsp_runs.specs.Locate.{AreLocated, placed}
 use Rattle.hsp_runs.specs.SiteText.{IsSiteRun}
-use Rattle.hsp_runs.specs.Dispatch.{IsDispatched}
 use Rattle.hsp_runs.specs.Report.{IsReported}
 use Rattle.hsp_runs.specs.declared.report.ReportKind.{ReportKind}
 use Rattle.hsp_runs.specs.declared.report.ReportKind.TheVariants.{Load, Region, Shortage}
-use Rattle.hsp_runs.specs.declared.fault.Fault.{Fault}
-use Rattle.hsp_runs.specs.declared.fault.Fault.TheVariants.{Log}
 use Rattle.hsp_runs.specs.declared.inputs.Inputs.{Inputs}
-use Rattle.hsp_dispatch.specs.declared.answer.LogSums.{LogSums}
-use Rattle.hsp_dispatch.specs.declared.fault.LogFault.TheVariants.{WriteFailed}
-use Rattle.hsp_csv.specs.Records.{records_of}
-use Rattle.std.specs.Io.KnownBytes.{Keeps}
 use Rattle.hsplan.specs.declared.answer.Answer.{Answer}
 use Rattle.hsplan.specs.declared.answer.Completed.{Completed}
 use Rattle.hsplan.specs.declared.failure.Failure.{Failure}
-use Rattle.hsplan.specs.declared.failure.Failure.TheVariants.{Refused}
 use Rattle.hsplan.specs.Answers.{IsAnswered, IsShownPlan, IsShownVerdict, fields_told, plan_told, text_told, verdict_told}
+use Rattle.hsplan.specs.Dispatching.{Dispatches, Opened}
 use Rattle.hsplan.specs.Failing.{IsUnread, failure_of}
 use Rattle.hsplan.specs.Files.{Disk, HoldsRest}
 use Rattle.hsplan.specs.Printing.{Prints}
@@ -97,36 +90,27 @@ AnswersTo disk (order.Site index file) answer = AnswersSite disk index file answ
 AnswersTo disk (order.Plan inputs) answer = AnswersPlan disk inputs answer
 AnswersTo disk (order.Check inputs plan) answer = AnswersCheck disk inputs plan answer
 AnswersTo disk (order.Report inputs plan kind) answer = AnswersReport disk inputs plan kind answer
-AnswersTo disk (order.Dispatch inputs plan log) answer = ⊥
+AnswersTo disk (order.Dispatch inputs plan log fronts) answer = ⊥
 
 -- each file holds what was read of it, and the log's file what is left to be read
-pub record AreOpened (disk : Disk) (files : InputFiles) (plan log : List ℕ) (inputs : Inputs) (octets : List ℕ) (left : Option (List ℕ)) : Type 0 where
-  pub held : AreHeld disk files inputs
-  pub certificate : disk.holds plan octets
-  pub rest : HoldsRest disk log left
+pub record AreOpened (disk : Disk) (files : InputFiles) (plan log : List ℕ) (it : Opened) : Type 0 where
+  pub held : AreHeld disk files it.inputs
+  pub certificate : disk.holds plan it.certificate
+  pub rest : HoldsRest disk log it.left
 
--- the sums are told with status 0, or the fault; or what had been written couldn't be handed on, as may be
-abbrev pub TellsRun : Type 0 → Result LogSums Fault → Result Completed Failure → Type 0
-TellsRun MayFail (Ok sums) ended = ended ≡ Ok (record { status = 0; sums = Some sums })
-TellsRun MayFail (Err fault) ended = (ended ≡ Err (Refused fault)) ⊎ (MayFail × (ended ≡ Err (Refused (Log WriteFailed))))
-
--- the log's entries were answered on an output, and what was written was handed on
-abbrev pub Dispatches : Type 0 → Inputs → List ℕ → Option (List ℕ) → Option (List ℕ) → Option (List ℕ) → Result Completed Failure → Type 0
-Dispatches MayFail inputs octets left old new ended =
-    (written : Option (List ℕ)) × (answer : Result LogSums Fault)
-    × IsDispatched inputs octets (record { log = option_map records_of left; before = old; after = written }) answer
-    × Keeps written new × TellsRun MayFail answer ended
+-- one of the files of a dispatch may fail to be read
+abbrev pub DispatchFails : Disk → InputFiles → List ℕ → List ℕ → Type 0
+DispatchFails disk files plan log = OneFails disk files ⊎ disk.fails plan ⊎ disk.fails log
 
 -- a file, which may fail to be read, wasn't read, or memory ran out, and nothing was written; or the log was answered
-abbrev pub DispatchesFrom : Disk → Type 0 → InputFiles → List ℕ → List ℕ → Option (List ℕ) → Option (List ℕ) → Result Completed Failure → Type 0
-DispatchesFrom disk MayFail files plan log old new ended =
-    ((new ≡ old) × LacksFile (OneFails disk files ⊎ disk.fails plan ⊎ disk.fails log) ended)
-    ⊎ ((inputs : Inputs) × (octets : List ℕ) × (left : Option (List ℕ)) × AreOpened disk files plan log inputs octets left
-    × Dispatches MayFail inputs octets left old new ended)
+abbrev pub DispatchesFrom : Disk → Type 0 → InputFiles → List ℕ → List ℕ → Option (List ℕ) → Option (List ℕ) → Option (List ℕ) → Result Completed Failure → Type 0
+DispatchesFrom disk MayFail files plan log fronts old new ended =
+    ((new ≡ old) × LacksFile (DispatchFails disk files plan log) ended)
+    ⊎ ((it : Opened) × AreOpened disk files plan log it × Dispatches MayFail fronts it old new ended)
 
 -- an order is carried out on an output, whose writes may fail or not: a log is answered, or the order's answer is printed
 abbrev pub CarriesOut : Disk → Type 0 → Order → Option (List ℕ) → Option (List ℕ) → Result Completed Failure → Type 0
-CarriesOut disk MayFail (order.Dispatch inputs plan log) old new ended = DispatchesFrom disk MayFail inputs plan log old new ended
+CarriesOut disk MayFail (order.Dispatch inputs plan log fronts) old new ended = DispatchesFrom disk MayFail inputs plan log fronts old new ended
 CarriesOut disk MayFail order old new ended = (answer : Result Answer Failure) × AnswersTo disk order answer × Prints MayFail answer old new ended
 
 -- the order that words give, or that they give none, or that memory ran out

@@ -167,8 +167,14 @@ fn carry_out<S: FileSource, O: Output>(
         Order::Report { inputs, plan, kind } => {
             print(out, report(alloc, files, inputs, plan, *kind))
         }
-        Order::Dispatch { inputs, plan, log } => {
-            dispatch(alloc, open_log(alloc, files, inputs, plan, log)?, out)
+        Order::Dispatch {
+            inputs,
+            plan,
+            log,
+            fronts,
+        } => {
+            let opened = open_log(alloc, files, inputs, plan, log)?;
+            dispatch(alloc, opened, fronts, out)
         }
     }
 }

@@ -4,7 +4,8 @@ ghost use Rattle.std.specs.Prelude.{◌≡◌, ◌⊎◌, IfErr, IfOk};
 ghost use Rattle.std.specs.Io.KnownBytes.{Keeps};
 ghost use Rattle.hsp_dispatch.specs.declared.fault.LogFault.TheVariants.{WriteFailed};
 ghost use Rattle.hsp_runs.specs.declared.fault.Fault.TheVariants.{Log};
-ghost use Rattle.hsplan.specs.Commands.{AreOpened, Dispatches, OneFails};
+ghost use Rattle.hsplan.specs.Commands.{AreOpened, DispatchFails};
+ghost use Rattle.hsplan.specs.Dispatching.{AnswersEntries, AnswersEvents, Dispatches, opened_log};
 ghost use Rattle.hsplan.specs.Failing.{IsUnread};
 
 use crate::answer::Completed;
@@ -14,7 +15,7 @@ use crate::files::{FileSource, OpenFile, read_whole};
 use crate::output::Output;
 use hsp_command::{InputFiles, Word};
 use hsp_dispatch::LogFault;
-use hsp_runs::{Fault, Inputs, dispatch_run};
+use hsp_runs::{Fault, Inputs, dispatch_run, fronts_run};
 use std::alloc::Global;
 
 /// What a log is answered by, and the log, of which nothing was read yet.
@@ -33,8 +34,10 @@ pub fn open_log<S: FileSource>(
     plan: &Word,
     log: &Word,
 ) -> Result<OpenLog<S::File>, Failure>
-    ensures opened { IfOk result (λ it. AreOpened (S.disk files.now) named.now plan.now log.now it.inputs it.certificate.items (S.File.remaining it.log)) }
-    ensures unread { IfErr result (IsUnread (OneFails (S.disk files.now) named.now ⊎ (S.disk files.now).fails plan.now ⊎ (S.disk files.now).fails log.now)) }
+    ensures opened { IfOk result (λ it. AreOpened (S.disk files.now) named.now plan.now log.now
+        (opened_log it.inputs it.certificate.items (S.File.remaining it.log))) }
+    ensures unread { IfErr result (IsUnread
+        (DispatchFails (S.disk files.now) named.now plan.now log.now)) }
 {
     let inputs = read_inputs(alloc, files, named)?;
     let certificate = read_whole(alloc, files, plan)?;
@@ -57,13 +60,33 @@ fn handed_on<O: Output>(out: &mut O, fault: Fault) -> Fault
     }
 }
 
-/// Answers the log's entries on `out`, and gives their sums. At a fault the lines before it were handed on.
+/// Answers the log on `out`: its entries, whose sums it gives, or its events by so many fronts as the word tells. At a fault the
+/// lines before it were handed on.
 pub fn dispatch<F: OpenFile, O: Output>(
+    alloc: Global,
+    opened: OpenLog<F>,
+    fronts: &Option<Word>,
+    out: &mut O,
+) -> Result<Completed, Failure>
+    ensures { Dispatches O.may_fail fronts.now
+        (opened_log opened.inputs opened.certificate.items (F.remaining opened.log))
+        (O.contents out.old) (O.contents out.new) result }
+{
+    match fronts {
+        Some(fronts) => dispatch_events(alloc, opened, fronts, out),
+        None => dispatch_entries(alloc, opened, out),
+    }
+}
+
+// Answers the log's entries, and gives their sums.
+fn dispatch_entries<F: OpenFile, O: Output>(
     alloc: Global,
     opened: OpenLog<F>,
     out: &mut O,
 ) -> Result<Completed, Failure>
-    ensures { Dispatches O.may_fail opened.inputs opened.certificate.items (F.remaining opened.log) (O.contents out.old) (O.contents out.new) result }
+    ensures { AnswersEntries O.may_fail
+        (opened_log opened.inputs opened.certificate.items (F.remaining opened.log))
+        (O.contents out.old) (O.contents out.new) result }
 {
     let OpenLog {
         inputs,
@@ -74,6 +97,31 @@ pub fn dispatch<F: OpenFile, O: Output>(
         Ok(sums) => Ok(Completed {
             status: 0,
             sums: Some(sums),
+        }),
+        Err(fault) => Err(Failure::Refused(handed_on(out, fault))),
+    }
+}
+
+// Answers the log's events by so many fronts as the word tells.
+fn dispatch_events<F: OpenFile, O: Output>(
+    alloc: Global,
+    opened: OpenLog<F>,
+    fronts: &Word,
+    out: &mut O,
+) -> Result<Completed, Failure>
+    ensures { AnswersEvents O.may_fail fronts.now
+        (opened_log opened.inputs opened.certificate.items (F.remaining opened.log))
+        (O.contents out.old) (O.contents out.new) result }
+{
+    let OpenLog {
+        inputs,
+        certificate,
+        log,
+    } = opened;
+    match fronts_run(alloc, &inputs, &certificate, fronts.as_bytes(), log, out) {
+        Ok(_sums) => Ok(Completed {
+            status: 0,
+            sums: None,
         }),
         Err(fault) => Err(Failure::Refused(handed_on(out, fault))),
     }

@@ -1,4 +1,5 @@
 use Rattle.std.proofs.Common.{inr}
+use Rattle.hsplan.specs.Dispatching.{opened_log}
 use Rattle.hsplan.proofs.commands.carry_out.Goals as goal
 
 pub returns-in-Check : goal.returns-in-Check
@@ -7,7 +8,7 @@ returns-in-Check g c = rw c.in-Check.is (c.check.result, c.check.ensures, c.prin
 pub returns-in-Report : goal.returns-in-Report
 returns-in-Report g c = rw c.in-Report.is (c.report.result, c.report.ensures, c.print-in-Report.ensures)
 
-pub returns-in_ok-open_log-in-Dispatch : goal.returns-in_ok-open_log-in-Dispatch
-returns-in_ok-open_log-in-Dispatch g c =
-    let it = c.in_ok-open_log-in-Dispatch.field-0 in
-    rw c.in-Dispatch.is (inr (it.inputs, it.certificate.items, g.S.File.Read.remaining it.log, c.in_ok-open_log-in-Dispatch.ensures.opened, c.dispatch.ensures))
+pub returns-in_ok-opened-in-Dispatch : goal.returns-in_ok-opened-in-Dispatch
+returns-in_ok-opened-in-Dispatch g c =
+    let it = c.in_ok-opened-in-Dispatch.opened in
+    rw c.in-Dispatch.is (inr (opened_log it.inputs it.certificate.items (g.S.File.Read.remaining it.log), c.in_ok-opened-in-Dispatch.ensures.opened, c.dispatch.ensures))
