@@ -13,7 +13,7 @@ fn assigned(site: u32, place: u32, server_id: u32) -> FrontAnswer {
 }
 
 #[test]
-fn fronts_go_by_their_shares(rt: HostRuntime) {
+fn fronts_hold_their_shares(rt: HostRuntime) {
     let alloc = rt.alloc();
     // Where memory runs out once, it is there at the second call.
     let instance = instance(alloc)
@@ -24,7 +24,7 @@ fn fronts_go_by_their_shares(rt: HostRuntime) {
         .expect(&rt, "the plan is in order");
     let first = two_fronts(alloc, &instance, &certificate);
     let second = two_fronts(alloc, &instance, &certificate);
-    let mut fronts = first.or(second).expect(&rt, "the plan is valid");
+    let fronts = first.or(second).expect(&rt, "the plan is valid");
     for (row, site, lefts) in [
         (0, 0, [3, 2, 0]),
         (1, 0, [2, 2, 0]),
@@ -40,6 +40,21 @@ fn fronts_go_by_their_shares(rt: HostRuntime) {
         ];
         assert_eq!(rt; held, lefts);
     }
+}
+
+#[test]
+fn fronts_answer_by_their_shares(rt: HostRuntime) {
+    let alloc = rt.alloc();
+    // Where memory runs out once, it is there at the second call.
+    let instance = instance(alloc)
+        .or(instance(alloc))
+        .expect(&rt, "the instance is built");
+    let certificate = certificate(alloc)
+        .or(certificate(alloc))
+        .expect(&rt, "the plan is in order");
+    let first = two_fronts(alloc, &instance, &certificate);
+    let second = two_fronts(alloc, &instance, &certificate);
+    let mut fronts = first.or(second).expect(&rt, "the plan is valid");
     let spent = FrontAnswer::Answered(Answer::Spent);
     let unknown = FrontAnswer::Answered(Answer::Unknown);
     for (front, region, handle, wanted) in [
