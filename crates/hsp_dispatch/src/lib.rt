@@ -31,6 +31,8 @@ mod dispatcher_tests;
 #[cfg(test)]
 pub mod fakes;
 #[cfg(test)]
+mod front_run_tests;
+#[cfg(test)]
 mod fronts_tests;
 #[cfg(test)]
 mod run_tests;
