@@ -68,12 +68,12 @@ left_on it fronts tables events event old new same many left taken front inside 
       let next : IsSame (left_at_front new front) (rest it (left_at_front old front) (event.entry ∷ [])) =
       λ row site. own (omega (arith, many, inside)) row site ∙ ap (λ (i : Instance). rest i (left_at_front old front) (event.entry ∷ []) row site) same in
       λ row site.
-          rest_more it (tables front) (left_at_front old front) (left_at_front new front) (entries_at front events) event.entry (left front inside) next row site
-          ∙ ap (λ (entries : List Entry). rest it (tables front) entries row site) (sym (more_here front events event here))
+      rest_more it (tables front) (left_at_front old front) (left_at_front new front) (entries_at front events) event.entry (left front inside) next row site
+      ∙ ap (λ (entries : List Entry). rest it (tables front) entries row site) (sym (more_here front events event here))
   | inr other ↦
       λ row site.
-          taken.others front (λ is. other (sym is)) row site ∙ left front inside row site
-          ∙ ap (λ (entries : List Entry). rest it (tables front) entries row site) (sym (more_elsewhere front events event other))
+      taken.others front (λ is. other (sym is)) row site ∙ left front inside row site
+      ∙ ap (λ (entries : List Entry). rest it (tables front) entries row site) (sym (more_elsewhere front events event other))
 ]
 
 pub answers_by_shares : AnswersByShares

@@ -92,7 +92,6 @@ memory_stops desk run none written = (Handles, [], [], none_counted, inl refl, (
 
 module _ (desk : Desk) (run : Streams) (form : Form) (now : Option (List Fields)) (number : ℕ) (sums : FrontSums)
     (so_far : SoFar desk run form now number sums) where
-
   -- at a read that fails
   pub read_stops : (e : RecordsFault) → Stops desk run (fault_of e)
   read_stops records_fault.ReadFailed =
@@ -104,7 +103,6 @@ module _ (desk : Desk) (run : Streams) (form : Form) (now : Option (List Fields)
 
   -- at a row that was read
   module _ (row : Fields) (later : Option (List Fields)) (read : IsRead (desk.header form) run.log (so_far.rows ++ row ∷ []) later) where
-
     abbrev more : List Fields
     more = (begins (desk.header form) run.log later (so_far.rows ++ row ∷ []) read).0
 

@@ -14,6 +14,11 @@ returns-in_ok-request-in-Bodies-clause-answers c =
     if_both c.choose-in-Bodies.result c.choose-in-Bodies.ensures.takes c.choose-in-Bodies.ensures.among
     (λ given takes among. entry_more c.args.self.now c.choose-in-Bodies.new.dispatcher c.args.place.form (fields_of c.args.record.now) _ given
     (spells c.args.place.form _ _ _ _ c.in-Some.ensures.found refl
-    (rw c.in-Bodies.is (_, c.in_ok-request-in-Bodies.ensures.request.0, c.in_ok-octets-in-Bodies.ensures.octets, rw c.deref.ensures.value at c.in_ok-request-in-Bodies.ensures.request.1,
-    c.handle-handle.ensures ∙ c.in_ok-request-in-Bodies.ensures.request.2))
+    (rw c.in-Bodies.is (
+      _,
+      c.in_ok-request-in-Bodies.ensures.request.0,
+      c.in_ok-octets-in-Bodies.ensures.octets,
+      rw c.deref.ensures.value at c.in_ok-request-in-Bodies.ensures.request.1,
+      c.handle-handle.ensures ∙ c.in_ok-request-in-Bodies.ensures.request.2,
+    ))
     takes.handle) takes among)
