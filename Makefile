@@ -1,6 +1,6 @@
 # make demo      runs each command on the example files, from unproved sources, within about two minutes
 # make test      the whole gate: every proof from nothing, every test, every must-fail edit, then the script checks
-# make mutants   wants each wrong body of mutants/ to be refused by its test or case, within about an hour on four processors
+# make mutants   wants each wrong body of mutants/ to be refused by its test or case; outside the gate
 # make install   proves and builds the program, and installs it as $(PREFIX)/bin/hsplan
 
 PREFIX ?= /usr/local

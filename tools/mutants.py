@@ -34,6 +34,9 @@ TOP = os.path.dirname(os.path.dirname(os.path.abspath(__file__)))
 FOLDER = os.path.join(TOP, "mutants")
 CASES = os.path.join("checks", "program")
 
+# So many named tests are run one by one on the sources as they stand; of more, the whole crate's tests are run at once.
+FEW = 3
+
 # A wrong body: the file that is changed, the pairs of texts, and the crate and test, or the case, that has to refuse it.
 Mutant = collections.namedtuple("Mutant", "crate name file pairs test case")
 
@@ -213,8 +216,11 @@ def unchanged(mutants):
 
 def faults_of_unchanged(folder, crate, own, names, seconds):
     """The named tests of a crate, or else the cases, that don't pass on the sources as they stand."""
-    if crate:
-        found, said = run_tests(folder, crate, seconds, next(iter(names)) if len(names) == 1 else None)
+    if crate and len(names) <= FEW:
+        runs = [run_tests(folder, crate, seconds, name) for name in sorted(names)]
+        found, said = {test: outcome for it, _ in runs for test, outcome in it.items()}, "".join(it for _, it in runs)
+    elif crate:
+        found, said = run_tests(folder, crate, seconds)
     else:
         found, said = run_cases(folder, sorted(names), own, seconds)
     wrong = [f"{crate or 'case'} {it}: {found.get(it, 'not run')} on the sources as they stand" for it in sorted(names) if found.get(it) != "ok"]
@@ -280,7 +286,7 @@ def try_unchanged(copies, crate, own, names, seconds):
 def main():
     words = argparse.ArgumentParser(description="Wants each wrong body of mutants/ to be refused by its test or case.")
     words.add_argument("--jobs", type=int, default=max(1, (os.cpu_count() or 1) // 2), help="so many runs side by side (half of the processors)")
-    words.add_argument("--seconds", type=int, default=600, help="how long a run of tests or of the program may take (600)")
+    words.add_argument("--seconds", type=int, default=300, help="how long a test or a case may take (300)")
     words.add_argument("names", nargs="*", metavar="CRATE | CRATE/NAME")
     given = words.parse_args()
     begun = time.monotonic()
