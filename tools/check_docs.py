@@ -1,10 +1,11 @@
 #!/usr/bin/env python3
 """Follows the names in the documents: each edit and each clause that docs/CLAIMS.md names, each file that docs/DEFINITIONS.md
-names, and each crate in the README.
+names, and each crate in the README; and compares the counts of docs/GATE.md with what is there.
 
 Fails where an edit or a file that a table names is not there, where a clause that stands beside a call is no `ensures` of that call,
 where a call without a named clause has not just one, where a crate of crates.txt is named neither in the README nor in
-docs/ARCHITECTURE.md, and where a document has no such table.
+docs/ARCHITECTURE.md, where a document has no such table, and where docs/GATE.md counts other edits, tests, wrong bodies, crates or
+cases of the program than there are.
 """
 import glob
 import os
@@ -99,21 +100,54 @@ def missing_files():
     return faults, count
 
 
+def crates_of():
+    return [line.split(":")[0].split()[0] for line in text_of("crates.txt").splitlines() if ":" in line and not line.startswith("#")]
+
+
 def missing_crates():
     """The crates that a document doesn't name."""
-    crates = [line.split(":")[0].split()[0] for line in text_of("crates.txt").splitlines() if ":" in line and not line.startswith("#")]
+    crates = crates_of()
     faults = [f"{path} does not name the crate {it}" for path in ("README.md", "docs/ARCHITECTURE.md") for it in crates if f"`{it}`" not in text_of(path)]
     return faults, len(crates)
 
 
+def tests_of(crate):
+    """How many tests the sources of a crate have."""
+    paths = glob.glob(f"{TOP}/crates/{crate}/src/**/*.rt", recursive=True)
+    return sum(len(re.findall(r"^\s*#\[test\]$", text_of(os.path.relpath(it, TOP)), re.M)) for it in paths)
+
+
+def there_of(crate):
+    """What docs/GATE.md counts of a crate, as it is there: must-fail edits, tests, wrong bodies."""
+    edits = glob.glob(f"{TOP}/crates/{crate}/must-fail/*.edit")
+    bodies = glob.glob(f"{TOP}/mutants/{crate}/*.edit")
+    return [len(edits), tests_of(crate), len(bodies)]
+
+
+def wrong_counts():
+    """The counts of docs/GATE.md that are others than those of what is there, and how many it has."""
+    there = {it: there_of(it) for it in crates_of()}
+    told = {named(it[0])[0]: it[2:] for it in rows(text_of("docs/GATE.md")) if len(it) == 5 and named(it[0])}
+    faults = [f"docs/GATE.md counts a crate that is none: {it}" for it in told if it not in there]
+    for crate, counts in there.items():
+        wanted = [str(it) for it in counts]
+        if told.get(crate) != wanted:
+            faults.append(f"docs/GATE.md: edits, tests and wrong bodies of {crate} are {told.get(crate)}, there are {wanted}")
+    sums = [len(there)] + [sum(it[at] for it in there.values()) for at in range(3)] + [len(os.listdir(f"{TOP}/checks/program"))]
+    sentence = "{} crates, {} must-fail edits, {} tests, {} wrong bodies and {} cases of the program".format(*sums)
+    if sentence not in " ".join(text_of("docs/GATE.md").split()):
+        faults.append(f"docs/GATE.md does not say: {sentence}")
+    return faults, len(told)
+
+
 def main():
-    found = [missing_edits(), missing_clauses(), missing_files(), missing_crates()]
+    found = [missing_edits(), missing_clauses(), missing_files(), missing_crates(), wrong_counts()]
     faults = [fault for it, _ in found for fault in it]
     for fault in faults:
         print(fault)
     counts = [count for _, count in found]
-    edits, named_clauses, files, crates = counts
-    print(f"documents: {edits} edits, {named_clauses} clauses, {files} files of definitions and {crates} crates followed, {len(faults)} faults")
+    edits, named_clauses, files, crates, counted = counts
+    print(f"documents: {edits} edits, {named_clauses} clauses, {files} files of definitions and {crates} crates followed, {counted} crates counted, {len(faults)} faults")
     return 1 if faults or not all(counts) else 0
 
 

@@ -1,10 +1,15 @@
 #!/usr/bin/env python3
 """Refuses each allocation of each test in turn: a test then has to end well, since it takes want of memory as an answer.
 
-It runs the test programs that `rt ci` leaves in crates/NAME/out/NAME_tests. A test with many allocations has some of them refused:
-the first hundred, and a hundred spread over the others. Fails where a test program is missing, where a test of a program has no count,
-where a test fails, and where no test of a crate that takes memory took any.
+    tools/check_growth.py [--jobs N] [CRATE]..
+
+It runs the test programs that `rt ci` leaves in crates/NAME/out/NAME_tests, side by side on the processors. Each allocation of a test
+is refused, but for a test with more than MOST of them: of that the first half of MOST, and as many spread evenly over the others.
+Fails where a test program is missing, where a test of a program has no count, where a test fails, and where no test of a crate that
+takes memory took any.
 """
+import argparse
+import concurrent.futures
 import os
 import re
 import subprocess
@@ -12,7 +17,9 @@ import sys
 import tempfile
 
 TOP = os.path.dirname(os.path.dirname(os.path.abspath(__file__)))
-MOST = 100
+
+# A test or a case with more allocations than these has some of them left out.
+MOST = 2000
 
 
 def build(folder):
@@ -31,62 +38,84 @@ def sources(crate):
     return {name: open(os.path.join(folder, name)).read() for name in sorted(os.listdir(folder))}
 
 
-def run(program, test, preloaded, count_file, number):
-    """The status and the number of allocations of one run, with the allocation of this number refused (0: none)."""
-    if os.path.exists(count_file):
-        os.remove(count_file)
-    room = dict(os.environ, LD_PRELOAD=preloaded, REFUSE_GROWTH=str(number), COUNT_GROWTH=count_file)
-    ended = subprocess.run([program, test], env=room, stdout=subprocess.PIPE, stderr=subprocess.STDOUT, errors="replace")
+def run(program, test, preloaded, number):
+    """The status, the number of allocations and the output of one run, with the allocation of this number refused (0: none)."""
+    with tempfile.TemporaryDirectory() as room:
+        count_file = os.path.join(room, "count")
+        means = dict(os.environ, LD_PRELOAD=preloaded, REFUSE_GROWTH=str(number), COUNT_GROWTH=count_file)
+        ended = subprocess.run([program, test], env=means, stdout=subprocess.PIPE, stderr=subprocess.STDOUT, errors="replace")
+        return ended.returncode, count_in(count_file), ended.stdout
+
+
+def count_in(count_file):
+    """The number of allocations that a run wrote, and None where it wrote none."""
     try:
         with open(count_file) as file:
-            return ended.returncode, int(file.read()), ended.stdout
+            return int(file.read())
     except (OSError, ValueError):
-        return ended.returncode, None, ended.stdout
+        return None
 
 
 def numbers(count):
-    if count <= 2 * MOST:
+    """The allocations of so many that are refused."""
+    if count <= MOST:
         return range(1, count + 1)
-    step = (count - MOST) // MOST
-    return list(range(1, MOST + 1)) + list(range(MOST + step, count + 1, step))
+    half = MOST // 2
+    return list(range(1, half + 1)) + [half + 1 + at * (count - half - 1) // (half - 1) for at in range(half)]
 
 
-def check(crate, preloaded, count_file):
+def tests_of(program):
+    listed = subprocess.run([program, "--list"], stdout=subprocess.PIPE, text=True).stdout
+    return [line[: -len(": test")] for line in listed.splitlines() if line.endswith(": test")]
+
+
+def check_test(pool, program, test, preloaded):
+    """The faults of a test, how many of its allocations were refused, and how many there are."""
+    status, count, said = run(program, test, preloaded, 0)
+    if status or count is None:
+        return [f"{test}: status {status}, count {count}: {said}"], 0, 0
+    chosen = numbers(count)
+    faults = []
+    for number, (status, told, said) in zip(chosen, pool.map(lambda it: run(program, test, preloaded, it), chosen)):
+        if status or told is None:
+            faults.append(f"{test}: allocation {number} refused: status {status}: {said}")
+    return faults, len(chosen), count
+
+
+def check(pool, crate, preloaded):
     """The faults of a crate's tests."""
     text = sources(crate)
-    tests_at_all = any("#[test]" in it for it in text.values())
-    takes_memory = any(re.search(r"\balloc: Global\b", it) for name, it in text.items() if "tests" not in name)
-    if not tests_at_all:
+    if not any("#[test]" in it for it in text.values()):
         return []
+    takes_memory = any(re.search(r"\balloc: Global\b", it) for name, it in text.items() if "tests" not in name)
     program = os.path.join(TOP, "crates", crate, "out", crate + "_tests")
     if not os.access(program, os.X_OK):
         return [f"{crate}: no test program {program}: run rt ci first"]
-    listed = subprocess.run([program, "--list"], stdout=subprocess.PIPE, text=True).stdout
-    tests = [line[: -len(": test")] for line in listed.splitlines() if line.endswith(": test")]
-    faults, refused = [], 0
+    tests = tests_of(program)
+    found = [check_test(pool, program, test, preloaded) for test in tests]
+    faults = [f"{crate} {fault}" for it in found for fault in it[0]]
+    refused, count = (sum(it[at] for it in found) for at in (1, 2))
     if not tests:
         faults.append(f"{crate}: the test program lists no test")
-    for test in tests:
-        status, count, said = run(program, test, preloaded, count_file, 0)
-        if status or count is None:
-            faults.append(f"{crate} {test}: status {status}, count {count}: {said}")
-            continue
-        for number in numbers(count):
-            status, told, said = run(program, test, preloaded, count_file, number)
-            refused += 1
-            if status or told is None:
-                faults.append(f"{crate} {test}: allocation {number} refused: status {status}: {said}")
     if takes_memory and not refused:
         faults.append(f"{crate}: it takes memory, and no test of it took any")
-    print(f"{crate}: {len(tests)} tests, {refused} allocations refused, {len(faults)} faults", flush=True)
+    print(f"{crate}: {len(tests)} tests, {refused} of {count} allocations refused, {len(faults)} faults", flush=True)
     return faults
 
 
+def jobs_of(words):
+    """The argument that says how many runs stand side by side."""
+    words.add_argument("--jobs", type=int, default=os.cpu_count() or 1, help="so many runs side by side (one for each processor)")
+
+
 def main():
-    with tempfile.TemporaryDirectory() as folder:
+    words = argparse.ArgumentParser(description="Refuses the allocations of the tests in turn.")
+    jobs_of(words)
+    words.add_argument("names", nargs="*", metavar="CRATE")
+    given = words.parse_args()
+    with tempfile.TemporaryDirectory() as folder, concurrent.futures.ThreadPoolExecutor(given.jobs) as pool:
         preloaded = build(folder)
-        names = sys.argv[1:] or crates()
-        faults = [fault for crate in names for fault in check(crate, preloaded, os.path.join(folder, "count"))]
+        faults = [fault for crate in given.names or crates() for fault in check(pool, crate, preloaded)]
     for fault in faults:
         print(fault)
     print(f"refused growth: {len(faults)} faults")

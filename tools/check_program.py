@@ -14,8 +14,12 @@
 
 It runs in a folder that holds a copy of the example files in data/, and of the case's own. Each case with words is run twice: with them as arguments, and
 with them on standard input. Then every allocation of each case is refused in turn: the program has to say so, or to end as ever. `dispatch` may
-have printed its first lines by then.
+have printed its first lines by then. Of a case with more allocations than check_growth.MOST some are left out, as there.
+
+    tools/check_program.py [--jobs N]
 """
+import argparse
+import concurrent.futures
 import os
 import shutil
 import subprocess
@@ -92,47 +96,54 @@ def is_cut_short(words, got, wanted):
     return got[1:] == MEMORY and got[0] in [b"".join(lines[:count]) for count in range(len(lines) + 1)]
 
 
-def check(program, case, folder, preloaded):
-    faults, refused = [], 0
-    count_file = os.path.join(folder, "count of growth")
-    for words, given in ways(case):
-        got = run(program, words, given, folder)
-        wanted = wanted_of(case, got)
-        if got != wanted:
-            faults.append(f"{case}: wanted {wanted}, got {got}")
-            continue
-        if words:
-            faults += judged(program, case, words, folder, got[0])
-        run(program, words, given, folder, LD_PRELOAD=preloaded, REFUSE_GROWTH="0", COUNT_GROWTH=count_file)
-        with open(count_file) as file:
-            count = int(file.read())
-        for number in check_growth.numbers(count):
-            got = run(program, words, given, folder, LD_PRELOAD=preloaded, REFUSE_GROWTH=str(number), COUNT_GROWTH=count_file)
-            refused += 1
-            if got != wanted and not is_cut_short(words or given.split(), got, wanted):
-                faults.append(f"{case}: allocation {number} refused: {got}")
-    return faults, refused
+def refusing(program, words, given, folder, preloaded, number):
+    """What a run does with the allocation of this number refused (0: none), and how many allocations it has."""
+    with tempfile.TemporaryDirectory() as room:
+        count_file = os.path.join(room, "count")
+        got = run(program, words, given, folder, LD_PRELOAD=preloaded, REFUSE_GROWTH=str(number), COUNT_GROWTH=count_file)
+        return got, check_growth.count_in(count_file)
+
+
+def check_way(pool, program, case, folder, preloaded, way):
+    """The faults of a case, run one way, how many of its allocations were refused, and how many there are."""
+    words, given = way
+    got = run(program, words, given, folder)
+    wanted = wanted_of(case, got)
+    if got != wanted:
+        return [f"{case}: wanted {wanted}, got {got}"], 0, 0
+    faults = judged(program, case, words, folder, got[0]) if words else []
+    _, count = refusing(program, words, given, folder, preloaded, 0)
+    if count is None:
+        return faults + [f"{case}: no count of allocations"], 0, 0
+    chosen = check_growth.numbers(count)
+    for number, (got, _) in zip(chosen, pool.map(lambda it: refusing(program, words, given, folder, preloaded, it), chosen)):
+        if got != wanted and not is_cut_short(words or given.split(), got, wanted):
+            faults.append(f"{case}: allocation {number} refused: {got}")
+    return faults, len(chosen), count
 
 
 def main():
+    arguments = argparse.ArgumentParser(description="Drives the built program over the cases in checks/program.")
+    check_growth.jobs_of(arguments)
+    jobs = arguments.parse_args().jobs
     program = os.path.join(TOP, "crates", "hsplan", "out", "hsplan")
     if not os.access(program, os.X_OK):
         print(f"no program {program}: run rt ci first")
         return 1
     cases = sorted(os.listdir(CASES))
-    faults, refused = [], 0
-    with tempfile.TemporaryDirectory() as room:
-        folder = os.path.join(room, "data")
-        shutil.copytree(os.path.join(TOP, "data"), folder)
+    found = []
+    with tempfile.TemporaryDirectory() as room, concurrent.futures.ThreadPoolExecutor(jobs) as pool:
+        data = os.path.join(room, "data")
+        shutil.copytree(os.path.join(TOP, "data"), data)
         preloaded = check_growth.build(room)
         for case in cases:
-            found, count = check(program, case, folder_of(case, room, folder), preloaded)
-            faults, refused = faults + found, refused + count
+            folder = folder_of(case, room, data)
+            found += [check_way(pool, program, case, folder, preloaded, way) for way in ways(case)]
+    faults = [fault for it in found for fault in it[0]] + ([] if cases else ["no cases"])
     for fault in faults:
         print(fault)
-    if not cases:
-        faults.append("no cases")
-    print(f"program: {len(cases)} cases, {refused} allocations refused, {len(faults)} faults")
+    refused, count = (sum(it[at] for it in found) for at in (1, 2))
+    print(f"program: {len(cases)} cases, {refused} of {count} allocations refused, {len(faults)} faults")
     return 1 if faults else 0
 
 

@@ -1,4 +1,5 @@
 use super::*;
+use hsp_text::push_line;
 use std::alloc::{AllocError, Global};
 use std::process::Abort;
 use std::test::Fail;
@@ -468,5 +469,29 @@ fn the_largest_certificate_is_written_and_read(rt: HostRuntime) -> Result<(), Fa
     let text = write_twice(alloc, &made.ok_or("a certificate")?)?;
     let again = written_back(&rt, alloc, &text)?;
     assert!(rt; again == text);
+    Ok(())
+}
+
+// A plan of 100,000 uses, and then a line that can't stand.
+fn long_bad_text(alloc: Global) -> Result<Vec<u8>, AllocError> {
+    let mut text = Vec::from_slice(alloc, b"HSPLAN 1\nPLAN\ncost 0\n")?;
+    for row in 0..3125 {
+        for site in 0..32 {
+            push_line(&mut text, b"use", &[row, site, 1])?;
+        }
+    }
+    text.extend_from_slice(b"use\n")?;
+    Ok(text)
+}
+
+#[test]
+fn bad_lines_are_told_at_any_length(rt: HostRuntime) -> Result<(), Fail> {
+    let alloc = rt.alloc();
+    let text = match long_bad_text(alloc) {
+        Err(AllocError) => long_bad_text(alloc)?,
+        Ok(text) => text,
+    };
+    let answer = fault_of(alloc, &text);
+    assert_eq!(rt; answer, Some(CertFault::BadLine { line: 100_004 }));
     Ok(())
 }

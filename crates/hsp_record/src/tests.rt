@@ -24,12 +24,20 @@ const FULL_SITE: &[u8] =
 /// The fields of a value of index 1 before the length of its data, in a list of one.
 const ONE_VALUE: &[u8] = b"\0\0\0\x01\0\0\0\x01\0\0\0\x07HS_SITE";
 
-fn joined(alloc: Global, parts: &[&[u8]]) -> Result<Vec<u8>, AllocError> {
+fn joined_once(alloc: Global, parts: &[&[u8]]) -> Result<Vec<u8>, AllocError> {
     let mut octets = Vec::new(alloc);
     for part in parts {
         octets.extend_from_slice(part)?;
     }
     Ok(octets)
+}
+
+// The same, once more where a growth was refused.
+fn joined(alloc: Global, parts: &[&[u8]]) -> Result<Vec<u8>, AllocError> {
+    match joined_once(alloc, parts) {
+        Err(AllocError) => joined_once(alloc, parts),
+        octets => octets,
+    }
 }
 
 // A call that tells want of memory is made once more: where one growth is refused, the second answer is that of ample memory.
@@ -177,9 +185,7 @@ fn forged_counts_take_no_memory(rt: HostRuntime) {
 
 #[test]
 fn value_lists_come_back(rt: HostRuntime) -> Result<(), Fail> {
-    let Ok(octets) = joined(rt.alloc(), &[ONE_VALUE, &[0, 0, 0, 48], &SITE, &[0; 18]]) else {
-        return Ok(());
-    };
+    let octets = joined(rt.alloc(), &[ONE_VALUE, &[0, 0, 0, 48], &SITE, &[0; 18]])?;
     assert_eq!(rt; octets.len(), 89);
     let (_, cut) = octets.split_last().ok_or("no octets")?;
     assert_eq!(rt;
@@ -198,17 +204,63 @@ fn value_lists_come_back(rt: HostRuntime) -> Result<(), Fail> {
     Ok(())
 }
 
+// A list of 1,001 values without data, of the indices from 0 on.
+fn long_list(alloc: Global) -> Result<Vec<u8>, AllocError> {
+    let mut octets = Vec::from_slice(alloc, &1001u32.to_be_bytes())?;
+    for index in 0..1001u32 {
+        octets.extend_from_slice(&index.to_be_bytes())?;
+        octets.extend_from_slice(&[0; 26])?;
+    }
+    Ok(octets)
+}
+
+#[test]
+fn long_lists_come_back(rt: HostRuntime) -> Result<(), Fail> {
+    let octets = match long_list(rt.alloc()) {
+        Err(AllocError) => long_list(rt.alloc())?,
+        Ok(octets) => octets,
+    };
+    let list = list_of(rt.alloc(), &octets).ok().ok_or("no list")?;
+    assert_eq!(rt; list.len(), 1001);
+    assert!(rt; list.find(1000).is_some());
+    let spelled = list_spelling(rt.alloc(), &list).ok().ok_or("no spelling")?;
+    assert!(rt; spelled == octets);
+    Ok(())
+}
+
+// A site of one server with a key of 65,536 octets.
+fn large_site(alloc: Global) -> Result<Vec<u8>, AllocError> {
+    let mut octets = Vec::from_slice(alloc, &SITE[..40])?;
+    octets.extend_from_slice(&65_536u32.to_be_bytes())?;
+    for _ in 0..1024 {
+        octets.extend_from_slice(&[7; 64])?;
+    }
+    octets.extend_from_slice(&[0; 4])?;
+    Ok(octets)
+}
+
+#[test]
+fn large_sites_come_back(rt: HostRuntime) -> Result<(), Fail> {
+    let octets = match large_site(rt.alloc()) {
+        Err(AllocError) => large_site(rt.alloc())?,
+        Ok(octets) => octets,
+    };
+    let site = site_of(rt.alloc(), &octets).ok().ok_or("no record")?;
+    let spelled = site_spelling(rt.alloc(), &site).ok().ok_or("no spelling")?;
+    assert_eq!(rt; spelled.len(), 65_584);
+    assert!(rt; spelled == octets);
+    Ok(())
+}
+
 #[test]
 fn references_and_no_values_come_back(rt: HostRuntime) -> Result<(), Fail> {
-    let Ok(referring) = joined(
+    let referring = joined(
         rt.alloc(),
         &[
             ONE_VALUE,
             b"\0\0\0\0\x0e\x01\0\0\x0e\x10\0\0\0\0\x65\x53\xf1\0\0\0\0\x01\0\0\0\x0410/3\0\0\0\x02",
         ],
-    ) else {
-        return Ok(());
-    };
+    )?;
     for (octets, len) in [([0; 4].as_slice(), 0), (referring.as_slice(), 1)] {
         let list = list_of(rt.alloc(), octets).ok().ok_or("no list")?;
         assert_eq!(rt; list.len(), len);

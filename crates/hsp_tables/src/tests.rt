@@ -274,6 +274,15 @@ fn faults_of_settings(rt: HostRuntime) -> Result<(), Fail> {
 }
 
 #[test]
+fn long_texts_that_are_no_toml(rt: HostRuntime) -> Result<(), Fail> {
+    let text =
+        b"[[site]]\nname = \"E\"\nindex = 1\n[[site]]\nname = \"F\"\nindex = 2\n[[site]]\nname = \"G\"\nindex = 3\n[[site]]\nname = \"H\"\nindex = 4\n[[site\n";
+    let answer = settings_of(rt.alloc(), text).err();
+    is_fault(&rt, text, answer, Some(TableFault::NotToml));
+    Ok(())
+}
+
+#[test]
 fn faults_of_hosts(rt: HostRuntime) -> Result<(), Fail> {
     let bad = Some(TableFault::BadHost { host: 0 });
     let twice = Some(TableFault::HostTwice { host: 1 });

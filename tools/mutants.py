@@ -1,0 +1,310 @@
+#!/usr/bin/env python3
+"""Puts each wrong body of mutants/ into a copy of the sources, and wants the test or the program's case that it names to refuse it.
+
+    tools/mutants.py [--jobs N] [--seconds N] [CRATE | CRATE/NAME]..
+
+The prover lets these bodies pass, since a contract allows want of memory at any time and is silent on speed, streams and the texts
+of faults: so a test has to tell them. An edit mutants/CRATE/NAME.edit has lines like those of a must-fail edit, and one that says who
+has to refuse it:
+
+  file: src/FILE.rt     the file of crates/CRATE that is changed
+  test: CRATE NAME      a test, by its own name, of this crate or of one above it
+  case: NAME            or a case of checks/program, run on the unproved program
+  old: TEXT             a text that stands in the file once
+  new: TEXT             what stands in its place
+
+Nothing is proved: `rt try` runs the tests and the program with checks. First each test and each case that an edit names has to pass
+on the sources as they stand. An edit is refused where its test fails or its case has another output or another end; sources that do not
+compile, and a run without an end, refuse nothing. Crates or edits that are named are tried alone.
+"""
+import argparse
+import collections
+import concurrent.futures
+import glob
+import os
+import queue
+import re
+import shutil
+import subprocess
+import sys
+import tempfile
+import time
+
+TOP = os.path.dirname(os.path.dirname(os.path.abspath(__file__)))
+FOLDER = os.path.join(TOP, "mutants")
+CASES = os.path.join("checks", "program")
+
+# So many named tests are run one by one on the sources as they stand; of more, the whole crate's tests are run at once.
+FEW = 3
+
+# A wrong body: the file that is changed, the pairs of texts, and the crate and test, or the case, that has to refuse it.
+Mutant = collections.namedtuple("Mutant", "crate name file pairs test case")
+
+
+def read_mutant(path):
+    crate, name = os.path.basename(os.path.dirname(path)), os.path.basename(path)[: -len(".edit")]
+    found, pairs = {}, []
+    with open(path, encoding="utf-8") as file:
+        for line in file.read().splitlines():
+            key, _, text = line.partition(":")
+            text = text[1:] if text.startswith(" ") else text
+            if key == "old":
+                pairs.append((text, None))
+            elif key == "new" and pairs and pairs[-1][1] is None:
+                pairs[-1] = (pairs[-1][0], text)
+            elif key in ("file", "test", "case") and key not in found:
+                found[key] = text.strip()
+            else:
+                raise ValueError(f"{path}: a line that is none: {line}")
+    if "file" not in found or ("test" in found) == ("case" in found) or not pairs or pairs[-1][1] is None:
+        raise ValueError(f"{path}: it lacks a line, or has one too many")
+    test = tuple(found["test"].split()) if "test" in found else None
+    if test and len(test) != 2:
+        raise ValueError(f"{path}: a test has a crate and a name")
+    return Mutant(crate, name, found["file"], pairs, test, found.get("case"))
+
+
+def read_mutants(wanted):
+    paths = sorted(glob.glob(os.path.join(FOLDER, "*", "*.edit")))
+    mutants = [read_mutant(path) for path in paths]
+    return [it for it in mutants if not wanted or it.crate in wanted or f"{it.crate}/{it.name}" in wanted]
+
+
+def is_source(folder, names):
+    return [it for it in names if it in ("out", "proofs", "specs", "must-fail") and os.path.basename(os.path.dirname(folder)) == "crates"]
+
+
+def copy_to(folder):
+    """A copy of what the unproved tests and the program are built from."""
+    for name in ("crates.txt", "HANDLES"):
+        shutil.copy(os.path.join(TOP, name), folder)
+    for name in ("data", CASES):
+        shutil.copytree(os.path.join(TOP, name), os.path.join(folder, name))
+    shutil.copytree(os.path.join(TOP, "crates"), os.path.join(folder, "crates"), ignore=is_source)
+
+
+def changed(mutant, text):
+    """The text of the file with the wrong body in it."""
+    for old, new in mutant.pairs:
+        if text.count(old) != 1:
+            raise ValueError(f"mutants/{mutant.crate}/{mutant.name}.edit: it stands {text.count(old)} times in {mutant.file}: {old}")
+        text = text.replace(old, new)
+    return text
+
+
+def run(words, folder):
+    ended = subprocess.run(words, cwd=folder, stdin=subprocess.DEVNULL, stdout=subprocess.PIPE, stderr=subprocess.STDOUT, text=True, errors="replace")
+    return ended.stdout
+
+
+def outcomes(said):
+    """What each test said, by its own name: 'ok', 'FAILED' or, without an end, 'no answer'."""
+    found = {}
+    parts = re.split(r"^test (\S+) \.\.\. (\w+)$", said, flags=re.M)
+    for path, outcome, after in zip(parts[1::3], parts[2::3], parts[3::3]):
+        found[path.split("::")[-1]] = "no answer" if "no-answer" in after.split("test result:")[0] else outcome
+    return found
+
+
+def run_tests(folder, crate, seconds, name=None):
+    words = ["rt", "try", "--test", "--seconds", str(seconds)] + (["--", name] if name else [])
+    said = run(words, os.path.join(folder, "crates", crate))
+    return outcomes(said), said
+
+
+def octets(folder, name, absent=""):
+    path = os.path.join(folder, name)
+    if not os.path.exists(path):
+        return absent
+    with open(path, encoding="utf-8", errors="surrogateescape", newline="") as file:
+        return file.read()
+
+
+def put_case(case, room, name):
+    """The runs of a case: its standard input, or its arguments, or its words both ways. Gives the names of the runs."""
+    words, args = octets(case, "words", None), octets(case, "args", None)
+    put_run(room, name, words if words is not None else octets(case, "stdin"), args)
+    if words is None:
+        return [name]
+    put_run(room, name + "_as_arguments", "", "".join(word + "\n" for word in words.split()))
+    return [name, name + "_as_arguments"]
+
+
+def put_run(room, name, given, args):
+    texts = {name: given} if args is None else {name: given, name + ".args": args}
+    for at, text in texts.items():
+        with open(os.path.join(room, at), "w", encoding="utf-8", errors="surrogateescape", newline="") as file:
+            file.write(text)
+
+
+def run_cases(folder, names, own, seconds):
+    """What each of these cases did, which share their own files: 'ok', 'FAILED', or 'not run' where the program did not run."""
+    cases = os.path.join(folder, CASES)
+    files = {it: os.path.join(folder, "data", it) for it in os.listdir(os.path.join(folder, "data"))}
+    if own:
+        files.update({it: os.path.join(cases, own, "files", it) for it in os.listdir(os.path.join(cases, own, "files"))})
+    with tempfile.TemporaryDirectory() as room:
+        runs = {name: put_case(os.path.join(cases, name), room, name) for name in names}
+        words = ["rt", "try", "--cases", room, "--seconds", str(seconds)]
+        for at, path in sorted(files.items()):
+            words += ["--data", f"{at}={path}"]
+        said = run(words, os.path.join(folder, "crates", "hsplan"))
+    return {name: worst(judged(os.path.join(cases, name), it, said) for it in runs[name]) for name in names}, said
+
+
+def worst(outcomes):
+    """What the runs of a case say together."""
+    return min(outcomes, key=["not run", "no answer", "FAILED", "ok"].index)
+
+
+def judged(case, name, said):
+    """Whether the case's output, both streams in one, and its status are the right ones."""
+    name = re.escape(name)
+    found = re.search(rf"^== {name}\n(.*?)^case={name} run=(\S+)(?: status=(\d+))?", said, re.M | re.S)
+    if not found:
+        return "not run"
+    if found[2] == "no-answer":
+        return "no answer"
+    got, status = found[1].strip("\n"), int(found[3] or -1)
+    begins, told = octets(case, "begins", None), octets(case, "stderr").strip("\n")
+    if begins is None:
+        printed = octets(case, "stdout")
+        is_right = got in (put(printed, told), put(told, printed))
+    else:
+        is_right = got.startswith(begins.strip("\n")) and got.endswith(octets(case, "ends").strip("\n"))
+    return "ok" if is_right and status == int(octets(case, "status", "0")) else "FAILED"
+
+
+def put(first, second):
+    return "\n".join(it.strip("\n") for it in (first, second) if it)
+
+
+def own_files(case):
+    """The case, if it has files of its own."""
+    return case if os.path.isdir(os.path.join(TOP, CASES, case, "files")) else None
+
+
+class Copies:
+    """Copies of the sources, one for each that works."""
+
+    def __init__(self, room, many):
+        self.free = queue.Queue()
+        for number in range(many):
+            folder = os.path.join(room, str(number))
+            os.mkdir(folder)
+            copy_to(folder)
+            self.free.put(folder)
+
+    def use(self, work):
+        folder = self.free.get()
+        try:
+            return work(folder)
+        finally:
+            self.free.put(folder)
+
+
+def unchanged(mutants):
+    """The runs over the sources as they stand: for each crate its named tests, and for each set of files the named cases."""
+    tests, cases = collections.defaultdict(set), collections.defaultdict(set)
+    for it in mutants:
+        if it.test:
+            tests[it.test[0]].add(it.test[1])
+        else:
+            cases[own_files(it.case)].add(it.case)
+    return tests, cases
+
+
+def faults_of_unchanged(folder, crate, own, names, seconds):
+    """The named tests of a crate, or else the cases, that don't pass on the sources as they stand."""
+    if crate and len(names) <= FEW:
+        runs = [run_tests(folder, crate, seconds, name) for name in sorted(names)]
+        found, said = {test: outcome for it, _ in runs for test, outcome in it.items()}, "".join(it for _, it in runs)
+    elif crate:
+        found, said = run_tests(folder, crate, seconds)
+    else:
+        found, said = run_cases(folder, sorted(names), own, seconds)
+    wrong = [f"{crate or 'case'} {it}: {found.get(it, 'not run')} on the sources as they stand" for it in sorted(names) if found.get(it) != "ok"]
+    return wrong + ([said] if wrong else [])
+
+
+def outcome_of(folder, mutant, seconds):
+    """What the test or the case of a wrong body said: 'FAILED' where it refuses it."""
+    path = os.path.join(folder, "crates", mutant.crate, mutant.file)
+    with open(path, encoding="utf-8") as file:
+        text = file.read()
+    with open(path, "w", encoding="utf-8") as file:
+        file.write(changed(mutant, text))
+    try:
+        if mutant.test:
+            found, said = run_tests(folder, mutant.test[0], seconds, mutant.test[1])
+            outcome = found.get(mutant.test[1], "not compiled or not run")
+        else:
+            found, said = run_cases(folder, [mutant.case], own_files(mutant.case), seconds)
+            outcome = found[mutant.case]
+    finally:
+        with open(path, "w", encoding="utf-8") as file:
+            file.write(text)
+    return outcome, said
+
+
+def tried(folder, mutant, seconds):
+    """The line of a wrong body, and whether it is refused."""
+    begun = time.monotonic()
+    outcome, said = outcome_of(folder, mutant, seconds)
+    by = f"test {mutant.test[0]} {mutant.test[1]}" if mutant.test else f"case {mutant.case}"
+    spent = f"{time.monotonic() - begun:.0f} s"
+    if outcome == "FAILED":
+        return True, f"refused: {mutant.crate}/{mutant.name} by {by}, {spent}"
+    shown = "" if outcome == "ok" else "\n" + said[-2000:]
+    return False, f"NOT REFUSED: {mutant.crate}/{mutant.name} by {by}: {outcome}, {spent}{shown}"
+
+
+def check_forms(mutants):
+    """Each text stands once, and each case is there: before an hour goes into runs."""
+    for it in mutants:
+        with open(os.path.join(TOP, "crates", it.crate, it.file), encoding="utf-8") as file:
+            changed(it, file.read())
+        if it.case and not os.path.isdir(os.path.join(TOP, CASES, it.case)):
+            raise ValueError(f"mutants/{it.crate}/{it.name}.edit: no case {it.case}")
+
+
+def told_each(pool, calls):
+    """Prints the line of each call as it ends, and gives the answers."""
+    answers = []
+    for done in concurrent.futures.as_completed([pool.submit(it) for it in calls]):
+        is_right, line = done.result()
+        print(line, flush=True)
+        answers.append(is_right)
+    return answers
+
+
+def try_unchanged(copies, crate, own, names, seconds):
+    faults = copies.use(lambda folder: faults_of_unchanged(folder, crate, own, names, seconds))
+    return not faults, "\n".join(faults) or f"as they stand: {crate or 'program'}, {len(names)} {'tests' if crate else 'cases'} pass"
+
+
+def main():
+    words = argparse.ArgumentParser(description="Wants each wrong body of mutants/ to be refused by its test or case.")
+    words.add_argument("--jobs", type=int, default=max(1, (os.cpu_count() or 1) // 2), help="so many runs side by side (half of the processors)")
+    words.add_argument("--seconds", type=int, default=300, help="how long a test or a case may take (300)")
+    words.add_argument("names", nargs="*", metavar="CRATE | CRATE/NAME")
+    given = words.parse_args()
+    begun = time.monotonic()
+    mutants = read_mutants(given.names)
+    check_forms(mutants)
+    tests, cases = unchanged(mutants)
+    with tempfile.TemporaryDirectory() as room, concurrent.futures.ThreadPoolExecutor(given.jobs) as pool:
+        copies = Copies(room, given.jobs)
+        first = [lambda c=c, n=n: try_unchanged(copies, c, None, n, given.seconds) for c, n in sorted(tests.items())]
+        first += [lambda o=o, n=n: try_unchanged(copies, None, o, n, given.seconds) for o, n in cases.items()]
+        stands = told_each(pool, first)
+        calls = [lambda it=it: copies.use(lambda folder: tried(folder, it, given.seconds)) for it in mutants]
+        refused = told_each(pool, calls)
+    minutes = (time.monotonic() - begun) / 60
+    wrong = len(refused) - sum(refused) + len(stands) - sum(stands)
+    print(f"mutants: {len(mutants)} wrong bodies, {sum(refused)} refused, {wrong} faults, {minutes:.0f} minutes by {given.jobs} jobs")
+    return 1 if wrong or not mutants else 0
+
+
+if __name__ == "__main__":
+    sys.exit(main())
