@@ -3,7 +3,7 @@
 
     tools/measure_dispatch.py [ROWS] [PROGRAM]
 
-ROWS is 10,000,000 at first, PROGRAM crates/hsplan/out/hsplan, which `rt run` leaves there. The instance has 8,192 rows, 64 regions,
+Then it does so with a front drawn for each row, at 64 fronts. ROWS is 10,000,000 at first, PROGRAM crates/hsplan/out/hsplan, which `rt run` leaves there. The instance has 8,192 rows, 64 regions,
 32 sites of 32 servers and 2,048 costs; the log draws its rows at random by their counts, so that most of it is assigned. A run of a
 log of its header alone tells what is spent before the first row.
 """
@@ -15,7 +15,7 @@ import tempfile
 import time
 
 TOP = os.path.dirname(os.path.dirname(os.path.abspath(__file__)))
-SITES, SERVERS, REGIONS, ROWS = 32, 32, 64, 8192
+SITES, SERVERS, REGIONS, ROWS, FRONTS = 32, 32, 64, 8192, 64
 
 
 def record(site):
@@ -44,12 +44,12 @@ def inputs(folder, draw):
     ]
 
 
-def log(folder, name, rows, counts, many, draw):
+def log(folder, name, header, lines, weights, many, draw):
     """A log of so many rows; a block of a million is drawn and written again and again in other orders."""
     path = os.path.join(folder, name)
     with open(path, "w") as file:
-        file.write("region,handle\n")
-        block = draw.choices([row + "\n" for row in rows], counts, k=min(many, 1_000_000))
+        file.write(header + "\n")
+        block = draw.choices([line + "\n" for line in lines], weights, k=min(many, 1_000_000))
         while many:
             draw.shuffle(block)
             file.write("".join(block[:many]))
@@ -58,10 +58,21 @@ def log(folder, name, rows, counts, many, draw):
 
 
 def timed(words):
+    """Seconds by the clock, and what was told on standard error."""
     with open(os.devnull, "w") as sink:
         begun = time.perf_counter()
         ended = subprocess.run(words, stdout=sink, stderr=subprocess.PIPE, text=True)
-        return time.perf_counter() - begun, ended
+        if ended.returncode:
+            sys.exit(ended.stderr)
+        return time.perf_counter() - begun, ended.stderr
+
+
+def measure(words, empty, path, many):
+    before, _ = timed(words + ["--log", empty])
+    print(f"{many} rows, {os.path.getsize(path)} octets, {before:.2f} s before the first row")
+    for _ in range(3):
+        spent, told = timed(words + ["--log", path])
+        print(f"{spent:.2f} s, {many / (spent - before) / 1e6:.2f} million rows a second: {told.strip()}")
 
 
 def main():
@@ -73,16 +84,16 @@ def main():
         plan = os.path.join(folder, "plan.txt")
         with open(plan, "w") as file:
             subprocess.run([program, "plan"] + files, stdout=file, check=True)
-        words = [program, "dispatch"] + files + ["--plan", plan, "--log"]
-        before, _ = timed(words + [log(folder, "none.csv", rows, counts, 0, draw)])
-        path = log(folder, "log.csv", rows, counts, many, draw)
-        print(f"{many} rows of {os.path.getsize(path)} octets, {before:.2f} s before the first row")
-        for _ in range(3):
-            spent, ended = timed(words + [path])
-            if ended.returncode:
-                print(ended.stderr, end="")
-                return 1
-            print(f"{spent:.2f} s, {many / (spent - before) / 1e6:.2f} million rows a second: {ended.stderr}", end="")
+        words = [program, "dispatch"] + files + ["--plan", plan]
+        entries = "region,handle"
+        path = log(folder, "log.csv", entries, rows, counts, many, draw)
+        measure(words, log(folder, "none.csv", entries, rows, counts, 0, draw), path, many)
+        os.remove(path)
+        events = "front," + entries
+        at_fronts = [f"{front},{row}" for row in rows for front in range(FRONTS)]
+        weights = [count for count in counts for _ in range(FRONTS)]
+        path = log(folder, "events.csv", events, at_fronts, weights, many, draw)
+        measure(words + ["--fronts", str(FRONTS)], log(folder, "no_events.csv", events, rows, counts, 0, draw), path, many)
     return 0
 
 

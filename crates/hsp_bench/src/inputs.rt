@@ -4,14 +4,12 @@ ghost use Rattle.std.specs.Prelude.{◌≤◌};
 
 use crate::random::Generator;
 use crate::size::Size;
+use crate::values::{settings_text, site_values};
 use std::alloc::{AllocError, Global};
 use std::fmt::Write;
 
 // How many sites there are.
 const SITES: u32 = 32;
-
-// What stands before the number of servers of a record: the site hashes whole handles.
-const HEAD: &[u8] = b"\0\x01\x02\0\0\x01\0\x02\0\0\0\0\0\0\0\0";
 
 /// The texts of the five inputs.
 #[derive(Drop)]
@@ -44,37 +42,19 @@ fn servers_at(site: u32) -> u32
     if servers < 32 { servers } else { servers + 1 }
 }
 
-// Adds the record of a site, whose servers have the identifiers from 0 on and stand on no host.
-fn push_record(octets: &mut Vec<u8>, servers: u32) -> Result<(), AllocError> {
-    octets.extend_from_slice(HEAD)?;
-    octets.extend_from_slice(&servers.to_be_bytes())?;
-    for id in 0..servers {
-        octets.extend_from_slice(&id.to_be_bytes())?;
-        octets.extend_from_slice(&[0; 24])?;
+// How many servers each site has.
+fn all_servers(alloc: Global) -> Result<Vec<u32>, AllocError> {
+    let mut servers = Vec::new(alloc);
+    for site in 0..SITES {
+        servers.push(servers_at(site))?;
     }
-    Ok(())
+    Ok(servers)
 }
 
-// The values of all sites, each of the index of its site.
-fn site_values(alloc: Global) -> Result<Vec<u8>, AllocError> {
-    let mut octets = Vec::from_slice(alloc, &SITES.to_be_bytes())?;
-    for site in 0..SITES {
-        let servers = servers_at(site);
-        octets.extend_from_slice(&site.to_be_bytes())?;
-        octets.extend_from_slice(b"\0\0\0\x07HS_SITE")?;
-        octets.extend_from_slice(&(20 + 28 * servers).to_be_bytes())?;
-        push_record(&mut octets, servers)?;
-        octets.extend_from_slice(&[0; 18])?;
-    }
-    Ok(octets)
-}
-
-fn settings_text(alloc: Global) -> Result<String, AllocError> {
-    let mut text = String::new(alloc);
-    for site in 0..SITES {
-        write!(text, "[[site]]\nname = \"s{site}\"\nindex = {site}\n")?;
-    }
-    Ok(text)
+// The limits of the hosts, all the same, three fifths of the capacity of all servers together.
+fn host_limits(alloc: Global, hosts: u16, all: u64) -> Result<Vec<u64>, AllocError> {
+    let limit = all.saturating_mul(3) / 5 / u64::from(hosts).max(1);
+    vec![in alloc; limit; usize::from(hosts)]
 }
 
 // So many numbers from 1 to 1,000,000.
@@ -165,9 +145,11 @@ pub(crate) fn texts_of_size(alloc: Global, size: &Size) -> Result<Texts, AllocEr
         .fold(0u64, |sum, count| sum.saturating_add(*count));
     let all = demand.saturating_mul(u64::from(size.percent)) / 100;
     let parts = parts(alloc, &mut generator)?;
+    let servers = all_servers(alloc)?;
+    let limits = host_limits(alloc, size.hosts, all)?;
     Ok(Texts {
-        settings: settings_text(alloc)?,
-        values: site_values(alloc)?,
+        settings: settings_text(alloc, servers.len(), &limits)?,
+        values: site_values(alloc, &servers, size.hosts)?,
         demand: demand_text(alloc, &mut generator, &counts)?,
         costs: costs_text(alloc, &mut generator, size.most)?,
         capacity: capacity_text(alloc, &parts, all)?,

@@ -1,4 +1,5 @@
-// The program that measures how long instances, certificates and plans at the limits take.
+// The program that measures how long instances, certificates and plans at the limits take, and counts how many proposals for
+// networks are accepted.
 #![tactic(auto)]
 
 mod certificates;
@@ -6,10 +7,14 @@ mod failure;
 mod inputs;
 mod instances;
 mod logs;
+mod networks;
 mod plans;
+mod proposals;
 mod random;
 mod size;
+mod small;
 mod tables;
+mod values;
 mod watch;
 mod words;
 
@@ -17,14 +22,19 @@ use certificates::measure_certificate;
 use failure::Failure;
 use instances::measure_instance;
 use logs::measure_log;
+use networks::count_accepted;
 use plans::{measure_plan, measure_plans};
+use proposals::count_proposals;
 use std::env;
 use std::rt::{Clock, Env};
 use std::time::CpuClock;
 use words::{Measurement, measurement_in};
 
 const USAGE: &str =
-    "hsp_bench: name what to measure: instance, certificate, log, plans, or plan ROWS PERCENT MOST";
+    "hsp_bench: name what to measure: instance, certificate, log, plans, plan ROWS PERCENT MOST [HOSTS], proposals MANY, or networks MANY";
+
+// How many small instances are planned where no words ask for more.
+const FEW: u32 = 400;
 
 // The words behind the program's name.
 fn arguments<R: Env + AllocGlobal>(rt: &R) -> Result<Vec<String>, Failure> {
@@ -45,14 +55,22 @@ fn measure<R: AllocGlobal + Clock + CpuClock + Print>(
         Measurement::Log => measure_log(rt),
         Measurement::Plan(size) => measure_plan(rt, size),
         Measurement::Plans => measure_plans(rt),
+        Measurement::Proposals(many) => count_proposals(rt, *many),
+        Measurement::Networks(many) => count_accepted(rt, *many),
     }
+}
+
+// Prints what can be measured, and counts the proposals for a few small instances.
+fn introduce<R: AllocGlobal + Print>(rt: &R) -> Result<(), Failure> {
+    rt.println(USAGE)?;
+    count_proposals(rt, FEW)
 }
 
 fn run<R: AllocGlobal + Clock + CpuClock + Env + Print>(rt: &R) -> Result<(), Failure> {
     let words = arguments(rt)?;
     match measurement_in(&words) {
         Some(measurement) => measure(rt, &measurement),
-        None if words.is_empty() => Ok(rt.println(USAGE)?),
+        None if words.is_empty() => introduce(rt),
         None => Err(Failure::Usage),
     }
 }

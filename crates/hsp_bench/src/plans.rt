@@ -7,9 +7,9 @@ use crate::tables::{build_instance, read_texts};
 use crate::watch::Watch;
 use hsp_cert::Certificate;
 use hsp_check::check;
-use hsp_flow::{Effort, HeapFrontier, solve_counted};
+use hsp_flow::{Effort, HeapFrontier, solve_counted, solve_proposed};
 use hsp_instance::Instance;
-use std::alloc::Global;
+use std::alloc::{AllocError, Global};
 use std::rt::Clock;
 use std::time::CpuClock;
 use std::{fmt, io};
@@ -66,37 +66,71 @@ fn instance_of(alloc: Global, size: &Size) -> Result<Instance, Failure> {
 }
 
 fn print_size<R: Print>(rt: &R, size: &Size) -> io::Result<()> {
-    let (rows, most) = (size.rows, size.most);
+    let (rows, most, hosts) = (size.rows, size.most, size.hosts);
     let (whole, part) = (size.percent / 100, size.percent % 100);
-    print!(rt; "{rows} rows, capacity {whole}.{part:02}, costs up to {most}: ")
+    println!(rt; "{rows} rows, capacity {whole}.{part:02}, costs up to {most}, {hosts} hosts")
 }
 
-fn print_effort<R: Print>(rt: &R, effort: &Effort) -> io::Result<()> {
+// What shows how a solver came to its certificate.
+#[derive(Drop)]
+enum Way {
+    Proposal,
+    Searches,
+}
+
+fn print_effort<R: Print>(rt: &R, way: &Way, effort: &Effort) -> io::Result<()> {
+    let (pivots, proposals) = (effort.pivots, effort.proposals);
     let (searches, settled) = (effort.searches, effort.settled);
     let augmentations = effort.augmentations;
-    print!(rt; "    {searches} searches, {settled} settled nodes, {augmentations} augmentations")
+    match way {
+        Way::Proposal => print!(rt; "        {proposals} proposals taken, {pivots} pivots, ")?,
+        Way::Searches => print!(rt; "        ")?,
+    }
+    print!(rt; "{searches} searches, {settled} settled nodes, {augmentations} augmentations")
 }
 
-/// Plans an instance of the size, checks the certificate, and prints the times of both.
+fn solve_by(
+    alloc: Global,
+    instance: &Instance,
+    way: &Way,
+    effort: &mut Effort,
+) -> Result<Certificate, AllocError> {
+    match way {
+        Way::Proposal => solve_proposed(alloc, instance, effort),
+        Way::Searches => solve_counted::<HeapFrontier>(alloc, instance, effort),
+    }
+}
+
+// Plans the instance one way, checks the certificate, and prints the times of both.
+fn measure_way<R: AllocGlobal + Clock + CpuClock + Print>(
+    rt: &R,
+    instance: &Instance,
+    way: &Way,
+) -> Result<(), Failure> {
+    let alloc = rt.alloc();
+    let solving = Watch::start(rt)?;
+    let mut effort = Effort::default();
+    let certificate = solve_by(alloc, instance, way, &mut effort)?;
+    let solved = solving.times(rt)?;
+    let checking = Watch::start(rt)?;
+    let verdict = check(alloc, instance, &certificate)?;
+    let checked = checking.times(rt)?;
+    let shown = shown_by(&certificate);
+    println!(rt; "    {shown}, solved in {solved}")?;
+    print_effort(rt, way, &effort)?;
+    println!(rt; ", checked in {checked}: {verdict:?}")?;
+    Ok(())
+}
+
+/// Plans an instance of the size by a proposal and by searches, checks both certificates, and prints the times.
 pub(crate) fn measure_plan<R: AllocGlobal + Clock + CpuClock + Print>(
     rt: &R,
     size: &Size,
 ) -> Result<(), Failure> {
-    let alloc = rt.alloc();
-    let instance = instance_of(alloc, size)?;
+    let instance = instance_of(rt.alloc(), size)?;
     print_size(rt, size)?;
-    let solving = Watch::start(rt)?;
-    let mut effort = Effort::default();
-    let certificate = solve_counted::<HeapFrontier>(alloc, &instance, &mut effort)?;
-    let solved = solving.times(rt)?;
-    let checking = Watch::start(rt)?;
-    let verdict = check(alloc, &instance, &certificate)?;
-    let checked = checking.times(rt)?;
-    let shown = shown_by(&certificate);
-    println!(rt; "{shown}, solved in {solved}")?;
-    print_effort(rt, &effort)?;
-    println!(rt; ", checked in {checked}: {verdict:?}")?;
-    Ok(())
+    measure_way(rt, &instance, &Way::Proposal)?;
+    measure_way(rt, &instance, &Way::Searches)
 }
 
 // Plans instances of one number of rows with less and less capacity.
@@ -110,13 +144,32 @@ fn measure_capacities<R: AllocGlobal + Clock + CpuClock + Print>(
             rows,
             percent,
             most,
+            hosts: 0,
         };
         measure_plan(rt, &size)?;
     }
     Ok(())
 }
 
-/// Plans instances of 1,000 and of 8,192 rows, with large and with small costs.
+// Plans instances with less and less capacity, where the limits of 256 hosts leave less than three fifths of it.
+fn measure_hosts<R: AllocGlobal + Clock + CpuClock + Print>(
+    rt: &R,
+    rows: u32,
+    most: u32,
+) -> Result<(), Failure> {
+    for percent in [400, 250, 200] {
+        let size = Size {
+            rows,
+            percent,
+            most,
+            hosts: 256,
+        };
+        measure_plan(rt, &size)?;
+    }
+    Ok(())
+}
+
+/// Plans instances of 1,000 and of 8,192 rows, with large and with small costs, without and with hosts.
 pub(crate) fn measure_plans<R: AllocGlobal + Clock + CpuClock + Print>(
     rt: &R,
 ) -> Result<(), Failure> {
@@ -127,6 +180,7 @@ pub(crate) fn measure_plans<R: AllocGlobal + Clock + CpuClock + Print>(
         (8_192, 10),
     ] {
         measure_capacities(rt, rows, most)?;
+        measure_hosts(rt, rows, most)?;
     }
     Ok(())
 }

@@ -2,6 +2,8 @@
 
 ghost use Rattle.std.specs.Prelude.{◌<◌};
 
+use std::alloc::{AllocError, Global};
+
 /// A linear congruential generator (Knuth, The Art of Computer Programming, volume 2, section 3.2.1).
 #[derive(Drop)]
 pub struct Generator {
@@ -10,7 +12,12 @@ pub struct Generator {
 
 impl Generator {
     pub(crate) fn new() -> Generator {
-        Generator { state: 1 }
+        Generator::seeded(1)
+    }
+
+    /// The generator of a seed: each has numbers of its own.
+    pub(crate) fn seeded(seed: u64) -> Generator {
+        Generator { state: seed }
     }
 
     /// The next number, below `limit`.
@@ -21,5 +28,25 @@ impl Generator {
         let product = self.state.wrapping_mul(6_364_136_223_846_793_005);
         self.state = product.wrapping_add(1_442_695_040_888_963_407);
         (self.state >> 33) % limit
+    }
+    /// The next number, at most `most`.
+    pub(crate) fn up_to(&mut self, most: u32) -> u32 {
+        let number = self.below(u64::from(most) + 1);
+        u32::try_from(number).unwrap_or(most)
+    }
+
+    /// So many numbers from `least` on, each at most `span` more.
+    pub(crate) fn numbers(
+        &mut self,
+        alloc: Global,
+        many: u32,
+        least: u32,
+        span: u32,
+    ) -> Result<Vec<u64>, AllocError> {
+        let mut numbers = Vec::new(alloc);
+        for _ in 0..many {
+            numbers.push(u64::from(least) + u64::from(self.up_to(span)))?;
+        }
+        Ok(numbers)
     }
 }

@@ -7,6 +7,8 @@ pub struct Size {
     pub percent: u32,
     /// The greatest cost that an arc may have.
     pub most: u32,
+    /// How many hosts have a limit, at which they bind where capacity is not above five thirds of the demand.
+    pub hosts: u16,
 }
 
 /// The limits of an instance, with capacity to spare.
@@ -14,4 +16,5 @@ pub const LARGEST: Size = Size {
     rows: 8_192,
     percent: 200,
     most: 1_000_000,
+    hosts: 0,
 };

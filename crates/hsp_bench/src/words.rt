@@ -11,7 +11,12 @@ pub enum Measurement {
     Log,
     Plan(Size),
     Plans,
+    Proposals(u32),
+    Networks(u32),
 }
+
+// How many instances or networks may be asked for.
+const MOST_DRAWN: u32 = 100_000_000;
 
 // A number from 1 to `most`.
 fn number_in(word: &str, most: u32) -> Option<u32> {
@@ -22,24 +27,51 @@ fn number_in(word: &str, most: u32) -> Option<u32> {
     u32::try_from(number).ok()
 }
 
-// The size of an instance with rows, capacity and costs within their limits.
-fn size_in(rows: &str, percent: &str, most: &str) -> Option<Size> {
+// The size of an instance with rows, capacity, costs and hosts within their limits.
+fn size_in(rows: &str, percent: &str, most: &str, hosts: u16) -> Option<Size> {
     Some(Size {
         rows: number_in(rows, 8_192)?,
         percent: number_in(percent, 1_000)?,
         most: number_in(most, 1_000_000)?,
+        hosts,
     })
+}
+
+// What a word alone asks for.
+fn measurement_of(word: &str) -> Option<Measurement> {
+    match word {
+        "instance" => Some(Measurement::Instance),
+        "certificate" => Some(Measurement::Certificate),
+        "log" => Some(Measurement::Log),
+        "plans" => Some(Measurement::Plans),
+        _ => None,
+    }
+}
+
+// What a word and how many to draw ask for.
+fn drawing_of(word: &str, many: &str) -> Option<Measurement> {
+    let many = number_in(many, MOST_DRAWN)?;
+    match word {
+        "proposals" => Some(Measurement::Proposals(many)),
+        "networks" => Some(Measurement::Networks(many)),
+        _ => None,
+    }
+}
+
+// What the words of a plan ask for.
+fn plan_of(rows: &str, percent: &str, most: &str, hosts: u16) -> Option<Measurement> {
+    Some(Measurement::Plan(size_in(rows, percent, most, hosts)?))
 }
 
 /// What the words ask for, and None where they ask for nothing.
 pub(crate) fn measurement_in(words: &[String]) -> Option<Measurement> {
     match words {
-        [one] if one.as_str() == "instance" => Some(Measurement::Instance),
-        [one] if one.as_str() == "certificate" => Some(Measurement::Certificate),
-        [one] if one.as_str() == "log" => Some(Measurement::Log),
-        [one] if one.as_str() == "plans" => Some(Measurement::Plans),
-        [one, rows, percent, most] if one.as_str() == "plan" => {
-            Some(Measurement::Plan(size_in(rows, percent, most)?))
+        [one] => measurement_of(one.as_str()),
+        [one, many] => drawing_of(one.as_str(), many.as_str()),
+        [one, rows, percent, most] if one.as_str() == "plan" => plan_of(rows, percent, most, 0),
+        [one, rows, percent, most, hosts] if one.as_str() == "plan" => {
+            let hosts = u16::try_from(number_in(hosts, 1_024)?).ok()?;
+            plan_of(rows, percent, most, hosts)
         }
         _ => None,
     }

@@ -1,9 +1,15 @@
+ghost use Rattle.std.specs.Prelude.{IfOk};
+ghost use Rattle.hsp_instance.specs.Groups.{AreGroups};
+
 use super::*;
 use hsp_hash::HashOption;
 use hsp_record::{RecordFault, ValueList, decode_values};
-use hsp_tables::{TableFault, read_capacity, read_costs, read_demand, read_settings};
+use hsp_tables::{
+    Capacities, Costs, Demand, Settings, TableFault, read_capacity, read_costs, read_demand,
+    read_settings,
+};
+use hsp_text::push_whole;
 use std::alloc::{AllocError, Global};
-use std::process::Abort;
 use std::test::Fail;
 
 const SETTINGS: &[u8] =
@@ -28,6 +34,10 @@ const NO_SERVER: &[u8] =
 
 const THIRD_OPTION: &[u8] =
     b"[[site]]\nname = \"E\"\nrecord = \"000102000001000300000000000000000000000100000007000000000000000000000000000000010000000000000000\"\n";
+
+// A record with an octet more than its fields take.
+const LONG_RECORD: &[u8] =
+    b"[[site]]\nname = \"E\"\nrecord = \"00010200000100010000000000000000000000010000000700000000000000000000000000000001000000000000000000\"\n";
 
 const EMPTY_RECORD: &[u8] = b"[[site]]\nname = \"E\"\nrecord = \"\"\n";
 
@@ -75,6 +85,14 @@ fn one_value(alloc: Global, type_octets: &[u8; 7]) -> Result<Vec<u8>, AllocError
     Ok(octets)
 }
 
+// The same, once more where a growth was refused.
+fn one_value_twice(alloc: Global, type_octets: &[u8; 7]) -> Result<Vec<u8>, AllocError> {
+    match one_value(alloc, type_octets) {
+        Err(AllocError) => one_value(alloc, type_octets),
+        octets => octets,
+    }
+}
+
 // A list of a site with as many servers as all sites may have, of index 1, and one of three, of index 2.
 fn values_at_the_limit(alloc: Global) -> Result<Vec<u8>, AllocError> {
     let full = site_octets(alloc, 1024)?;
@@ -85,30 +103,60 @@ fn values_at_the_limit(alloc: Global) -> Result<Vec<u8>, AllocError> {
     Ok(octets)
 }
 
-// The fault of the sites, and None where there is none or memory ran out for what is lent.
-fn sites_fault(alloc: Global, settings: &[u8], values: Option<&[u8]>) -> Option<BuildFault> {
-    let settings = read_settings(alloc, settings).ok()?;
-    match values {
-        None => build_sites(alloc, &settings, None).err(),
-        Some(octets) => {
-            let values = decode_values(alloc, octets).ok()?;
-            build_sites(alloc, &settings, Some(&values)).err()
-        }
+// What a call gives. Where a growth is refused, the second call finds memory: so the answers below are insisted on.
+fn settings_of(alloc: Global, text: &[u8]) -> Result<Settings, TableFault> {
+    match read_settings(alloc, text) {
+        Err(TableFault::OutOfMemory) => read_settings(alloc, text),
+        answer => answer,
     }
 }
 
-// What is wanted, or that memory ran out.
-fn is_or_memory(fault: Option<BuildFault>, wanted: BuildFault) -> bool {
-    fault == Some(wanted) || fault == Some(BuildFault::OutOfMemory)
+fn values_of(alloc: Global, octets: &[u8]) -> Result<ValueList<'_>, RecordFault> {
+    match decode_values(alloc, octets) {
+        Err(RecordFault::OutOfMemory) => decode_values(alloc, octets),
+        answer => answer,
+    }
+}
+
+fn sites_of(
+    alloc: Global,
+    settings: &Settings,
+    values: Option<&ValueList<'_>>,
+) -> Result<Sites, BuildFault> {
+    match build_sites(alloc, settings, values) {
+        Err(BuildFault::OutOfMemory) => build_sites(alloc, settings, values),
+        answer => answer,
+    }
+}
+
+fn groups_of(alloc: Global, instance: &Instance) -> Result<Groups, AllocError>
+    ensures { IfOk result (λ groups. AreGroups instance.now groups) }
+{
+    match groups(alloc, instance) {
+        Err(AllocError) => groups(alloc, instance),
+        answer => answer,
+    }
+}
+
+// The fault of the sites, and None where there is none.
+fn sites_fault(
+    alloc: Global,
+    settings: &[u8],
+    values: Option<&[u8]>,
+) -> Result<Option<BuildFault>, Fail> {
+    let settings = settings_of(alloc, settings).ok().ok_or("no settings")?;
+    let Some(octets) = values else {
+        return Ok(sites_of(alloc, &settings, None).err());
+    };
+    let values = values_of(alloc, octets).ok().ok_or("no values")?;
+    Ok(sites_of(alloc, &settings, Some(&values)).err())
 }
 
 #[test]
 fn the_sites_of_the_base_are_read(rt: HostRuntime) -> Result<(), Fail> {
     let alloc = rt.alloc();
-    let Ok(settings) = read_settings(alloc, SETTINGS) else {
-        return Ok(());
-    };
-    match build_sites(alloc, &settings, None) {
+    let settings = settings_of(alloc, SETTINGS).ok().ok_or("no settings")?;
+    match sites_of(alloc, &settings, None) {
         Ok(sites) => {
             assert_eq!(rt; sites.len(), 2);
             assert_eq!(rt; sites.name(0), b"E".as_slice());
@@ -119,7 +167,7 @@ fn the_sites_of_the_base_are_read(rt: HostRuntime) -> Result<(), Fail> {
             assert_eq!(rt; sites.first_server(0), 0);
             assert_eq!(rt; sites.first_server(1), 2);
         }
-        Err(fault) => assert_eq!(rt; fault, BuildFault::OutOfMemory),
+        Err(fault) => panic!(rt; "{fault:?}"),
     }
     Ok(())
 }
@@ -127,21 +175,28 @@ fn the_sites_of_the_base_are_read(rt: HostRuntime) -> Result<(), Fail> {
 #[test]
 fn bad_sites_have_their_first_fault(rt: HostRuntime) -> Result<(), Fail> {
     let alloc = rt.alloc();
-    let bad_record = BuildFault::BadRecord {
+    let empty = BuildFault::BadRecord {
         site: 0,
         fault: RecordFault::Truncated { at: 0 },
+    };
+    let long = BuildFault::BadRecord {
+        site: 0,
+        fault: RecordFault::Trailing { at: 48 },
     };
     let cases = [
         (NO_SERVER, BuildFault::NoServer { site: 0 }),
         (THIRD_OPTION, BuildFault::BadHashOption { site: 0 }),
-        (EMPTY_RECORD, bad_record),
+        (EMPTY_RECORD, empty),
+        (LONG_RECORD, long),
         (TWICE, BuildFault::ServerIdTwice { site: 0 }),
         (FIRST_VALUE, BuildFault::NoValue { site: 0 }),
     ];
     for (settings, fault) in cases {
-        if let Some(answer) = sites_fault(alloc, settings, None) {
-            assert!(rt; is_or_memory(Some(answer), fault), "{settings:?}");
-        }
+        assert_eq!(rt;
+            sites_fault(alloc, settings, None)?,
+            Some(fault),
+            "{settings:?}"
+        );
     }
     Ok(())
 }
@@ -149,106 +204,112 @@ fn bad_sites_have_their_first_fault(rt: HostRuntime) -> Result<(), Fail> {
 #[test]
 fn sites_are_read_from_values(rt: HostRuntime) -> Result<(), Fail> {
     let alloc = rt.alloc();
-    let Ok(values) = one_value(alloc, b"HS_SITE") else {
-        return Ok(());
-    };
-    let Ok(others) = one_value(alloc, b"HS_SITF") else {
-        return Ok(());
-    };
-    if let Some(fault) = sites_fault(alloc, FIRST_VALUE, Some(&values)) {
-        assert_eq!(rt; fault, BuildFault::OutOfMemory);
-    }
-    if let Some(fault) = sites_fault(alloc, SECOND_VALUE, Some(&values)) {
-        assert!(rt; is_or_memory(Some(fault), BuildFault::NoValue { site: 0 }));
-    }
-    if let Some(fault) = sites_fault(alloc, FIRST_VALUE, Some(&others)) {
-        assert!(rt; is_or_memory(Some(fault), BuildFault::NotSiteValue { site: 0 }));
-    }
+    let values = one_value_twice(alloc, b"HS_SITE")?;
+    let others = one_value_twice(alloc, b"HS_SITF")?;
+    let none = BuildFault::NoValue { site: 0 };
+    let other = BuildFault::NotSiteValue { site: 0 };
+    assert_eq!(rt; sites_fault(alloc, FIRST_VALUE, Some(&values))?, None);
+    assert_eq!(rt;
+        sites_fault(alloc, SECOND_VALUE, Some(&values))?,
+        Some(none)
+    );
+    assert_eq!(rt;
+        sites_fault(alloc, FIRST_VALUE, Some(&others))?,
+        Some(other)
+    );
     Ok(())
 }
 
 #[test]
 fn the_servers_of_all_sites_are_counted_at_the_limits(rt: HostRuntime) -> Result<(), Fail> {
     let alloc = rt.alloc();
-    let Ok(values) = values_at_the_limit(alloc) else {
-        return Ok(());
+    let values = match values_at_the_limit(alloc) {
+        Err(AllocError) => values_at_the_limit(alloc)?,
+        Ok(values) => values,
     };
-    if let Some(fault) = sites_fault(alloc, FIRST_VALUE, Some(&values)) {
-        assert_eq!(rt; fault, BuildFault::OutOfMemory);
-    }
-    if let Some(fault) = sites_fault(alloc, BOTH_VALUES, Some(&values)) {
-        assert!(rt; is_or_memory(Some(fault), BuildFault::TooManyServers));
-    }
+    let more = BuildFault::TooManyServers;
+    assert_eq!(rt; sites_fault(alloc, FIRST_VALUE, Some(&values))?, None);
+    assert_eq!(rt; sites_fault(alloc, BOTH_VALUES, Some(&values))?, Some(more));
     Ok(())
 }
 
-// What is read, or that memory ran out.
-fn kept<T: Drop>(rt: &impl Abort, read: Result<T, TableFault>) -> Option<T> {
-    match read {
-        Ok(kept) => Some(kept),
-        Err(fault) => {
-            assert_eq!(rt; fault, TableFault::OutOfMemory);
-            None
-        }
+// The texts of the tables.
+#[derive(Clone, Copy)]
+struct Tables<'a> {
+    demand: &'a [u8],
+    costs: &'a [u8],
+    capacity: &'a [u8],
+}
+
+const BASE: Tables<'static> = Tables {
+    demand: DEMAND,
+    costs: COSTS,
+    capacity: CAPACITY,
+};
+
+fn demand_of(alloc: Global, text: &[u8]) -> Result<Demand, TableFault> {
+    match read_demand(alloc, text) {
+        Err(TableFault::OutOfMemory) => read_demand(alloc, text),
+        answer => answer,
     }
 }
 
-// What is built of texts, or None where memory ran out for what is lent.
+fn costs_of(alloc: Global, text: &[u8]) -> Result<Costs, TableFault> {
+    match read_costs(alloc, text) {
+        Err(TableFault::OutOfMemory) => read_costs(alloc, text),
+        answer => answer,
+    }
+}
+
+fn capacity_of(alloc: Global, text: &[u8]) -> Result<Capacities, TableFault> {
+    match read_capacity(alloc, text) {
+        Err(TableFault::OutOfMemory) => read_capacity(alloc, text),
+        answer => answer,
+    }
+}
+
+// What is built of texts that can be read.
 fn built(
-    rt: &impl Abort,
     alloc: Global,
     settings: &[u8],
     values: Option<&ValueList<'_>>,
-    tables: (&[u8], &[u8], &[u8]),
-) -> Option<Result<Instance, BuildFault>> {
-    let settings = kept(rt, read_settings(alloc, settings))?;
-    let demand = kept(rt, read_demand(alloc, tables.0))?;
-    let costs = kept(rt, read_costs(alloc, tables.1))?;
-    let capacity = kept(rt, read_capacity(alloc, tables.2))?;
-    Some(build(alloc, &settings, values, &demand, &costs, &capacity))
-}
-
-// The instance of texts, or that memory ran out.
-fn instance_of(
-    rt: &impl Abort,
-    alloc: Global,
-    settings: &[u8],
-    tables: (&[u8], &[u8], &[u8]),
-) -> Option<Instance> {
-    match built(rt, alloc, settings, None, tables)? {
-        Ok(instance) => Some(instance),
-        Err(fault) => {
-            assert_eq!(rt; fault, BuildFault::OutOfMemory);
-            None
+    tables: Tables<'_>,
+) -> Result<Result<Instance, BuildFault>, Fail> {
+    let settings = settings_of(alloc, settings).ok().ok_or("no settings")?;
+    let demand = demand_of(alloc, tables.demand).ok().ok_or("no demand")?;
+    let costs = costs_of(alloc, tables.costs).ok().ok_or("no costs")?;
+    let capacity = capacity_of(alloc, tables.capacity)
+        .ok()
+        .ok_or("no capacities")?;
+    match build(alloc, &settings, values, &demand, &costs, &capacity) {
+        Err(BuildFault::OutOfMemory) => {
+            Ok(build(alloc, &settings, values, &demand, &costs, &capacity))
         }
+        answer => Ok(answer),
     }
 }
 
-// That texts have the fault, or that memory ran out.
-fn has_fault(
-    rt: &impl Abort,
+// The instance of texts.
+fn instance_of(alloc: Global, settings: &[u8], tables: Tables<'_>) -> Result<Instance, Fail> {
+    Ok(
+        built(alloc, settings, None, tables)?
+            .ok()
+            .ok_or("no instance")?,
+    )
+}
+
+// The fault of texts, and None where an instance is built.
+fn fault_of(
     alloc: Global,
     settings: &[u8],
-    tables: (&[u8], &[u8], &[u8]),
-    wanted: BuildFault,
-) {
-    match built(rt, alloc, settings, None, tables) {
-        None => {}
-        Some(Ok(_)) => panic!(rt; "no fault, where {wanted:?} was wanted"),
-        Some(Err(fault)) => {
-            assert!(rt;
-                is_or_memory(Some(fault), wanted),
-                "{fault:?}, where {wanted:?} was wanted"
-            );
-        }
-    }
+    tables: Tables<'_>,
+) -> Result<Option<BuildFault>, Fail> {
+    Ok(built(alloc, settings, None, tables)?.err())
 }
 
 #[test]
 fn the_base_is_built(rt: HostRuntime) -> Result<(), Fail> {
-    let Some(base) = instance_of(&rt, rt.alloc(), SETTINGS, (DEMAND, COSTS, CAPACITY)) else {
-        return Ok(());
-    };
+    let base = instance_of(rt.alloc(), SETTINGS, BASE)?;
     assert_eq!(rt; base.rows(), 3);
     let (region, handle, count) = base.row(0);
     assert_eq!(rt; region, b"r1".as_slice());
@@ -263,9 +324,7 @@ fn the_base_is_built(rt: HostRuntime) -> Result<(), Fail> {
 
 #[test]
 fn servers_stand_site_by_site(rt: HostRuntime) -> Result<(), Fail> {
-    let Some(base) = instance_of(&rt, rt.alloc(), SETTINGS, (DEMAND, COSTS, CAPACITY)) else {
-        return Ok(());
-    };
+    let base = instance_of(rt.alloc(), SETTINGS, BASE)?;
     let servers = [
         (0, 0, 7, 10),
         (0, 1, 3, 6),
@@ -284,9 +343,7 @@ fn servers_stand_site_by_site(rt: HostRuntime) -> Result<(), Fail> {
 
 #[test]
 fn rows_are_found_by_region_and_handle(rt: HostRuntime) -> Result<(), Fail> {
-    let Some(base) = instance_of(&rt, rt.alloc(), SETTINGS, (DEMAND, COSTS, CAPACITY)) else {
-        return Ok(());
-    };
+    let base = instance_of(rt.alloc(), SETTINGS, BASE)?;
     assert_eq!(rt; base.find_row(b"r1", b"10/2"), Some(1));
     assert_eq!(rt; base.find_row(b"r2", b"10/3"), Some(2));
     assert_eq!(rt; base.find_row(b"r2", b"10/2"), None);
@@ -297,37 +354,39 @@ fn rows_are_found_by_region_and_handle(rt: HostRuntime) -> Result<(), Fail> {
 // The places are 1, 0 and 1 at E and 2, 1 and 0 at W.
 #[test]
 fn arcs_go_to_the_responsible_servers(rt: HostRuntime) -> Result<(), Fail> {
-    let Some(base) = instance_of(&rt, rt.alloc(), SETTINGS, (DEMAND, COSTS, CAPACITY)) else {
-        return Ok(());
-    };
+    let base = instance_of(rt.alloc(), SETTINGS, BASE)?;
     let to = |site: u32, server: u32, cost: u64| Arc { site, server, cost };
     assert_eq!(rt; base.rows(), 3);
     assert_eq!(rt; base.arcs(0), [to(0, 1, 1), to(1, 4, 4)].as_slice());
     assert_eq!(rt; base.arcs(1), [to(0, 0, 1), to(1, 3, 4)].as_slice());
     assert_eq!(rt; base.arcs(2), [to(0, 1, 2), to(1, 2, 3)].as_slice());
     let one_site = b"region,site,cost\nr1,W,4\nr9,E,2\n";
-    let Some(less) = instance_of(&rt, rt.alloc(), SETTINGS, (DEMAND, one_site, CAPACITY)) else {
-        return Ok(());
+    let tables = Tables {
+        costs: one_site,
+        ..BASE
     };
+    let less = instance_of(rt.alloc(), SETTINGS, tables)?;
     assert_eq!(rt; less.rows(), 3);
     assert_eq!(rt; less.arcs(0), [to(1, 4, 4)].as_slice());
     assert_eq!(rt; less.arcs(2).len(), 0);
     Ok(())
 }
 
+// A text behind another.
+fn joined(alloc: Global, first: &[u8], second: &[u8]) -> Result<Vec<u8>, AllocError> {
+    let mut text = Vec::from_slice(alloc, first)?;
+    text.extend_from_slice(second)?;
+    Ok(text)
+}
+
 #[test]
 fn servers_stand_on_hosts(rt: HostRuntime) -> Result<(), Fail> {
     let alloc = rt.alloc();
-    let Ok(mut settings) = Vec::from_slice(alloc, SETTINGS) else {
-        return Ok(());
+    let settings = match joined(alloc, SETTINGS, HOST) {
+        Err(AllocError) => joined(alloc, SETTINGS, HOST)?,
+        Ok(settings) => settings,
     };
-    let Ok(()) = settings.extend_from_slice(HOST) else {
-        return Ok(());
-    };
-    let tables = (DEMAND, COSTS, CAPACITY);
-    let Some(instance) = instance_of(&rt, alloc, settings.as_slice(), tables) else {
-        return Ok(());
-    };
+    let instance = instance_of(alloc, settings.as_slice(), BASE)?;
     assert_eq!(rt; instance.hosts(), 1);
     assert_eq!(rt; instance.host(0), (1u128.to_be_bytes(), 8));
     assert_eq!(rt; instance.servers(), 5);
@@ -353,13 +412,10 @@ fn a_site_of_the_costs_that_is_not_there_is_told(rt: HostRuntime) -> Result<(), 
     let alloc = rt.alloc();
     let late: &[u8] = b"region,site,cost\nr1,E,1\nr2,X,1\n";
     for (costs, row) in [(UNKNOWN_COST, 0), (late, 1)] {
-        let tables = (DEMAND, costs, CAPACITY);
-        has_fault(
-            &rt,
-            alloc,
-            SETTINGS,
-            tables,
-            unknown_site(Table::Costs, row),
+        let wanted = Some(unknown_site(Table::Costs, row));
+        assert_eq!(rt;
+            fault_of(alloc, SETTINGS, Tables { costs, ..BASE })?,
+            wanted
         );
     }
     Ok(())
@@ -377,7 +433,8 @@ fn a_site_or_server_of_the_capacities_that_is_not_there_is_told(
         (unknown_server, BuildFault::UnknownServer { row: 0 }),
     ];
     for (capacity, fault) in cases {
-        has_fault(&rt, alloc, SETTINGS, (DEMAND, COSTS, capacity), fault);
+        let found = fault_of(alloc, SETTINGS, Tables { capacity, ..BASE })?;
+        assert_eq!(rt; found, Some(fault));
     }
     Ok(())
 }
@@ -389,45 +446,41 @@ fn a_server_without_capacity_is_told(rt: HostRuntime) -> Result<(), Fail> {
         site: 1,
         server_id: 9,
     };
-    has_fault(&rt, rt.alloc(), SETTINGS, (DEMAND, COSTS, lacking), fault);
+    let tables = Tables {
+        capacity: lacking,
+        ..BASE
+    };
+    assert_eq!(rt; fault_of(rt.alloc(), SETTINGS, tables)?, Some(fault));
     Ok(())
 }
 
 #[test]
 fn sites_are_tried_before_costs_and_these_before_capacities(rt: HostRuntime) -> Result<(), Fail> {
     let alloc = rt.alloc();
-    let tables = (DEMAND, UNKNOWN_COST, UNKNOWN_CAPACITY);
-    has_fault(
-        &rt,
-        alloc,
-        NO_SERVER,
-        tables,
-        BuildFault::NoServer { site: 0 },
-    );
-    has_fault(&rt, alloc, SETTINGS, tables, unknown_site(Table::Costs, 0));
+    let tables = Tables {
+        costs: UNKNOWN_COST,
+        capacity: UNKNOWN_CAPACITY,
+        ..BASE
+    };
+    let no_server = Some(BuildFault::NoServer { site: 0 });
+    assert_eq!(rt; fault_of(alloc, NO_SERVER, tables)?, no_server);
+    let unknown = Some(unknown_site(Table::Costs, 0));
+    assert_eq!(rt; fault_of(alloc, SETTINGS, tables)?, unknown);
     Ok(())
 }
 
 #[test]
 fn an_instance_is_built_from_values(rt: HostRuntime) -> Result<(), Fail> {
     let alloc = rt.alloc();
-    let Ok(octets) = one_value(alloc, b"HS_SITE") else {
-        return Ok(());
+    let octets = one_value_twice(alloc, b"HS_SITE")?;
+    let values = values_of(alloc, &octets).ok().ok_or("no values")?;
+    let tables = Tables {
+        costs: b"region,site,cost\nr2,E,2\n",
+        capacity: b"site,server_id,capacity\nE,0,6\n",
+        ..BASE
     };
-    let Ok(values) = decode_values(alloc, &octets) else {
-        return Ok(());
-    };
-    let costs = b"region,site,cost\nr2,E,2\n";
-    let capacity = b"site,server_id,capacity\nE,0,6\n";
-    match built(
-        &rt,
-        alloc,
-        FIRST_VALUE,
-        Some(&values),
-        (DEMAND, costs, capacity),
-    ) {
-        None => {}
-        Some(Ok(instance)) => {
+    match built(alloc, FIRST_VALUE, Some(&values), tables)? {
+        Ok(instance) => {
             assert_eq!(rt; instance.servers(), 1);
             assert_eq!(rt; instance.server(0), (0, 0, 0, 6));
             assert_eq!(rt; instance.rows(), 3);
@@ -438,7 +491,7 @@ fn an_instance_is_built_from_values(rt: HostRuntime) -> Result<(), Fail> {
             };
             assert_eq!(rt; instance.arcs(2), [only].as_slice());
         }
-        Some(Err(fault)) => assert_eq!(rt; fault, BuildFault::OutOfMemory),
+        Err(fault) => panic!(rt; "{fault:?}"),
     }
     Ok(())
 }
@@ -446,32 +499,34 @@ fn an_instance_is_built_from_values(rt: HostRuntime) -> Result<(), Fail> {
 #[test]
 fn rows_of_one_region_and_the_same_arcs_are_in_one_group(rt: HostRuntime) -> Result<(), Fail> {
     let alloc = rt.alloc();
-    let alike = b"region,handle,count\nr1,10/a,1\nr1,10/A,2\nr2,10/a,3\n";
-    let Some(instance) = instance_of(&rt, alloc, SETTINGS, (alike, COSTS, CAPACITY)) else {
-        return Ok(());
+    let alike = Tables {
+        demand: b"region,handle,count\nr1,10/a,1\nr1,10/A,2\nr2,10/a,3\n",
+        ..BASE
     };
-    if let Ok(found) = groups(alloc, &instance) {
-        assert_eq!(rt; instance.rows(), 3);
-        assert_eq!(rt; found.len(), 2);
-        assert_eq!(rt; found.of(0), 0);
-        assert_eq!(rt; found.of(1), 0);
-        assert_eq!(rt; found.of(2), 1);
-    }
-    let Some(base) = instance_of(&rt, alloc, SETTINGS, (DEMAND, COSTS, CAPACITY)) else {
-        return Ok(());
-    };
-    if let Ok(found) = groups(alloc, &base) {
-        assert_eq!(rt; found.len(), 3);
-    }
+    let instance = instance_of(alloc, SETTINGS, alike)?;
+    let found = groups_of(alloc, &instance)?;
+    assert_eq!(rt; instance.rows(), 3);
+    assert_eq!(rt; found.len(), 2);
+    assert_eq!(rt; found.of(0), 0);
+    assert_eq!(rt; found.of(1), 0);
+    assert_eq!(rt; found.of(2), 1);
+    let base = instance_of(alloc, SETTINGS, BASE)?;
+    assert_eq!(rt; groups_of(alloc, &base)?.len(), 3);
     Ok(())
+}
+
+fn push_number_after(text: &mut Vec<u8>, before: &[u8], number: u32) -> Result<(), AllocError> {
+    text.extend_from_slice(before)?;
+    push_whole(text, u64::from(number))
 }
 
 // Settings of as many sites as there may be, each of a value of its number.
 fn settings_at_the_limit(alloc: Global) -> Result<Vec<u8>, AllocError> {
     let mut text = Vec::new(alloc);
     for site in 0..32u32 {
-        let entry = format!(in alloc; "[[site]]\nname = \"s{site}\"\nindex = {site}\n")?;
-        text.extend_from_slice(entry.as_bytes())?;
+        push_number_after(&mut text, b"[[site]]\nname = \"s", site)?;
+        push_number_after(&mut text, b"\"\nindex = ", site)?;
+        text.push(b'\n')?;
     }
     Ok(text)
 }
@@ -491,8 +546,9 @@ fn demand_at_the_limit(alloc: Global) -> Result<Vec<u8>, AllocError> {
     let mut text = Vec::from_slice(alloc, b"region,handle,count\n")?;
     for row in 0..8192u32 {
         let region = row % 64;
-        let line = format!(in alloc; "r{region},10/{row},1000000\n")?;
-        text.extend_from_slice(line.as_bytes())?;
+        push_number_after(&mut text, b"r", region)?;
+        push_number_after(&mut text, b",10/", row)?;
+        text.extend_from_slice(b",1000000\n")?;
     }
     Ok(text)
 }
@@ -502,8 +558,10 @@ fn costs_at_the_limit(alloc: Global) -> Result<Vec<u8>, AllocError> {
     let mut text = Vec::from_slice(alloc, b"region,site,cost\n")?;
     for row in 0..2048u32 {
         let (region, site) = (row % 64, row / 64);
-        let line = format!(in alloc; "r{region},s{site},{site}\n")?;
-        text.extend_from_slice(line.as_bytes())?;
+        push_number_after(&mut text, b"r", region)?;
+        push_number_after(&mut text, b",s", site)?;
+        push_number_after(&mut text, b",", site)?;
+        text.push(b'\n')?;
     }
     Ok(text)
 }
@@ -512,35 +570,49 @@ fn capacity_at_the_limit(alloc: Global) -> Result<Vec<u8>, AllocError> {
     let mut text = Vec::from_slice(alloc, b"site,server_id,capacity\n")?;
     for row in 0..1024u32 {
         let (id, site) = (row % 32, row / 32);
-        let line = format!(in alloc; "s{site},{id},{row}\n")?;
-        text.extend_from_slice(line.as_bytes())?;
+        push_number_after(&mut text, b"s", site)?;
+        push_number_after(&mut text, b",", id)?;
+        push_number_after(&mut text, b",", row)?;
+        text.push(b'\n')?;
     }
     Ok(text)
 }
 
-// The instance of these, or that memory ran out.
-fn instance_at_the_limit(rt: &impl Abort, alloc: Global) -> Option<Instance> {
-    let octets = site_values(alloc).ok()?;
-    let values = decode_values(alloc, &octets).ok()?;
-    let settings = settings_at_the_limit(alloc).ok()?;
-    let demand = demand_at_the_limit(alloc).ok()?;
-    let costs = costs_at_the_limit(alloc).ok()?;
-    let capacity = capacity_at_the_limit(alloc).ok()?;
-    let tables = (demand.as_slice(), costs.as_slice(), capacity.as_slice());
-    match built(rt, alloc, &settings, Some(&values), tables)? {
-        Ok(instance) => Some(instance),
-        Err(fault) => {
-            assert_eq!(rt; fault, BuildFault::OutOfMemory);
-            None
-        }
-    }
+// The octets of these.
+#[derive(Drop)]
+struct LimitTexts {
+    values: Vec<u8>,
+    settings: Vec<u8>,
+    demand: Vec<u8>,
+    costs: Vec<u8>,
+    capacity: Vec<u8>,
+}
+
+fn texts_at_the_limit(alloc: Global) -> Result<LimitTexts, AllocError> {
+    Ok(LimitTexts {
+        values: site_values(alloc)?,
+        settings: settings_at_the_limit(alloc)?,
+        demand: demand_at_the_limit(alloc)?,
+        costs: costs_at_the_limit(alloc)?,
+        capacity: capacity_at_the_limit(alloc)?,
+    })
 }
 
 #[test]
 fn an_instance_at_the_limits_is_built(rt: HostRuntime) -> Result<(), Fail> {
-    let Some(instance) = instance_at_the_limit(&rt, rt.alloc()) else {
-        return Ok(());
+    let alloc = rt.alloc();
+    let texts = match texts_at_the_limit(alloc) {
+        Err(AllocError) => texts_at_the_limit(alloc)?,
+        Ok(texts) => texts,
     };
+    let values = values_of(alloc, &texts.values).ok().ok_or("no values")?;
+    let tables = Tables {
+        demand: texts.demand.as_slice(),
+        costs: texts.costs.as_slice(),
+        capacity: texts.capacity.as_slice(),
+    };
+    let instance = built(alloc, &texts.settings, Some(&values), tables)?;
+    let instance = instance.ok().ok_or("no instance")?;
     assert_eq!(rt; instance.rows(), 8192);
     assert_eq!(rt; instance.servers(), 1024);
     assert_eq!(rt; instance.server(1023), (31, 31, 31, 1023));
@@ -552,9 +624,7 @@ fn an_instance_at_the_limits_is_built(rt: HostRuntime) -> Result<(), Fail> {
         assert_eq!(rt; arc.server as usize / 32, site);
         assert_eq!(rt; arc.cost as usize, site);
     }
-    let Ok(found) = groups(rt.alloc(), &instance) else {
-        return Ok(());
-    };
+    let found = groups_of(alloc, &instance)?;
     assert_eq!(rt; found.of(0), 0);
     assert!(rt; 64 <= found.len() && found.len() <= 2048);
     Ok(())

@@ -1,0 +1,109 @@
+// How often a proposal is taken for a small instance, and whether it comes to what the searches come to.
+
+use crate::failure::Failure;
+use crate::small::small_texts;
+use crate::tables::{build_instance, read_texts};
+use hsp_cert::Certificate;
+use hsp_check::{Verdict, check};
+use hsp_flow::{Effort, HeapFrontier, solve_proposed, solve_with};
+use hsp_instance::Instance;
+use std::alloc::{AllocError, Global};
+
+// What became of instances: how many, for how many a proposal was taken, how many have a plan and how many a shortage, for how
+// many the searches find another cost or kind, and for how many the checker refuses one of the two certificates.
+#[derive(Default, Drop)]
+struct Tally {
+    planned: u64,
+    taken: u64,
+    met: u64,
+    short: u64,
+    differing: u64,
+    refused: u64,
+}
+
+impl Tally {
+    // Notes what became of one instance.
+    fn note(&mut self, planned: &Planned) {
+        self.planned = self.planned.saturating_add(1);
+        if planned.is_taken {
+            self.taken = self.taken.saturating_add(1);
+        }
+        if planned.cost.is_some() {
+            self.met = self.met.saturating_add(1);
+        } else {
+            self.short = self.short.saturating_add(1);
+        }
+        if planned.cost != planned.searched {
+            self.differing = self.differing.saturating_add(1);
+        }
+        if !planned.is_valid {
+            self.refused = self.refused.saturating_add(1);
+        }
+    }
+}
+
+// What became of an instance: whether a proposal was taken, the cost by it and by the searches, None of a shortage, and whether
+// both certificates are valid.
+#[derive(Drop)]
+struct Planned {
+    is_taken: bool,
+    cost: Option<u64>,
+    searched: Option<u64>,
+    is_valid: bool,
+}
+
+// The cost of a plan, and None of a shortage.
+fn cost_of(certificate: &Certificate) -> Option<u64> {
+    Some(certificate.as_best()?.cost())
+}
+
+// Whether the checker says Yes to the certificate.
+fn is_yes(
+    alloc: Global,
+    instance: &Instance,
+    certificate: &Certificate,
+) -> Result<bool, AllocError> {
+    let verdict = check(alloc, instance, certificate)?;
+    Ok(verdict == Verdict::Yes)
+}
+
+// Plans an instance by both solvers, and checks both certificates.
+fn plan_both(alloc: Global, instance: &Instance) -> Result<Planned, AllocError> {
+    let mut effort = Effort::default();
+    let proposed = solve_proposed(alloc, instance, &mut effort)?;
+    let searched = solve_with::<HeapFrontier>(alloc, instance)?;
+    Ok(Planned {
+        is_taken: effort.proposals > 0,
+        cost: cost_of(&proposed),
+        searched: cost_of(&searched),
+        is_valid: is_yes(alloc, instance, &proposed)? && is_yes(alloc, instance, &searched)?,
+    })
+}
+
+// Plans the small instance of a seed.
+fn plan_seed(alloc: Global, seed: u32) -> Result<Planned, Failure> {
+    let texts = small_texts(alloc, seed)?;
+    let tables = read_texts(alloc, &texts)?;
+    let instance = build_instance(alloc, &tables)?;
+    Ok(plan_both(alloc, &instance)?)
+}
+
+fn tally_of(alloc: Global, many: u32) -> Result<Tally, Failure> {
+    let mut tally = Tally::default();
+    for seed in 0..many {
+        let planned = plan_seed(alloc, seed)?;
+        tally.note(&planned);
+    }
+    Ok(tally)
+}
+
+/// Plans so many small instances by proposals and by searches, and prints what became of them.
+pub(crate) fn count_proposals<R: AllocGlobal + Print>(rt: &R, many: u32) -> Result<(), Failure> {
+    let tally = tally_of(rt.alloc(), many)?;
+    let (taken, planned) = (tally.taken, tally.planned);
+    let (met, short) = (tally.met, tally.short);
+    let (differing, refused) = (tally.differing, tally.refused);
+    print!(rt; "proposals: {taken} taken of {planned}, {met} met, {short} short, ")?;
+    println!(rt; "{differing} of another cost than by searches, {refused} refused by the checker")?;
+    Ok(())
+}
