@@ -1,16 +1,27 @@
 #!/usr/bin/env python3
 """Follows the names in the documents: each edit and each clause that docs/CLAIMS.md names, each file that docs/DEFINITIONS.md
-names, and each crate in the README; and compares the counts of docs/GATE.md with what is there.
+names, each crate in the README, each link, each `make` target and each script; and compares the counts of docs/GATE.md with what is
+there. Then it runs each command of the documents with the built program, and compares what they print.
+
+The commands are those of the blocks marked `console`, the lines of which are a transcript as tools/transcripts.py has it; those of one
+document run in turn in one shell. In docs/hsplan.1 they are the examples between `.EX` and `.EE`.
 
 Fails where an edit or a file that a table names is not there, where a clause that stands beside a call is no `ensures` of that call,
 where a call without a named clause has not just one, where a crate of crates.txt is named neither in the README nor in
 docs/ARCHITECTURE.md, where a document has no such table, and where docs/GATE.md counts other edits, tests, wrong bodies, crates or
-cases of the program than there are.
+cases of the program than there are. It fails where a word of a fault has no row in docs/GUIDE.md or no paragraph in docs/hsplan.1, where a
+command stands in a block that isn't marked, and where one prints something else.
+
+    tools/check_docs.py --names               follows the names alone, without the program
+    tools/check_docs.py [--program FILE]      does all
 """
+import argparse
 import glob
 import os
 import re
 import sys
+
+import transcripts
 
 TOP = os.path.dirname(os.path.dirname(os.path.abspath(__file__)))
 
@@ -140,15 +151,112 @@ def wrong_counts():
     return faults, len(told)
 
 
+def documents():
+    """The documents that are written in Markdown, by their paths."""
+    paths = glob.glob(f"{TOP}/*.md") + glob.glob(f"{TOP}/docs/*.md") + glob.glob(f"{TOP}/examples/*.md")
+    return sorted(os.path.relpath(it, TOP) for it in paths)
+
+
+def blocks(text):
+    """The blocks of a document, each as its mark and its lines; what stands between them has the mark None."""
+    parts = re.split(r"^```(.*)\n", text, flags=re.M)
+    marks = [None] + parts[1::2]
+    return [(mark if at % 2 else None, part.splitlines()) for at, (mark, part) in enumerate(zip(marks, parts[0::2]))]
+
+
+def missing_links():
+    """The files and headings that a document links to and that are not there, and how many links there are."""
+    links = [(path, it) for path in documents() for it in re.findall(r"\]\(([^)#:]*(?:#[^)]*)?)\)", text_of(path))]
+    return [f"{path} links to nothing: {it}" for path, it in links if not leads_somewhere(path, it)], len(links)
+
+
+def leads_somewhere(path, target):
+    file, _, heading = target.partition("#")
+    aim = os.path.normpath(os.path.join(os.path.dirname(path), file)) if file else path
+    if not os.path.exists(os.path.join(TOP, aim)):
+        return False
+    titles = re.findall(r"^#+ (.*)$", text_of(aim), re.M) if aim.endswith(".md") else []
+    return not heading or heading in [re.sub(r"[^a-z0-9 -]", "", it.lower()).replace(" ", "-") for it in titles]
+
+
+def missing_targets():
+    """The targets of make and the scripts that a document names and that are not there, and how many it names."""
+    targets = set(re.findall(r"^([a-z]+):", text_of("Makefile"), re.M))
+    faults, count = [], 0
+    for path in documents():
+        makes = re.findall(r"(?:`|^    )make ([a-z]+)", text_of(path), re.M)
+        scripts = re.findall(r"\btools/[a-z_]+\.(?:py|c)\b", text_of(path))
+        count += len(makes) + len(scripts)
+        faults += [f"{path} names no target of the Makefile: {it}" for it in makes if it not in targets]
+        faults += [f"{path} names no file: {it}" for it in scripts if not os.path.exists(os.path.join(TOP, it))]
+    return faults, count
+
+
+def unmarked():
+    """The commands that stand outside of a block marked `console`, and how many lines the documents have there."""
+    lines = [(path, it) for path in documents() for mark, block in blocks(text_of(path)) if mark != "console" for it in block]
+    return [f"{path} has a command in no block marked console: {it}" for path, it in lines if re.match(r" *\$ \w", it)], len(lines)
+
+
+def fault_words():
+    """The words that a line of a fault may have, as the sources have them."""
+    sources = ["fault_text.rt", "fault_words.rt", "verdict_text.rt"]
+    found = [word for it in sources for word in re.findall(r'b"(?:\d+ )?([A-Z][A-Za-z0-9]+)', text_of(f"crates/hsp_runs/src/{it}"))]
+    return sorted(set(found) | {"Usage", "read failed", "write failed"})
+
+
+def missing_words():
+    """The words of faults that the guide or the manual page doesn't tell in a row or a paragraph of their own, and how many there are."""
+    guide = {cell.split()[-1] if cell[:1].isdigit() else cell for cell in (it[0] for it in rows(text_of("docs/GUIDE.md")))}
+    manual = set(re.findall(r"^\.B (.*)$", text_of("docs/hsplan.1"), re.M))
+    words = fault_words()
+    faults = [f"docs/GUIDE.md has no row for {it}" for it in words if it not in guide]
+    return faults + [f"docs/hsplan.1 does not tell {it}" for it in words if it not in manual], len(words)
+
+
+def manual_steps():
+    """The commands of the manual page."""
+    examples = re.findall(r"^\.EX\n(.*?)^\.EE$", text_of("docs/hsplan.1"), re.M | re.S)
+    lines = [line.replace("\\-", "-").replace("\\e", "\\") for it in examples for line in it.splitlines()]
+    return transcripts.steps_of(lines)
+
+
+def wrong_commands(program):
+    """The commands of the documents that print something else than they show, and how many there are."""
+    found = {path: [step for mark, lines in blocks(text_of(path)) if mark == "console" for step in transcripts.steps_of(lines)] for path in documents()}
+    found["docs/hsplan.1"] = manual_steps()
+    faults = [fault for path, steps in found.items() if steps for fault in transcripts.faults_of(path, steps, program)]
+    return faults, sum(len(it) for it in found.values())
+
+
+KINDS = {
+    "edits": missing_edits,
+    "clauses": missing_clauses,
+    "files of definitions": missing_files,
+    "crates": missing_crates,
+    "crates counted": wrong_counts,
+    "links": missing_links,
+    "targets and scripts": missing_targets,
+    "lines outside of transcripts": unmarked,
+    "words of faults": missing_words,
+}
+
+
 def main():
-    found = [missing_edits(), missing_clauses(), missing_files(), missing_crates(), wrong_counts()]
-    faults = [fault for it, _ in found for fault in it]
-    for fault in faults:
-        print(fault)
-    counts = [count for _, count in found]
-    edits, named_clauses, files, crates, counted = counts
-    print(f"documents: {edits} edits, {named_clauses} clauses, {files} files of definitions and {crates} crates followed, {counted} crates counted, {len(faults)} faults")
-    return 1 if faults or not all(counts) else 0
+    arguments = argparse.ArgumentParser(description="Follows the names in the documents, and runs their commands.")
+    arguments.add_argument("--names", action="store_true", help="run no command")
+    arguments.add_argument("--program", default=transcripts.PROGRAM, help="the program that is run, if not the built one")
+    chosen = arguments.parse_args()
+    if not chosen.names and not os.access(chosen.program, os.X_OK):
+        print(f"no program {chosen.program}: run rt ci, or make install, first")
+        return 1
+    found = {kind: check() for kind, check in KINDS.items()}
+    if not chosen.names:
+        found["commands run"] = wrong_commands(chosen.program)
+    faults = [fault for it, _ in found.values() for fault in it]
+    counts = ", ".join(f"{count} {kind}" for kind, (_, count) in found.items())
+    print("\n".join(faults + [f"documents: {counts}; {len(faults)} faults"]))
+    return 1 if faults or not all(count for _, count in found.values()) else 0
 
 
 if __name__ == "__main__":

@@ -4,7 +4,8 @@
     tools/check_growth.py [--jobs N] [CRATE]..
 
 It runs the test programs that `rt ci` leaves in crates/NAME/out/NAME_tests, side by side on the processors. Each allocation of a test
-is refused, but for a test with more than MOST of them: of that the first half of MOST, and as many spread evenly over the others.
+is refused, but for a test with more than MOST of them: of that the first half of MOST, and as many spread evenly over the others; a
+fifth as many where there are more than MANY.
 Fails where a test program is missing, where a test of a program has no count, where a test fails, and where no test of a crate that
 takes memory took any.
 """
@@ -18,8 +19,9 @@ import tempfile
 
 TOP = os.path.dirname(os.path.dirname(os.path.abspath(__file__)))
 
-# A test or a case with more allocations than these has some of them left out.
+# A test or a case with more allocations than MOST has all but MOST of them left out, and one with more than MANY, which takes longer, all but a fifth of MOST.
 MOST = 2000
+MANY = 20_000
 
 
 def build(folder):
@@ -60,7 +62,7 @@ def numbers(count):
     """The allocations of so many that are refused."""
     if count <= MOST:
         return range(1, count + 1)
-    half = MOST // 2
+    half = (MOST if count <= MANY else MOST // 5) // 2
     return list(range(1, half + 1)) + [half + 1 + at * (count - half - 1) // (half - 1) for at in range(half)]
 
 

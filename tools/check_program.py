@@ -12,7 +12,7 @@
   stderr   what it has to print on standard error (no file: nothing)
   status   with which status it has to end (no file: 0)
 
-It runs in a folder that holds a copy of the example files in data/, and of the case's own. Each case with words is run twice: with them as arguments, and
+It runs in a folder that holds a copy of the files of examples/base, and of the case's own. Each case with words is run twice: with them as arguments, and
 with them on standard input. Then every allocation of each case is refused in turn: the program has to say so, or to end as ever. `dispatch` may
 have printed its first lines by then. Of a case with more allocations than check_growth.MOST some are left out, as there.
 
@@ -134,7 +134,7 @@ def main():
     found = []
     with tempfile.TemporaryDirectory() as room, concurrent.futures.ThreadPoolExecutor(jobs) as pool:
         data = os.path.join(room, "data")
-        shutil.copytree(os.path.join(TOP, "data"), data)
+        shutil.copytree(os.path.join(TOP, "examples", "base"), data)
         preloaded = check_growth.build(room)
         for case in cases:
             folder = folder_of(case, room, data)

@@ -33,6 +33,7 @@ import time
 TOP = os.path.dirname(os.path.dirname(os.path.abspath(__file__)))
 FOLDER = os.path.join(TOP, "mutants")
 CASES = os.path.join("checks", "program")
+BASE = os.path.join("examples", "base")
 
 # So many named tests are run one by one on the sources as they stand; of more, the whole crate's tests are run at once.
 FEW = 3
@@ -78,7 +79,7 @@ def copy_to(folder):
     """A copy of what the unproved tests and the program are built from."""
     for name in ("crates.txt", "HANDLES"):
         shutil.copy(os.path.join(TOP, name), folder)
-    for name in ("data", CASES):
+    for name in (BASE, CASES):
         shutil.copytree(os.path.join(TOP, name), os.path.join(folder, name))
     shutil.copytree(os.path.join(TOP, "crates"), os.path.join(folder, "crates"), ignore=is_source)
 
@@ -120,11 +121,16 @@ def octets(folder, name, absent=""):
         return file.read()
 
 
+def is_text(words):
+    """Whether words can be the arguments of a run: `rt try` takes no others than text."""
+    return not any("\ud800" <= it <= "\udfff" for it in words)
+
+
 def put_case(case, room, name):
-    """The runs of a case: its standard input, or its arguments, or its words both ways. Gives the names of the runs."""
+    """The runs of a case: its standard input, or its arguments, or its words both ways where they are text. Gives the names of the runs."""
     words, args = octets(case, "words", None), octets(case, "args", None)
     put_run(room, name, words if words is not None else octets(case, "stdin"), args)
-    if words is None:
+    if words is None or not is_text(words):
         return [name]
     put_run(room, name + "_as_arguments", "", "".join(word + "\n" for word in words.split()))
     return [name, name + "_as_arguments"]
@@ -140,7 +146,7 @@ def put_run(room, name, given, args):
 def run_cases(folder, names, own, seconds):
     """What each of these cases did, which share their own files: 'ok', 'FAILED', or 'not run' where the program did not run."""
     cases = os.path.join(folder, CASES)
-    files = {it: os.path.join(folder, "data", it) for it in os.listdir(os.path.join(folder, "data"))}
+    files = {it: os.path.join(folder, BASE, it) for it in os.listdir(os.path.join(folder, BASE))}
     if own:
         files.update({it: os.path.join(cases, own, "files", it) for it in os.listdir(os.path.join(cases, own, "files"))})
     with tempfile.TemporaryDirectory() as room:

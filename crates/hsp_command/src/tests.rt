@@ -1,13 +1,13 @@
 use super::*;
-use std::alloc::Global;
+use std::alloc::{AllocError, Global};
 use std::process::Abort;
 use std::test::Fail;
 
 // The words of a line. Want of memory is met by a second call: where one growth is refused, it answers as with ample memory.
-fn words_of(alloc: Global, line: &[u8]) -> Option<Vec<String>> {
+fn words_of(alloc: Global, line: &[u8]) -> Result<Option<Vec<String>>, AllocError> {
     match split_words(alloc, line) {
-        Ok(words) => words,
-        Err(_) => split_words(alloc, line).ok()?,
+        Err(AllocError) => split_words(alloc, line),
+        answer => answer,
     }
 }
 
@@ -19,6 +19,13 @@ fn order_of(alloc: Global, words: &[String]) -> Result<Order, CommandFault> {
     }
 }
 
+fn or_none(text: &Option<Word>) -> &str {
+    match text {
+        Some(text) => text.as_str(),
+        None => "none",
+    }
+}
+
 // What the words of a line are read as: the values one after the other, with bars between.
 fn shown(alloc: Global, order: &Order) -> Option<String> {
     match order {
@@ -26,28 +33,14 @@ fn shown(alloc: Global, order: &Order) -> Option<String> {
             option,
             servers,
             handle,
-        } => {
-            let (option, servers, handle) = (option.as_str(), servers.as_str(), handle.as_str());
-            format!(in alloc; "place|{option}|{servers}|{handle}").ok()
-        }
+        } => shown_values(alloc, "place", option.as_str(), servers.as_str(), handle),
         Order::LocateSites {
             settings,
             values,
             handle,
-        } => {
-            let (settings, handle) = (settings.as_str(), handle.as_str());
-            let values = match values {
-                Some(values) => values.as_str(),
-                None => "none",
-            };
-            format!(in alloc; "sites|{settings}|{values}|{handle}").ok()
-        }
+        } => shown_values(alloc, "sites", settings.as_str(), or_none(values), handle),
         Order::Site { index, file } => {
-            let file = file.as_str();
-            let index = match index {
-                Some(index) => index.as_str(),
-                None => "none",
-            };
+            let (index, file) = (or_none(index), file.as_str());
             format!(in alloc; "site|{index}|{file}").ok()
         }
         Order::Plan { inputs } => shown_inputs(alloc, "plan", inputs, ""),
@@ -59,11 +52,7 @@ fn shown(alloc: Global, order: &Order) -> Option<String> {
             fronts,
         } => {
             let shown = shown_inputs(alloc, "dispatch", inputs, plan.as_str())?;
-            let (shown, log) = (shown.as_str(), log.as_str());
-            let fronts = match fronts {
-                Some(fronts) => fronts.as_str(),
-                None => "none",
-            };
+            let (shown, log, fronts) = (shown.as_str(), log.as_str(), or_none(fronts));
             format!(in alloc; "{shown}|{log}|{fronts}").ok()
         }
         Order::Report { inputs, plan, kind } => {
@@ -72,6 +61,17 @@ fn shown(alloc: Global, order: &Order) -> Option<String> {
             format!(in alloc; "{shown}|{kind:?}").ok()
         }
     }
+}
+
+fn shown_values(
+    alloc: Global,
+    name: &str,
+    first: &str,
+    second: &str,
+    handle: &Word,
+) -> Option<String> {
+    let handle = handle.as_str();
+    format!(in alloc; "{name}|{first}|{second}|{handle}").ok()
 }
 
 fn shown_inputs(alloc: Global, name: &str, inputs: &InputFiles, plan: &str) -> Option<String> {
@@ -86,17 +86,19 @@ fn shown_inputs(alloc: Global, name: &str, inputs: &InputFiles, plan: &str) -> O
 
 // The words of the line give the order.
 fn gives(rt: &impl Abort, alloc: Global, line: &[u8], wanted: &str) -> Result<(), Fail> {
-    let words = words_of(alloc, line).ok_or("no words")?;
+    let words = words_of(alloc, line)?.ok_or("no words")?;
     let order = order_of(alloc, words.as_slice()).ok().ok_or("no order")?;
-    if let Some(text) = shown(alloc, &order) {
-        assert_eq!(rt; text.as_str(), wanted);
-    }
+    let text = match shown(alloc, &order) {
+        Some(text) => text,
+        None => shown(alloc, &order).ok_or("no memory")?,
+    };
+    assert_eq!(rt; text.as_str(), wanted);
     Ok(())
 }
 
 // The words of the line are no order.
 fn refused(rt: &impl Abort, alloc: Global, line: &[u8]) -> Result<(), Fail> {
-    let words = words_of(alloc, line).ok_or("no words")?;
+    let words = words_of(alloc, line)?.ok_or("no words")?;
     assert_eq!(rt;
         order_of(alloc, words.as_slice()).err(),
         Some(CommandFault::Usage)
@@ -104,9 +106,27 @@ fn refused(rt: &impl Abort, alloc: Global, line: &[u8]) -> Result<(), Fail> {
     Ok(())
 }
 
+// The fault is displayed so.
+fn is_displayed(rt: &impl Abort, alloc: Global, fault: &CommandFault, wanted: &str) {
+    let text = match fault.to_string(alloc) {
+        Err(AllocError) => fault.to_string(alloc),
+        text => text,
+    };
+    match text {
+        Ok(text) => assert_eq!(rt; text.as_str(), wanted),
+        Err(AllocError) => panic!(rt; "no text of {fault:?}"),
+    }
+}
+
+#[test]
+fn faults_are_displayed(rt: HostRuntime) {
+    is_displayed(&rt, rt.alloc(), &CommandFault::Usage, "usage");
+    is_displayed(&rt, rt.alloc(), &CommandFault::OutOfMemory, "out of memory");
+}
+
 #[test]
 fn words_stand_between_spaces(rt: HostRuntime) -> Result<(), Fail> {
-    let words = words_of(rt.alloc(), b"a  b").ok_or("no words")?;
+    let words = words_of(rt.alloc(), b"a  b")?.ok_or("no words")?;
     assert_eq!(rt; words.len(), 2);
     assert_eq!(rt; words[0].as_str(), "a");
     assert_eq!(rt; words[1].as_str(), "b");
@@ -115,9 +135,8 @@ fn words_stand_between_spaces(rt: HostRuntime) -> Result<(), Fail> {
 
 #[test]
 fn octets_that_are_no_text_are_no_words(rt: HostRuntime) {
-    if let Ok(found) = split_words(rt.alloc(), b"a \xff") {
-        assert!(rt; found.is_none());
-    }
+    let found = words_of(rt.alloc(), b"a \xff");
+    assert!(rt; matches!(found, Ok(None)));
 }
 
 #[test]

@@ -12,6 +12,6 @@ pub mod Taking
 pub mod Dispatching
 pub mod ByHash
 pub mod FrontShares
-pub mod FrontUses
+pub mod Standings
 pub mod FrontsHeld
 pub mod FrontLaws

@@ -9,6 +9,7 @@ use Rattle.std.proofs.lemmas.List.Folds.{list_any-append}
 use Rattle.std.proofs.lemmas.List.Sums.{sum_by-cons}
 use Rattle.std.proofs.lemmas.Option.{get_or_from_slice_get, same_Some, slice_get_past, slice_get_within}
 use Rattle.std.proofs.Math.ListN.{set}
+use Rattle.hsp_text.specs.declared.limits.TheConstants.{GREATEST_COUNT}
 use Rattle.hsp_cert.specs.declared.use_line.UseLine.{UseLine}
 use Rattle.hsp_cert.specs.Certificate.{ascends, ascends_from, is_before, is_use}
 use Rattle.hsp_instance.specs.Instance.{AreArcs, Instance, IsArc, IsInstance, IsServer}
@@ -80,6 +81,19 @@ counted (one ∷ uses) all =
     let both = and_parts (nat_le one.row 8191 && nat_le one.site 31) (nat_le 1 one.count && nat_le one.count 1000000) each.0 in
     let least = leb-true 1 one.count (and_parts (nat_le 1 one.count) (nat_le one.count 1000000) both.1).0 in
     (omega arith, counted uses each.1)
+
+-- a use counts no more than a row may
+use_within : (one : UseLine) → is_use one ≡ true → one.count ≤ GREATEST_COUNT
+use_within one is =
+    let both = and_parts (nat_le one.row 8191 && nat_le one.site 31) (nat_le 1 one.count && nat_le one.count GREATEST_COUNT) is in
+    leb-true one.count GREATEST_COUNT (and_parts (nat_le 1 one.count) (nat_le one.count GREATEST_COUNT) both.1).1
+
+pub count_within : (uses : List UseLine) (k : ℕ) (one : UseLine) → list_all is_use uses ≡ true → slice_get uses k ≡ Some one → one.count ≤ GREATEST_COUNT
+count_within [] k one all e = absurd (cc)
+count_within (first ∷ uses) zero one all e =
+    let same : first ≡ one = cc in
+    rw (← same) (use_within first (and_parts (is_use first) (list_all is_use uses) all).0)
+count_within (first ∷ uses) (suc k) one all e = count_within uses k one (and_parts (is_use first) (list_all is_use uses) all).1 e
 
 -- ---- cells in order
 

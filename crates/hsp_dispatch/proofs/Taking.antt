@@ -1,5 +1,5 @@
 -- What a query takes of what is held.
-use Rattle.std.proofs.Common.{◌≡◌, ◌<◌, ◌≤◌, ◌+◌, ◌-◌, ◌∙◌, ◌++◌, true, ℕ, zero, suc, List, [], ◌∷◌, length, position, take, replicate, Option, Some, None, Ok, arith, refl, sym, ap, subst, eq-eqb}
+use Rattle.std.proofs.Common.{◌≡◌, ◌<◌, ◌≤◌, ◌+◌, ◌-◌, ◌∙◌, ◌++◌, true, ℕ, zero, suc, List, [], ◌∷◌, length, position, take, replicate, Option, Some, None, Ok, IfSome, option_map, arith, refl, sym, ap, subst, eq-eqb}
 use Rattle.std.proofs.Common.{inl, inr}
 use Rattle.std.specs.List.{slice_get}
 use Rattle.std.specs.Str.{bytes_eq}
@@ -15,7 +15,7 @@ use Rattle.hsp_instance.specs.declared.arc.Arc.{Arc}
 use Rattle.hsp_instance.proofs.Lists.{all_at, there}
 use Rattle.hsp_dispatch.specs.Dispatch.{answer_at, arc_to, assigned_to, end_of, server_to, spread}
 use Rattle.hsp_dispatch.specs.Lines.{served_by}
-use Rattle.hsp_dispatch.specs.Shares.{AreCells, AreCellsOf, Held, IsCellOf, IsHeld, IsRestOf, cells_in, first_answer, first_of, left_at, left_of, without_first}
+use Rattle.hsp_dispatch.specs.Shares.{AreCells, AreCellsOf, Held, IsCellOf, IsHeld, IsRestOf, cells_in, first_answer, first_of, left_at, left_of, taken_answer, without_first}
 use Rattle.hsp_dispatch.specs.declared.answer.Answer.TheVariants.{Assigned, Spent}
 use Rattle.hsp_dispatch.specs.declared.share.Cell.{Cell}
 use Rattle.hsp_dispatch.proofs.Resting.{rest_here, rest_other}
@@ -158,3 +158,14 @@ pub row_handle : (it : Instance) (region handle : List ℕ) (row : ℕ) → IsIn
 row_handle it region handle row is found =
     let own = row_found it region handle row found in
     subst (λ (octets : List ℕ). handle_in octets ≡ Ok octets) (sym own.2) (all_at IsNamed it.rows row own.0 is.rows.named own.1).handle
+
+-- what is taken of the cells of a row answers a query for it
+pub taken_by : (held : Held) (row : ℕ) (cells : List Cell) → IsHeld held → slice_get held.shares row ≡ Some cells
+    → taken_answer held.instance (option_map (λ (cell : Cell). cell.server) (first_of cells)) ≡ first_answer held row
+taken_by held row [] is e = sym (none_left held row [] is e refl)
+taken_by held row (cell ∷ cells) is e = first_taken held row (cell ∷ cells) cell is e refl
+
+pub taken_there : (held : Held) (row : ℕ) (cells : List Cell) → IsHeld held → slice_get held.shares row ≡ Some cells
+    → IfSome (option_map (λ (cell : Cell). cell.server) (first_of cells)) (λ server. server < length held.instance.servers)
+taken_there held row [] is e = tt
+taken_there held row (cell ∷ cells) is e = first_there held row (cell ∷ cells) cell is e refl

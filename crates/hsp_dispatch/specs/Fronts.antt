@@ -1,16 +1,16 @@
 -- Fronts: dispatchers that share one plan, each with a fixed share of it.
-use Rattle.std.specs.Prelude.{◌≡◌, ◌≢◌, ◌<◌, ◌+◌, ◌/◌, ◌%◌, ◌==◌, nat_lt, Bool, true, false, ℕ, List, [], ◌∷◌, ◌++◌, count_by, length, Option, None, Some, if◌then◌else◌}
-use Rattle.std.specs.List.{slice_get}
-use Rattle.hsp_instance.specs.Instance.{Instance}
-use Rattle.hsp_cert.specs.declared.use_line.UseLine.{UseLine}
+use Rattle.std.specs.Prelude.{◌≡◌, ◌≢◌, ◌<◌, ◌+◌, ◌/◌, ◌%◌, ◌==◌, nat_lt, Bool, true, false, ℕ, List, [], ◌∷◌, ◌++◌, count_by, length, map, Some, if◌then◌else◌}
+use Rattle.std.specs.List.{AllByRecursion, slice_get}
+use Rattle.hsp_instance.specs.Instance.{Instance, IsInstance}
 use Rattle.hsp_check.specs.Plan.{Plan}
 use Rattle.hsp_check.specs.Sums.{sum_below}
-use Rattle.hsp_dispatch.specs.Dispatch.{Entry, IsSame, answer_to, assigned_in, is_assigned, is_spent, is_unknown, rest}
-use Rattle.hsp_dispatch.specs.Shares.{Held, left_of}
+use Rattle.hsp_dispatch.specs.Dispatch.{Entry, IsSame, answer_to, assigned_in, is_assigned, is_spent, is_unknown, rest, row_of}
+use Rattle.hsp_dispatch.specs.Shares.{Held, IsHeld, cells_in, left_of}
 use Rattle.hsp_dispatch.specs.declared.answer.Answer.{Answer}
 use Rattle.hsp_dispatch.specs.declared.answer.FrontAnswer.{FrontAnswer}
 use Rattle.hsp_dispatch.specs.declared.answer.FrontAnswer.TheVariants.{Answered, NoFront}
 use Rattle.hsp_dispatch.specs.declared.answer.FrontSums.{FrontSums}
+use Rattle.hsp_dispatch.specs.declared.share.Cell.{Cell}
 
 -- an entry at a front
 pub record Event : Type 0 where
@@ -26,15 +26,6 @@ share fronts front number = number / fronts + (if nat_lt front (number % fronts)
 -- the table of a front's shares
 abbrev pub share_of : ℕ → ℕ → Plan → Plan
 share_of fronts front x row site = share fronts front (x row site)
-
-abbrev pub with_count : UseLine → ℕ → UseLine
-with_count one count = record one { count = count }
-
--- the uses of a front, those left out of which it has no share
-abbrev pub uses_at : ℕ → ℕ → List UseLine → List UseLine
-uses_at fronts front [] = []
-uses_at fronts front (one ∷ uses) =
-    if share fronts front one.count == 0 then uses_at fronts front uses else with_count one (share fronts front one.count) ∷ uses_at fronts front uses
 
 -- ---- answers
 
@@ -103,26 +94,33 @@ front_sums_of given = record {
 
 -- ---- what the fronts hold
 
--- an instance, and what a dispatcher of each front holds
+-- an instance, how many fronts there are, and for each row of the instance the cells that each front has left
 pub record Tables : Type 0 where
   pub instance : Instance
-  pub held : List Held
+  pub fronts : ℕ
+  pub lefts : List (List (List Cell))
+
+-- the cells that a front has left of a row, none where there is no such front
+abbrev pub cells_at : ℕ → List (List Cell) → List Cell
+cells_at front lefts = cells_in (slice_get lefts front)
+
+-- what a front holds
+abbrev pub held_at : Tables → ℕ → Held
+held_at tables front = record { instance = tables.instance; shares = map (cells_at front) tables.lefts }
 
 -- how many fronts there are
 abbrev pub fronts_of : Tables → ℕ
-fronts_of tables = length tables.held
+fronts_of tables = tables.fronts
 
 -- what is left of the plan at a front, nothing where there is no such front
-abbrev pub left_in : Option Held → Plan
-left_in None row site = 0
-left_in (Some own) row site = left_of own row site
-
 abbrev pub left_at_front : Tables → ℕ → Plan
-left_at_front tables front = left_in (slice_get tables.held front)
+left_at_front tables front = left_of (held_at tables front)
 
--- each of them holds the instance
-abbrev pub HoldInstance : Tables → Type 0
-HoldInstance tables = (front : ℕ) (own : Held) → slice_get tables.held front ≡ Some own → own.instance ≡ tables.instance
+-- what each front holds is in order, and no other front holds anything
+pub record AreHeld (tables : Tables) : Type 0 where
+  pub within : IsInstance tables.instance
+  pub each : (front : ℕ) → front < tables.fronts → IsHeld (held_at tables front)
+  pub many : AllByRecursion (λ (lefts : List (List Cell)). length lefts ≡ tables.fronts) tables.lefts
 
 -- so many fronts, each of which holds its share of the plan
 pub record AreFrontsOf (it : Instance) (x : Plan) (fronts : ℕ) (tables : Tables) : Type 0 where
@@ -141,3 +139,7 @@ pub record IsTakenAt (front : ℕ) (entry : Entry) (old new : Tables) : Type 0 w
   pub many : fronts_of new ≡ fronts_of old
   pub own : front < fronts_of old → IsSame (left_at_front new front) (rest old.instance (left_at_front old front) (entry ∷ []))
   pub others : (other : ℕ) → other ≢ front → IsSame (left_at_front new other) (left_at_front old other)
+
+-- every entry for a row is taken of what a front has left
+abbrev pub IsTakenOf : ℕ → ℕ → Tables → Tables → Type 0
+IsTakenOf front row old new = (entry : Entry) → row_of old.instance entry ≡ Some row → IsTakenAt front entry old new

@@ -7,4 +7,5 @@ pub mod Desks
 pub mod Steps
 pub mod Laws
 pub mod Fronts
+pub mod Standings
 pub mod FrontLaws

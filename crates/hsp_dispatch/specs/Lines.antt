@@ -56,6 +56,11 @@ abbrev pub served_by : Option Server → Answer
 served_by None = Spent
 served_by (Some server) = Assigned server.site server.place server.id
 
+-- how a query is answered that goes to the server of a number, or to none
+abbrev pub given_of : Option ℕ → Given
+given_of None = IsSpent
+given_of (Some number) = ByServer number
+
 abbrev pub answer_of : Instance → Given → FrontAnswer
 answer_of it (ByServer number) = Answered (served_by (slice_get it.servers number))
 answer_of it IsSpent = Answered Spent

@@ -1,15 +1,20 @@
 // How entries and events are answered.
 
-ghost use Rattle.std.specs.Prelude.{◌≡◌, ◌≢◌, IfErr, IfOk, Ok, OnErr, length};
+ghost use Rattle.std.specs.Prelude.{◌≡◌, ◌≢◌, ◌<◌, IfErr, IfOk, IfSome, Ok, OnErr, length};
 ghost use Rattle.hsp_names.specs.Handle.{handle_in};
-ghost use Rattle.hsp_dispatch.specs.Lines.{IsAmong, line_by};
+ghost use Rattle.hsp_instance.specs.Instance.{IsInstance};
+ghost use Rattle.hsp_dispatch.specs.Dispatch.{row_of};
+ghost use Rattle.hsp_dispatch.specs.Lines.{IsAmong, given_of, line_by};
+ghost use Rattle.hsp_dispatch.specs.Shares.{taken_answer};
 ghost use Rattle.hsp_dispatch.specs.Steps.{Takes, entry_of};
 ghost use Rattle.hsp_dispatch.specs.declared.fault.LogFault.TheVariants.{BadHandle};
 
+use crate::answer::Answer;
 use crate::dispatcher::Dispatcher;
 use crate::fault::LogFault;
 use crate::lines::ServerLines;
 use crate::reading::LentEntry;
+use hsp_instance::Instance;
 use hsp_names::HandleRef;
 
 /// How an entry is answered.
@@ -25,8 +30,56 @@ pub(crate) enum Given {
     NoFront,
 }
 
-/// Takes from the plan what the entry in the row of a number is answered by. What a row of the plan has is a handle, so that only
-/// the handles of other entries are read.
+/// The row of the plan that is of an entry, None where none is. What a row has is a handle, so that only the handles of other
+/// entries are read.
+pub(crate) fn row_in(
+    instance: &Instance,
+    lent: LentEntry<'_>,
+    number: u32,
+) -> Result<Option<u32>, LogFault>
+    requires { IsInstance instance.now }
+    ensures row { IfOk result (λ row. row ≡ row_of instance.now (entry_of lent.entry)) }
+    ensures there { IfOk result (λ row. IfSome row (λ row. row < length instance.now.rows)) }
+    ensures handle { IfOk result (λ row. handle_in lent.entry.handle.now ≡ Ok lent.entry.handle.now) }
+    ensures fault { IfErr result (λ e. e ≡ BadHandle number) }
+    ensures bad { OnErr result (handle_in lent.entry.handle.now ≢ Ok lent.entry.handle.now) }
+{
+    match instance.find_row(lent.region, lent.handle) {
+        Some(row) => Ok(Some(row)),
+        None => match HandleRef::parse(lent.handle) {
+            Ok(_) => Ok(None),
+            Err(_) => Err(LogFault::BadHandle { row: number }),
+        },
+    }
+}
+
+/// How an entry is answered that goes to the server of a number, or to none.
+pub(crate) fn given_by(taken: Option<u32>) -> Given
+    ensures { result ≡ given_of taken }
+{
+    match taken {
+        Some(server) => Given::Server(server),
+        None => Given::Spent,
+    }
+}
+
+/// The answer to a query that goes to the server of a number, or to none.
+pub(crate) fn served(instance: &Instance, taken: Option<u32>) -> Answer
+    requires { IfSome taken (λ server. server < length instance.now.servers) }
+    ensures { result ≡ taken_answer instance.now taken }
+{
+    let Some(server) = taken else {
+        return Answer::Spent;
+    };
+    let (site, place, server_id, _) = instance.server(server);
+    Answer::Assigned {
+        site,
+        place,
+        server_id,
+    }
+}
+
+/// Takes from the plan what the entry in the row of a number is answered by.
 pub(crate) fn choose(
     dispatcher: &mut Dispatcher<'_>,
     lent: LentEntry<'_>,
@@ -39,16 +92,10 @@ pub(crate) fn choose(
     ensures bad { OnErr result (handle_in lent.entry.handle.now ≢ Ok lent.entry.handle.now) }
     ensures stays { OnErr result (dispatcher.new ≡ dispatcher.old) }
 {
-    match dispatcher.row_of(lent.region, lent.handle) {
-        Some(row) => match dispatcher.take(row) {
-            Some(server) => Ok(Given::Server(server)),
-            None => Ok(Given::Spent),
-        },
-        None => match HandleRef::parse(lent.handle) {
-            Ok(_) => Ok(Given::Unknown),
-            Err(_) => Err(LogFault::BadHandle { row: number }),
-        },
-    }
+    let Some(row) = row_in(dispatcher.instance(), lent, number)? else {
+        return Ok(Given::Unknown);
+    };
+    Ok(given_by(dispatcher.take(row)))
 }
 
 /// The line of an answer.

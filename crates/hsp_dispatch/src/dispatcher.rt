@@ -1,12 +1,12 @@
 // The dispatcher: what is left of a plan, and the answers by it.
 
-ghost use Rattle.std.specs.Prelude.{◌≡◌, ◌<◌, IfOk, IfSome, OnSome, Ok, length, position};
-ghost use Rattle.hsp_names.specs.Handle.{handle_in};
-ghost use Rattle.hsp_instance.specs.Instance.{has_keys};
+ghost use Rattle.std.specs.Prelude.{◌≡◌, ◌<◌, IfOk, IfSome, length};
+ghost use Rattle.hsp_instance.specs.Instance.{IsInstance};
 ghost use Rattle.hsp_dispatch.specs.Dispatch.{IsSame};
 ghost use Rattle.hsp_dispatch.specs.Shares.{AreUsesOf, HoldsTable, IsLeftBy, IsPlanFor, IsRestOf, answer_by, first_answer, left_of, plan_of, query, taken_answer};
 
 use crate::answer::Answer;
+use crate::answering::served;
 use crate::share::RowShare;
 use crate::sharing::share_out;
 use hsp_cert::{Certificate, UseLine};
@@ -67,7 +67,8 @@ impl<'a> Dispatcher<'a> {
 
     /// The instance whose queries are dispatched.
     pub fn instance(&self) -> &'a Instance
-        ensures { result.now ≡ self.now.instance }
+        ensures own { result.now ≡ self.now.instance }
+        ensures within { IsInstance result.now }
     {
         self.instance
     }
@@ -79,18 +80,11 @@ impl<'a> Dispatcher<'a> {
         ensures answer { result ≡ answer_by self.old (query region.now handle.entry) }
         ensures rest { IsLeftBy self.old (query region.now handle.entry) self.new }
     {
-        let Some(row) = self.row_of(region, handle.bytes()) else {
+        let Some(row) = self.instance.find_row(region, handle.bytes()) else {
             return Answer::Unknown;
         };
-        let Some(server) = self.take(row) else {
-            return Answer::Spent;
-        };
-        let (site, place, server_id, _) = self.instance.server(server);
-        Answer::Assigned {
-            site,
-            place,
-            server_id,
-        }
+        let taken = self.take(row);
+        served(self.instance, taken)
     }
 
     /// How many queries of a row are left for a site, 0 where the row or the site is not there.
@@ -98,19 +92,9 @@ impl<'a> Dispatcher<'a> {
         ensures { result ≡ left_of self.now row site }
     {
         match self.shares.get(row as usize) {
-            Some(share) => share.left(site),
+            Some(share) => u64::from(share.left(site)),
             None => 0,
         }
-    }
-
-    /// The number of the row of a region and a handle.
-    pub(crate) fn row_of(&self, region: &[u8], handle: &[u8]) -> Option<u32>
-        ensures row { result ≡ position (has_keys region.now handle.now) self.now.instance.rows }
-        // A row's handle is a handle.
-        ensures handle { OnSome result (handle_in handle.now ≡ Ok handle.now) }
-        ensures there { IfSome result (λ row. row < length self.now.instance.rows) }
-    {
-        self.instance.find_row(region, handle)
     }
 
     /// Takes one of what is left of a row. The number of the server to which it goes, None where nothing is left.

@@ -16,6 +16,7 @@ mod fronts;
 pub mod laws;
 mod lines;
 mod reading;
+mod row_fronts;
 mod run;
 mod share;
 mod sharing;

@@ -1,6 +1,6 @@
 // What a plan has left for a row.
 
-ghost use Rattle.std.specs.Prelude.{◌≡◌, ◌++◌, ◌∷◌, [], OnOk};
+ghost use Rattle.std.specs.Prelude.{◌≡◌, ◌++◌, ◌∷◌, [], IfOk, OnOk};
 ghost use Rattle.hsp_dispatch.specs.Shares.{AreCells, first_of, left_at, without_first};
 
 use std::alloc::{AllocError, Global};
@@ -11,7 +11,7 @@ use std::marker::Model;
 pub(crate) struct Cell {
     pub(crate) site: u32,
     pub(crate) server: u32,
-    pub(crate) left: u64,
+    pub(crate) left: u32,
 }
 
 /// What is left for a row: cells in ascending order of their sites, each with something left. The first stands in place, so that
@@ -85,8 +85,20 @@ impl RowShare {
         Some(cell)
     }
 
+    /// The cells in which something is left.
+    pub(crate) fn cells(&self, alloc: Global) -> Result<Vec<Cell>, AllocError>
+        ensures { IfOk result (λ cells. cells.items ≡ self.now) }
+    {
+        let mut cells = Vec::new(alloc);
+        if self.first.left > 0 {
+            cells.push(self.first)?;
+            cells.extend_from_slice(&self.more[self.next..])?;
+        }
+        Ok(cells)
+    }
+
     /// What is left at a site, 0 where nothing is.
-    pub(crate) fn left(&self, site: u32) -> u64
+    pub(crate) fn left(&self, site: u32) -> u32
         ensures { result ≡ left_at self.now site }
     {
         if self.first.site == site {

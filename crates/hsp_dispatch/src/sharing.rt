@@ -1,6 +1,7 @@
 // What the uses of a plan give each row of its instance.
 
-ghost use Rattle.std.specs.Prelude.{◌≡◌, ◌<◌, [], length, replicate, slice_get, IfOk};
+ghost use Rattle.std.specs.Prelude.{◌≡◌, ◌<◌, ◌≤◌, [], length, replicate, slice_get, IfOk};
+ghost use Rattle.hsp_text.specs.declared.limits.TheConstants.{GREATEST_COUNT};
 ghost use Rattle.hsp_dispatch.specs.Dispatch.{arc_to};
 ghost use Rattle.hsp_dispatch.specs.Shares.{AreUsesOf, HoldsTable, IsHeld, cell_of, holding, number_of};
 
@@ -24,13 +25,14 @@ fn server_at(instance: &Instance, row: u32, site: u32) -> u32
 
 // The cell that a use gives its row.
 fn cell_for(instance: &Instance, one: UseLine) -> Cell
-    requires { one.row < length instance.now.rows }
+    requires row { one.row < length instance.now.rows }
+    requires count { one.count ≤ GREATEST_COUNT }
     ensures { result ≡ cell_of instance.now one }
 {
     Cell {
         site: one.site,
         server: server_at(instance, one.row, one.site),
-        left: one.count,
+        left: one.count as u32,
     }
 }
 

@@ -8,81 +8,128 @@ use crate::links::Effort;
 use crate::scan::ScanFrontier;
 use crate::solving::solve_network;
 use hsp_simplex::{Network, Outcome};
-use std::alloc::Global;
+use std::alloc::{AllocError, Global};
 use std::process::Abort;
-use std::test::Fail;
 
-/// Four nodes, one of them lowered, come out by their keys.
-fn takes_by_key<F: Frontier>(rt: &impl Abort, alloc: Global) -> Result<(), Fail>
+/// Four nodes, one of them lowered: what comes out of them until they are empty.
+fn taken_by_key<F: Frontier>(alloc: Global) -> Result<[Option<(u32, u64)>; 3], AllocError>
     requires { (nodes : ℕ) → F.may_have nodes }
 {
-    let Ok(mut frontier) = F::with_nodes(alloc, 4) else {
-        return Ok(());
+    let mut frontier = F::with_nodes(alloc, 4)?;
+    frontier.put(3, 5)?;
+    frontier.put(1, 2)?;
+    frontier.lower(3, 1)?;
+    Ok([
+        frontier.take_least(),
+        frontier.take_least(),
+        frontier.take_least(),
+    ])
+}
+
+/// Where a growth is refused, the second call finds memory, here and below.
+fn takes_by_key<F: Frontier>(rt: &impl Abort, alloc: Global)
+    requires { (nodes : ℕ) → F.may_have nodes }
+{
+    let taken = match taken_by_key::<F>(alloc) {
+        Err(AllocError) => taken_by_key::<F>(alloc),
+        taken => taken,
     };
-    if frontier.put(3, 5).is_err() || frontier.put(1, 2).is_err() {
-        return Ok(());
-    }
-    if frontier.lower(3, 1).is_err() {
-        return Ok(());
-    }
-    assert!(rt; !frontier.is_empty());
-    assert_eq!(rt; frontier.take_least(), Some((3, 1)));
-    assert_eq!(rt; frontier.take_least(), Some((1, 2)));
-    assert_eq!(rt; frontier.take_least(), None);
-    Ok(())
+    assert_eq!(rt; taken, Ok([Some((3, 1)), Some((1, 2)), None]));
+}
+
+/// A key that is lowered, and one behind it: what comes out until none is held.
+fn taken_once_lowered<F: Frontier>(alloc: Global) -> Result<[Option<(u32, u64)>; 4], AllocError>
+    requires { (nodes : ℕ) → F.may_have nodes }
+{
+    let mut frontier = F::with_nodes(alloc, 1)?;
+    frontier.put(0, 5)?;
+    frontier.lower(0, 3)?;
+    let lowered = frontier.take_least();
+    let gone = frontier.take_least();
+    frontier.put(0, 5)?;
+    Ok([lowered, gone, frontier.take_least(), frontier.take_least()])
+}
+
+/// Whether a frontier of one node is empty, before it is cleared and then.
+fn empty_once_cleared<F: Frontier>(alloc: Global) -> Result<[bool; 2], AllocError>
+    requires { (nodes : ℕ) → F.may_have nodes }
+{
+    let mut frontier = F::with_nodes(alloc, 1)?;
+    frontier.put(0, 7)?;
+    let before = frontier.is_empty();
+    frontier.clear();
+    Ok([before, frontier.is_empty()])
 }
 
 /// A key that was lowered doesn't come out again, nor does one that was cleared.
-fn forgets_old_keys<F: Frontier>(rt: &impl Abort, alloc: Global) -> Result<(), Fail>
+fn forgets_old_keys<F: Frontier>(rt: &impl Abort, alloc: Global)
     requires { (nodes : ℕ) → F.may_have nodes }
 {
-    let Ok(mut frontier) = F::with_nodes(alloc, 1) else {
-        return Ok(());
+    let lowered = match taken_once_lowered::<F>(alloc) {
+        Err(AllocError) => taken_once_lowered::<F>(alloc),
+        taken => taken,
     };
-    if frontier.put(0, 5).is_err() || frontier.lower(0, 3).is_err() {
-        return Ok(());
-    }
-    assert_eq!(rt; frontier.take_least(), Some((0, 3)));
-    assert!(rt; frontier.is_empty());
-    if frontier.put(0, 5).is_err() {
-        return Ok(());
-    }
-    assert_eq!(rt; frontier.take_least(), Some((0, 5)));
-    assert_eq!(rt; frontier.take_least(), None);
-    if frontier.put(0, 7).is_err() {
-        return Ok(());
-    }
-    frontier.clear();
-    assert!(rt; frontier.is_empty());
-    Ok(())
+    assert_eq!(rt; lowered, Ok([Some((0, 3)), None, Some((0, 5)), None]));
+    let empty = match empty_once_cleared::<F>(alloc) {
+        Err(AllocError) => empty_once_cleared::<F>(alloc),
+        empty => empty,
+    };
+    assert_eq!(rt; empty, Ok([false, true]));
 }
 
 #[test]
-fn frontiers_take_the_least_key(rt: HostRuntime) -> Result<(), Fail> {
-    takes_by_key::<ScanFrontier>(&rt, rt.alloc())?;
-    takes_by_key::<HeapFrontier>(&rt, rt.alloc())?;
-    forgets_old_keys::<ScanFrontier>(&rt, rt.alloc())?;
-    forgets_old_keys::<HeapFrontier>(&rt, rt.alloc())
+fn frontiers_take_the_least_key(rt: HostRuntime) {
+    takes_by_key::<ScanFrontier>(&rt, rt.alloc());
+    takes_by_key::<HeapFrontier>(&rt, rt.alloc());
+    forgets_old_keys::<ScanFrontier>(&rt, rt.alloc());
+    forgets_old_keys::<HeapFrontier>(&rt, rt.alloc());
+}
+
+/// The calls that a frontier with a node is sure of, and those left when it has another: one is spent at most.
+fn spares<F: Frontier>(alloc: Global) -> Result<(u64, u64), AllocError>
+    requires { (nodes : ℕ) → F.may_have nodes }
+{
+    let mut frontier = F::with_nodes(alloc, 2)?;
+    frontier.put(0, 4)?;
+    let before = frontier.spare();
+    frontier.put(1, 9)?;
+    Ok((before, frontier.spare()))
+}
+
+fn knows_its_spare_calls<F: Frontier>(rt: &impl Abort, alloc: Global)
+    requires { (nodes : ℕ) → F.may_have nodes }
+{
+    let spares = match spares::<F>(alloc) {
+        Err(AllocError) => spares::<F>(alloc),
+        spares => spares,
+    };
+    assert!(rt; spares.is_ok_and(|(before, after)| before <= after.saturating_add(1)));
+}
+
+/// Whether a scan is made that is sure of all calls.
+fn is_scan_sure(alloc: Global) -> bool {
+    match ScanFrontier::with_nodes(alloc, 2) {
+        Ok(scan) => scan.spare() == u64::MAX,
+        Err(AllocError) => false,
+    }
 }
 
 #[test]
-fn frontiers_know_their_spare_calls(rt: HostRuntime) -> Result<(), Fail> {
-    let Ok(mut scan) = ScanFrontier::with_nodes(rt.alloc(), 2) else {
-        return Ok(());
-    };
-    assert_eq!(rt; scan.spare(), u64::MAX);
-    assert!(rt; scan.put(1, 9).is_ok());
-    let Ok(mut heap) = HeapFrontier::with_nodes(rt.alloc(), 2) else {
-        return Ok(());
-    };
-    if heap.put(0, 4).is_err() {
-        return Ok(());
+fn frontiers_know_their_spare_calls(rt: HostRuntime) {
+    knows_its_spare_calls::<ScanFrontier>(&rt, rt.alloc());
+    knows_its_spare_calls::<HeapFrontier>(&rt, rt.alloc());
+    assert!(rt; is_scan_sure(rt.alloc()) || is_scan_sure(rt.alloc()));
+}
+
+/// What becomes of a network.
+fn outcome_of<F: Frontier>(alloc: Global, network: &Network) -> Result<Outcome, AllocError>
+    requires small { IsSmall (problem_of network.now) }
+    requires nodes { (nodes : ℕ) → F.may_have nodes }
+{
+    match solve_network::<F>(alloc, network, &mut Effort::default()) {
+        Err(AllocError) => solve_network::<F>(alloc, network, &mut Effort::default()),
+        outcome => outcome,
     }
-    let spare = heap.spare();
-    let put = heap.put(1, 9);
-    assert!(rt; spare == 0 || put.is_ok());
-    assert!(rt; heap.spare() + 1 >= spare);
-    Ok(())
 }
 
 /// Every source is met, and the flows are these.
@@ -90,10 +137,10 @@ fn meets<F: Frontier>(rt: &impl Abort, alloc: Global, network: &Network, flows: 
     requires small { IsSmall (problem_of network.now) }
     requires nodes { (nodes : ℕ) → F.may_have nodes }
 {
-    let outcome = solve_network::<F>(alloc, network, &mut Effort::default());
-    match &outcome {
+    match outcome_of::<F>(alloc, network) {
         Ok(Outcome::Met(plan)) => assert_eq!(rt; plan.flows.as_slice(), flows),
-        _ => assert!(rt; outcome.is_err()),
+        Ok(Outcome::Short(_)) => panic!(rt; "a shortage came"),
+        Err(AllocError) => panic!(rt; "memory ran out"),
     }
 }
 
@@ -102,10 +149,10 @@ fn lacks<F: Frontier>(rt: &impl Abort, alloc: Global, network: &Network, short: 
     requires small { IsSmall (problem_of network.now) }
     requires nodes { (nodes : ℕ) → F.may_have nodes }
 {
-    let outcome = solve_network::<F>(alloc, network, &mut Effort::default());
-    match &outcome {
+    match outcome_of::<F>(alloc, network) {
         Ok(Outcome::Short(reached)) => assert_eq!(rt; reached.as_slice(), short),
-        _ => assert!(rt; outcome.is_err()),
+        Ok(Outcome::Met(_)) => panic!(rt; "a plan came"),
+        Err(AllocError) => panic!(rt; "memory ran out"),
     }
 }
 

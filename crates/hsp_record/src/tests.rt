@@ -21,6 +21,13 @@ const TWO_SERVERS: [u8; 76] = [
 const FULL_SITE: &[u8] =
     b"\0\x04\x02\x01\0\x05\x06\x02\0\0\0\x01f\0\0\0\x01\0\0\0\x01a\0\0\0\x02bc\0\0\0\x01\0\0\0\x09addressofserver9\0\0\0\x03key\0\0\0\x01\x01\x02\0\0\x0a\x51";
 
+/// A list of one value of index 1 without data, with a reference to index 2 of `10/3`.
+const REFERRING: &[u8] =
+    b"\0\0\0\x01\0\0\0\x01\0\0\0\x07HS_SITE\0\0\0\0\x0e\x01\0\0\x0e\x10\0\0\0\0\x65\x53\xf1\0\0\0\0\x01\0\0\0\x0410/3\0\0\0\x02";
+
+/// The body of a request for the value of index 1 and of type `HS_SITE` of `10/3`.
+const BODY: &[u8] = b"\0\0\0\x0410/3\0\0\0\x01\0\0\0\x01\0\0\0\x01\0\0\0\x07HS_SITE";
+
 /// The fields of a value of index 1 before the length of its data, in a list of one.
 const ONE_VALUE: &[u8] = b"\0\0\0\x01\0\0\0\x01\0\0\0\x07HS_SITE";
 
@@ -149,20 +156,80 @@ fn site_faults_are_told(rt: HostRuntime) {
     );
 }
 
+// Where the last of the fields begins that a text of so many octets reaches.
+fn last_field(fields: &[usize], len: usize) -> usize {
+    let mut at = 0;
+    for field in fields {
+        if *field <= len {
+            at = *field;
+        }
+    }
+    at
+}
+
 #[test]
 fn every_cut_is_told(rt: HostRuntime) {
-    let fields = [0, 2, 4, 6, 7, 8, 12, 16, 20, 24, 40, 44, 48, 52, 68, 72];
-    for n in 0..76 {
-        let mut at = 0;
-        for field in fields {
-            if field <= n {
-                at = field;
-            }
+    let two_servers = [0, 2, 4, 6, 7, 8, 12, 16, 20, 24, 40, 44, 48, 52, 68, 72];
+    let full = [
+        0, 2, 4, 6, 7, 8, 12, 13, 17, 21, 22, 26, 28, 32, 36, 52, 56, 59, 63, 64, 65,
+    ];
+    let sites: [(&[u8], &[usize]); 2] = [(&TWO_SERVERS, &two_servers), (FULL_SITE, &full)];
+    for (octets, fields) in sites {
+        for n in 0..octets.len() {
+            let at = last_field(fields, n);
+            assert_eq!(rt;
+                site_fault(rt.alloc(), &octets[..n]),
+                Some(RecordFault::Truncated { at }),
+                "at {n}"
+            );
         }
+    }
+}
+
+#[test]
+fn every_cut_of_a_list_is_told(rt: HostRuntime) {
+    let fields = [0, 4, 8, 12, 19, 23, 24, 25, 29, 37, 41, 45, 49];
+    for n in 0..REFERRING.len() {
+        let at = last_field(&fields, n);
         assert_eq!(rt;
-            site_fault(rt.alloc(), &TWO_SERVERS[..n]),
+            values_fault(rt.alloc(), &REFERRING[..n]),
             Some(RecordFault::Truncated { at }),
             "at {n}"
+        );
+    }
+}
+
+#[test]
+fn every_cut_of_a_body_is_told(rt: HostRuntime) {
+    let fields = [0, 4, 8, 12, 16, 20, 24];
+    for n in 0..BODY.len() {
+        let at = last_field(&fields, n);
+        assert_eq!(rt;
+            decode_request(&BODY[..n]).err(),
+            Some(RecordFault::Truncated { at }),
+            "at {n}"
+        );
+    }
+}
+
+#[test]
+fn forged_lengths_reach_past_the_end(rt: HostRuntime) {
+    for (place, at) in [(0, 53), (8, 12), (19, 23), (37, 53), (41, 45)] {
+        let mut octets = [0; 53];
+        octets.copy_from_slice(REFERRING);
+        octets[place..place + 4].copy_from_slice(&[255; 4]);
+        assert_eq!(rt;
+            values_fault(rt.alloc(), &octets),
+            Some(RecordFault::Truncated { at })
+        );
+    }
+    for (place, at) in [(0, 4), (8, 28), (16, 31), (20, 24)] {
+        let mut octets = [0; 31];
+        octets.copy_from_slice(BODY);
+        octets[place..place + 4].copy_from_slice(&[255; 4]);
+        assert_eq!(rt;
+            decode_request(&octets).err(),
+            Some(RecordFault::Truncated { at })
         );
     }
 }
@@ -254,14 +321,7 @@ fn large_sites_come_back(rt: HostRuntime) -> Result<(), Fail> {
 
 #[test]
 fn references_and_no_values_come_back(rt: HostRuntime) -> Result<(), Fail> {
-    let referring = joined(
-        rt.alloc(),
-        &[
-            ONE_VALUE,
-            b"\0\0\0\0\x0e\x01\0\0\x0e\x10\0\0\0\0\x65\x53\xf1\0\0\0\0\x01\0\0\0\x0410/3\0\0\0\x02",
-        ],
-    )?;
-    for (octets, len) in [([0; 4].as_slice(), 0), (referring.as_slice(), 1)] {
+    for (octets, len) in [([0; 4].as_slice(), 0), (REFERRING, 1)] {
         let list = list_of(rt.alloc(), octets).ok().ok_or("no list")?;
         assert_eq!(rt; list.len(), len);
         assert_eq!(rt; list.is_empty(), len == 0);
@@ -297,10 +357,7 @@ fn request_bodies_are_read(rt: HostRuntime) {
     let cases: [(&[u8], Result<&[u8], RecordFault>); 6] = [
         (b"\0\0\0\x0210\0\0\0\0\0\0\0\0", Ok(b"10")),
         (b"\0\0\0\x0410/3\0\0\0\0\0\0\0\0", Ok(b"10/3")),
-        (
-            b"\0\0\0\x0410/3\0\0\0\x01\0\0\0\x01\0\0\0\x01\0\0\0\x07HS_SITE",
-            Ok(b"10/3"),
-        ),
+        (BODY, Ok(b"10/3")),
         (b"\0\0\0\x04", Err(RecordFault::Truncated { at: 4 })),
         (
             b"\0\0\0\x0410/3\xff\xff\xff\xff",

@@ -1,9 +1,12 @@
 use super::*;
+use hsp_cert::CertFault;
+use hsp_check::Reason;
+use hsp_dispatch::LogFault;
 use hsp_instance::{BuildFault, Table};
 use hsp_names::HandleFault;
 use hsp_record::RecordFault;
 use hsp_tables::TableFault;
-use std::alloc::Global;
+use std::alloc::{AllocError, Global};
 use std::io::{self, Read};
 use std::process::Abort;
 use std::test::Fail;
@@ -36,56 +39,58 @@ impl Read for Run {
     }
 }
 
-// Whether the answer is the wanted one, unless memory ran out.
+// The answer is the wanted one.
 fn answers(rt: &impl Abort, answer: Result<Vec<u8>, Fault>, wanted: &Result<&[u8], Fault>) {
     match (answer, wanted) {
         (Ok(text), Ok(wanted)) => assert_eq!(rt; text.as_slice(), *wanted),
-        (Err(fault), Err(wanted)) => assert!(rt; fault == Fault::OutOfMemory || fault == *wanted),
-        (Err(fault), Ok(_)) => assert_eq!(rt; fault, Fault::OutOfMemory),
-        (Ok(_), Err(_)) => assert!(rt; false, "an answer came"),
+        (Err(fault), Err(wanted)) => assert!(rt; fault == *wanted, "{fault:?}"),
+        (Err(fault), Ok(_)) => panic!(rt; "{fault:?}"),
+        (Ok(_), Err(wanted)) => panic!(rt; "an answer came in place of {wanted:?}"),
     }
 }
 
-// The answer of `locate` by an option and a number of servers.
+// The answer of `locate`, from the texts of its inputs.
+#[derive(Clone, Copy)]
+enum Asked<'a> {
+    Place(&'a [u8], &'a [u8]),
+    Sites(&'a [u8], Option<&'a [u8]>),
+}
+
+fn inputs_of(alloc: Global, asked: Asked<'_>) -> Result<Locate, AllocError> {
+    match asked {
+        Asked::Place(option, servers) => Ok(Locate::Place {
+            option: Vec::from_slice(alloc, option)?,
+            servers: Vec::from_slice(alloc, servers)?,
+        }),
+        Asked::Sites(settings, None) => Ok(Locate::Sites {
+            settings: Vec::from_slice(alloc, settings)?,
+            values: None,
+        }),
+        Asked::Sites(settings, Some(values)) => Ok(Locate::Sites {
+            settings: Vec::from_slice(alloc, settings)?,
+            values: Some(Vec::from_slice(alloc, values)?),
+        }),
+    }
+}
+
+fn located(alloc: Global, asked: Asked<'_>, handle: &[u8]) -> Result<Vec<u8>, Fault> {
+    let inputs = inputs_of(alloc, asked)?;
+    locate_run(alloc, &inputs, handle)
+}
+
+// The answer of `locate` is the wanted one. Where a growth is refused, the second call finds memory, here and below.
 fn locates(
     rt: &impl Abort,
     alloc: Global,
-    option: &[u8],
-    servers: &[u8],
+    asked: Asked<'_>,
     handle: &[u8],
     wanted: &Result<&[u8], Fault>,
 ) {
-    let Ok(option) = Vec::from_slice(alloc, option) else {
-        return;
+    let answer = match located(alloc, asked, handle) {
+        Err(Fault::OutOfMemory) => located(alloc, asked, handle),
+        answer => answer,
     };
-    let Ok(servers) = Vec::from_slice(alloc, servers) else {
-        return;
-    };
-    let place = Locate::Place { option, servers };
-    answers(rt, locate_run(alloc, &place, handle), wanted);
-}
-
-// The answer of `locate` by settings and values.
-fn locates_at_sites(
-    rt: &impl Abort,
-    alloc: Global,
-    settings: &[u8],
-    values: Option<&[u8]>,
-    handle: &[u8],
-    wanted: &Result<&[u8], Fault>,
-) {
-    let Ok(settings) = Vec::from_slice(alloc, settings) else {
-        return;
-    };
-    let values = match values {
-        None => None,
-        Some(octets) => match Vec::from_slice(alloc, octets) {
-            Ok(octets) => Some(octets),
-            Err(_) => return,
-        },
-    };
-    let sites = Locate::Sites { settings, values };
-    answers(rt, locate_run(alloc, &sites, handle), wanted);
+    answers(rt, answer, wanted);
 }
 
 #[test]
@@ -97,7 +102,13 @@ fn places_are_printed(rt: HostRuntime) {
         (b"handle", b"1", b"10/1", b"0\n"),
     ];
     for (option, servers, handle, wanted) in cases {
-        locates(&rt, rt.alloc(), option, servers, handle, &Ok(wanted));
+        locates(
+            &rt,
+            rt.alloc(),
+            Asked::Place(option, servers),
+            handle,
+            &Ok(wanted),
+        );
     }
 }
 
@@ -112,9 +123,21 @@ fn servers_at_sites_are_printed(rt: HostRuntime) {
         (b"10/3", b"E 1 3\nW 0 1\n"),
     ];
     for (handle, wanted) in cases {
-        locates_at_sites(&rt, rt.alloc(), SETTINGS, None, handle, &Ok(wanted));
+        locates(
+            &rt,
+            rt.alloc(),
+            Asked::Sites(SETTINGS, None),
+            handle,
+            &Ok(wanted),
+        );
     }
-    locates_at_sites(&rt, rt.alloc(), b"", None, b"10/3", &Ok(b"".as_slice()));
+    locates(
+        &rt,
+        rt.alloc(),
+        Asked::Sites(b"", None),
+        b"10/3",
+        &Ok(b"".as_slice()),
+    );
 }
 
 #[test]
@@ -156,23 +179,24 @@ fn sites_are_refused_in_the_order_of_the_inputs(rt: HostRuntime) {
         ),
     ];
     for (settings, values, handle, wanted) in cases {
-        locates_at_sites(&rt, rt.alloc(), settings, values, handle, &Err(wanted));
+        locates(
+            &rt,
+            rt.alloc(),
+            Asked::Sites(settings, values),
+            handle,
+            &Err(wanted),
+        );
     }
 }
 
 #[test]
-fn sites_are_located_by_values(rt: HostRuntime) {
-    let Some(list) = list_of(rt.alloc(), b"HS_SITE") else {
-        return;
-    };
-    locates_at_sites(
-        &rt,
-        rt.alloc(),
-        b"[[site]]\nname = \"X\"\nindex = 1\n",
-        Some(list.as_slice()),
-        b"10/3",
-        &Ok(b"X 0 7\n".as_slice()),
-    );
+fn sites_are_located_by_values(rt: HostRuntime) -> Result<(), Fail> {
+    let list = list_of(rt.alloc(), b"HS_SITE")?;
+    let settings: &[u8] = b"[[site]]\nname = \"X\"\nindex = 1\n";
+    let asked = Asked::Sites(settings, Some(list.as_slice()));
+    let wanted: &[u8] = b"X 0 7\n";
+    locates(&rt, rt.alloc(), asked, b"10/3", &Ok(wanted));
+    Ok(())
 }
 
 #[test]
@@ -186,16 +210,32 @@ fn the_first_fault_is_told(rt: HostRuntime) {
         (b"local", b"2", b"10", Fault::Handle(HandleFault::NoSlash)),
     ];
     for (option, servers, handle, wanted) in cases {
-        locates(&rt, rt.alloc(), option, servers, handle, &Err(wanted));
+        locates(
+            &rt,
+            rt.alloc(),
+            Asked::Place(option, servers),
+            handle,
+            &Err(wanted),
+        );
     }
 }
 
-// Whether this is the line of a fault in the input.
-fn tells(rt: &impl Abort, alloc: Global, fault: &Fault, wanted: &[u8]) {
-    if let Ok(line) = fault_line(alloc, fault) {
-        assert_eq!(rt; line.as_slice(), wanted);
+// The fault has this line and this status.
+pub(crate) fn is_told(rt: &impl Abort, alloc: Global, fault: &Fault, wanted: &[u8], status: u8) {
+    let line = match fault_line(alloc, fault) {
+        Err(AllocError) => fault_line(alloc, fault),
+        line => line,
+    };
+    match line {
+        Ok(line) => assert_eq!(rt; line.as_slice(), wanted),
+        Err(AllocError) => panic!(rt; "no line of {fault:?}"),
     }
-    assert_eq!(rt; status_of(fault), 1);
+    assert_eq!(rt; status_of(fault), status);
+}
+
+// This is the line of a fault in the input.
+fn tells(rt: &impl Abort, alloc: Global, fault: &Fault, wanted: &[u8]) {
+    is_told(rt, alloc, fault, wanted, 1);
 }
 
 #[test]
@@ -234,10 +274,7 @@ fn faults_have_their_lines_and_statuses(rt: HostRuntime) {
         (Fault::OutOfMemory, b"hsplan: OutOfMemory\n", 4),
     ];
     for (fault, wanted, status) in cases {
-        if let Ok(line) = fault_line(rt.alloc(), &fault) {
-            assert_eq!(rt; line.as_slice(), wanted);
-        }
-        assert_eq!(rt; status_of(&fault), status);
+        is_told(&rt, rt.alloc(), &fault, wanted, status);
     }
 }
 
@@ -384,6 +421,64 @@ fn faults_of_what_tables_name_have_their_lines(rt: HostRuntime) {
     }
 }
 
+// The fault is displayed so.
+fn is_displayed(rt: &impl Abort, alloc: Global, fault: &Fault, wanted: &str) {
+    let text = match fault.to_string(alloc) {
+        Err(AllocError) => fault.to_string(alloc),
+        text => text,
+    };
+    match text {
+        Ok(text) => assert_eq!(rt; text.as_str(), wanted),
+        Err(AllocError) => panic!(rt; "no text of {fault:?}"),
+    }
+}
+
+#[test]
+fn faults_of_words_and_values_are_displayed(rt: HostRuntime) {
+    let cases: [(Fault, &str); 10] = [
+        (Fault::BadOption, "bad option"),
+        (Fault::BadServers, "bad servers"),
+        (Fault::BadIndex, "bad index"),
+        (Fault::BadFronts, "bad fronts"),
+        (Fault::NoValue, "no value"),
+        (Fault::NotSiteValue, "not a site value"),
+        (Fault::WrongKind, "wrong kind"),
+        (Fault::OutOfMemory, "out of memory"),
+        (Fault::Refused(Reason::Cost), "check: Cost"),
+        (Fault::Log(LogFault::Header), "log: Header"),
+    ];
+    for (fault, wanted) in cases {
+        is_displayed(&rt, rt.alloc(), &fault, wanted);
+    }
+}
+
+#[test]
+fn faults_of_inputs_are_displayed(rt: HostRuntime) {
+    let cases: [(Fault, &str); 9] = [
+        (Fault::Handle(HandleFault::NoSlash), "handle: NoSlash"),
+        (
+            Fault::Site(RecordFault::Trailing { at: 48 }),
+            "site: Trailing { at: 48 }",
+        ),
+        (
+            Fault::Values(RecordFault::TooManyServers),
+            "values: TooManyServers",
+        ),
+        (Fault::Settings(TableFault::NotToml), "settings: NotToml"),
+        (Fault::Demand(TableFault::Header), "demand: Header"),
+        (Fault::Costs(TableFault::Header), "costs: Header"),
+        (Fault::Capacity(TableFault::Header), "capacity: Header"),
+        (
+            Fault::Build(BuildFault::TooManyServers),
+            "build: TooManyServers",
+        ),
+        (Fault::Cert(CertFault::Ended), "certificate: Ended"),
+    ];
+    for (fault, wanted) in cases {
+        is_displayed(&rt, rt.alloc(), &fault, wanted);
+    }
+}
+
 #[test]
 fn first_lines_are_read(rt: HostRuntime) -> Result<(), Fail> {
     let cases: [(&[u8], &[u8]); 4] = [
@@ -393,73 +488,66 @@ fn first_lines_are_read(rt: HostRuntime) -> Result<(), Fail> {
         (b"\n\n", b""),
     ];
     for (text, wanted) in cases {
-        if let Ok(found) = first_line(rt.alloc(), text) {
-            assert_eq!(rt; found.ok_or("no line")?.as_slice(), wanted);
-        }
+        let found = match first_line(rt.alloc(), text) {
+            Err(AllocError) => first_line(rt.alloc(), text)?,
+            Ok(found) => found,
+        };
+        assert_eq!(rt; found.ok_or("no line")?.as_slice(), wanted);
     }
     Ok(())
 }
 
 #[test]
 fn a_failing_reader_gives_nothing(rt: HostRuntime) {
-    if let Ok(found) = first_line(rt.alloc(), Broken) {
-        assert!(rt; found.is_none());
-    }
-    if let Ok(found) = read_file(rt.alloc(), Broken) {
-        assert!(rt; found.is_none());
-    }
+    assert!(rt; matches!(first_line(rt.alloc(), Broken), Ok(None)));
+    assert!(rt; matches!(read_file(rt.alloc(), Broken), Ok(None)));
+}
+
+fn run_of(octet: u8, left: usize) -> Run {
+    Run { octet, left }
+}
+
+// Whether a line of so many octets is read.
+fn is_line(alloc: Global, left: usize) -> Result<bool, AllocError> {
+    let found = match first_line(alloc, run_of(b'x', left)) {
+        Err(AllocError) => first_line(alloc, run_of(b'x', left))?,
+        Ok(found) => found,
+    };
+    Ok(found.is_some())
 }
 
 #[test]
-fn first_lines_are_limited(rt: HostRuntime) {
-    if let Ok(found) = first_line(
-        rt.alloc(),
-        Run {
-            octet: b'x',
-            left: 65_537,
-        },
-    ) {
-        assert!(rt; found.is_none());
-    }
-    if let Ok(found) = first_line(
-        rt.alloc(),
-        Run {
-            octet: b'x',
-            left: 65_536,
-        },
-    ) {
-        assert!(rt; found.is_some());
-    }
-}
-
-#[test]
-fn whole_files_are_read(rt: HostRuntime) -> Result<(), Fail> {
-    if let Ok(found) = read_file(rt.alloc(), b"a\nb".as_slice()) {
-        assert_eq!(rt; found.ok_or("no file")?.as_slice(), b"a\nb".as_slice());
-    }
+fn first_lines_are_limited(rt: HostRuntime) -> Result<(), Fail> {
+    assert!(rt; !is_line(rt.alloc(), 65_537)?);
+    assert!(rt; is_line(rt.alloc(), 65_536)?);
     Ok(())
 }
 
 #[test]
-fn whole_files_are_limited(rt: HostRuntime) {
-    if let Ok(found) = read_file(
-        rt.alloc(),
-        Run {
-            octet: 0,
-            left: 67_108_865,
-        },
-    ) {
-        assert!(rt; found.is_none());
-    }
-    if let Ok(found) = read_file(
-        rt.alloc(),
-        Run {
-            octet: 0,
-            left: 67_108_864,
-        },
-    ) {
-        assert!(rt; found.is_some());
-    }
+fn whole_files_are_read(rt: HostRuntime) -> Result<(), Fail> {
+    let text: &[u8] = b"a\nb";
+    let found = match read_file(rt.alloc(), text) {
+        Err(AllocError) => read_file(rt.alloc(), text)?,
+        Ok(found) => found,
+    };
+    assert_eq!(rt; found.ok_or("no file")?.as_slice(), text);
+    Ok(())
+}
+
+// Whether a file of so many octets is read.
+fn is_file(alloc: Global, left: usize) -> Result<bool, AllocError> {
+    let found = match read_file(alloc, run_of(0, left)) {
+        Err(AllocError) => read_file(alloc, run_of(0, left))?,
+        Ok(found) => found,
+    };
+    Ok(found.is_some())
+}
+
+#[test]
+fn whole_files_are_limited(rt: HostRuntime) -> Result<(), Fail> {
+    assert!(rt; !is_file(rt.alloc(), 67_108_865)?);
+    assert!(rt; is_file(rt.alloc(), 67_108_864)?);
+    Ok(())
 }
 
 // A site of one server: 48 octets.
@@ -472,15 +560,21 @@ const ONE_SERVER_TEXT: &[u8] =
     b"version 1\nprotocol 2 0\nserial 1\nmask 0\noption 1\nfilter 0\nattributes 0\nservers 1\nserver 0 7 00000000000000000000000000000001 0 0\n";
 
 // A list of one value with the index 1, this type and the site as its data.
-pub(crate) fn list_of(alloc: Global, type_octets: &[u8; 7]) -> Option<Vec<u8>> {
-    let mut list = Vec::with_capacity(alloc, 89).ok()?;
-    list.extend_from_slice(&[0, 0, 0, 1, 0, 0, 0, 1, 0, 0, 0, 7])
-        .ok()?;
-    list.extend_from_slice(type_octets).ok()?;
-    list.extend_from_slice(&[0, 0, 0, 48]).ok()?;
-    list.extend_from_slice(&ONE_SERVER).ok()?;
-    list.extend_from_slice(&[0; 18]).ok()?;
-    Some(list)
+pub(crate) fn list_of(alloc: Global, type_octets: &[u8; 7]) -> Result<Vec<u8>, AllocError> {
+    match list_once(alloc, type_octets) {
+        Err(AllocError) => list_once(alloc, type_octets),
+        list => list,
+    }
+}
+
+fn list_once(alloc: Global, type_octets: &[u8; 7]) -> Result<Vec<u8>, AllocError> {
+    let mut list = Vec::with_capacity(alloc, 89)?;
+    list.extend_from_slice(&[0, 0, 0, 1, 0, 0, 0, 1, 0, 0, 0, 7])?;
+    list.extend_from_slice(type_octets)?;
+    list.extend_from_slice(&[0, 0, 0, 48])?;
+    list.extend_from_slice(&ONE_SERVER)?;
+    list.extend_from_slice(&[0; 18])?;
+    Ok(list)
 }
 
 // The answer of `site`.
@@ -491,7 +585,11 @@ fn prints(
     index: Option<&[u8]>,
     wanted: &Result<&[u8], Fault>,
 ) {
-    answers(rt, site_run(alloc, octets, index), wanted);
+    let answer = match site_run(alloc, octets, index) {
+        Err(Fault::OutOfMemory) => site_run(alloc, octets, index),
+        answer => answer,
+    };
+    answers(rt, answer, wanted);
 }
 
 #[test]
@@ -510,58 +608,29 @@ fn records_are_printed(rt: HostRuntime) -> Result<(), Fail> {
 }
 
 #[test]
-fn values_are_printed(rt: HostRuntime) {
-    let Some(list) = list_of(rt.alloc(), b"HS_SITE") else {
-        return;
-    };
+fn values_are_printed(rt: HostRuntime) -> Result<(), Fail> {
+    let list = list_of(rt.alloc(), b"HS_SITE")?;
     let list = list.as_slice();
-    prints(
-        &rt,
-        rt.alloc(),
-        list,
-        Some(b"1".as_slice()),
-        &Ok(ONE_SERVER_TEXT),
-    );
-    prints(
-        &rt,
-        rt.alloc(),
-        list,
-        Some(b"2".as_slice()),
-        &Err(Fault::NoValue),
-    );
-    prints(
-        &rt,
-        rt.alloc(),
-        list,
-        Some(b"x".as_slice()),
-        &Err(Fault::BadIndex),
-    );
-    prints(
-        &rt,
-        rt.alloc(),
-        list,
-        Some(b"4294967296".as_slice()),
-        &Err(Fault::BadIndex),
-    );
-    prints(
-        &rt,
-        rt.alloc(),
-        &[0, 0, 0, 1],
-        Some(b"1".as_slice()),
-        &Err(Fault::Values(RecordFault::Truncated { at: 4 })),
-    );
+    let cut: &[u8] = &[0, 0, 0, 1];
+    let truncated = Fault::Values(RecordFault::Truncated { at: 4 });
+    let cases: [(&[u8], &[u8], Result<&[u8], Fault>); 5] = [
+        (list, b"1", Ok(ONE_SERVER_TEXT)),
+        (list, b"2", Err(Fault::NoValue)),
+        (list, b"x", Err(Fault::BadIndex)),
+        (list, b"4294967296", Err(Fault::BadIndex)),
+        (cut, b"1", Err(truncated)),
+    ];
+    for (octets, index, wanted) in cases {
+        prints(&rt, rt.alloc(), octets, Some(index), &wanted);
+    }
+    Ok(())
 }
 
 #[test]
-fn values_of_other_types_are_refused(rt: HostRuntime) {
-    let Some(list) = list_of(rt.alloc(), b"HS_SITF") else {
-        return;
-    };
-    prints(
-        &rt,
-        rt.alloc(),
-        list.as_slice(),
-        Some(b"1".as_slice()),
-        &Err(Fault::NotSiteValue),
-    );
+fn values_of_other_types_are_refused(rt: HostRuntime) -> Result<(), Fail> {
+    let list = list_of(rt.alloc(), b"HS_SITF")?;
+    let index: &[u8] = b"1";
+    let wanted = Err(Fault::NotSiteValue);
+    prints(&rt, rt.alloc(), list.as_slice(), Some(index), &wanted);
+    Ok(())
 }

@@ -145,7 +145,7 @@ fn prices_that_are_one_off_are_refused(rt: HostRuntime) {
 }
 
 #[test]
-fn lists_of_other_lengths_are_refused(rt: HostRuntime) {
+fn longer_lists_are_refused(rt: HostRuntime) {
     if let Some(network) = network_of(&rt, SHARED_HOST) {
         let longer = [
             Plan {
@@ -168,6 +168,13 @@ fn lists_of_other_lengths_are_refused(rt: HostRuntime) {
         for plan in longer {
             judges_plan(&rt, rt.alloc(), &network, plan, false);
         }
+        judges_set(&rt, rt.alloc(), &network, &[true, true, true], false);
+    }
+}
+
+#[test]
+fn shorter_lists_are_refused(rt: HostRuntime) {
+    if let Some(network) = network_of(&rt, SHARED_HOST) {
         let shorter = [
             Plan {
                 flows: &[3, 1, 0, 1],
@@ -190,7 +197,6 @@ fn lists_of_other_lengths_are_refused(rt: HostRuntime) {
             judges_plan(&rt, rt.alloc(), &network, plan, false);
         }
         judges_set(&rt, rt.alloc(), &network, &[true], false);
-        judges_set(&rt, rt.alloc(), &network, &[true, true, true], false);
     }
 }
 

@@ -1,10 +1,11 @@
 // Certificates judged.
-use crate::inputs::{BASE, EIGHT, Numbers, ONE_SERVER, TWO, Texts, instance_of, plan, shortage};
+use crate::inputs::{
+    BASE, EIGHT, Numbers, ONE_SERVER, TWO, Texts, instance_of, judged, plan, shortage,
+};
 use hsp_cert::Certificate;
 use hsp_check::{PlanSums, Reason, Verdict, check, plan_sums, reached_servers};
 use hsp_instance::Instance;
 use std::alloc::Global;
-use std::process::Abort;
 
 // A best plan of the base.
 const BEST: Numbers = Numbers {
@@ -15,29 +16,11 @@ const BEST: Numbers = Numbers {
     hosts: &[],
 };
 
-// Whether the certificate has this verdict.
-fn judged(
-    rt: &impl Abort,
-    alloc: Global,
-    instance: &Instance,
-    certificate: Option<Certificate>,
-    wanted: Verdict,
-) {
-    let Some(certificate) = certificate else {
-        return;
-    };
-    if let Ok(verdict) = check(alloc, instance, &certificate) {
-        assert_eq!(rt; verdict, wanted);
-    }
-}
-
 #[test]
 fn a_best_plan_is_valid(rt: HostRuntime) {
     let alloc = rt.alloc();
-    let Some(base) = instance_of(alloc, BASE) else {
-        return;
-    };
-    judged(&rt, alloc, &base, plan(alloc, BEST), Verdict::Yes);
+    let base = instance_of(&rt, alloc, BASE);
+    judged(&rt, alloc, &base, &plan(&rt, alloc, BEST), Verdict::Yes);
 }
 
 // The sums of a plan that is valid.
@@ -55,19 +38,12 @@ fn summed(alloc: Global, instance: &Instance, certificate: &Certificate) -> Opti
 #[test]
 fn a_best_plan_is_summed(rt: HostRuntime) {
     let alloc = rt.alloc();
-    let Some(base) = instance_of(alloc, BASE) else {
-        return;
-    };
-    let Some(certificate) = plan(alloc, BEST) else {
-        return;
-    };
+    let base = instance_of(&rt, alloc, BASE);
+    let certificate = plan(&rt, alloc, BEST);
     // Where memory ran out once, it is there at the second call.
     let first = summed(alloc, &base, &certificate);
     let second = summed(alloc, &base, &certificate);
-    assert!(rt; first.is_some() || second.is_some());
-    let Some(sums) = first.or(second) else {
-        return;
-    };
+    let sums = first.or(second).expect(&rt, "the plan is valid");
     assert_eq!(rt; sums.loads.rows.as_slice(), [5, 4, 3].as_slice());
     assert_eq!(rt; sums.loads.servers.as_slice(), [4, 6, 2, 0, 0].as_slice());
     assert!(rt; sums.loads.hosts.is_empty());
@@ -95,28 +71,19 @@ fn a_short_set_reaches_its_servers(rt: HostRuntime) {
         demand: b"region,handle,count\nr1,10/1,5\nr1,10/2,4\nr2,10/3,9\n",
         ..BASE
     };
-    let Some(instance) = instance_of(alloc, texts) else {
-        return;
-    };
-    let Some(certificate) = shortage(alloc, &[2], 9, 8) else {
-        return;
-    };
+    let instance = instance_of(&rt, alloc, texts);
+    let certificate = shortage(&rt, alloc, &[2], 9, 8);
     // Where memory ran out once, it is there at the second call.
     let first = reached(alloc, &instance, &certificate);
     let second = reached(alloc, &instance, &certificate);
-    assert!(rt; first.is_some() || second.is_some());
-    let Some(servers) = first.or(second) else {
-        return;
-    };
+    let servers = first.or(second).expect(&rt, "the set is short");
     assert_eq!(rt; servers.as_slice(), [1, 2].as_slice());
 }
 
 #[test]
 fn sums_that_are_wrong_are_told(rt: HostRuntime) {
     let alloc = rt.alloc();
-    let Some(base) = instance_of(alloc, BASE) else {
-        return;
-    };
+    let base = instance_of(&rt, alloc, BASE);
     let cases = [
         (Numbers { cost: 16, ..BEST }, Reason::Cost),
         (
@@ -151,16 +118,20 @@ fn sums_that_are_wrong_are_told(rt: HostRuntime) {
         ),
     ];
     for (numbers, reason) in cases {
-        judged(&rt, alloc, &base, plan(alloc, numbers), Verdict::No(reason));
+        judged(
+            &rt,
+            alloc,
+            &base,
+            &plan(&rt, alloc, numbers),
+            Verdict::No(reason),
+        );
     }
 }
 
 #[test]
 fn shapes_that_are_wrong_are_told(rt: HostRuntime) {
     let alloc = rt.alloc();
-    let Some(base) = instance_of(alloc, BASE) else {
-        return;
-    };
+    let base = instance_of(&rt, alloc, BASE);
     let cases = [
         (
             Numbers {
@@ -178,16 +149,20 @@ fn shapes_that_are_wrong_are_told(rt: HostRuntime) {
         ),
     ];
     for (numbers, reason) in cases {
-        judged(&rt, alloc, &base, plan(alloc, numbers), Verdict::No(reason));
+        judged(
+            &rt,
+            alloc,
+            &base,
+            &plan(&rt, alloc, numbers),
+            Verdict::No(reason),
+        );
     }
 }
 
 #[test]
 fn prices_that_are_wrong_are_told(rt: HostRuntime) {
     let alloc = rt.alloc();
-    let Some(base) = instance_of(alloc, BASE) else {
-        return;
-    };
+    let base = instance_of(&rt, alloc, BASE);
     let cases = [
         (
             Numbers {
@@ -219,7 +194,13 @@ fn prices_that_are_wrong_are_told(rt: HostRuntime) {
         ),
     ];
     for (numbers, reason) in cases {
-        judged(&rt, alloc, &base, plan(alloc, numbers), Verdict::No(reason));
+        judged(
+            &rt,
+            alloc,
+            &base,
+            &plan(&rt, alloc, numbers),
+            Verdict::No(reason),
+        );
     }
 }
 
@@ -230,9 +211,7 @@ fn short_sets_are_judged(rt: HostRuntime) {
         demand: b"region,handle,count\nr1,10/1,5\nr1,10/2,4\nr2,10/3,9\n",
         ..BASE
     };
-    let Some(instance) = instance_of(alloc, texts) else {
-        return;
-    };
+    let instance = instance_of(&rt, alloc, texts);
     let cases: [(&[u32], u64, u64, Verdict); 6] = [
         (&[2], 9, 8, Verdict::Yes),
         (&[2], 10, 8, Verdict::No(Reason::DemandSum)),
@@ -246,7 +225,7 @@ fn short_sets_are_judged(rt: HostRuntime) {
             &rt,
             alloc,
             &instance,
-            shortage(alloc, rows, demand, capacity),
+            &shortage(&rt, alloc, rows, demand, capacity),
             verdict,
         );
     }
@@ -255,14 +234,12 @@ fn short_sets_are_judged(rt: HostRuntime) {
 #[test]
 fn the_empty_short_set_is_not_short(rt: HostRuntime) {
     let alloc = rt.alloc();
-    let Some(base) = instance_of(alloc, BASE) else {
-        return;
-    };
+    let base = instance_of(&rt, alloc, BASE);
     judged(
         &rt,
         alloc,
         &base,
-        shortage(alloc, &[], 0, 0),
+        &shortage(&rt, alloc, &[], 0, 0),
         Verdict::No(Reason::NotShort),
     );
 }
@@ -275,9 +252,7 @@ fn each_of_several_best_plans_is_valid(rt: HostRuntime) {
         costs: b"region,site,cost\nr1,E,1\nr1,W,1\n",
         ..BASE
     };
-    let Some(instance) = instance_of(alloc, texts) else {
-        return;
-    };
+    let instance = instance_of(&rt, alloc, texts);
     let all: [&[(u32, u32, u64)]; 3] = [&[(0, 0, 2)], &[(0, 0, 1), (0, 1, 1)], &[(0, 1, 2)]];
     for uses in all {
         let numbers = Numbers {
@@ -287,7 +262,13 @@ fn each_of_several_best_plans_is_valid(rt: HostRuntime) {
             servers: &[0, 0, 0, 0, 0],
             hosts: &[],
         };
-        judged(&rt, alloc, &instance, plan(alloc, numbers), Verdict::Yes);
+        judged(
+            &rt,
+            alloc,
+            &instance,
+            &plan(&rt, alloc, numbers),
+            Verdict::Yes,
+        );
     }
 }
 
@@ -298,9 +279,7 @@ fn an_empty_demand_has_an_empty_plan(rt: HostRuntime) {
         demand: b"region,handle,count\n",
         ..BASE
     };
-    let Some(instance) = instance_of(alloc, texts) else {
-        return;
-    };
+    let instance = instance_of(&rt, alloc, texts);
     let numbers = Numbers {
         cost: 0,
         uses: &[],
@@ -308,7 +287,13 @@ fn an_empty_demand_has_an_empty_plan(rt: HostRuntime) {
         servers: &[0, 0, 0, 0, 0],
         hosts: &[],
     };
-    judged(&rt, alloc, &instance, plan(alloc, numbers), Verdict::Yes);
+    judged(
+        &rt,
+        alloc,
+        &instance,
+        &plan(&rt, alloc, numbers),
+        Verdict::Yes,
+    );
 }
 
 #[test]
@@ -318,15 +303,14 @@ fn a_row_without_costs_is_short_where_it_asks(rt: HostRuntime) {
         demand: b"region,handle,count\nr3,10/1,1\n",
         ..BASE
     };
-    if let Some(instance) = instance_of(alloc, asking) {
-        judged(
-            &rt,
-            alloc,
-            &instance,
-            shortage(alloc, &[0], 1, 0),
-            Verdict::Yes,
-        );
-    }
+    let instance = instance_of(&rt, alloc, asking);
+    judged(
+        &rt,
+        alloc,
+        &instance,
+        &shortage(&rt, alloc, &[0], 1, 0),
+        Verdict::Yes,
+    );
     let idle = Texts {
         demand: b"region,handle,count\nr3,10/1,0\n",
         ..BASE
@@ -338,9 +322,14 @@ fn a_row_without_costs_is_short_where_it_asks(rt: HostRuntime) {
         servers: &[0, 0, 0, 0, 0],
         hosts: &[],
     };
-    if let Some(instance) = instance_of(alloc, idle) {
-        judged(&rt, alloc, &instance, plan(alloc, numbers), Verdict::Yes);
-    }
+    let instance = instance_of(&rt, alloc, idle);
+    judged(
+        &rt,
+        alloc,
+        &instance,
+        &plan(&rt, alloc, numbers),
+        Verdict::Yes,
+    );
 }
 
 #[test]
@@ -357,26 +346,30 @@ fn hosts_have_limits_and_prices(rt: HostRuntime) {
         servers: &[0, 0, 2, 0, 0],
         hosts: &[3],
     };
-    let Some(instance) = instance_of(alloc, hosted) else {
-        return;
-    };
+    let instance = instance_of(&rt, alloc, hosted);
     let cheaper = Numbers {
         hosts: &[2],
         ..numbers
     };
-    judged(&rt, alloc, &instance, plan(alloc, numbers), Verdict::Yes);
     judged(
         &rt,
         alloc,
         &instance,
-        plan(alloc, cheaper),
+        &plan(&rt, alloc, numbers),
+        Verdict::Yes,
+    );
+    judged(
+        &rt,
+        alloc,
+        &instance,
+        &plan(&rt, alloc, cheaper),
         Verdict::No(Reason::ArcPrice),
     );
     judged(
         &rt,
         alloc,
         &instance,
-        plan(alloc, BEST),
+        &plan(&rt, alloc, BEST),
         Verdict::No(Reason::Shape),
     );
 }
@@ -389,21 +382,19 @@ fn a_host_is_counted_once(rt: HostRuntime) {
         costs: b"region,site,cost\nr1,E,1\nr2,E,2\n",
         ..BASE
     };
-    let Some(instance) = instance_of(alloc, texts) else {
-        return;
-    };
+    let instance = instance_of(&rt, alloc, texts);
     judged(
         &rt,
         alloc,
         &instance,
-        shortage(alloc, &[0, 1, 2], 12, 2),
+        &shortage(&rt, alloc, &[0, 1, 2], 12, 2),
         Verdict::Yes,
     );
     judged(
         &rt,
         alloc,
         &instance,
-        shortage(alloc, &[0, 1, 2], 12, 16),
+        &shortage(&rt, alloc, &[0, 1, 2], 12, 16),
         Verdict::No(Reason::CapacitySum),
     );
 }
@@ -415,9 +406,7 @@ fn handles_of_one_hash_share_a_server(rt: HostRuntime) {
         demand: b"region,handle,count\nr1,10/a,2\nr1,10/A,3\nr2,10/a,4\n",
         ..BASE
     };
-    let Some(instance) = instance_of(alloc, texts) else {
-        return;
-    };
+    let instance = instance_of(&rt, alloc, texts);
     let numbers = Numbers {
         cost: 16,
         uses: &[(0, 0, 2), (1, 0, 3), (2, 0, 1), (2, 1, 3)],
@@ -425,7 +414,13 @@ fn handles_of_one_hash_share_a_server(rt: HostRuntime) {
         servers: &[0, 1, 0, 0, 0],
         hosts: &[],
     };
-    judged(&rt, alloc, &instance, plan(alloc, numbers), Verdict::Yes);
+    judged(
+        &rt,
+        alloc,
+        &instance,
+        &plan(&rt, alloc, numbers),
+        Verdict::Yes,
+    );
 }
 
 #[test]
@@ -438,9 +433,7 @@ fn the_greatest_sums_are_judged(rt: HostRuntime) {
         capacity: b"site,server_id,capacity\nX,7,20000000\n",
         ..BASE
     };
-    let Some(instance) = instance_of(alloc, texts) else {
-        return;
-    };
+    let instance = instance_of(&rt, alloc, texts);
     let numbers = Numbers {
         cost: 20000000000000,
         uses: TWENTY_USES,
@@ -448,7 +441,13 @@ fn the_greatest_sums_are_judged(rt: HostRuntime) {
         servers: &[999999000000],
         hosts: &[],
     };
-    judged(&rt, alloc, &instance, plan(alloc, numbers), Verdict::Yes);
+    judged(
+        &rt,
+        alloc,
+        &instance,
+        &plan(&rt, alloc, numbers),
+        Verdict::Yes,
+    );
 }
 
 const TWENTY_ROWS: &[u8] =

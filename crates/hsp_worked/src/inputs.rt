@@ -1,21 +1,24 @@
-// Inputs, and the instances and certificates that they make. None stands for want of memory.
+// Inputs, the instances and certificates that they make, and verdicts. Where a growth is refused, the second call finds memory:
+// so the tests insist on what they make.
 use hsp_cert::{Certificate, UseLine};
+use hsp_check::{Verdict, check};
 use hsp_instance::{Instance, build};
 use hsp_tables::{read_capacity, read_costs, read_demand, read_settings};
-use std::alloc::Global;
+use std::alloc::{AllocError, Global};
+use std::process::Abort;
 
 /// The texts of an instance; the hosts stand behind the sites in the settings.
 #[derive(Clone, Copy)]
-pub struct Texts {
-    pub sites: &'static [u8],
-    pub hosts: &'static [u8],
-    pub demand: &'static [u8],
-    pub costs: &'static [u8],
-    pub capacity: &'static [u8],
+pub struct Texts<'a> {
+    pub sites: &'a [u8],
+    pub hosts: &'a [u8],
+    pub demand: &'a [u8],
+    pub costs: &'a [u8],
+    pub capacity: &'a [u8],
 }
 
 /// Two sites of two and three servers, three rows.
-pub const BASE: Texts = Texts {
+pub const BASE: Texts<'static> = Texts {
     sites: SITES,
     hosts: b"",
     demand: b"region,handle,count\nr1,10/1,5\nr1,10/2,4\nr2,10/3,3\n",
@@ -40,8 +43,8 @@ pub const MOST: &[u8] =
 pub const ONE_SERVER: &[u8] =
     b"[[site]]\nname = \"X\"\nrecord = \"000102000001000100000000000000000000000100000007000000000000000000000000000000010000000000000000\"\n";
 
-/// The instance of the texts.
-pub(crate) fn instance_of(alloc: Global, texts: Texts) -> Option<Instance> {
+// What is built of the texts, and None where memory ran out or the texts are bad.
+fn built(alloc: Global, texts: Texts<'_>) -> Option<Instance> {
     let mut settings = Vec::from_slice(alloc, texts.sites).ok()?;
     settings.extend_from_slice(texts.hosts).ok()?;
     let settings = read_settings(alloc, settings.as_slice()).ok()?;
@@ -49,6 +52,14 @@ pub(crate) fn instance_of(alloc: Global, texts: Texts) -> Option<Instance> {
     let costs = read_costs(alloc, texts.costs).ok()?;
     let capacity = read_capacity(alloc, texts.capacity).ok()?;
     build(alloc, &settings, None, &demand, &costs, &capacity).ok()
+}
+
+/// The instance of the texts.
+pub(crate) fn instance_of(rt: &impl Abort, alloc: Global, texts: Texts<'_>) -> Instance {
+    match built(alloc, texts) {
+        Some(instance) => instance,
+        None => built(alloc, texts).expect(rt, "the instance is built"),
+    }
 }
 
 /// The numbers of a plan's certificate.
@@ -61,8 +72,8 @@ pub struct Numbers {
     pub hosts: &'static [u64],
 }
 
-/// The certificate of a plan.
-pub(crate) fn plan(alloc: Global, numbers: Numbers) -> Option<Certificate> {
+// The certificate of a plan, and None where memory ran out or the numbers are out of range.
+fn plan_once(alloc: Global, numbers: Numbers) -> Option<Certificate> {
     let mut uses = Vec::new(alloc);
     for (row, site, count) in numbers.uses {
         uses.push(UseLine {
@@ -78,12 +89,44 @@ pub(crate) fn plan(alloc: Global, numbers: Numbers) -> Option<Certificate> {
     Certificate::best_with_hosts(numbers.cost, uses, rows, servers, hosts)
 }
 
+/// The certificate of a plan.
+pub(crate) fn plan(rt: &impl Abort, alloc: Global, numbers: Numbers) -> Certificate {
+    match plan_once(alloc, numbers) {
+        Some(certificate) => certificate,
+        None => plan_once(alloc, numbers).expect(rt, "the plan is in order"),
+    }
+}
+
+// The certificate of a short set, and None where memory ran out or the numbers are out of range.
+fn shortage_once(alloc: Global, rows: &[u32], demand: u64, capacity: u64) -> Option<Certificate> {
+    Certificate::short(Vec::from_slice(alloc, rows).ok()?, demand, capacity)
+}
+
 /// The certificate of a short set.
 pub(crate) fn shortage(
+    rt: &impl Abort,
     alloc: Global,
     rows: &[u32],
     demand: u64,
     capacity: u64,
-) -> Option<Certificate> {
-    Certificate::short(Vec::from_slice(alloc, rows).ok()?, demand, capacity)
+) -> Certificate {
+    match shortage_once(alloc, rows, demand, capacity) {
+        Some(certificate) => certificate,
+        None => shortage_once(alloc, rows, demand, capacity).expect(rt, "the set is in order"),
+    }
+}
+
+/// The certificate has this verdict.
+pub(crate) fn judged(
+    rt: &impl Abort,
+    alloc: Global,
+    instance: &Instance,
+    certificate: &Certificate,
+    wanted: Verdict,
+) {
+    let verdict = match check(alloc, instance, certificate) {
+        Err(AllocError) => check(alloc, instance, certificate),
+        answer => answer,
+    };
+    assert_eq!(rt; verdict, Ok(wanted));
 }

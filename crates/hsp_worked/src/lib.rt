@@ -6,4 +6,6 @@ mod checks;
 #[cfg(test)]
 mod inputs;
 #[cfg(test)]
+mod limits;
+#[cfg(test)]
 mod plans;

@@ -2,72 +2,63 @@
 
 ghost use Rattle.std.specs.Prelude.{ℕ, ⊤, None, slice_index_or, vec_len};
 
-use crate::inputs::{BASE, EIGHT, MOST, ONE_SERVER, Texts, instance_of};
+use crate::inputs::{BASE, EIGHT, MOST, ONE_SERVER, Texts, instance_of, judged};
 use hsp_cert::{Certificate, UseLine};
-use hsp_check::{Verdict, check};
+use hsp_check::Verdict;
 use hsp_flow::{Frontier, HeapFrontier, ScanFrontier, solve, solve_with};
 use std::alloc::{AllocError, Global};
 use std::process::Abort;
 
 // The planner's certificate over a frontier, which the checker finds valid.
-fn planned<F: Frontier>(rt: &impl Abort, alloc: Global, texts: Texts) -> Option<Certificate>
+pub(crate) fn planned<F: Frontier>(rt: &impl Abort, alloc: Global, texts: Texts<'_>) -> Certificate
     requires { (nodes : ℕ) → F.may_have nodes }
 {
-    let instance = instance_of(alloc, texts)?;
-    let certificate = solve_with::<F>(alloc, &instance).ok()?;
-    let verdict = check(alloc, &instance, &certificate).ok()?;
-    assert_eq!(rt; verdict, Verdict::Yes);
-    Some(certificate)
+    let instance = instance_of(rt, alloc, texts);
+    let certificate = match solve_with::<F>(alloc, &instance) {
+        Ok(certificate) => certificate,
+        Err(AllocError) => solve_with::<F>(alloc, &instance).expect(rt, "there is memory"),
+    };
+    judged(rt, alloc, &instance, &certificate, Verdict::Yes);
+    certificate
 }
 
-// Whether both frontiers give a plan of this cost and, where they are told, these uses.
-fn plans(rt: &impl Abort, alloc: Global, texts: Texts, cost: u64, uses: Option<&[UseLine]>) {
-    let both = [
-        planned::<ScanFrontier>(rt, alloc, texts),
-        planned::<HeapFrontier>(rt, alloc, texts),
-    ];
-    for certificate in both.iter() {
-        let Some(certificate) = certificate else {
-            continue;
-        };
-        match certificate.as_best() {
-            Some(best) => {
-                assert_eq!(rt; best.cost(), cost);
-                if let Some(uses) = uses {
-                    assert_eq!(rt; best.uses(), uses);
-                }
-            }
-            None => assert!(rt; false, "a shortage came"),
-        }
-    }
-}
-
-// Whether both frontiers give this short set.
-fn falls_short(
+// The certificate is that of a plan of this cost and, where they are told, these uses.
+pub(crate) fn is_plan(
     rt: &impl Abort,
-    alloc: Global,
-    texts: Texts,
-    rows: &[u32],
-    demand: u64,
-    capacity: u64,
+    certificate: &Certificate,
+    cost: u64,
+    uses: Option<&[UseLine]>,
 ) {
-    let both = [
-        planned::<ScanFrontier>(rt, alloc, texts),
-        planned::<HeapFrontier>(rt, alloc, texts),
-    ];
-    for certificate in both.iter() {
-        let Some(certificate) = certificate else {
-            continue;
-        };
-        match certificate.as_short() {
-            Some(short) => {
-                assert_eq!(rt; short.rows(), rows);
-                assert_eq!(rt; short.demand(), demand);
-                assert_eq!(rt; short.capacity(), capacity);
-            }
-            None => assert!(rt; false, "a plan came"),
-        }
+    let best = certificate.as_best().expect(rt, "a plan came");
+    assert_eq!(rt; best.cost(), cost);
+    if let Some(uses) = uses {
+        assert_eq!(rt; best.uses(), uses);
     }
+}
+
+// Both frontiers give a plan of this cost and, where they are told, these uses.
+fn plans(rt: &impl Abort, alloc: Global, texts: Texts<'_>, cost: u64, uses: Option<&[UseLine]>) {
+    let scanned = planned::<ScanFrontier>(rt, alloc, texts);
+    is_plan(rt, &scanned, cost, uses);
+    let heaped = planned::<HeapFrontier>(rt, alloc, texts);
+    is_plan(rt, &heaped, cost, uses);
+}
+
+// The rows, demand and capacity of a short set.
+type Set = (&'static [u32], u64, u64);
+
+// The certificate is that of this short set.
+fn is_short(rt: &impl Abort, certificate: &Certificate, wanted: Set) {
+    let short = certificate.as_short().expect(rt, "a shortage came");
+    assert_eq!(rt; (short.rows(), short.demand(), short.capacity()), wanted);
+}
+
+// Both frontiers give this short set.
+fn falls_short(rt: &impl Abort, alloc: Global, texts: Texts<'_>, wanted: Set) {
+    let scanned = planned::<ScanFrontier>(rt, alloc, texts);
+    is_short(rt, &scanned, wanted);
+    let heaped = planned::<HeapFrontier>(rt, alloc, texts);
+    is_short(rt, &heaped, wanted);
 }
 
 const fn used(row: u32, site: u32, count: u64) -> UseLine {
@@ -96,7 +87,7 @@ fn a_shortage_is_told(rt: HostRuntime) {
         demand: b"region,handle,count\nr1,10/1,5\nr1,10/2,4\nr2,10/3,9\n",
         ..BASE
     };
-    falls_short(&rt, rt.alloc(), texts, &[2], 9, 8);
+    falls_short(&rt, rt.alloc(), texts, (&[2], 9, 8));
 }
 
 #[test]
@@ -106,7 +97,7 @@ fn rows_fall_short_together(rt: HostRuntime) {
         costs: b"region,site,cost\nr1,E,1\nr2,E,2\n",
         ..BASE
     };
-    falls_short(&rt, rt.alloc(), texts, &[0, 2], 8, 6);
+    falls_short(&rt, rt.alloc(), texts, (&[0, 2], 8, 6));
 }
 
 #[test]
@@ -124,7 +115,7 @@ fn a_row_without_costs_falls_short_where_it_asks(rt: HostRuntime) {
         demand: b"region,handle,count\nr3,10/1,1\n",
         ..BASE
     };
-    falls_short(&rt, rt.alloc(), asking, &[0], 1, 0);
+    falls_short(&rt, rt.alloc(), asking, (&[0], 1, 0));
     let idle = Texts {
         demand: b"region,handle,count\nr3,10/1,0\n",
         ..BASE
@@ -226,28 +217,17 @@ fn rows_of_one_kind_are_one_node(rt: HostRuntime) {
         capacity: b"site,server_id,capacity\nX,7,20\n",
         ..BASE
     };
-    // Where memory ran out once, it is there at the second call.
-    let first = planned::<Narrow>(&rt, rt.alloc(), texts);
-    let second = planned::<Narrow>(&rt, rt.alloc(), texts);
-    assert!(rt; first.is_some() || second.is_some());
-    let Some(certificate) = first.or(second) else {
-        return;
-    };
-    match certificate.as_best() {
-        Some(best) => {
-            assert_eq!(rt; best.cost(), 20);
-            assert_eq!(rt; best.uses().len(), 20);
-        }
-        None => assert!(rt; false, "a shortage came"),
-    }
+    let certificate = planned::<Narrow>(&rt, rt.alloc(), texts);
+    let best = certificate.as_best().expect(&rt, "a plan came");
+    assert_eq!(rt; best.cost(), 20);
+    assert_eq!(rt; best.uses().len(), 20);
 }
 
 #[test]
 fn a_frontier_that_refuses_is_want_of_memory(rt: HostRuntime) {
     let alloc = rt.alloc();
-    if let Some(base) = instance_of(alloc, BASE) {
-        assert!(rt; solve_with::<Narrow>(alloc, &base).is_err());
-    }
+    let base = instance_of(&rt, alloc, BASE);
+    assert!(rt; solve_with::<Narrow>(alloc, &base).is_err());
 }
 
 const TWENTY_ROWS_OF_ONE: &[u8] =
@@ -265,17 +245,19 @@ fn one_server_takes_all(rt: HostRuntime) {
     plans(&rt, rt.alloc(), texts, 20, None);
 }
 
+// The planner's own certificate, which the checker finds valid.
+pub(crate) fn solved(rt: &impl Abort, alloc: Global, texts: Texts<'_>) -> Certificate {
+    let instance = instance_of(rt, alloc, texts);
+    let certificate = match solve(alloc, &instance) {
+        Ok(certificate) => certificate,
+        Err(AllocError) => solve(alloc, &instance).expect(rt, "there is memory"),
+    };
+    judged(rt, alloc, &instance, &certificate, Verdict::Yes);
+    certificate
+}
+
 #[test]
 fn the_planner_takes_the_heap(rt: HostRuntime) {
-    let alloc = rt.alloc();
-    let Some(base) = instance_of(alloc, BASE) else {
-        return;
-    };
-    let Ok(certificate) = solve(alloc, &base) else {
-        return;
-    };
-    if let Some(best) = certificate.as_best() {
-        assert_eq!(rt; best.cost(), 17);
-    }
-    assert!(rt; certificate.as_short().is_none());
+    let certificate = solved(&rt, rt.alloc(), BASE);
+    is_plan(&rt, &certificate, 17, None);
 }

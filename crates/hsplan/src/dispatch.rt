@@ -49,11 +49,15 @@ pub fn open_log<S: FileSource>(
     })
 }
 
-// Hands on the lines that were written before the fault, and gives the fault or, where that fails, a failed write.
+// Hands on the lines that were written before the fault, and gives the fault or, where that fails, a failed write. What a failed
+// write left isn't tried again.
 fn handed_on<O: Output>(out: &mut O, fault: Fault) -> Fault
     ensures kept { Keeps (O.contents out.old) (O.contents out.new) }
     ensures fault { (result ≡ fault) ⊎ (O.may_fail × (result ≡ Log WriteFailed)) }
 {
+    if fault == Fault::Log(LogFault::WriteFailed) {
+        return fault;
+    }
     match out.hand_on() {
         Ok(()) => fault,
         Err(_) => Fault::Log(LogFault::WriteFailed),

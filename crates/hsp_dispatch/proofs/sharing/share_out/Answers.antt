@@ -3,14 +3,15 @@ use Rattle.std.specs.List.{slice_get}
 use Rattle.std.proofs.lemmas.List.{take_all}
 use Rattle.std.proofs.lemmas.Option.{get_or_from_slice_get, slice_get-get_or}
 use Rattle.hsp_dispatch.specs.Shares.{cell_of, cells_of}
-use Rattle.hsp_dispatch.proofs.SharedOut.{are_held, cells_stay, shared_more, table_held, use_there}
+use Rattle.hsp_dispatch.proofs.SharedOut.{are_held, cells_stay, count_within, shared_more, table_held, use_there}
 use Rattle.hsp_dispatch.proofs.sharing.share_out.Goals as goal
 
 pub cell_for-cell-requires : goal.cell_for-cell-requires
 cell_for-cell-requires c =
     let uses = c.args.uses.now in
     let k = c.loop-one.one-index in
-    use_there c.args.instance.now uses k _ c.rows.ensures.within c.requires (slice_get-get_or uses k (record { row = 0; site = 0; count = 0 }) (omega arith))
+    let at = slice_get-get_or uses k (record { row = 0; site = 0; count = 0 }) (omega arith) in
+    record { row = use_there c.args.instance.now uses k _ c.rows.ensures.within c.requires at; count = count_within uses k _ c.requires.ranges at }
 
 pub index_mut-requires : goal.index_mut-requires
 index_mut-requires c =

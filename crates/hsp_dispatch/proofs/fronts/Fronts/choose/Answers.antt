@@ -1,15 +1,14 @@
-use Rattle.std.proofs.Common.{◌≡◌, Some, arith, refl}
-use Rattle.std.specs.List.{slice_get}
-use Rattle.std.proofs.lemmas.Option.{slice_get_read}
-use Rattle.hsp_dispatch.specs.Fronts.{Tables}
-use Rattle.hsp_dispatch.proofs.FrontsHeld.{takes_at}
-use Rattle.hsp_dispatch.proofs.Desks.{if_both}
+use Rattle.std.proofs.Common.{◌≡◌, ◌<◌, ◌∙◌, Some, arith, sym}
+use Rattle.hsp_dispatch.specs.Dispatch.{row_of}
+use Rattle.hsp_dispatch.specs.Fronts.{fronts_of}
+use Rattle.hsp_dispatch.specs.Steps.{entry_of}
+use Rattle.hsp_dispatch.proofs.FrontsHeld.{given_at}
 use Rattle.hsp_dispatch.proofs.fronts.Fronts.choose.Goals as goal
 
-pub returns-then-front-len-clause-takes : goal.returns-then-front-len-clause-takes
-returns-then-front-len-clause-takes c =
-    let tables : Tables = record { instance = c.self.inside.instance.now; held = c.self.inside.fronts.items } in
-    let own : slice_get tables.held c.args.front ≡ Some c.index_mut.result.now =
-    slice_get_read tables.held _ c.args.front c.index_mut.result.now refl (omega (arith, c.if-front-len.true)) c.index_mut.ensures.value in
-    rw (← c.self.view_is) (if_both c.choose.result c.choose.ensures.takes c.choose.ensures.takes
-    (λ given takes again. takes_at tables c.args.front _ c.index_mut.result.now c.choose.new.dispatcher given own c.self.invariant takes))
+pub returns-clause-takes : goal.returns-clause-takes
+returns-clause-takes c =
+    let inside : c.args.front < fronts_of c.args.self.now = rw (← c.self.view_is) (omega (arith, c.if-front-self.false)) in
+    let found : row_of c.args.self.now.instance (entry_of c.args.lent) ≡ Some c.in-Some.row =
+    rw c.instance.ensures.own at (sym c.in_ok-found.ensures.row ∙ c.in-Some.is) in
+    given_at c.args.self.now c.take.new.self c.args.front c.in-Some.row (entry_of c.args.lent) c.take.result c.given_by.result inside
+    c.in_ok-found.ensures.handle found c.given_by.ensures c.take.ensures.taken c.take.ensures.rest

@@ -1,20 +1,37 @@
-use Rattle.std.proofs.Common.{◌∙◌}
+use Rattle.std.proofs.Common.{◌≡◌, arith, length, take, Some, refl}
+use Rattle.std.specs.List.{slice_get}
+use Rattle.std.proofs.lemmas.Option.{slice_get_read}
+use Rattle.std.proofs.lemmas.List.{take_all}
 use Rattle.hsp_check.specs.Uses.{table}
-use Rattle.hsp_dispatch.proofs.FrontUses.{front_table, front_uses}
-use Rattle.hsp_dispatch.proofs.FrontsHeld.{first_more}
-use Rattle.hsp_dispatch.proofs.SharedOut.{in_order}
+use Rattle.hsp_dispatch.proofs.FrontsHeld.{all_hold, all_share, few_held, rows_more}
 use Rattle.hsp_dispatch.proofs.fronts.Fronts.over.Goals as goal
 
-pub over-requires : goal.over-requires
-over-requires c =
-    rw (c.as_slice.ensures.value, c.in_ok-own.ensures)
-    (front_uses c.args.instance.now c.args.fronts c.loop-front.front c.args.uses.now c.requires.some c.requires.uses)
+pub loop-share-preserved : goal.loop-share-preserved
+loop-share-preserved c =
+    let shares = c.in_ok-share_out.field-0.items in
+    let at : slice_get shares c.loop-share.share-index ≡ Some c.share-item.result =
+    slice_get_read shares (length shares) c.loop-share.share-index c.share-item.result refl (omega arith) (rw c.deref-share-items.ensures.value at c.share-item.is) in
+    rw (c.in_ok-push.ensures.items, c.deref-share-items.ensures.value)
+    (rows_more c.args.fronts c.loop-share.share-index shares c.share-item.result c.loop-share.rows.items c.in_ok-new.field-0 at
+    (rw c.deref-share-items.ensures.value at c.loop-share.invariant) (rw c.in_ok-cells.ensures at c.in_ok-new.ensures))
 
-pub loop-front-preserved : goal.loop-front-preserved
-loop-front-preserved c =
-    let uses = c.args.uses.now in
-    let front = c.loop-front.front in
-    rw c.in_ok-push.ensures.items
-    (first_more c.args.instance.now (table uses) c.args.fronts front c.loop-front.all.items c.in_ok-over.field-0 c.loop-front.invariant c.in_ok-over.ensures.instance
-    (λ row site. c.in_ok-over.ensures.table row site
-    ∙ rw (c.as_slice.ensures.value, c.in_ok-own.ensures) (front_table c.args.fronts front uses (in_order uses c.requires.uses.order) row site)))
+pub new-requires-clause-few : goal.new-requires-clause-few
+new-requires-clause-few c =
+    let shares = c.in_ok-share_out.field-0.items in
+    let at : slice_get shares c.loop-share.share-index ≡ Some c.share-item.result =
+    slice_get_read shares (length shares) c.loop-share.share-index c.share-item.result refl (omega arith) (rw c.deref-share-items.ensures.value at c.share-item.is) in
+    rw c.in_ok-cells.ensures (few_held c.args.instance.now shares c.loop-share.share-index c.share-item.result c.in_ok-share_out.ensures.held at)
+
+pub invariant_of-result : goal.invariant_of-result
+invariant_of-result c =
+    let shares = c.in_ok-share_out.field-0.items in
+    let all : take c.loop-share.share-index shares ≡ shares = take_all c.loop-share.share-index shares (omega (arith, c.deref-share-items.ensures.value)) in
+    all_hold c.args.instance.now c.args.fronts shares c.loop-share.rows.items c.in_ok-share_out.ensures.held
+    (rw all at (rw c.deref-share-items.ensures.value at c.loop-share.invariant))
+
+pub returns : goal.returns
+returns c =
+    let shares = c.in_ok-share_out.field-0.items in
+    let all : take c.loop-share.share-index shares ≡ shares = take_all c.loop-share.share-index shares (omega (arith, c.deref-share-items.ensures.value)) in
+    all_share c.args.instance.now (table c.args.uses.now) c.args.fronts shares c.loop-share.rows.items c.in_ok-share_out.ensures.held c.in_ok-share_out.ensures.table
+    (rw all at (rw c.deref-share-items.ensures.value at c.loop-share.invariant))

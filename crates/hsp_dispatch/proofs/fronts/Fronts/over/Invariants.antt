@@ -1,7 +1,7 @@
-use Rattle.hsp_check.specs.Uses.{table}
-use Rattle.hsp_dispatch.proofs.FrontsHeld.{AreFirst}
+use Rattle.std.proofs.Common.{take}
+use Rattle.hsp_dispatch.proofs.FrontsHeld.{AreRowsOf}
 use Rattle.hsp_dispatch.proofs.fronts.Fronts.over.Given as goal
 
--- the fronts so far hold their shares
-abbrev pub invariant-loop-front : goal.invariant-loop-front
-invariant-loop-front l = AreFirst l.instance (table l.uses) l.fronts l.front l.all.items
+-- the fronts hold their shares in the rows so far
+abbrev pub invariant-loop-share : goal.invariant-loop-share
+invariant-loop-share l = AreRowsOf l.fronts (take l.share-index l.share-items) l.rows.items

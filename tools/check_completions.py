@@ -1,0 +1,116 @@
+#!/usr/bin/env python3
+"""Tries the files of completions/ in the shells that are installed: types lines, asks the shell for completions, and compares.
+
+bash is asked by its completion function, fish by `complete -C`, and zsh at a terminal of its own, where the line is read back after Tab; so
+zsh is asked only where one word is the answer. A shell that is not installed is named as not tried; with --all that is a fault.
+"""
+import argparse
+import os
+import pty
+import select
+import shlex
+import shutil
+import subprocess
+import sys
+import tempfile
+
+TOP = os.path.dirname(os.path.dirname(os.path.abspath(__file__)))
+FILES = os.path.join(TOP, "completions")
+COMMANDS = ["check", "dispatch", "locate", "plan", "report", "site"]
+CASES = [
+    ("hsplan ", COMMANDS),
+    ("hsplan re", ["report"]),
+    ("hsplan locate --op", ["--option"]),
+    ("hsplan locate --option l", ["local"]),
+    ("hsplan site --in", ["--index"]),
+    ("hsplan plan --ca", ["--capacity"]),
+    ("hsplan plan --fr", []),
+    ("hsplan check --demand dem", ["demand.csv"]),
+    ("hsplan dispatch --settings settings.toml --fr", ["--fronts"]),
+    ("hsplan report --settings settings.toml --kind s", ["shortage"]),
+]
+
+
+def printed(command, folder):
+    return subprocess.run(command, cwd=folder, stdout=subprocess.PIPE, stderr=subprocess.STDOUT, text=True, timeout=60).stdout
+
+
+def ask_bash(line, folder):
+    words = shlex.split(line) + ([""] if line.endswith(" ") else [])
+    listed = " ".join(shlex.quote(it) for it in words)
+    script = f"source {FILES}/hsplan.bash; COMP_WORDS=({listed}); COMP_CWORD={len(words) - 1}; _hsplan; printf '%s\\n' \"${{COMPREPLY[@]}}\""
+    return sorted(it for it in printed(["bash", "-c", script], folder).splitlines() if it)
+
+
+def ask_fish(line, folder):
+    script = f"source {FILES}/hsplan.fish; complete -C {shlex.quote(line)}"
+    return sorted(it.split("\t")[0] for it in printed(["fish", "--no-config", "-c", script], folder).splitlines())
+
+
+ZSHRC = """fpath=({files} $fpath)
+autoload -Uz compinit
+compinit -u -D
+tell() {{ print -r -- "$BUFFER" > {told}; exit 0 }}
+zle -N tell
+bindkey '^X^T' tell
+bindkey '^I' complete-word
+PS1='ready>'
+"""
+
+
+def drained(terminal, until, seconds):
+    """What a terminal shows, up to a text or for so many seconds without a further octet."""
+    shown = b""
+    while until not in shown and select.select([terminal], [], [], seconds)[0]:
+        try:
+            shown += os.read(terminal, 4096)
+        except OSError:
+            break
+    return shown
+
+
+def ask_zsh(line, folder):
+    """The last word of the line after Tab, where it changed."""
+    with tempfile.TemporaryDirectory() as home:
+        told = os.path.join(home, "told")
+        with open(os.path.join(home, ".zshrc"), "w") as file:
+            file.write(ZSHRC.format(files=FILES, told=told))
+        child, terminal = pty.fork()
+        if child == 0:
+            os.chdir(folder)
+            os.execvpe("zsh", ["zsh", "-i"], dict(os.environ, ZDOTDIR=home, TERM="dumb"))
+        drained(terminal, b"ready>", 20)
+        os.write(terminal, line.encode() + b"\t\x18\x14")
+        drained(terminal, b"\x00", 10)
+        os.close(terminal)
+        os.waitpid(child, 0)
+        after = open(told).read().rstrip() if os.path.exists(told) else line
+    return [after.split(" ")[-1]] if after != line.rstrip() else []
+
+
+def tried(shell, ask):
+    """The lines that a shell completes otherwise, and how many it was asked."""
+    cases = [it for it in CASES if shell != "zsh" or len(it[1]) < 2]
+    with tempfile.TemporaryDirectory() as folder:
+        for name in ("demand.csv", "settings.toml"):
+            open(os.path.join(folder, name), "w").close()
+        got = [(line, wanted, ask(line, folder)) for line, wanted in cases]
+    return [f"{shell}: {line!r}: wanted {wanted}, got {found}" for line, wanted, found in got if wanted != found], len(cases)
+
+
+def main():
+    arguments = argparse.ArgumentParser(description="Tries the completions in the shells that are installed.")
+    arguments.add_argument("--all", action="store_true", help="take a shell that is not installed as a fault")
+    wants_all = arguments.parse_args().all
+    shells = {"bash": ask_bash, "zsh": ask_zsh, "fish": ask_fish}
+    absent = [it for it in shells if not shutil.which(it)]
+    found = {name: tried(name, ask) for name, ask in shells.items() if name not in absent}
+    faults = [fault for it, _ in found.values() for fault in it]
+    asked = ", ".join(f"{name} {count}" for name, (_, count) in found.items())
+    print("\n".join(faults + [f"{it} IS NOT INSTALLED HERE: its completions were not tried" for it in absent]
+                    + [f"completions: lines tried in {asked or 'no shell'}, {len(faults)} faults"]))
+    return 1 if faults or not found or (wants_all and absent) else 0
+
+
+if __name__ == "__main__":
+    sys.exit(main())

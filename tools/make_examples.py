@@ -1,0 +1,225 @@
+#!/usr/bin/env python3
+"""Writes the inputs of the examples: those of examples/two-sites, which are kept with the sources, and those of examples/twelve-sites,
+which are large and go into its folder out/.
+
+Every number that isn't written here is drawn by a digest of a word and of what it is for, so that each run writes the same octets.
+
+    tools/make_examples.py            writes both
+    tools/make_examples.py --check    writes nothing, and compares examples/two-sites with what it would write there
+"""
+import argparse
+import hashlib
+import math
+import os
+import sys
+
+TOP = os.path.dirname(os.path.dirname(os.path.abspath(__file__)))
+BY_HANDLE = 2
+INTERFACES = [(3, 0, 2641), (3, 1, 2641), (3, 2, 8000)]
+
+
+def drawn(limit, *words):
+    """A number below the limit that the words alone decide."""
+    digest = hashlib.sha256("/".join(str(it) for it in words).encode()).digest()
+    return int.from_bytes(digest[:8], "big") % limit
+
+
+def whole(number, octets):
+    return number.to_bytes(octets, "big")
+
+
+def counted(octets):
+    """Octets after their number."""
+    return whole(len(octets), 4) + octets
+
+
+def address_of(text):
+    """The 16 octets of an IPv4 address: 12 times 0, then its 4."""
+    return bytes(12) + bytes(int(it) for it in text.split("."))
+
+
+def key_of(name, server_id):
+    """A stand-in for a public key record: the planner carries it and never reads it."""
+    return counted(b"RSA_PUB_KEY") + whole(0, 2) + counted(whole(65537, 3)) + counted(hashlib.shake_128(f"{name}/{server_id}".encode()).digest(64))
+
+
+def server_octets(name, server_id, address):
+    interfaces = b"".join(whole(kind, 1) + whole(protocol, 1) + whole(port, 4) for kind, protocol, port in INTERFACES)
+    return whole(server_id, 4) + address_of(address) + counted(key_of(name, server_id)) + whole(len(INTERFACES), 4) + interfaces
+
+
+def site_octets(name, serial, addresses):
+    """HS_SITE data of a site whose servers have the identifiers 1, 2, 3 and so on, and these addresses."""
+    head = whole(1, 2) + bytes([2, 11]) + whole(serial, 2) + bytes([0, BY_HANDLE])
+    attributes = whole(1, 4) + counted(b"desc") + counted(f"mirror {name}".encode())
+    servers = [server_octets(name, at + 1, it) for at, it in enumerate(addresses)]
+    return head + counted(b"") + attributes + whole(len(servers), 4) + b"".join(servers)
+
+
+def value_octets(index, data):
+    """A value of the type HS_SITE: permission 14, a relative lifetime of a day, and no references."""
+    return whole(index, 4) + counted(b"HS_SITE") + counted(data) + bytes([14]) + bytes([0]) + whole(86400, 4) + whole(1774000000, 8) + whole(0, 4)
+
+
+def values_octets(values):
+    return whole(len(values), 4) + b"".join(value_octets(index, data) for index, data in values)
+
+
+def settings_text(sites):
+    return "".join(f'[[site]]\nname = "{name}"\nrecord = "{data.hex()}"\n' for name, data in sites).encode()
+
+
+def hosts_text(hosts):
+    return "".join(f'[[host]]\naddress = "{address_of(address).hex()}"\nlimit = {limit}\n' for address, limit in hosts).encode()
+
+
+def table(header, rows):
+    return "".join(",".join(str(it) for it in row) + "\n" for row in [header.split(",")] + rows).encode()
+
+
+TWO_SITES = {"paris": ["192.0.2.11", "192.0.2.12"], "reston": ["198.51.100.21", "198.51.100.22", "198.51.100.22"]}
+TWO_CAPACITY = {"paris": 1500, "reston": 1450}
+TWO_COSTS = [("eu", "paris", 12), ("eu", "reston", 84), ("us", "paris", 91), ("us", "reston", 17), ("asia", "paris", 168), ("asia", "reston", 143)]
+TWO_WEIGHTS = {"eu": 300, "us": 260, "asia": 120}
+HANDLES = ["report-2024", "report-2025", "dataset-7", "dataset-19", "dataset-23", "thesis-0412", "thesis-0977", "map-12", "map-31", "film-5", "audio-88", "code-v3"]
+
+
+def two_handles():
+    return [f"20.500.1234/{it}" for it in HANDLES]
+
+
+def two_demand():
+    """Queries in the busiest hour: the first handles are asked for most, and each region asks for each."""
+    rows = [(region, place, handle) for region in TWO_WEIGHTS for place, handle in enumerate(two_handles())]
+    return [(region, handle, TWO_WEIGHTS[region] * 3 // (place + 2) + drawn(97, "count", region, handle)) for region, place, handle in rows]
+
+
+def two_capacity(capacities):
+    return [(name, at + 1, capacities[name] + 10 * at) for name, addresses in TWO_SITES.items() for at in range(len(addresses))]
+
+
+def wanted_more(rows, name, times):
+    """The rows with so many times the demand for one handle."""
+    return [(region, handle, count * times if handle.endswith(name) else count) for region, handle, count in rows]
+
+
+def log_rows(demand, number, word):
+    """So many queries, each drawn by the counts of the demand."""
+    tickets = [at for at, row in enumerate(demand) for _ in range(row[2])]
+    return [demand[tickets[drawn(len(tickets), word, at)]][:2] for at in range(number)]
+
+
+def two_pings():
+    """Five measured times for each region and site, whose middle one is the cost."""
+    spread = [-3, -1, 0, 2, 40]
+    return [(region, site, f"{cost + it}.{drawn(5, region, site, it)}") for region, site, cost in TWO_COSTS for it in spread]
+
+
+def two_sites():
+    sites = [(name, site_octets(name, 7 + at, it)) for at, (name, it) in enumerate(TWO_SITES.items())]
+    demand = two_demand()
+    plain = settings_text(sites)
+    return {
+        "settings.toml": plain,
+        "hosts.toml": plain + hosts_text([("198.51.100.22", 2000)]),
+        "by_index.toml": b'[[site]]\nname = "paris"\nindex = 3\n[[site]]\nname = "reston"\nindex = 4\n',
+        "sites.values": values_octets([(3, sites[0][1]), (4, sites[1][1])]),
+        "paris.site": sites[0][1],
+        "demand.csv": table("region,handle,count", demand),
+        "premiere.csv": table("region,handle,count", wanted_more(demand, "film-5", 4)),
+        "costs.csv": table("region,site,cost", TWO_COSTS),
+        "capacity.csv": table("site,server_id,capacity", two_capacity(TWO_CAPACITY)),
+        "boundless.csv": table("site,server_id,capacity", [row[:2] + (1000000000,) for row in two_capacity(TWO_CAPACITY)]),
+        "pings.csv": table("region,site,milliseconds", two_pings()),
+        "log.csv": table("region,handle", log_rows(demand, 600, "two-sites")),
+    }
+
+
+# Degrees of latitude and longitude.
+TWELVE_SITES = {
+    "paris": (49, 2), "reston": (39, -77), "tokyo": (36, 140), "sydney": (-34, 151), "saopaulo": (-24, -47), "capetown": (-34, 18),
+    "mumbai": (19, 73), "frankfurt": (50, 9), "oslo": (60, 11), "toronto": (44, -79), "seoul": (37, 127), "nairobi": (-1, 37),
+}
+REGIONS = {
+    "eu-west": (48, 0), "eu-north": (58, 14), "eu-south": (41, 14), "us-east": (40, -76), "us-west": (38, -121),
+    "latin": (-15, -60), "africa": (-5, 25), "india": (20, 78), "east-asia": (34, 122), "oceania": (-33, 147),
+}
+NUMBER_OF_HANDLES = 2400
+
+
+def twelve_addresses():
+    """Two to seven servers a site."""
+    return {name: [f"203.0.113.{16 * at + it}" for it in range(2 + drawn(6, "servers", name))] for at, name in enumerate(TWELVE_SITES)}
+
+
+def twelve_count(place, region):
+    """How many queries of a busy hour a region has for a handle; of most pairs none."""
+    asks = drawn(10, "asks", region, place) < 3
+    return (42000 // (place + 20) + drawn(40, "count", region, place)) if asks else 0
+
+
+def twelve_demand():
+    pairs = [(region, place) for place in range(NUMBER_OF_HANDLES) for region in REGIONS]
+    rows = [(region, f"20.500.{4000 + place % 7}/item-{place}", twelve_count(place, region)) for region, place in pairs]
+    return [row for row in rows if row[2]]
+
+
+def way(place, other):
+    """About how many milliseconds a query takes between two places: more the farther they are, measured on a flat map."""
+    north = abs(place[0] - other[0])
+    degrees = abs(place[1] - other[1])
+    east = min(degrees, 360 - degrees) * 0.7
+    return 6 + int(1.6 * math.sqrt(north * north + east * east))
+
+
+def twelve_costs():
+    return [(region, site, way(REGIONS[region], TWELVE_SITES[site]) + drawn(9, "cost", region, site)) for region in REGIONS for site in TWELVE_SITES]
+
+
+def twelve_sites():
+    addresses = twelve_addresses()
+    demand = twelve_demand()
+    capacity = [(name, at + 1, 12500 + drawn(6000, "capacity", name, at)) for name, it in addresses.items() for at in range(len(it))]
+    return {
+        "settings.toml": settings_text([(name, site_octets(name, 1, it)) for name, it in addresses.items()]),
+        "demand.csv": table("region,handle,count", demand),
+        "costs.csv": table("region,site,cost", twelve_costs()),
+        "capacity.csv": table("site,server_id,capacity", capacity),
+        "log.csv": table("region,handle", log_rows(demand, 100000, "twelve-sites")),
+    }
+
+
+def write(folder, files):
+    os.makedirs(os.path.join(TOP, folder), exist_ok=True)
+    for name, octets in files.items():
+        with open(os.path.join(TOP, folder, name), "wb") as file:
+            file.write(octets)
+
+
+def octets_at(path):
+    if not os.path.exists(path):
+        return None
+    with open(path, "rb") as file:
+        return file.read()
+
+
+def differing(folder, files):
+    """The files that are not there, or hold other octets."""
+    return [f"{folder}/{name} is not what tools/make_examples.py writes" for name, octets in files.items() if octets_at(os.path.join(TOP, folder, name)) != octets]
+
+
+def main():
+    arguments = argparse.ArgumentParser(description="Writes the inputs of the examples.")
+    arguments.add_argument("--check", action="store_true", help="compare examples/two-sites with what would be written, and write nothing")
+    small = two_sites()
+    if arguments.parse_args().check:
+        faults = differing("examples/two-sites", small)
+        print("\n".join(faults + [f"examples: {len(small)} files of two-sites compared, {len(faults)} faults"]))
+        return 1 if faults else 0
+    write("examples/two-sites", small)
+    write("examples/twelve-sites/out", twelve_sites())
+    return 0
+
+
+if __name__ == "__main__":
+    sys.exit(main())
