@@ -5,7 +5,7 @@ use Rattle.std.specs.Str.{bytes_eq}
 use Rattle.csv.specs.Records.{field_at}
 use Rattle.hsp_csv.specs.Header.{same_fields}
 use Rattle.hsp_csv.specs.Records.{Fields}
-use Rattle.hsp_instance.specs.LentKeys.{both}
+use Rattle.hsp_tables.specs.LentKeys.{both}
 use Rattle.hsp_dispatch.specs.Log.{header_of}
 use Rattle.hsp_dispatch.specs.declared.form.Form.{Form}
 use Rattle.hsp_dispatch.specs.declared.form.Form.TheVariants.{Handles, Bodies}

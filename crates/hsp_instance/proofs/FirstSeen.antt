@@ -12,7 +12,7 @@ use Rattle.std.specs.Str.{bytes_eq}
 use Rattle.indexmap.specs.IndexSet.{insert_key}
 use Rattle.hsp_instance.specs.Groups.{AreAlike, AreGroups, IsSeenBefore}
 use Rattle.hsp_instance.specs.Instance.{Instance, Row}
-use Rattle.hsp_instance.specs.LentKeys.{both}
+use Rattle.hsp_tables.specs.LentKeys.{both}
 use Rattle.hsp_instance.specs.contracts.arc.ArcPartialEq.TheImpl.{eq-value as Arcs}
 use Rattle.hsp_instance.specs.contracts.grouping.KindPartialEq.TheImpl.{eq-value as Kinds}
 use Rattle.hsp_instance.specs.declared.arc.Arc.{Arc}

@@ -1,8 +1,8 @@
 pub mod Instance
 pub mod KeyedRows
+pub mod Digests
 pub mod Building
 pub mod Parts
-pub mod LentKeys
 pub mod RegionCosts
 pub mod Groups
 pub mod Runs

@@ -8,35 +8,43 @@ ghost use Rattle.hsp_instance.specs.Instance.{AreSites};
 ghost use Rattle.hsp_instance.specs.RegionCosts.{arcs_by, arcs_of};
 
 use crate::arc::Arc;
+use crate::digests::Digests;
 use crate::instance::ArcList;
 use crate::region_costs::{RegionCosts, place_of};
 use crate::sites::Site;
-use hsp_hash::server_number;
 use hsp_names::HandleRef;
 use hsp_tables::{Costs, Demand};
 use std::alloc::{AllocError, Global};
 
-// Adds the arc to a site whose servers are numbered from `first` on, where a query has a cost there.
+// The number of a site, and that of its first server among the servers of all sites.
+#[derive(Clone, Copy, Debug)]
+struct Numbers {
+    site: u32,
+    first: u32,
+}
+
+// Adds the arc to a site of these numbers, where a query has a cost there.
 fn push_arc(
     arcs: &mut Vec<Arc>,
-    handle: HandleRef<'_>,
-    number: u32,
-    first: u32,
+    digests: &mut Digests<'_>,
+    numbers: Numbers,
     site: &Site,
     cost: Option<u64>,
 ) -> Result<(), AllocError>
-    requires first { first ≤ MOST_SERVERS }
+    requires first { numbers.first ≤ MOST_SERVERS }
     requires some { 0 < length site.now.servers }
     requires few { length site.now.servers ≤ MOST_SERVERS }
-    ensures { OnOk result (arcs.new.items ≡ arcs.old.items ++ arc_to (octets_of handle.entry) number first site.now cost) }
+    ensures arcs { OnOk result (arcs.new.items ≡ arcs.old.items
+        ++ arc_to digests.old numbers.site numbers.first site.now cost) }
+    ensures same { digests.new ≡ digests.old }
 {
     let Some(cost) = cost else {
         return Ok(());
     };
-    let place = server_number(site.option, handle, site.servers.len() as u32);
+    let place = digests.place(site.option, site.servers.len() as u32);
     arcs.push(Arc {
-        site: number,
-        server: first + place,
+        site: numbers.site,
+        server: numbers.first + place,
         cost,
     })?;
     Ok(())
@@ -54,9 +62,14 @@ fn arcs_by(
     ensures { IfOk result (λ arcs. arcs ≡ arcs_by (octets_of handle.entry) 0 0 sites.now costs.now) }
 {
     let mut arcs = Vec::new(alloc);
+    let mut digests = Digests::new(handle);
     let mut first: u32 = 0;
     for (number, site) in sites.iter().enumerate() {
-        push_arc(&mut arcs, handle, number as u32, first, site, costs[number])?;
+        let numbers = Numbers {
+            site: number as u32,
+            first,
+        };
+        push_arc(&mut arcs, &mut digests, numbers, site, costs[number])?;
         first += site.servers.len() as u32;
     }
     Ok(ArcList { arcs })

@@ -7,6 +7,7 @@ mod arc_building;
 mod building;
 mod checks;
 mod columns;
+mod digests;
 mod fault;
 mod group_numbers;
 mod grouping;

@@ -2,12 +2,10 @@
 
 ghost use Rattle.std.specs.Prelude.{◌≡◌, Some, map, option_map, slice_get, OnOk, IfOk, IfSome};
 ghost use Rattle.std.specs.List.{AllByRecursion};
-ghost use Rattle.hsp_tables.specs.Rows.{cost_shown};
-ghost use Rattle.hsp_instance.specs.Building.{cost_of, is_cost_of};
 ghost use Rattle.hsp_instance.specs.RegionCosts.{HasCosts, costs_at};
 
 use crate::sites::Site;
-use hsp_tables::{CostRow, Costs};
+use hsp_tables::Costs;
 use std::alloc::{AllocError, Global};
 use std::marker::Model;
 
@@ -26,26 +24,6 @@ impl Model for RegionCosts {
     ghost view = { λ r. record { region = r.region.items; costs = r.costs.items } };
 }
 
-// Whether a row is of a region and of the site of a name.
-fn is_cost_of(row: CostRow<'_>, region: &[u8], name: &[u8]) -> bool
-    ensures { result ≡ is_cost_of region.now name.now (cost_shown row.entry) }
-{
-    row.region == region && row.site == name
-}
-
-// What a query from a region costs at the site of a name.
-fn cost_of(costs: &Costs, region: &[u8], name: &[u8]) -> Option<u64>
-    ensures { result ≡ cost_of costs.now region.now name.now }
-{
-    for number in 0..costs.len() {
-        let row = costs.row(number);
-        if is_cost_of(row, region, name) {
-            return Some(row.cost);
-        }
-    }
-    None
-}
-
 // What a query from a region costs at each site.
 #[tactic(auto, using(crate::proofs::Lists::take_whole))]
 fn costs_at(
@@ -58,7 +36,7 @@ fn costs_at(
 {
     let mut found = Vec::new(alloc);
     for site in sites {
-        found.push(cost_of(costs, region, site.name.as_slice()))?;
+        found.push(costs.find(region, site.name.as_slice()))?;
     }
     Ok(found)
 }

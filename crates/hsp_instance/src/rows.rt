@@ -1,7 +1,10 @@
 // The rows of demand, found by their regions and handles.
 
 ghost use Rattle.std.specs.Prelude.{◌≡◌, ◌<◌, ◌∷◌, ◌++◌, [], Some, length, map, position, slice_get, OnOk, IfOk, IfErr, false};
+ghost use Rattle.std.specs.Cmp.Rules.{comparing, hashing};
+ghost use Rattle.std.specs.Hash as fed;
 ghost use Rattle.std.specs.List.{list_any};
+ghost use Rattle.std.proofs.Common.{rules};
 ghost use Rattle.hsp_tables.specs.Demand.{AreDemand};
 ghost use Rattle.hsp_text.specs.declared.limits.TheConstants.{MOST_DEMAND_ROWS};
 ghost use Rattle.hsp_instance.specs.declared.fault.BuildFault.TheVariants.{OutOfMemory};
@@ -11,15 +14,78 @@ ghost use Rattle.hsp_instance.specs.Instance.{has_keys};
 use crate::fault::BuildFault;
 use hsp_tables::Demand;
 use indexmap::{Equivalent, IndexMap};
-use std::alloc::Global;
-use std::hash::Hash;
+use std::alloc::{AllocError, Global};
+use std::hash::{Hash, Hasher};
 use std::marker::Model;
 
-// The region and the handle by which a row is found.
-#[derive(Debug, PartialEq, Eq, Hash, Drop)]
+// The region and the handle by which a row is found. Their octets lie one after the other, so that a lookup reads one place.
+#[derive(Debug, Drop)]
 struct RowKey {
-    region: Vec<u8>,
-    handle: Vec<u8>,
+    octets: Vec<u8>,
+    cut: usize,
+}
+
+impl Model for RowKey {
+    ghost use Rattle.std.specs.Prelude.{◌≤◌, length};
+    ghost use Rattle.hsp_instance.specs.KeyedRows.{RowName, name_in};
+
+    ghost Value = { RowName };
+
+    ghost view = { λ k. name_in k.cut k.octets.items };
+
+    ghost invariant = { λ k. k.cut ≤ length k.octets.items };
+}
+
+impl RowKey {
+    fn new(alloc: Global, region: &[u8], handle: &[u8]) -> Result<RowKey, AllocError>
+        ensures { IfOk result (λ key. key ≡ record { region = region.now; handle = handle.now }) }
+    {
+        let cut = region.len();
+        let mut octets = Vec::with_capacity(alloc, cut.saturating_add(handle.len()))?;
+        octets.extend_from_slice(region)?;
+        octets.extend_from_slice(handle)?;
+        Ok(RowKey { octets, cut })
+    }
+
+    fn region(&self) -> &[u8]
+        ensures { result.now ≡ self.now.region }
+    {
+        &self.octets[..self.cut]
+    }
+
+    fn handle(&self) -> &[u8]
+        ensures { result.now ≡ self.now.handle }
+    {
+        &self.octets[self.cut..]
+    }
+}
+
+impl PartialEq for RowKey {
+    ghost use Rattle.std.specs.Prelude.{◌&&◌};
+    ghost use Rattle.std.specs.Str.{bytes_eq};
+
+    ghost eq = { λ a b. bytes_eq a.region b.region && bytes_eq a.handle b.handle };
+
+    ghost laws = { Prim.search (comparing, rules) };
+
+    fn eq(&self, other: &RowKey) -> bool {
+        self.region() == other.region() && self.handle() == other.handle()
+    }
+}
+
+impl Eq for RowKey {
+    ghost laws = { Prim.search (comparing, rules) };
+}
+
+impl Hash for RowKey {
+    ghost hash_input = { λ k. fed.slice fed.u8 k.region ++ fed.slice fed.u8 k.handle };
+
+    ghost respects_eq = { Prim.search (hashing, rules) };
+
+    fn hash<H: Hasher>(&self, state: &mut H) {
+        self.region().hash(state);
+        self.handle().hash(state);
+    }
 }
 
 // The same, lent.
@@ -33,16 +99,16 @@ impl Equivalent<RowKey> for LentKey<'_> {
     ghost use Rattle.std.specs.Prelude.{◌≡◌, ◌&&◌};
     ghost use Rattle.std.specs.Str.{bytes_eq};
 
-    ghost equivalent = { λ q k. bytes_eq q.region.now k.region.items && bytes_eq q.handle.now k.handle.items };
+    ghost equivalent = { λ q k. bytes_eq q.region.now k.region && bytes_eq q.handle.now k.handle };
 
-    ghost use Rattle.hsp_instance.specs.LentKeys.{hashed_alike, compared_alike};
+    ghost use Rattle.hsp_tables.specs.LentKeys.{hashed_alike, compared_alike};
 
-    ghost respects_hash = { λ q k h. hashed_alike q.region.now k.region.items q.handle.now k.handle.items h };
+    ghost respects_hash = { λ q k h. hashed_alike q.region.now k.region q.handle.now k.handle h };
 
-    ghost respects_eq = { λ q x y h. compared_alike q.region.now x.region.items q.handle.now x.handle.items y.region.items y.handle.items h };
+    ghost respects_eq = { λ q x y h. compared_alike q.region.now x.region q.handle.now x.handle y.region y.handle h };
 
     fn equivalent(&self, key: &RowKey) -> bool {
-        self.region == key.region.as_slice() && self.handle == key.handle.as_slice()
+        self.region == key.region() && self.handle == key.handle()
     }
 }
 
@@ -89,7 +155,7 @@ impl Rows {
         ensures { slice_get self.now place ≡ Some (record { region = result.0.now; handle = result.1.now; count = result.2 }) }
     {
         let (key, count) = self.rows.get_index(place).unwrap();
-        (key.region.as_slice(), key.handle.as_slice(), *count)
+        (key.region(), key.handle(), *count)
     }
 
     // The place of the row of a region and a handle.
@@ -113,11 +179,8 @@ impl Rows {
         ensures ok { OnOk result (self.new ≡ self.old ++ record { region = region.now; handle = handle.now; count = count } ∷ []) }
         ensures err { IfErr result (λ e. e ≡ OutOfMemory) }
     {
-        let key = RowKey {
-            region: Vec::from_slice(alloc, region)?,
-            handle: Vec::from_slice(alloc, handle)?,
-        };
-        self.rows.insert(key, count)?;
+        self.rows
+            .insert(RowKey::new(alloc, region, handle)?, count)?;
         Ok(())
     }
 }

@@ -2,18 +2,17 @@
 
 ghost use Rattle.std.specs.Prelude.{◌≡◌, ◌≤◌, ◌<◌, ◌+◌, ◌⊎◌, ◌∷◌, ◌++◌, [], Ok, Err, Some, length, map, option_map, slice_get, OnOk, IfOk, IfErr};
 ghost use Rattle.std.specs.List.{position_from};
-ghost use Rattle.hsp_tables.specs.Rows.{capacity_shown};
 ghost use Rattle.hsp_tables.specs.Settings.{AreSettings};
 ghost use Rattle.hsp_text.specs.declared.limits.TheConstants.{MOST_HOSTS, MOST_SERVERS};
 ghost use Rattle.hsp_instance.specs.declared.fault.BuildFault.TheVariants.{OutOfMemory};
 ghost use Rattle.hsp_text.specs.Answers.{Gives};
-ghost use Rattle.hsp_instance.specs.Building.{capacity_of, host_of_entry, is_at, is_capacity_of, server_at, servers_at, servers_from};
+ghost use Rattle.hsp_instance.specs.Building.{host_of_entry, is_at, server_at, servers_at, servers_from};
 ghost use Rattle.hsp_instance.specs.Instance.{AreSites};
 
 use crate::fault::BuildFault;
 use crate::instance::{Host, Server};
 use crate::sites::{Site, SiteServer};
-use hsp_tables::{Capacities, CapacityRow, Settings};
+use hsp_tables::{Capacities, Settings};
 use std::alloc::{AllocError, Global};
 
 // The hosts of the settings.
@@ -29,26 +28,6 @@ pub(crate) fn hosts_of(alloc: Global, settings: &Settings) -> Result<Vec<Host>, 
         hosts.push(Host { address, limit })?;
     }
     Ok(hosts)
-}
-
-// Whether a row is of the site of a name and of the server of an identifier.
-fn is_capacity_of(row: CapacityRow<'_>, name: &[u8], id: u32) -> bool
-    ensures { result ≡ is_capacity_of name.now id (capacity_shown row.entry) }
-{
-    row.site == name && row.server_id == id
-}
-
-// The capacity of a server, by the name of its site and its identifier.
-fn capacity_of(capacities: &Capacities, name: &[u8], id: u32) -> Option<u64>
-    ensures { result ≡ capacity_of capacities.now name.now id }
-{
-    for number in 0..capacities.len() {
-        let row = capacities.row(number);
-        if is_capacity_of(row, name, id) {
-            return Some(row.capacity);
-        }
-    }
-    None
 }
 
 // The number of the host of an address.
@@ -76,7 +55,7 @@ fn server_at(
     requires { length hosts.now ≤ MOST_HOSTS }
     ensures { Gives (λ s. s) result (server_at capacities.now hosts.now site name.now place own.now) }
 {
-    let Some(capacity) = capacity_of(capacities, name, own.id) else {
+    let Some(capacity) = capacities.find(name, own.id) else {
         return Err(BuildFault::NoCapacity {
             site,
             server_id: own.id,

@@ -1,5 +1,6 @@
 pub mod RecordFields
 pub mod KeyedMaps
+pub mod Lookups
 pub mod SeenNames
 pub mod PairTables
 pub mod TurnLaws

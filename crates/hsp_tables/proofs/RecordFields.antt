@@ -1,6 +1,5 @@
 -- Records of three fields.
-use Rattle.std.proofs.Common.{◌≡◌, ◌≢◌, ◌≤◌, ◌&&◌, ℕ, Bool, true, false, List, [], ◌∷◌, length, zero, suc, Option, None, Some, arith, refl}
-use Rattle.std.specs.Str.{bytes_eq}
+use Rattle.std.proofs.Common.{◌≡◌, ◌≤◌, ℕ, List, [], ◌∷◌, length, zero, suc, Option, None, Some, arith}
 use Rattle.csv.specs.Records.{field_at}
 use Rattle.hsp_csv.specs.Records.{Fields}
 

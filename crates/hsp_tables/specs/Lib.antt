@@ -6,6 +6,7 @@ pub mod Costs
 pub mod Capacities
 pub mod Keyed
 pub mod KeyedRows
+pub mod LentKeys
 pub mod Rows
 pub mod Settings
 pub mod SettingsRows

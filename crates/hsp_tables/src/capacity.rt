@@ -1,13 +1,15 @@
 // The table of capacities: how many queries the server of an identifier can take at a site.
 
-ghost use Rattle.std.specs.Prelude.{◌≡◌, ◌<◌, ◌⊎◌, Some, Ok, Err, length, slice_get, OnOk, IfErr};
+ghost use Rattle.std.specs.Prelude.{◌≡◌, ◌<◌, ◌==◌, ◌&&◌, ◌⊎◌, Some, Ok, Err, length, option_map, slice_get, OnOk, IfErr};
+ghost use Rattle.std.specs.List.{find};
+ghost use Rattle.std.specs.Str.{bytes_eq};
 ghost use Rattle.csv.specs.Records.{fields_of};
 ghost use Rattle.hsp_csv.specs.Records.{records_of};
 ghost use Rattle.hsp_tables.specs.declared.fault.TableFault.TheVariants.{OutOfMemory};
 ghost use Rattle.hsp_text.specs.Answers.{Gives, GivesUnless};
 ghost use Rattle.hsp_tables.specs.InTurn.{with_row};
 ghost use Rattle.hsp_tables.specs.Table.{row_after, table_of};
-ghost use Rattle.hsp_tables.specs.Capacities.{AreCapacities, capacity_in, capacity_table};
+ghost use Rattle.hsp_tables.specs.Capacities.{AreCapacities, CapacityEntry, capacity_in, capacity_table};
 ghost use Rattle.hsp_tables.specs.Rows.{capacity_shown};
 
 use crate::fault::TableFault;
@@ -73,6 +75,14 @@ impl Capacities {
             server_id,
             capacity,
         }
+    }
+
+    /// The capacity of the server of an identifier at a site, None where no row says it.
+    pub fn find(&self, site: &[u8], server_id: u32) -> Option<u64>
+        ensures { result ≡ option_map (λ (row : CapacityEntry). row.capacity)
+            (find (λ (row : CapacityEntry). bytes_eq row.site site.now && (row.server_id == server_id)) self.now) }
+    {
+        self.rows.capacity(site, server_id)
     }
 }
 

@@ -1,13 +1,15 @@
 // The table of costs: what a query from a region costs at a site.
 
-ghost use Rattle.std.specs.Prelude.{◌≡◌, ◌<◌, ◌⊎◌, Some, Ok, Err, length, map, slice_get, OnOk, IfErr};
+ghost use Rattle.std.specs.Prelude.{◌≡◌, ◌<◌, ◌&&◌, ◌⊎◌, Some, Ok, Err, length, map, option_map, slice_get, OnOk, IfErr};
+ghost use Rattle.std.specs.List.{find};
+ghost use Rattle.std.specs.Str.{bytes_eq};
 ghost use Rattle.csv.specs.Records.{fields_of};
 ghost use Rattle.hsp_csv.specs.Records.{records_of};
 ghost use Rattle.hsp_tables.specs.declared.fault.TableFault.TheVariants.{OutOfMemory};
 ghost use Rattle.hsp_text.specs.Answers.{Gives, GivesUnless};
 ghost use Rattle.hsp_tables.specs.InTurn.{with_row};
 ghost use Rattle.hsp_tables.specs.Table.{row_after, table_of};
-ghost use Rattle.hsp_tables.specs.Costs.{AreCosts, cost_in, cost_regions, cost_table};
+ghost use Rattle.hsp_tables.specs.Costs.{AreCosts, CostEntry, cost_in, cost_regions, cost_table};
 ghost use Rattle.hsp_tables.specs.Keyed.{cost_entry};
 ghost use Rattle.hsp_tables.specs.Rows.{cost_shown};
 
@@ -75,6 +77,14 @@ impl Costs {
             site: row.second,
             cost: row.number,
         }
+    }
+
+    /// What a query from a region costs at a site, None where no row says it.
+    pub fn find(&self, region: &[u8], site: &[u8]) -> Option<u64>
+        ensures { result ≡ option_map (λ (row : CostEntry). row.cost)
+            (find (λ (row : CostEntry). bytes_eq row.region region.now && bytes_eq row.site site.now) self.now) }
+    {
+        self.rows.number(region, site)
     }
 }
 

@@ -1,17 +1,18 @@
 // Rows that are found by their keys, in the order in which they came.
 
-ghost use Rattle.std.specs.Prelude.{◌≡◌, ◌<◌, ◌∷◌, ◌++◌, [], Some, true, not, length, map, slice_get, OnOk, IfOk, IfErr};
-ghost use Rattle.std.specs.List.{list_any};
+ghost use Rattle.std.specs.Prelude.{◌≡◌, ◌<◌, ◌==◌, ◌&&◌, ◌∷◌, ◌++◌, [], Some, true, not, length, map, option_map, slice_get, OnOk, IfOk, IfErr};
+ghost use Rattle.std.specs.List.{find, list_any};
 ghost use Rattle.std.specs.Str.{bytes_eq};
 ghost use Rattle.indexmap.specs.IndexSet.{insert_key};
 ghost use Rattle.hsp_tables.specs.declared.fault.TableFault.TheVariants.{OutOfMemory};
-ghost use Rattle.hsp_tables.specs.Capacities.{capacity_entry, same_capacity};
-ghost use Rattle.hsp_tables.specs.Keyed.{same_pair};
+ghost use Rattle.hsp_tables.specs.Capacities.{CapacityEntry, capacity_entry, same_capacity};
+ghost use Rattle.hsp_tables.specs.Keyed.{PairEntry, same_pair};
 ghost use Rattle.hsp_tables.specs.KeyedRows.{names_in, pair_entry, pair_of, server_entry};
 
 use crate::fault::TableFault;
-use indexmap::IndexMap;
+use indexmap::{Equivalent, IndexMap};
 use std::alloc::Global;
+use std::hash::Hash;
 use std::marker::Model;
 
 // The two names by which a row is found.
@@ -19,6 +20,31 @@ use std::marker::Model;
 struct PairKey {
     first: Vec<u8>,
     second: Vec<u8>,
+}
+
+// The same, lent.
+#[derive(Clone, Copy, Debug, PartialEq, Eq, Hash)]
+struct LentPair<'a> {
+    first: &'a [u8],
+    second: &'a [u8],
+}
+
+impl Equivalent<PairKey> for LentPair<'_> {
+    ghost use Rattle.std.specs.Prelude.{◌≡◌, ◌&&◌};
+    ghost use Rattle.std.specs.Str.{bytes_eq};
+
+    ghost equivalent = { λ q k. bytes_eq q.first.now k.first.items && bytes_eq q.second.now k.second.items };
+
+    ghost use Rattle.hsp_tables.specs.LentKeys.{hashed_alike, compared_alike};
+
+    ghost respects_hash = { λ q k h. hashed_alike q.first.now k.first.items q.second.now k.second.items h };
+
+    ghost respects_eq = { λ q x y h. compared_alike q.first.now x.first.items q.second.now x.second.items
+        y.first.items y.second.items h };
+
+    fn equivalent(&self, key: &PairKey) -> bool {
+        self.first == key.first.as_slice() && self.second == key.second.as_slice()
+    }
 }
 
 // A row of two names and a number.
@@ -93,6 +119,15 @@ impl PairRows {
         }
     }
 
+    // The number of the row of two names.
+    pub(crate) fn number(&self, first: &[u8], second: &[u8]) -> Option<u64>
+        ensures { result ≡ option_map (λ (row : PairEntry). row.number)
+            (find (λ (row : PairEntry). bytes_eq row.first first.now && bytes_eq row.second second.now) self.now) }
+    {
+        let number = self.rows.get(LentPair { first, second })?;
+        Some(*number)
+    }
+
     // Adds a row whose key is new, and tells whether it is.
     pub(crate) fn insert(&mut self, alloc: Global, row: PairRow<'_>) -> Result<bool, TableFault>
         ensures found { IfOk result (λ new. new ≡ not (list_any (same_pair (pair_of row.entry)) self.old)) }
@@ -108,6 +143,31 @@ impl PairRows {
 struct ServerKey {
     site: Vec<u8>,
     server_id: u32,
+}
+
+// The same, lent.
+#[derive(Clone, Copy, Debug, PartialEq, Eq, Hash)]
+struct LentServer<'a> {
+    site: &'a [u8],
+    server_id: u32,
+}
+
+impl Equivalent<ServerKey> for LentServer<'_> {
+    ghost use Rattle.std.specs.Prelude.{◌≡◌, ◌&&◌, ◌==◌};
+    ghost use Rattle.std.specs.Str.{bytes_eq};
+
+    ghost equivalent = { λ q k. bytes_eq q.site.now k.site.items && (k.server_id == q.server_id) };
+
+    ghost use Rattle.hsp_tables.specs.LentKeys.{server_hashed_alike, server_compared_alike};
+
+    ghost respects_hash = { λ q k h. server_hashed_alike q.site.now k.site.items q.server_id k.server_id h };
+
+    ghost respects_eq = { λ q x y h. server_compared_alike q.site.now x.site.items q.server_id x.server_id
+        y.site.items y.server_id h };
+
+    fn equivalent(&self, key: &ServerKey) -> bool {
+        self.site == key.site.as_slice() && key.server_id == self.server_id
+    }
 }
 
 // Capacities of servers.
@@ -170,6 +230,15 @@ impl ServerRows {
     {
         let (key, capacity) = self.rows.get_index(place).unwrap();
         (key.site.as_slice(), key.server_id, *capacity)
+    }
+
+    // The capacity of a server.
+    pub(crate) fn capacity(&self, site: &[u8], server_id: u32) -> Option<u64>
+        ensures { result ≡ option_map (λ (row : CapacityEntry). row.capacity)
+            (find (λ (row : CapacityEntry). bytes_eq row.site site.now && (row.server_id == server_id)) self.now) }
+    {
+        let capacity = self.rows.get(LentServer { site, server_id })?;
+        Some(*capacity)
     }
 
     // Adds the capacity of a server that is new, and tells whether it is.

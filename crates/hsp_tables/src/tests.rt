@@ -98,8 +98,10 @@ fn the_base_costs_are_read(rt: HostRuntime) -> Result<(), Fail> {
                     assert_eq!(rt; row.region, *region);
                     assert_eq!(rt; row.site, *site);
                     assert_eq!(rt; row.cost, *cost);
+                    assert_eq!(rt; costs.find(region, site), Some(*cost));
                 }
             }
+            assert_eq!(rt; costs.find(b"E", b"r1"), None);
         }
         Err(fault) => panic!(rt; "{fault:?}"),
     }
@@ -124,8 +126,10 @@ fn the_base_capacities_are_read(rt: HostRuntime) -> Result<(), Fail> {
                     assert_eq!(rt; row.site, *site);
                     assert_eq!(rt; row.server_id, *server_id);
                     assert_eq!(rt; row.capacity, *capacity);
+                    assert_eq!(rt; capacities.find(site, *server_id), Some(*capacity));
                 }
             }
+            assert_eq!(rt; capacities.find(b"E", 1), None);
         }
         Err(fault) => panic!(rt; "{fault:?}"),
     }

@@ -54,5 +54,6 @@ loop-number-preserved c =
     let next = arcs_next (octets_of c.args.handle) number c.loop-number.first c.args.sites.now c.args.costs.now site _ at (slice_get-get_or c.args.costs.now number None priced) in
     record {
       first = omega arith;
-      so_far = rw (c.in_ok-push_arc.ensures, long, append_assoc, ← next) c.loop-number.invariant.so_far;
+      so_far = rw (c.in_ok-push_arc.ensures.arcs, c.loop-number.invariant.same, long, append_assoc, ← next) c.loop-number.invariant.so_far;
+      same = c.in_ok-push_arc.ensures.same ∙ c.loop-number.invariant.same;
     }

@@ -1,0 +1,82 @@
+// The digests of a handle, each made once: all sites of a hash option go by the same.
+
+ghost use Rattle.std.specs.Prelude.{◌≡◌, ◌<◌, IfSome};
+ghost use Rattle.hsp_hash.specs.Place.{digest, server_place};
+ghost use Rattle.hsp_names.specs.Lent.{octets_of};
+
+use hsp_hash::{HashOption, digest_of, number_of_digest};
+use hsp_names::HandleRef;
+use std::marker::Model;
+
+// A handle, and those of its digests that a site asked for.
+#[derive(Debug, Drop)]
+pub(crate) struct Digests<'a> {
+    handle: HandleRef<'a>,
+    by_na: Option<[u8; 16]>,
+    by_local: Option<[u8; 16]>,
+    by_handle: Option<[u8; 16]>,
+}
+
+impl<'a> Model for Digests<'a> {
+    ghost use Rattle.std.specs.Prelude.{ℕ, List};
+    ghost use Rattle.hsp_names.specs.Lent.{octets_of};
+    ghost use Rattle.hsp_instance.specs.Digests.{AreDigestsOf};
+
+    ghost Value = { List ℕ };
+
+    ghost view = { λ d. octets_of d.handle };
+
+    ghost invariant = { λ d. AreDigestsOf (octets_of d.handle) d.by_na d.by_local d.by_handle };
+}
+
+impl<'a> Digests<'a> {
+    pub(crate) fn new(handle: HandleRef<'a>) -> Digests<'a>
+        ensures { result ≡ octets_of handle.entry }
+    {
+        Digests {
+            handle,
+            by_na: None,
+            by_local: None,
+            by_handle: None,
+        }
+    }
+
+    // The digest by an option, where it is known.
+    fn known(&self, option: HashOption) -> Option<[u8; 16]>
+        ensures { IfSome result (λ known. known ≡ digest option self.now) }
+    {
+        match option {
+            HashOption::ByNa => self.by_na,
+            HashOption::ByLocal => self.by_local,
+            HashOption::ByHandle => self.by_handle,
+        }
+    }
+
+    // Makes the digest by an option, and keeps it.
+    fn make(&mut self, option: HashOption) -> [u8; 16]
+        ensures made { result ≡ digest option self.old }
+        ensures same { self.new ≡ self.old }
+    {
+        let made = digest_of(option, self.handle);
+        match option {
+            HashOption::ByNa => self.by_na = Some(made),
+            HashOption::ByLocal => self.by_local = Some(made),
+            HashOption::ByHandle => self.by_handle = Some(made),
+        }
+        made
+    }
+
+    /// The place of the server that is responsible for the handle, among so many of a site with this hash option.
+    pub(crate) fn place(&mut self, option: HashOption, servers: u32) -> u32
+        requires { 0 < servers }
+        ensures place { result ≡ server_place option self.old servers }
+        ensures within { result < servers }
+        ensures same { self.new ≡ self.old }
+    {
+        let digest = match self.known(option) {
+            Some(known) => known,
+            None => self.make(option),
+        };
+        number_of_digest(&digest, servers)
+    }
+}
