@@ -61,7 +61,7 @@ fn arcs_by(
     requires costs { length costs.now ≡ length sites.now }
     ensures { IfOk result (λ arcs. arcs ≡ arcs_by (octets_of handle.entry) 0 0 sites.now costs.now) }
 {
-    let mut arcs = Vec::new(alloc);
+    let mut arcs = Vec::with_capacity(alloc, sites.len())?;
     let mut digests = Digests::new(handle);
     let mut first: u32 = 0;
     for (number, site) in sites.iter().enumerate() {
@@ -87,7 +87,7 @@ pub(crate) fn arcs_of(
     ensures { IfOk result (λ v. v.items ≡ map (arcs_of costs.now sites.now) demand.now) }
 {
     let mut known: Vec<RegionCosts> = Vec::new(alloc);
-    let mut lists = Vec::new(alloc);
+    let mut lists = Vec::with_capacity(alloc, demand.len() as usize)?;
     for number in 0..demand.len() {
         let row = demand.row(number);
         let place = place_of(alloc, &mut known, costs, sites, row.region)?;

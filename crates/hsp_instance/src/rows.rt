@@ -135,12 +135,13 @@ impl Model for Rows {
 }
 
 impl Rows {
-    pub(crate) fn new(alloc: Global) -> Rows
-        ensures { result ≡ [] }
+    // No rows, and room for so many.
+    pub(crate) fn with_room(alloc: Global, most: usize) -> Result<Rows, BuildFault>
+        ensures ok { IfOk result (λ rows. rows ≡ []) }
+        ensures err { IfErr result (λ e. e ≡ OutOfMemory) }
     {
-        Rows {
-            rows: IndexMap::new(alloc),
-        }
+        let rows = IndexMap::with_capacity(alloc, most)?;
+        Ok(Rows { rows })
     }
 
     pub(crate) fn len(&self) -> usize
@@ -193,7 +194,7 @@ pub(crate) fn rows_of(alloc: Global, demand: &Demand) -> Result<Rows, BuildFault
     // The demand is within its limits.
     ensures within { AreDemand demand.now }
 {
-    let mut rows = Rows::new(alloc);
+    let mut rows = Rows::with_room(alloc, demand.len() as usize)?;
     for number in 0..demand.len() {
         let row = demand.row(number);
         rows.push(alloc, row.region, row.handle.bytes(), row.count)?;
