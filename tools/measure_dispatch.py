@@ -18,11 +18,16 @@ TOP = os.path.dirname(os.path.dirname(os.path.abspath(__file__)))
 SITES, SERVERS, REGIONS, ROWS, FRONTS = 32, 32, 64, 8192, 64
 
 
-def record(site):
-    """A site record of servers that have no key and no interface, hashing the whole handle."""
+def address(number):
+    """The address of a machine, 16 octets."""
+    return (number + 1).to_bytes(16, "big")
+
+
+def record(site, hosts):
+    """A site record of servers that have no key and no interface, hashing the whole handle; all of them stand on so many machines."""
     head = bytes.fromhex("0001" "0201" "0001" "00" "02") + bytes(4) + bytes(4) + SERVERS.to_bytes(4, "big")
-    servers = (b"".join((site * SERVERS + place).to_bytes(4, "big") + bytes(15) + b"\1" + bytes(8) for place in range(SERVERS)))
-    return (head + servers).hex()
+    numbers = range(site * SERVERS, (site + 1) * SERVERS)
+    return (head + b"".join(it.to_bytes(4, "big") + address(it % max(hosts, 1)) + bytes(8) for it in numbers)).hex()
 
 
 def write(folder, name, lines):
@@ -32,12 +37,16 @@ def write(folder, name, lines):
     return path
 
 
-def inputs(folder, draw):
+def inputs(folder, draw, factor=1.5, hosts=0):
+    """The rows, their counts, and the options with the files of an instance: its capacity is the factor times its demand, and that of its hosts
+    together three fifths of that."""
     counts = [draw.randint(1, 3000) for _ in range(ROWS)]
     rows = [f"region-{draw.randrange(REGIONS)},20.500.12345/object-{row:06}" for row in range(ROWS)]
-    capacity = 3 * sum(counts) // (2 * SITES * SERVERS)
+    capacity = int(factor * sum(counts)) // (SITES * SERVERS)
+    sites = [f'[[site]]\nname = "site-{site}"\nrecord = "{record(site, hosts)}"' for site in range(SITES)]
+    limits = [f'[[host]]\naddress = "{address(host).hex()}"\nlimit = {3 * SITES * SERVERS * capacity // (5 * hosts)}' for host in range(hosts)]
     return rows, counts, [
-        "--settings", write(folder, "settings.toml", (f'[[site]]\nname = "site-{site}"\nrecord = "{record(site)}"' for site in range(SITES))),
+        "--settings", write(folder, "settings.toml", sites + limits),
         "--demand", write(folder, "demand.csv", ["region,handle,count"] + [f"{row},{count}" for row, count in zip(rows, counts)]),
         "--costs", write(folder, "costs.csv", ["region,site,cost"] + [f"region-{region},site-{site},{draw.randrange(1000)}" for region in range(REGIONS) for site in range(SITES)]),
         "--capacity", write(folder, "capacity.csv", ["site,server_id,capacity"] + [f"site-{site},{site * SERVERS + place},{capacity}" for site in range(SITES) for place in range(SERVERS)]),
