@@ -2,10 +2,10 @@
 //
 // The capacities are relaxed: each server and host has a price, and a source takes the server that is cheapest by
 // cost and price. A price rises with what is taken from its node, in proportion to the capacity, and all prices fall
-// by what a full node's price would rise. Sources take their turns one by one, and see the prices as they are then.
-// The steps get smaller from round to round, and when they are small enough, candidates are chosen among the arcs, and
-// sources take no others. Costs are multiplied by a power of two, so that small costs leave room for steps between
-// them.
+// by what a full node's price would rise. No source lifts a price by more than that: a small node's would not come down
+// again. Sources take their turns one by one, and see the prices as they are then. The steps get smaller from round to
+// round; after some rounds candidates are chosen among the arcs, and sources take no others. Costs are multiplied by a
+// power of two, so that small costs leave room for steps between them.
 
 use crate::candidates::candidates;
 use crate::graph::{Graph, ROOT};
@@ -19,7 +19,7 @@ const ROUNDS: u32 = 7;
 
 const LAST_ROUNDS: u32 = 6;
 
-/// How many of the next steps candidates may cost more than the cheapest arc.
+/// How many rises of the next round candidates may cost more than the cheapest arc.
 const WINDOW: u64 = 4;
 
 /// How often all prices fall in a round.
@@ -46,13 +46,11 @@ pub struct Guide {
     pub candidates: ForwardStar,
 }
 
-// How far prices move in a round: by what a full node's price rises, or falls at a time, and the most by which one
-// source may raise a price.
+// How far prices move in a round: by what a full node's price rises, or falls at a time.
 #[derive(Clone, Copy, Drop)]
 struct Step {
     rise: u64,
     fall: u64,
-    limit: u64,
 }
 
 impl Step {
@@ -60,7 +58,6 @@ impl Step {
         Step {
             rise,
             fall: rise / FALLS as u64,
-            limit: rise,
         }
     }
 }
@@ -175,7 +172,7 @@ impl FirstPrices {
     #[inline(always)]
     fn rise_for(&self, node: usize, units: u64, step: Step) -> u64 {
         let unit_rise = get_or(&self.unit_rises, node, 0);
-        (unit_rise.wrapping_mul(units) / 65_536).min(step.limit)
+        (unit_rise.wrapping_mul(units) / 65_536).min(step.rise)
     }
 
     // Raises the hosts' prices by what was taken of them, and lowers them.

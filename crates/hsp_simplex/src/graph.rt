@@ -143,7 +143,7 @@ fn star_of(alloc: Global, network: &Network<'_>) -> Result<ForwardStar, AllocErr
 }
 
 fn source_arcs(alloc: Global, network: &Network<'_>) -> Result<Vec<Arc>, AllocError> {
-    let mut arcs = Vec::new(alloc);
+    let mut arcs = Vec::with_capacity(alloc, network.servers.len())?;
     let first_server = number_of(network.limits.len()).wrapping_add(1);
     for arc in 0..network.servers.len() {
         let cost = get_or(network.costs, arc, 0);

@@ -3,7 +3,7 @@
 //
 // The nodes from the new root up to the old one are the stem, and the arcs between them are reversed. In the preorder
 // the subtree is a part; it is gathered anew along the stem from a few contiguous pieces, what stands between its old
-// and its new place moves over, and it is set down there with its new potentials.
+// and its new place moves over, and it is set down there.
 
 use crate::graph::Graph;
 use crate::lists::{between, get_or, increase, number_of, set};
