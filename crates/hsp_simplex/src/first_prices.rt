@@ -2,16 +2,25 @@
 //
 // The capacities are relaxed: each server and host has a price, and a source takes the server that is cheapest by
 // cost and price. A price rises with what is taken from its node, in proportion to the capacity, and all prices fall
-// by what a full node's price would rise. Sources take their turns one by one, and see the prices as they are then.
-// The steps get smaller from round to round. Costs are multiplied by a power of two, so that small costs leave room
-// for steps between them.
+// by what a full node's price would rise. No source lifts a price by more than that: a small node's would not come down
+// again. Sources take their turns one by one, and see the prices as they are then. The steps get smaller from round to
+// round; after some rounds candidates are chosen among the arcs, and sources take no others. Costs are multiplied by a
+// power of two, so that small costs leave room for steps between them.
 
-use crate::graph::{Arc, Graph, ROOT};
+use crate::candidates::candidates;
+use crate::graph::{Graph, ROOT};
 use crate::lists::{get_or, increase, set};
+use crate::star::{Arc, ForwardStar};
 use crate::tree::INFINITE_COST;
 use std::alloc::{AllocError, Global};
 
-const ROUNDS: u32 = 10;
+/// How many rounds are made over all arcs, and then over candidates.
+const ROUNDS: u32 = 7;
+
+const LAST_ROUNDS: u32 = 6;
+
+/// How many rises of the next round candidates may cost more than the cheapest arc.
+const WINDOW: u64 = 4;
 
 /// How often all prices fall in a round.
 const FALLS: usize = 32;
@@ -30,13 +39,18 @@ pub struct FirstPrices {
     scale: u64,
 }
 
-// How far prices move in a round: by what a full node's price rises, or falls at a time, and the most by which one
-// source may raise a price.
+/// First prices, and the arcs that matter by them.
+#[derive(Drop)]
+pub struct Guide {
+    pub prices: FirstPrices,
+    pub candidates: ForwardStar,
+}
+
+// How far prices move in a round: by what a full node's price rises, or falls at a time.
 #[derive(Clone, Copy, Drop)]
 struct Step {
     rise: u64,
     fall: u64,
-    limit: u64,
 }
 
 impl Step {
@@ -44,7 +58,6 @@ impl Step {
         Step {
             rise,
             fall: rise / FALLS as u64,
-            limit: rise.wrapping_mul(4),
         }
     }
 }
@@ -60,25 +73,39 @@ fn scale_for(greatest_cost: u64) -> u64 {
     scale
 }
 
+impl Guide {
+    pub(crate) fn new(alloc: Global, graph: &Graph) -> Result<Guide, AllocError> {
+        let mut prices = FirstPrices::zero(alloc, graph)?;
+        let first_rise = graph.greatest_cost.wrapping_mul(prices.scale) / 2;
+        let rise = prices.rounds(graph, &graph.star, ROUNDS, first_rise);
+        let candidates = candidates(alloc, graph, &prices, rise.wrapping_mul(WINDOW))?;
+        prices.rounds(graph, &candidates, LAST_ROUNDS, rise);
+        Ok(Guide { prices, candidates })
+    }
+}
+
 impl FirstPrices {
-    pub(crate) fn new(alloc: Global, graph: &Graph) -> Result<FirstPrices, AllocError> {
+    fn zero(alloc: Global, graph: &Graph) -> Result<FirstPrices, AllocError> {
         let nodes = graph.transit_count();
-        let scale = scale_for(graph.greatest_cost);
-        let mut prices = FirstPrices {
+        Ok(FirstPrices {
             totals: vec![in alloc; 0; nodes]?,
             prices: vec![in alloc; 0; nodes]?,
             unit_rises: vec![in alloc; 0; nodes]?,
             loads: vec![in alloc; 0; nodes]?,
-            scale,
-        };
-        let mut rise = graph.greatest_cost.wrapping_mul(scale) / 2;
-        for _ in 0..ROUNDS {
+            scale: scale_for(graph.greatest_cost),
+        })
+    }
+
+    // Makes so many rounds over the arcs, the first with this rise; the rise of the next one.
+    fn rounds(&mut self, graph: &Graph, star: &ForwardStar, count: u32, first_rise: u64) -> u64 {
+        let mut rise = first_rise;
+        for _ in 0..count {
             let step = Step::new(rise);
-            prices.set_unit_rises(graph, step);
-            prices.round(graph, step);
+            self.set_unit_rises(graph, step);
+            self.round(graph, star, step);
             rise = (rise / 8).wrapping_mul(5);
         }
-        Ok(prices)
+        rise
     }
 
     /// What a unit on the arc costs with the prices where it leads, scaled.
@@ -86,6 +113,16 @@ impl FirstPrices {
     pub(crate) fn cost_with_price(&self, arc: Arc) -> u64 {
         let cost = u64::from(arc.cost).wrapping_mul(self.scale);
         get_or(&self.totals, arc.head as usize, 0).wrapping_add(cost)
+    }
+
+    /// What a unit costs by the cheapest of the arcs.
+    #[inline(always)]
+    pub(crate) fn least_cost(&self, arcs: &[Arc]) -> u64 {
+        let mut least = INFINITE_COST;
+        for arc in arcs {
+            least = least.min(self.cost_with_price(*arc));
+        }
+        least
     }
 
     fn set_unit_rises(&mut self, graph: &Graph, step: Step) {
@@ -97,11 +134,11 @@ impl FirstPrices {
     }
 
     // Lets each source take its cheapest server once.
-    fn round(&mut self, graph: &Graph, step: Step) {
+    fn round(&mut self, graph: &Graph, star: &ForwardStar, step: Step) {
         let block = (graph.source_count / FALLS).saturating_add(1);
         let mut wait = 0usize;
         for source in 0..graph.source_count {
-            let server = self.cheapest_server(graph, source);
+            let server = self.cheapest_server(star.arcs_of(source));
             self.take(graph, server, get_or(&graph.demands, source, 0), step);
             wait = wait.wrapping_add(1);
             if wait == block {
@@ -113,10 +150,10 @@ impl FirstPrices {
     }
 
     #[inline(always)]
-    fn cheapest_server(&self, graph: &Graph, source: usize) -> usize {
+    fn cheapest_server(&self, arcs: &[Arc]) -> usize {
         let mut least = INFINITE_COST;
         let mut server = 0u32;
-        for arc in graph.arcs_of(source) {
+        for arc in arcs {
             let cost = self.cost_with_price(*arc);
             server = if cost < least { arc.head } else { server };
             least = least.min(cost);
@@ -135,7 +172,7 @@ impl FirstPrices {
     #[inline(always)]
     fn rise_for(&self, node: usize, units: u64, step: Step) -> u64 {
         let unit_rise = get_or(&self.unit_rises, node, 0);
-        (unit_rise.wrapping_mul(units) / 65_536).min(step.limit)
+        (unit_rise.wrapping_mul(units) / 65_536).min(step.rise)
     }
 
     // Raises the hosts' prices by what was taken of them, and lowers them.

@@ -5,9 +5,10 @@
 // outlet is at its upper bound, or where the server fills its host, the host hangs from the server and the host's
 // outlet is. Each is filled once. What finds no room stays on the source's artificial arc.
 
-use crate::first_prices::FirstPrices;
+use crate::first_prices::{FirstPrices, Guide};
 use crate::graph::{Graph, ROOT};
 use crate::lists::{ABSENT, get_or, number_of, set};
+use crate::star::ForwardStar;
 use crate::tree::{Node, OutletState, Tree};
 use std::alloc::{AllocError, Global};
 
@@ -44,25 +45,35 @@ impl Room {
     }
 }
 
-// The cheapest arc of a source to a server with room, and that server.
-fn cheapest_open_arc(
+// The place of the cheapest arc of a source to a server with room.
+fn cheapest_open_place(
     graph: &Graph,
+    star: &ForwardStar,
     prices: &FirstPrices,
     room: &Room,
     source: usize,
-) -> Option<(u32, usize)> {
+) -> Option<usize> {
     let mut least = u64::MAX;
     let mut cheapest = None;
-    let mut number = graph.first_arc(source);
-    for arc in graph.arcs_of(source) {
+    let mut place = star.first_place(source);
+    for arc in star.arcs_of(source) {
         let cost = prices.cost_with_price(*arc);
         if cost < least && room.is_open(graph, arc.head as usize) {
             least = cost;
-            cheapest = Some((number, arc.head as usize));
+            cheapest = Some(place);
         }
-        number = number.wrapping_add(1);
+        place = place.wrapping_add(1);
     }
     cheapest
+}
+
+// The number of the cheapest arc of a source to a server with room, a candidate if there is one.
+fn cheapest_open_arc(graph: &Graph, guide: &Guide, room: &Room, source: usize) -> Option<u32> {
+    let candidates = &guide.candidates;
+    match cheapest_open_place(graph, candidates, &guide.prices, room, source) {
+        Some(place) => Some(candidates.number_at(place)),
+        None => cheapest_open_place(graph, &graph.star, &guide.prices, room, source).map(number_of),
+    }
 }
 
 impl Tree {
@@ -70,7 +81,7 @@ impl Tree {
     pub(crate) fn greedy(
         alloc: Global,
         graph: &Graph,
-        prices: &FirstPrices,
+        guide: &Guide,
         order: &[u32],
     ) -> Result<Tree, AllocError> {
         let mut tree = Tree::new(alloc, graph)?;
@@ -79,7 +90,7 @@ impl Tree {
         };
         tree.attach_outlets(graph);
         for source in order {
-            tree.assign(graph, prices, &mut room, *source as usize);
+            tree.assign(graph, guide, &mut room, *source as usize);
         }
         tree.set_outlet_flows(graph, &room);
         tree.set_order(alloc, graph)?;
@@ -88,8 +99,7 @@ impl Tree {
 
     fn attach_outlets(&mut self, graph: &Graph) {
         for node in graph.transshipment_nodes() {
-            let parent = number_of(graph.outlet_head(node));
-            let link = Node::leaf(parent, graph.outlet_of(node), 0);
+            let link = Node::leaf(graph, graph.outlet_head(node), graph.outlet_of(node), 0);
             set(&mut self.nodes, node, link);
         }
     }
@@ -100,29 +110,34 @@ impl Tree {
             let link = self.node(node);
             if link.arc == graph.outlet_of(node) {
                 let flow = graph.outlet_capacity(node).wrapping_sub(room.at(node));
-                let link = Node::leaf(link.parent, link.arc, flow);
+                let link = Node::leaf(graph, link.parent as usize, link.arc, flow);
                 set(&mut self.nodes, node, link);
             }
         }
     }
 
     // Sends a source's demand to its cheapest servers with room.
-    fn assign(&mut self, graph: &Graph, prices: &FirstPrices, room: &mut Room, source: usize) {
+    fn assign(&mut self, graph: &Graph, guide: &Guide, room: &mut Room, source: usize) {
         let node = graph.source_node(source);
         let mut unmet = get_or(&graph.demands, source, 0);
-        for _ in 0..graph.arcs_of(source).len().saturating_add(1) {
-            let Some((arc, server)) = cheapest_open_arc(graph, prices, room, source) else {
-                set(&mut self.nodes, node, Node::leaf(0, ABSENT, unmet));
+        for _ in 0..graph.star.arcs_of(source).len().saturating_add(1) {
+            let Some(arc) = cheapest_open_arc(graph, guide, room, source) else {
+                set(
+                    &mut self.nodes,
+                    node,
+                    Node::leaf(graph, ROOT, ABSENT, unmet),
+                );
                 return;
             };
+            let server = graph.star.arc_at(arc as usize).head as usize;
             let flow = room.take(graph, server, unmet);
             unmet = unmet.wrapping_sub(flow);
             if unmet == 0 {
-                let leaf = Node::leaf(number_of(server), arc, flow);
+                let leaf = Node::leaf(graph, server, arc, flow);
                 set(&mut self.nodes, node, leaf);
                 return;
             }
-            let link = Node::leaf(number_of(node), arc, flow);
+            let link = Node::leaf(graph, node, arc, flow);
             set(&mut self.nodes, server, link);
             self.fill(graph, room, server);
         }
@@ -134,7 +149,7 @@ impl Tree {
         let host = graph.outlet_head(server);
         if host != ROOT && room.at(host) == 0 {
             let flow = graph.outlet_capacity(server).wrapping_sub(room.at(server));
-            let link = Node::leaf(number_of(server), graph.outlet_of(server), flow);
+            let link = Node::leaf(graph, server, graph.outlet_of(server), flow);
             set(&mut self.nodes, host, link);
             set(&mut self.outlets, host, OutletState::AtUpper);
         } else {

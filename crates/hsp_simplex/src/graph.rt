@@ -7,22 +7,16 @@
 // than any path. So each arc leads from a node to one with a smaller number, and the greater end of an arc is its
 // tail.
 
-use crate::lists::{ABSENT, between, get_or, increase, number_of};
+use crate::lists::{ABSENT, get_or, increase, number_of};
 use crate::network::Network;
+use crate::star::{Arc, ForwardStar};
 use std::alloc::{AllocError, Global};
 use std::ops::Range;
 
 /// The node to which all flow goes.
 pub const ROOT: usize = 0;
 
-/// An arc from a source to the server at the node `head`.
-#[derive(Clone, Copy, Drop)]
-pub struct Arc {
-    pub cost: u32,
-    pub head: u32,
-}
-
-/// The graph, with arcs in forward star order: source by source.
+/// The graph.
 #[derive(Drop)]
 pub struct Graph {
     pub source_count: usize,
@@ -32,9 +26,8 @@ pub struct Graph {
     pub greatest_cost: u64,
     pub artificial_cost: u64,
     pub demands: Vec<u64>,
-    pub arcs: Vec<Arc>,
-    /// The first arc of each source, and the number of all arcs.
-    first_arcs: Vec<u32>,
+    /// All arcs of the sources.
+    pub star: ForwardStar,
     outlet_heads: Vec<u32>,
     pub outlet_capacities: Vec<u64>,
 }
@@ -78,40 +71,31 @@ impl Graph {
             .wrapping_add(source)
     }
 
-    #[inline(always)]
-    pub(crate) fn first_arc(&self, source: usize) -> u32 {
-        get_or(&self.first_arcs, source, 0)
-    }
-
-    #[inline(always)]
-    pub(crate) fn arcs_of(&self, source: usize) -> &[Arc] {
-        let start = self.first_arc(source) as usize;
-        let end = self.first_arc(source.wrapping_add(1)) as usize;
-        between(&self.arcs, start, end)
-    }
-
-    /// What a unit on a source's arc costs.
+    /// What a unit on an arc costs: on an outlet, nothing.
     #[inline(always)]
     pub(crate) fn cost_of(&self, arc: u32) -> u64 {
-        let free = Arc { cost: 0, head: 0 };
-        u64::from(get_or(&self.arcs, arc as usize, free).cost)
+        if arc == ABSENT {
+            self.artificial_cost
+        } else {
+            u64::from(self.star.arc_at(arc as usize).cost)
+        }
     }
 
     /// The number of a transshipment node's outlet: they stand behind the arcs of the sources.
     #[inline(always)]
     pub(crate) fn outlet_of(&self, node: usize) -> u32 {
-        number_of(self.arcs.len().wrapping_add(node))
+        number_of(self.star.arcs.len().wrapping_add(node))
     }
 
     #[inline(always)]
     pub(crate) fn is_outlet(&self, arc: u32) -> bool {
-        arc != ABSENT && arc as usize >= self.arcs.len()
+        arc != ABSENT && arc as usize >= self.star.arcs.len()
     }
 
     /// The node whose outlet that is.
     #[inline(always)]
     pub(crate) fn outlet_tail(&self, outlet: u32) -> usize {
-        (outlet as usize).wrapping_sub(self.arcs.len())
+        (outlet as usize).wrapping_sub(self.star.arcs.len())
     }
 
     #[inline(always)]
@@ -143,16 +127,23 @@ impl Graph {
                 .saturating_mul(server_count as u64)
                 .saturating_add(1),
             demands: network.demands.to_vec(alloc)?,
-            arcs: source_arcs(alloc, network)?,
-            first_arcs: first_arcs(alloc, network)?,
+            star: star_of(alloc, network)?,
             outlet_heads: outlet_heads(alloc, network)?,
             outlet_capacities: outlet_capacities(alloc, network, total_demand)?,
         })
     }
 }
 
+fn star_of(alloc: Global, network: &Network<'_>) -> Result<ForwardStar, AllocError> {
+    Ok(ForwardStar {
+        arcs: source_arcs(alloc, network)?,
+        firsts: first_arcs(alloc, network)?,
+        numbers: Vec::new(alloc),
+    })
+}
+
 fn source_arcs(alloc: Global, network: &Network<'_>) -> Result<Vec<Arc>, AllocError> {
-    let mut arcs = Vec::new(alloc);
+    let mut arcs = Vec::with_capacity(alloc, network.servers.len())?;
     let first_server = number_of(network.limits.len()).wrapping_add(1);
     for arc in 0..network.servers.len() {
         let cost = get_or(network.costs, arc, 0);

@@ -5,6 +5,7 @@
 mod accept;
 mod accept_prices;
 mod accept_set;
+mod candidates;
 mod cycle;
 mod first_prices;
 mod first_tree;
@@ -18,6 +19,7 @@ mod proposal;
 mod read_off;
 mod regret;
 mod shortage;
+mod star;
 mod sums;
 mod tree;
 mod update;

@@ -3,7 +3,7 @@
 
 use crate::cycle::{Cycle, Entering, LeavingSide, leads_up};
 use crate::graph::Graph;
-use crate::lists::{number_of, set};
+use crate::lists::set;
 use crate::tree::{Node, OutletState, Tree};
 use crate::update::Exchange;
 
@@ -70,7 +70,7 @@ impl Tree {
             (entering.head, entering.tail)
         };
         if cycle.leaving == inner && self.node(inner).weight == 1 {
-            let leaf = Node::leaf(number_of(outer), entering.arc, flow);
+            let leaf = Node::leaf(graph, outer, entering.arc, flow);
             set(&mut self.nodes, inner, leaf);
             return;
         }

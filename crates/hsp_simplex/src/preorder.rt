@@ -81,8 +81,7 @@ impl Tree {
         let potential = if node == ROOT {
             ROOT_POTENTIAL
         } else if graph.is_source(parent) {
-            self.source_potential(graph, parent)
-                .wrapping_sub(graph.cost_of(link.arc))
+            self.source_potential(parent).wrapping_sub(link.cost)
         } else {
             self.potential(parent)
         };

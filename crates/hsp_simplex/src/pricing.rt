@@ -2,15 +2,17 @@
 //
 // The sources are swept over in turn. Of each source the arc by which a unit costs least enters, if it violates the
 // optimality conditions by more than a threshold; outlets are priced in between. The threshold begins high, so that
-// the worst violations go first, and falls to 0. When a sweep at 0 finds nothing, the tree is optimal.
+// the worst violations go first, and falls to 0. These sweeps look at candidates alone. When then a sweep over all arcs
+// finds nothing at 0, the tree is optimal.
 
 use crate::cycle::Entering;
 use crate::graph::Graph;
 use crate::lists::get_or;
+use crate::star::{Arc, ForwardStar};
 use crate::tree::{INFINITE_COST, OutletState, Tree};
 use std::ops::Range;
 
-/// How many sweeps are made at each threshold above 0, and how many at 0.
+/// How many sweeps are made at most at each threshold above 0, and how many at 0.
 const SWEEPS: u32 = 5;
 
 const LAST_SWEEPS: u32 = 1_000;
@@ -38,34 +40,35 @@ impl Schedule {
 
 impl Tree {
     /// Improves the tree until it is optimal; whether that came to pass.
-    pub(crate) fn optimize(&mut self, graph: &Graph) -> bool {
+    pub(crate) fn optimize(&mut self, graph: &Graph, candidates: &ForwardStar) -> bool {
         let mut threshold = graph.greatest_cost / 4;
         for _ in 0..64 {
             if threshold == 0 {
                 break;
             }
-            self.sweep_at(graph, threshold);
-            threshold /= 4;
+            self.sweep_at(graph, candidates, threshold);
+            threshold /= 2;
         }
-        self.finish(graph)
+        self.finish(graph, candidates) && self.finish(graph, &graph.star)
     }
 
     // Sweeps at a threshold until few arcs enter.
-    fn sweep_at(&mut self, graph: &Graph, threshold: u64) {
+    fn sweep_at(&mut self, graph: &Graph, star: &ForwardStar, threshold: u64) {
         let few = graph.source_count as u64 / 32;
         for _ in 0..SWEEPS {
-            if self.sweep(graph, threshold) <= few {
+            if self.sweep(graph, star, threshold) <= few {
                 break;
             }
         }
     }
 
-    fn finish(&mut self, graph: &Graph) -> bool {
+    // Sweeps over the arcs until none enters; whether that came to pass.
+    fn finish(&mut self, graph: &Graph, star: &ForwardStar) -> bool {
         let pivot_limit = (graph.node_count() as u64)
             .saturating_add(1_000)
             .saturating_mul(PIVOTS_EACH);
         for _ in 0..LAST_SWEEPS {
-            if self.sweep(graph, 0) == 0 {
+            if self.sweep(graph, star, 0) == 0 {
                 return true;
             }
             if self.effort.pivots > pivot_limit {
@@ -75,14 +78,14 @@ impl Tree {
         false
     }
 
-    // Prices all sources and the outlets; how many arcs entered.
-    fn sweep(&mut self, graph: &Graph, threshold: u64) -> u64 {
+    // Prices these arcs of all sources, and the outlets; how many arcs entered.
+    fn sweep(&mut self, graph: &Graph, star: &ForwardStar, threshold: u64) -> u64 {
         let schedule = Schedule::of(graph);
         let before = self.effort.pivots;
         let mut outlet = 1usize;
         let mut wait = 0usize;
         for source in 0..graph.source_count {
-            self.price_source(graph, source, threshold);
+            self.price_source(graph, star, source, threshold);
             wait = wait.wrapping_add(1);
             if wait == schedule.stride {
                 wait = 0;
@@ -96,48 +99,49 @@ impl Tree {
     }
 
     #[inline(always)]
-    fn price_source(&mut self, graph: &Graph, source: usize, threshold: u64) {
+    fn price_source(&mut self, graph: &Graph, star: &ForwardStar, source: usize, threshold: u64) {
         let tail = graph.source_node(source);
-        let least = self.least_potential(graph, source);
-        let violation = self.source_potential(graph, tail).saturating_sub(least);
+        let least = self.least_potential(star.arcs_of(source));
+        let violation = self.source_potential(tail).saturating_sub(least);
         if violation > threshold {
-            self.enter_cheapest(graph, source, least, violation);
+            let place = self.place_of(star, source, least);
+            let entering = Entering {
+                arc: star.number_at(place),
+                tail,
+                head: star.arc_at(place).head as usize,
+                residual: u64::MAX,
+                violation,
+            };
+            self.pivot(graph, &entering);
         }
     }
 
-    // What a unit of the source costs by its cheapest arc.
+    // What a unit costs by an arc.
     #[inline(always)]
-    fn least_potential(&self, graph: &Graph, source: usize) -> u64 {
+    fn potential_by(&self, arc: Arc) -> u64 {
+        get_or(&self.potentials, arc.head as usize, INFINITE_COST).wrapping_add(u64::from(arc.cost))
+    }
+
+    // What a unit costs by the cheapest of the arcs.
+    #[inline(always)]
+    fn least_potential(&self, arcs: &[Arc]) -> u64 {
         let mut least = INFINITE_COST;
-        for arc in graph.arcs_of(source) {
-            let by_arc = get_or(&self.potentials, arc.head as usize, INFINITE_COST).wrapping_add(
-                u64::from(arc.cost),
-            );
-            least = least.min(by_arc);
+        for arc in arcs {
+            least = least.min(self.potential_by(*arc));
         }
         least
     }
 
-    // Lets the first arc of the source enter by which a unit costs that much.
-    fn enter_cheapest(&mut self, graph: &Graph, source: usize, least: u64, violation: u64) {
-        let mut number = graph.first_arc(source);
-        for arc in graph.arcs_of(source) {
-            let by_arc = get_or(&self.potentials, arc.head as usize, INFINITE_COST).wrapping_add(
-                u64::from(arc.cost),
-            );
-            if by_arc == least {
-                let entering = Entering {
-                    arc: number,
-                    tail: graph.source_node(source),
-                    head: arc.head as usize,
-                    residual: u64::MAX,
-                    violation,
-                };
-                self.pivot(graph, &entering);
+    // The place of the first arc of a source by which a unit costs that much.
+    fn place_of(&self, star: &ForwardStar, source: usize, potential: u64) -> usize {
+        let mut place = star.first_place(source);
+        for arc in star.arcs_of(source) {
+            if self.potential_by(*arc) == potential {
                 break;
             }
-            number = number.wrapping_add(1);
+            place = place.wrapping_add(1);
         }
+        place
     }
 
     fn price_outlets(&mut self, graph: &Graph, nodes: Range<usize>, threshold: u64) {

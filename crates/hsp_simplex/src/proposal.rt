@@ -1,7 +1,7 @@
 // The network simplex from a network to an outcome.
 
 use crate::accept::greatest;
-use crate::first_prices::FirstPrices;
+use crate::first_prices::Guide;
 use crate::graph::Graph;
 use crate::lists::saturating_sum;
 use crate::network::{Network, Outcome};
@@ -41,8 +41,10 @@ pub fn propose_counted(
         return Ok(Some(Outcome::Short(all)));
     }
     let graph = Graph::new(alloc, network, greatest_cost, total_demand)?;
-    let mut tree = first_tree(alloc, &graph)?;
-    let is_optimal = tree.optimize(&graph);
+    let guide = Guide::new(alloc, &graph)?;
+    let order = by_regret(alloc, &graph, &guide)?;
+    let mut tree = Tree::greedy(alloc, &graph, &guide, &order)?;
+    let is_optimal = tree.optimize(&graph, &guide.candidates);
     effort.add(&tree.effort);
     if is_optimal {
         Ok(Some(tree.outcome(alloc, &graph)?))
@@ -59,10 +61,4 @@ fn has_room(network: &Network<'_>, greatest_cost: u64, total_demand: u64) -> boo
         && network.limits.len() < 16_000_000
         && greatest_cost < 2_147_483_648
         && total_demand < 1_152_921_504_606_846_976
-}
-
-fn first_tree(alloc: Global, graph: &Graph) -> Result<Tree, AllocError> {
-    let prices = FirstPrices::new(alloc, graph)?;
-    let order = by_regret(alloc, graph, &prices)?;
-    Tree::greedy(alloc, graph, &prices, &order)
 }

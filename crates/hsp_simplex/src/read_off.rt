@@ -28,7 +28,7 @@ impl Tree {
 
     // What flows on the sources' arcs.
     fn arc_flows(&self, alloc: Global, graph: &Graph) -> Result<Vec<u64>, AllocError> {
-        let mut flows = vec![in alloc; 0; graph.arcs.len()]?;
+        let mut flows = vec![in alloc; 0; graph.star.arcs.len()]?;
         for link in &self.nodes {
             set(&mut flows, link.arc as usize, link.flow);
         }
@@ -84,6 +84,7 @@ fn total_prices(alloc: Global, graph: &Graph, prices: &[u64]) -> Result<Vec<u64>
 
 fn least_cost(graph: &Graph, totals: &[u64], source: usize) -> Option<u64> {
     graph
+        .star
         .arcs_of(source)
         .iter()
         .map(|arc| get_or(totals, arc.head as usize, 0).wrapping_add(u64::from(arc.cost)))

@@ -68,7 +68,7 @@ pub fn short_set(
 
 fn server_loads(alloc: Global, graph: &Graph, flows: &[u64]) -> Result<Vec<u64>, AllocError> {
     let mut loads = vec![in alloc; 0; graph.transit_count()]?;
-    for (arc, flow) in graph.arcs.iter().zip(flows) {
+    for (arc, flow) in graph.star.arcs.iter().zip(flows) {
         increase(&mut loads, arc.head as usize, *flow);
     }
     Ok(loads)
@@ -90,9 +90,9 @@ impl Reached {
     // Whether a source is reached, or a server from which it can take flow back.
     fn is_within_reach(&self, graph: &Graph, flows: &[u64], source: usize) -> bool {
         let mut within = get_or(&self.sources, source, false);
-        let mut number = graph.first_arc(source);
-        for arc in graph.arcs_of(source) {
-            let has_flow = get_or(flows, number as usize, 0) > 0;
+        let mut number = graph.star.first_place(source);
+        for arc in graph.star.arcs_of(source) {
+            let has_flow = get_or(flows, number, 0) > 0;
             within = within || (has_flow && get_or(&self.nodes, arc.head as usize, false));
             number = number.wrapping_add(1);
         }
@@ -101,7 +101,7 @@ impl Reached {
 
     fn reach_servers(&mut self, graph: &Graph, source: usize) -> bool {
         let mut any = mark(&mut self.sources, source);
-        for arc in graph.arcs_of(source) {
+        for arc in graph.star.arcs_of(source) {
             let is_new = mark(&mut self.nodes, arc.head as usize);
             any = any || is_new;
         }

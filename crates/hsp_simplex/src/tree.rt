@@ -6,8 +6,8 @@
 // is of the other nodes alone: a subtree is a contiguous part of it, and so are all that hang below a source. A pivot
 // moves such parts, and adds one number to the potentials in one.
 
-use crate::graph::Graph;
-use crate::lists::{ABSENT, get_or};
+use crate::graph::{Graph, ROOT};
+use crate::lists::{ABSENT, get_or, number_of};
 use std::alloc::{AllocError, Global};
 
 /// Whether a transshipment node's outlet is in the tree, or else at which bound.
@@ -31,18 +31,21 @@ pub struct Node {
     pub lead: u32,
     /// What flows on the arc.
     pub flow: u64,
+    /// What a unit on the arc costs.
+    pub cost: u64,
 }
 
 impl Node {
     /// A node without children.
     #[inline(always)]
-    pub(crate) fn leaf(parent: u32, arc: u32, flow: u64) -> Node {
+    pub(crate) fn leaf(graph: &Graph, parent: usize, arc: u32, flow: u64) -> Node {
         Node {
-            parent,
+            parent: number_of(parent),
             arc,
             weight: 1,
             lead: 0,
             flow,
+            cost: graph.cost_of(arc),
         }
     }
 }
@@ -94,7 +97,7 @@ impl Tree {
     /// A tree in which each node is a child of the root.
     pub(crate) fn new(alloc: Global, graph: &Graph) -> Result<Tree, AllocError> {
         let transit = graph.transit_count();
-        let unattached = Node::leaf(0, ABSENT, 0);
+        let unattached = Node::leaf(graph, ROOT, ABSENT, 0);
         Ok(Tree {
             nodes: vec![in alloc; unattached; graph.node_count()]?,
             outlets: vec![in alloc; OutletState::Basic; transit]?,
@@ -117,6 +120,7 @@ impl Tree {
             weight: ABSENT,
             lead: 0,
             flow: 0,
+            cost: 0,
         };
         get_or(&self.nodes, node, missing)
     }
@@ -133,14 +137,10 @@ impl Tree {
 
     /// The potential of a source, by its arc in the tree.
     #[inline(always)]
-    pub(crate) fn source_potential(&self, graph: &Graph, node: usize) -> u64 {
+    pub(crate) fn source_potential(&self, node: usize) -> u64 {
         let source = self.node(node);
-        if source.arc == ABSENT {
-            ROOT_POTENTIAL.wrapping_add(graph.artificial_cost)
-        } else {
-            self.potential(source.parent as usize)
-                .wrapping_add(graph.cost_of(source.arc))
-        }
+        self.potential(source.parent as usize)
+            .wrapping_add(source.cost)
     }
 
     /// The part of the preorder that has the subtree of a node.

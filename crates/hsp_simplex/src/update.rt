@@ -3,7 +3,7 @@
 //
 // The nodes from the new root up to the old one are the stem, and the arcs between them are reversed. In the preorder
 // the subtree is a part; it is gathered anew along the stem from a few contiguous pieces, what stands between its old
-// and its new place moves over, and it is set down there with its new potentials.
+// and its new place moves over, and it is set down there.
 
 use crate::graph::Graph;
 use crate::lists::{between, get_or, increase, number_of, set};
@@ -44,13 +44,8 @@ impl Tree {
         if site.leads && graph.is_source(exchange.outer) {
             self.set_lead(exchange.outer, number_of(exchange.inner));
         }
-        let first = if site.place <= cut.start {
-            self.shift_up(site.place, cut);
-            site.place
-        } else {
-            self.shift_down(cut, site.place)
-        };
-        self.set_down(first, cut.end.wrapping_sub(cut.start), exchange.change);
+        self.change_potentials(cut, exchange.change);
+        self.set_down(cut, site.place);
     }
 
     // Where to set the subtree down: at the nearer end of its new parent's part, or beside a leaf among its siblings.
@@ -123,6 +118,7 @@ impl Tree {
         let mut parent = exchange.outer;
         let mut arc = exchange.arc;
         let mut flow = exchange.flow;
+        let mut cost = graph.cost_of(exchange.arc);
         for _ in 0..self.nodes.len() {
             let old = self.node(node);
             let part = self.part_of(graph, node);
@@ -142,6 +138,7 @@ impl Tree {
                     old.parent
                 },
                 flow,
+                cost,
             };
             set(&mut self.nodes, node, reversed);
             if node == exchange.top {
@@ -150,6 +147,7 @@ impl Tree {
             parent = node;
             arc = old.arc;
             flow = old.flow;
+            cost = old.cost;
             node = old.parent as usize;
         }
     }
@@ -181,36 +179,53 @@ impl Tree {
         count
     }
 
-    // Moves what stands from a place up to the part that is cut out to that part's end.
-    fn shift_up(&mut self, place: usize, cut: Part) {
-        let mut to = cut.end;
-        for step in 0..cut.start.saturating_sub(place) {
-            let from = cut.start.wrapping_sub(step).wrapping_sub(1);
-            to = to.wrapping_sub(1);
-            let node = get_or(&self.preorder, from, 0);
-            self.set_place(node, to);
+    // Adds to the potentials of the part that is cut out.
+    fn change_potentials(&mut self, cut: Part, change: u64) {
+        for node in between(&self.preorder, cut.start, cut.end) {
+            increase(&mut self.potentials, *node as usize, change);
         }
     }
 
-    // Moves what stands behind the part that is cut out, up to a place, to that part's start; where it ends then.
-    fn shift_down(&mut self, cut: Part, place: usize) -> usize {
-        let mut to = cut.start;
-        for from in cut.end..place {
-            let node = get_or(&self.preorder, from, 0);
-            self.set_place(node, to);
-            to = to.wrapping_add(1);
+    // Sets the gathered nodes down before what stands at a place, and what was between moves over.
+    fn set_down(&mut self, cut: Part, place: usize) {
+        let size = cut.end.wrapping_sub(cut.start);
+        let (start, end) = (cut.start.min(place), cut.end.max(place));
+        if place <= cut.start {
+            self.shift(place, cut.start, place.wrapping_add(size));
+            self.paste(place, size);
+        } else {
+            self.shift(cut.end, place, cut.start);
+            self.paste(place.wrapping_sub(size), size);
         }
-        to
+        self.renumber(start, end);
     }
 
-    // Sets the gathered nodes down from a place on, and changes their potentials.
-    fn set_down(&mut self, place: usize, count: usize, change: u64) {
+    // Moves a piece of the preorder to begin at another place.
+    fn shift(&mut self, start: usize, end: usize, place: usize) {
+        let count = self.preorder.len();
+        if start <= end
+            && end <= count
+            && place <= count.saturating_sub(end.saturating_sub(start))
+        {
+            self.preorder.copy_within(start..end, place);
+        }
+    }
+
+    // Copies so many gathered nodes into the preorder.
+    fn paste(&mut self, place: usize, count: usize) {
         let mut to = place;
         for node in between(&self.gathered, 0, count) {
             set(&mut self.preorder, to, *node);
-            set(&mut self.places, *node as usize, number_of(to));
-            increase(&mut self.potentials, *node as usize, change);
             to = to.wrapping_add(1);
+        }
+    }
+
+    // Notes the places of what stands in a piece of the preorder.
+    fn renumber(&mut self, start: usize, end: usize) {
+        let mut place = number_of(start);
+        for node in between(&self.preorder, start, end) {
+            set(&mut self.places, *node as usize, place);
+            place = place.wrapping_add(1);
         }
     }
 

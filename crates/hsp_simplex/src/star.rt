@@ -1,0 +1,45 @@
+// Arcs in forward star order, which is source by source (Network Flows, 2.3).
+
+use crate::lists::{between, get_or, number_of};
+
+/// An arc from a source to the server at the node `head`.
+#[derive(Clone, Copy, Drop)]
+pub struct Arc {
+    pub cost: u32,
+    pub head: u32,
+}
+
+/// Arcs of the sources: all of them, or a choice.
+#[derive(Drop)]
+pub struct ForwardStar {
+    pub arcs: Vec<Arc>,
+    /// The place of each source's first arc, and how many arcs there are.
+    pub firsts: Vec<u32>,
+    /// The number that each arc of a choice has among all; of all arcs it is the place, and nothing is listed.
+    pub numbers: Vec<u32>,
+}
+
+impl ForwardStar {
+    #[inline(always)]
+    pub(crate) fn first_place(&self, source: usize) -> usize {
+        get_or(&self.firsts, source, 0) as usize
+    }
+
+    #[inline(always)]
+    pub(crate) fn arcs_of(&self, source: usize) -> &[Arc] {
+        let start = self.first_place(source);
+        let end = self.first_place(source.wrapping_add(1));
+        between(&self.arcs, start, end)
+    }
+
+    #[inline(always)]
+    pub(crate) fn arc_at(&self, place: usize) -> Arc {
+        get_or(&self.arcs, place, Arc { cost: 0, head: 0 })
+    }
+
+    /// The number of the arc at a place.
+    #[inline(always)]
+    pub(crate) fn number_at(&self, place: usize) -> u32 {
+        get_or(&self.numbers, place, number_of(place))
+    }
+}
