@@ -34,6 +34,7 @@ and of one case in eight besides:
 import argparse
 import glob
 import os
+import resource
 import signal
 import struct
 import subprocess
@@ -144,10 +145,14 @@ class Job:
         return [line for line in read(self.said).decode(errors="replace").splitlines() if line]
 
 
+def spent_below():
+    """The seconds of the processor that ended processes took."""
+    spent = resource.getrusage(resource.RUSAGE_CHILDREN)
+    return spent.ru_utime + spent.ru_stime
+
+
 def judge(given, folder):
     """The faults, and how many cases, runs, and runs without a fault to tell there were."""
-    build(folder)
-    write_seeds(os.path.join(folder, "seeds"))
     jobs = 1 if given.only is not None else given.jobs
     first = given.first if given.only is None else given.only
     working = [Job(given, folder, first + at, jobs) for at in range(jobs)]
@@ -157,6 +162,7 @@ def judge(given, folder):
         if time.monotonic() > last or sum(len(job.faults()) for job in working) > 100:
             for job in working:
                 job.process.kill()
+                job.process.wait()
             break
     counts = [job.at() for job in working]
     return [fault for job in working for fault in job.faults()], [sum(it[at] for it in counts) for at in (1, 2, 3)]
@@ -176,14 +182,16 @@ def main():
     if not os.access(given.program, os.X_OK):
         print(f"no program {given.program}: run make install first")
         return 1
-    begun = time.time()
     with tempfile.TemporaryDirectory() as folder:
+        build(folder)
+        write_seeds(os.path.join(folder, "seeds"))
+        begun, below = time.monotonic(), spent_below()
         faults, (cases, runs, plain) = judge(given, folder)
+        spent, spent_by_jobs = time.monotonic() - begun, spent_below() - below
     for fault in faults:
         print(fault[:2000])
-    spent = time.time() - begun
-    print(f"fuzz: {cases} cases from seed {given.seed}, {runs} runs, {plain} of them without a fault to tell, {cases / spent:.0f} cases a second, "
-          f"{len(faults)} faults")
+    print(f"fuzz: {cases} cases from seed {given.seed}, {runs} runs, {plain} of them without a fault to tell, in {spent:.0f} seconds "
+          f"and {spent_by_jobs:.1f} of the processor, {len(faults)} faults")
     return 1 if faults or not cases else 0
 
 

@@ -476,16 +476,27 @@ static void judge_words(struct text text)
 
 /* ---- all cases */
 
+/* The kinds in turn, each so many times: those oftener whose runs take least. */
 static const struct {
     const char *kind;
     void (*judge)(struct text);
+    int times;
 } JUDGES[] = {
-    {"settings", judge_settings}, {"values", judge_values}, {"record", judge_record}, {"body", judge_body}, {"demand", judge_table}, {"costs", judge_table},
-    {"capacity", judge_table}, {"plan", judge_certificate}, {"log", judge_log}, {"events", judge_events}, {"words", judge_words},
-    {"written_record", judge_written_record}, {"written_values", judge_written_values}, {"written_log", judge_written_log},
+    {"settings", judge_settings, 3}, {"values", judge_values, 5}, {"record", judge_record, 5}, {"words", judge_words, 3}, {"body", judge_body, 1},
+    {"demand", judge_table, 1}, {"costs", judge_table, 1}, {"capacity", judge_table, 1}, {"plan", judge_certificate, 1}, {"log", judge_log, 1},
+    {"events", judge_events, 1}, {"written_record", judge_written_record, 5}, {"written_values", judge_written_values, 5}, {"written_log", judge_written_log, 1},
 };
 
-enum { KINDS = sizeof JUDGES / sizeof *JUDGES };
+enum { TURN = 34 };
+
+/* Which judge the case of this number has. */
+static int judge_of(unsigned long of)
+{
+    int at = 0;
+    for (int left = of % TURN; left >= JUDGES[at].times; at++)
+        left -= JUDGES[at].times;
+    return at;
+}
 
 /* A seed of the kind, one of the long ones seldom. */
 static struct text drawn_seed(void)
@@ -507,7 +518,7 @@ static void judge_case(int at)
 {
     kind = JUDGES[at].kind;
     begin_draws(seed, at, number);
-    is_deep = number / KINDS % DEEP == 0;
+    is_deep = number / TURN % DEEP == 0;
     JUDGES[at].judge(changed(drawn_seed()));
 }
 
@@ -570,9 +581,9 @@ int judge_all(void)
     seed = means("FUZZ_SEED");
     take_seeds(getenv("FUZZ_SEEDS"));
     for (number = means("FUZZ_FIRST"); number < cases && faults < MOST_FAULTS; number += step)
-        if (is_wanted(JUDGES[number % KINDS].kind)) {
+        if (is_wanted(JUDGES[judge_of(number)].kind)) {
             progress->number = number;
-            judge_case(number % KINDS);
+            judge_case(judge_of(number));
             fflush(stdout);
             progress->cases++;
         }
