@@ -1,11 +1,12 @@
 #!/usr/bin/env python3
 """Refuses each allocation of each test in turn: a test then has to end well, since it takes want of memory as an answer.
 
-    tools/check_growth.py [--jobs N] [CRATE]..
+    tools/check_growth.py [--jobs N] [--most N | --all | --count] [CRATE]..
 
 It runs the test programs that `rt ci` leaves in crates/NAME/out/NAME_tests, side by side on the processors. Each allocation of a test
 is refused, but for a test with more than MOST of them: of that the first half of MOST, and as many spread evenly over the others; a
-fifth as many where there are more than MANY.
+fifth as many where there are more than MANY. With `--most N` so many are refused of each test that has more, with `--all` each one of
+all tests, and with `--count` none: then it tells how many allocations there are, and how long it would take to refuse each of them.
 Fails where a test program is missing, where a test of a program has no count, where a test fails, and where no test of a crate that
 takes memory took any.
 """
@@ -16,6 +17,7 @@ import re
 import subprocess
 import sys
 import tempfile
+import time
 
 TOP = os.path.dirname(os.path.dirname(os.path.abspath(__file__)))
 
@@ -58,12 +60,15 @@ def count_in(count_file):
         return None
 
 
-def numbers(count):
+def numbers(count, most=None):
     """The allocations of so many that are refused."""
-    if count <= MOST:
+    limit = MOST if most is None else most
+    if count <= limit:
         return range(1, count + 1)
-    half = (MOST if count <= MANY else MOST // 5) // 2
-    return list(range(1, half + 1)) + [half + 1 + at * (count - half - 1) // (half - 1) for at in range(half)]
+    if most is None and count > MANY:
+        limit //= 5
+    first, spread = (limit + 1) // 2, limit // 2
+    return list(range(1, first + 1)) + [first + 1 + at * (count - first - 1) // max(1, spread - 1) for at in range(spread)]
 
 
 def tests_of(program):
@@ -71,20 +76,22 @@ def tests_of(program):
     return [line[: -len(": test")] for line in listed.splitlines() if line.endswith(": test")]
 
 
-def check_test(pool, program, test, preloaded):
-    """The faults of a test, how many of its allocations were refused, and how many there are."""
+def check_test(pool, program, test, preloaded, most):
+    """The faults of a test, how many of its allocations were refused, how many there are, and the seconds of so many runs without a refusal."""
+    begun = time.monotonic()
     status, count, said = run(program, test, preloaded, 0)
+    spent = time.monotonic() - begun
     if status or count is None:
-        return [f"{test}: status {status}, count {count}: {said}"], 0, 0
-    chosen = numbers(count)
+        return [f"{test}: status {status}, count {count}: {said}"], 0, 0, 0
+    chosen = numbers(count, most)
     faults = []
     for number, (status, told, said) in zip(chosen, pool.map(lambda it: run(program, test, preloaded, it), chosen)):
         if status or told is None:
             faults.append(f"{test}: allocation {number} refused: status {status}: {said}")
-    return faults, len(chosen), count
+    return faults, len(chosen), count, count * spent
 
 
-def check(pool, crate, preloaded):
+def check(pool, crate, preloaded, most):
     """The faults of a crate's tests."""
     text = sources(crate)
     if not any("#[test]" in it for it in text.values()):
@@ -94,14 +101,14 @@ def check(pool, crate, preloaded):
     if not os.access(program, os.X_OK):
         return [f"{crate}: no test program {program}: run rt ci first"]
     tests = tests_of(program)
-    found = [check_test(pool, program, test, preloaded) for test in tests]
+    found = [check_test(pool, program, test, preloaded, most) for test in tests]
     faults = [f"{crate} {fault}" for it in found for fault in it[0]]
-    refused, count = (sum(it[at] for it in found) for at in (1, 2))
+    refused, count, seconds = (sum(it[at] for it in found) for at in (1, 2, 3))
     if not tests:
         faults.append(f"{crate}: the test program lists no test")
-    if takes_memory and not refused:
+    if takes_memory and not (refused or (most == 0 and count)):
         faults.append(f"{crate}: it takes memory, and no test of it took any")
-    print(f"{crate}: {len(tests)} tests, {refused} of {count} allocations refused, {len(faults)} faults", flush=True)
+    print(f"{crate}: {len(tests)} tests, {refused} of {count} allocations refused, {len(faults)} faults, all would take {seconds / 60:.1f} minutes", flush=True)
     return faults
 
 
@@ -113,11 +120,14 @@ def jobs_of(words):
 def main():
     words = argparse.ArgumentParser(description="Refuses the allocations of the tests in turn.")
     jobs_of(words)
+    words.add_argument("--most", type=int, metavar="N", help="refuse so many allocations of a test that has more")
+    words.add_argument("--all", dest="most", action="store_const", const=sys.maxsize, help="refuse each allocation of each test")
+    words.add_argument("--count", dest="most", action="store_const", const=0, help="refuse none, and tell how many there are")
     words.add_argument("names", nargs="*", metavar="CRATE")
     given = words.parse_args()
     with tempfile.TemporaryDirectory() as folder, concurrent.futures.ThreadPoolExecutor(given.jobs) as pool:
         preloaded = build(folder)
-        faults = [fault for crate in given.names or crates() for fault in check(pool, crate, preloaded)]
+        faults = [fault for crate in given.names or crates() for fault in check(pool, crate, preloaded, given.most)]
     for fault in faults:
         print(fault)
     print(f"refused growth: {len(faults)} faults")

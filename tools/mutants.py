@@ -10,6 +10,7 @@ has to refuse it:
   file: src/FILE.rt     the file of crates/CRATE that is changed
   test: CRATE NAME      a test, by its own name, of this crate or of one above it
   case: NAME            or a case of checks/program, run on the unproved program
+  refused: N            if there is such a line, the allocation of the test, counted from 1, that is refused while it runs
   old: TEXT             a text that stands in the file once
   new: TEXT             what stands in its place
 
@@ -38,8 +39,8 @@ BASE = os.path.join("examples", "base")
 # So many named tests are run one by one on the sources as they stand; of more, the whole crate's tests are run at once.
 FEW = 3
 
-# A wrong body: the file that is changed, the pairs of texts, and the crate and test, or the case, that has to refuse it.
-Mutant = collections.namedtuple("Mutant", "crate name file pairs test case")
+# A wrong body: the file that is changed, the pairs of texts, the crate and test, or the case, that has to refuse it, and the allocation that is refused.
+Mutant = collections.namedtuple("Mutant", "crate name file pairs test case refused")
 
 
 def read_mutant(path):
@@ -53,7 +54,7 @@ def read_mutant(path):
                 pairs.append((text, None))
             elif key == "new" and pairs and pairs[-1][1] is None:
                 pairs[-1] = (pairs[-1][0], text)
-            elif key in ("file", "test", "case") and key not in found:
+            elif key in ("file", "test", "case", "refused") and key not in found:
                 found[key] = text.strip()
             else:
                 raise ValueError(f"{path}: a line that is none: {line}")
@@ -62,7 +63,9 @@ def read_mutant(path):
     test = tuple(found["test"].split()) if "test" in found else None
     if test and len(test) != 2:
         raise ValueError(f"{path}: a test has a crate and a name")
-    return Mutant(crate, name, found["file"], pairs, test, found.get("case"))
+    if "refused" in found and not test:
+        raise ValueError(f"{path}: an allocation is refused to a test alone")
+    return Mutant(crate, name, found["file"], pairs, test, found.get("case"), found.get("refused"))
 
 
 def read_mutants(wanted):
@@ -107,8 +110,8 @@ def outcomes(said):
     return found
 
 
-def run_tests(folder, crate, seconds, name=None):
-    words = ["rt", "try", "--test", "--seconds", str(seconds)] + (["--", name] if name else [])
+def run_tests(folder, crate, seconds, name=None, refused=None):
+    words = ["rt", "try", "--test", "--seconds", str(seconds)] + (["--fail-alloc", refused] if refused else []) + (["--", name] if name else [])
     said = run(words, os.path.join(folder, "crates", crate))
     return outcomes(said), said
 
@@ -210,20 +213,21 @@ class Copies:
 
 
 def unchanged(mutants):
-    """The runs over the sources as they stand: for each crate its named tests, and for each set of files the named cases."""
+    """The runs over the sources as they stand: for each crate and refused allocation its named tests, and for each set of files the named cases."""
     tests, cases = collections.defaultdict(set), collections.defaultdict(set)
     for it in mutants:
         if it.test:
-            tests[it.test[0]].add(it.test[1])
+            tests[it.test[0], it.refused or ""].add(it.test[1])
         else:
             cases[own_files(it.case)].add(it.case)
     return tests, cases
 
 
-def faults_of_unchanged(folder, crate, own, names, seconds):
-    """The named tests of a crate, or else the cases, that don't pass on the sources as they stand."""
-    if crate and len(names) <= FEW:
-        runs = [run_tests(folder, crate, seconds, name) for name in sorted(names)]
+def faults_of_unchanged(folder, tested, own, names, seconds):
+    """The named tests of a crate and a refused allocation, or else the cases, that don't pass on the sources as they stand."""
+    crate, refused = tested or (None, None)
+    if crate and (len(names) <= FEW or refused):
+        runs = [run_tests(folder, crate, seconds, name, refused) for name in sorted(names)]
         found, said = {test: outcome for it, _ in runs for test, outcome in it.items()}, "".join(it for _, it in runs)
     elif crate:
         found, said = run_tests(folder, crate, seconds)
@@ -242,7 +246,7 @@ def outcome_of(folder, mutant, seconds):
         file.write(changed(mutant, text))
     try:
         if mutant.test:
-            found, said = run_tests(folder, mutant.test[0], seconds, mutant.test[1])
+            found, said = run_tests(folder, mutant.test[0], seconds, mutant.test[1], mutant.refused)
             outcome = found.get(mutant.test[1], "not compiled or not run")
         else:
             found, said = run_cases(folder, [mutant.case], own_files(mutant.case), seconds)
@@ -284,9 +288,9 @@ def told_each(pool, calls):
     return answers
 
 
-def try_unchanged(copies, crate, own, names, seconds):
-    faults = copies.use(lambda folder: faults_of_unchanged(folder, crate, own, names, seconds))
-    return not faults, "\n".join(faults) or f"as they stand: {crate or 'program'}, {len(names)} {'tests' if crate else 'cases'} pass"
+def try_unchanged(copies, tested, own, names, seconds):
+    faults = copies.use(lambda folder: faults_of_unchanged(folder, tested, own, names, seconds))
+    return not faults, "\n".join(faults) or f"as they stand: {tested[0] if tested else 'program'}, {len(names)} {'tests' if tested else 'cases'} pass"
 
 
 def main():

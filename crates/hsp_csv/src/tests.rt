@@ -69,6 +69,14 @@ fn first_ten<R: Read + Drop>(alloc: Global, text: R, out: &mut Vec<u8>) -> Optio
     None
 }
 
+// Room for what is read. Where a growth is refused, the second call finds memory.
+fn room(alloc: Global) -> Result<Vec<u8>, AllocError> {
+    match Vec::with_capacity(alloc, 64) {
+        Err(AllocError) => Vec::with_capacity(alloc, 64),
+        room => room,
+    }
+}
+
 #[test]
 fn records_of_a_text(rt: HostRuntime) -> Result<(), Fail> {
     let cases: [(&[u8], &[u8]); 12] = [
@@ -86,9 +94,7 @@ fn records_of_a_text(rt: HostRuntime) -> Result<(), Fail> {
         (b"\xEF\xBB\xBF\xEF\xBB\xBFa\n", b"[\xEF\xBB\xBFa]\n"),
     ];
     for (text, wanted) in cases {
-        let Ok(mut out) = Vec::with_capacity(rt.alloc(), 64) else {
-            return Ok(());
-        };
+        let mut out = room(rt.alloc())?;
         let mut fault = first_ten(rt.alloc(), text, &mut out);
         if fault == Some(RecordsFault::OutOfMemory) {
             out.clear();
@@ -109,9 +115,7 @@ fn a_reader_that_gives_little_or_fails(rt: HostRuntime) -> Result<(), Fail> {
         (7, Some(RecordsFault::ReadFailed), b"[a][b]\n"),
     ];
     for (good, wanted_fault, wanted) in cases {
-        let Ok(mut out) = Vec::with_capacity(rt.alloc(), 64) else {
-            return Ok(());
-        };
+        let mut out = room(rt.alloc())?;
         let mut fault = first_ten(rt.alloc(), little(good), &mut out);
         if fault == Some(RecordsFault::OutOfMemory) {
             out.clear();

@@ -9,22 +9,23 @@ use hsp_cert::{Certificate, UseLine};
 use hsp_check::{Verdict, check};
 use hsp_instance::{Instance, build};
 use hsp_tables::{read_capacity, read_costs, read_demand, read_settings};
+use hsp_text::push_whole;
 use std::alloc::{AllocError, Global};
 use std::process::Abort;
 use std::test::Fail;
 
 // The texts of an instance; the hosts stand behind the sites in the settings.
 #[derive(Clone, Copy)]
-struct Texts {
-    sites: &'static [u8],
-    hosts: &'static [u8],
-    demand: &'static [u8],
-    costs: &'static [u8],
-    capacity: &'static [u8],
+struct Texts<'a> {
+    sites: &'a [u8],
+    hosts: &'a [u8],
+    demand: &'a [u8],
+    costs: &'a [u8],
+    capacity: &'a [u8],
 }
 
 // Two sites of two and three servers, three rows.
-const BASE: Texts = Texts {
+const BASE: Texts<'static> = Texts {
     sites: b"[[site]]\nname = \"E\"\nrecord = \"00010200000100010000000000000000000000020000000700000000000000000000000000000001000000000000000000000003000000000000000000000000000000010000000000000000\"\n[[site]]\nname = \"W\"\nrecord = \"0001020000010001000000000000000000000003000000010000000000000000000000000000000200000000000000000000000200000000000000000000000000000002000000000000000000000009000000000000000000000000000000020000000000000000\"\n",
     hosts: b"",
     demand: b"region,handle,count\nr1,10/1,5\nr1,10/2,4\nr2,10/3,3\n",
@@ -33,25 +34,25 @@ const BASE: Texts = Texts {
 };
 
 // The base without demand.
-const IDLE: Texts = Texts {
+const IDLE: Texts<'static> = Texts {
     demand: b"region,handle,count\n",
     ..BASE
 };
 
 // The base with a host that the servers of E stand on.
-const HOSTED: Texts = Texts {
+const HOSTED: Texts<'static> = Texts {
     hosts: b"[[host]]\naddress = \"00000000000000000000000000000001\"\nlimit = 8\n",
     ..BASE
 };
 
 // The base with a third row that asks for more than it can reach.
-const SHORT: Texts = Texts {
+const SHORT: Texts<'static> = Texts {
     demand: b"region,handle,count\nr1,10/1,5\nr1,10/2,4\nr2,10/3,9\n",
     ..BASE
 };
 
 // A site of one server, and twenty rows of as many queries as a row may count.
-const WIDE: Texts = Texts {
+const WIDE: Texts<'static> = Texts {
     sites: b"[[site]]\nname = \"X\"\nrecord = \"000102000001000100000000000000000000000100000007000000000000000000000000000000010000000000000000\"\n",
     hosts: b"",
     demand: b"region,handle,count\nr1,10/0,1000000\nr1,10/1,1000000\nr1,10/2,1000000\nr1,10/3,1000000\nr1,10/4,1000000\nr1,10/5,1000000\nr1,10/6,1000000\nr1,10/7,1000000\nr1,10/8,1000000\nr1,10/9,1000000\nr1,10/10,1000000\nr1,10/11,1000000\nr1,10/12,1000000\nr1,10/13,1000000\nr1,10/14,1000000\nr1,10/15,1000000\nr1,10/16,1000000\nr1,10/17,1000000\nr1,10/18,1000000\nr1,10/19,1000000\n",
@@ -60,7 +61,7 @@ const WIDE: Texts = Texts {
 };
 
 // A site and a region of the longest names.
-const LONG: Texts = Texts {
+const LONG: Texts<'static> = Texts {
     sites: b"[[site]]\nname = \"S23456789012345678901234567890123456789012345678901234567890123s\"\nrecord = \"000102000001000100000000000000000000000100000007000000000000000000000000000000010000000000000000\"\n",
     hosts: b"",
     demand: b"region,handle,count\nR23456789012345678901234567890123456789012345678901234567890123r,10/1,2\n",
@@ -69,7 +70,7 @@ const LONG: Texts = Texts {
 };
 
 // The instance of the texts, and None where memory ran out or the texts are bad.
-fn instance_of(alloc: Global, texts: Texts) -> Option<Instance> {
+fn instance_of(alloc: Global, texts: Texts<'_>) -> Option<Instance> {
     let mut settings = Vec::from_slice(alloc, texts.sites).ok()?;
     settings.extend_from_slice(texts.hosts).ok()?;
     let settings = read_settings(alloc, settings.as_slice()).ok()?;
@@ -80,7 +81,7 @@ fn instance_of(alloc: Global, texts: Texts) -> Option<Instance> {
 }
 
 // The same. Where a growth is refused, the second building finds memory: so the answers below are insisted on.
-fn instance_twice(alloc: Global, texts: Texts) -> Result<Instance, Fail> {
+fn instance_twice(alloc: Global, texts: Texts<'_>) -> Result<Instance, Fail> {
     match instance_of(alloc, texts) {
         Some(instance) => Ok(instance),
         None => Ok(instance_of(alloc, texts).ok_or("an instance")?),
@@ -180,6 +181,76 @@ fn wide_twice(alloc: Global) -> Result<Certificate, Fail> {
     }
 }
 
+// Rows of one query each, which all ask the one server.
+const MANY: u32 = 5000;
+
+// The demand of these rows.
+fn many_once(alloc: Global) -> Result<Vec<u8>, AllocError> {
+    let mut text = Vec::from_slice(alloc, b"region,handle,count\n")?;
+    for row in 0..MANY {
+        text.extend_from_slice(b"r1,10/")?;
+        push_whole(&mut text, u64::from(row))?;
+        text.extend_from_slice(b",1\n")?;
+    }
+    Ok(text)
+}
+
+fn many_twice(alloc: Global) -> Result<Vec<u8>, AllocError> {
+    match many_once(alloc) {
+        Err(AllocError) => many_once(alloc),
+        text => text,
+    }
+}
+
+// The server, which can take so many.
+fn with_room<'a>(demand: &'a [u8], capacity: &'a [u8]) -> Texts<'a> {
+    Texts {
+        demand,
+        costs: b"region,site,cost\nr1,X,1\n",
+        capacity,
+        ..WIDE
+    }
+}
+
+// The plan of these rows.
+fn plan_of_many(alloc: Global) -> Option<Certificate> {
+    let mut uses = Vec::new(alloc);
+    for row in 0..MANY {
+        uses.push(UseLine {
+            row,
+            site: 0,
+            count: 1,
+        })
+        .ok()?;
+    }
+    let rows = vec![in alloc; 1; MANY as usize].ok()?;
+    let servers = Vec::from_slice(alloc, &[0]).ok()?;
+    Certificate::best(u64::from(MANY), uses, rows, servers)
+}
+
+fn plan_of_many_twice(alloc: Global) -> Result<Certificate, Fail> {
+    match plan_of_many(alloc) {
+        Some(certificate) => Ok(certificate),
+        None => Ok(plan_of_many(alloc).ok_or("a plan")?),
+    }
+}
+
+// The set of these rows, which is short by one query.
+fn short_of_one(alloc: Global) -> Option<Certificate> {
+    let mut rows = Vec::new(alloc);
+    for row in 0..MANY {
+        rows.push(row).ok()?;
+    }
+    Certificate::short(rows, u64::from(MANY), u64::from(MANY) - 1)
+}
+
+fn short_of_one_twice(alloc: Global) -> Result<Certificate, Fail> {
+    match short_of_one(alloc) {
+        Some(certificate) => Ok(certificate),
+        None => Ok(short_of_one(alloc).ok_or("a short set")?),
+    }
+}
+
 // The certificate of the third row of the base.
 fn short_set(alloc: Global) -> Option<Certificate> {
     Certificate::short(Vec::from_slice(alloc, &[2]).ok()?, 9, 8)
@@ -240,7 +311,7 @@ fn is_shortage(
 fn loads_of(
     rt: &impl Abort,
     alloc: Global,
-    texts: Texts,
+    texts: Texts<'_>,
     certificate: &Certificate,
 ) -> Result<Vec<u8>, Fail> {
     let instance = instance_twice(alloc, texts)?;
@@ -255,7 +326,7 @@ fn loads_of(
 fn regions_of(
     rt: &impl Abort,
     alloc: Global,
-    texts: Texts,
+    texts: Texts<'_>,
     certificate: &Certificate,
 ) -> Result<Vec<u8>, Fail> {
     let instance = instance_twice(alloc, texts)?;
@@ -270,7 +341,7 @@ fn regions_of(
 fn shortage_of(
     rt: &impl Abort,
     alloc: Global,
-    texts: Texts,
+    texts: Texts<'_>,
     certificate: &Certificate,
 ) -> Result<Vec<u8>, Fail> {
     let instance = instance_twice(alloc, texts)?;
@@ -381,5 +452,42 @@ fn names_stand_whole(rt: HostRuntime) -> Result<(), Fail> {
         &regions,
         b"    demand             cost region\n         2                6 R23456789012345678901234567890123456789012345678901234567890123r\ntotal 2 6\n",
     );
+    Ok(())
+}
+
+#[test]
+fn loads_and_regions_of_many_rows_are_told(rt: HostRuntime) -> Result<(), Fail> {
+    let demand = many_twice(rt.alloc())?;
+    let texts = with_room(&demand, b"site,server_id,capacity\nX,7,6000\n");
+    let certificate = plan_of_many_twice(rt.alloc())?;
+    let loads = loads_of(&rt, rt.alloc(), texts, &certificate)?;
+    is_text(
+        &rt,
+        &loads,
+        b"place     server       load   capacity         price site\n    0          7       5000       6000             0 X\nbound 5000 - 0 = 5000\n",
+    );
+    let regions = regions_of(&rt, rt.alloc(), texts, &certificate)?;
+    is_text(
+        &rt,
+        &regions,
+        b"    demand             cost region\n      5000             5000 r1\ntotal 5000 5000\n",
+    );
+    Ok(())
+}
+
+#[test]
+fn a_shortage_of_many_rows_is_told(rt: HostRuntime) -> Result<(), Fail> {
+    let demand = many_twice(rt.alloc())?;
+    let texts = with_room(&demand, b"site,server_id,capacity\nX,7,4999\n");
+    let certificate = short_of_one_twice(rt.alloc())?;
+    let text = shortage_of(&rt, rt.alloc(), texts, &certificate)?;
+    let begins: &[u8] =
+        b"short 5000 - 4999 = 1\n row   count region\n   0       1 r1\n   1       1 r1\n";
+    let ends: &[u8] =
+        b"4998       1 r1\n4999       1 r1\nplace     server   capacity site\n    0          7       4999 X\n";
+    assert!(rt; text.starts_with(begins));
+    assert!(rt; text.ends_with(ends));
+    // Between the two headers a line of 16 octets for each row, and behind them the server's.
+    assert_eq!(rt; text.len(), 22 + 20 + 5000 * 16 + 33 + 30);
     Ok(())
 }

@@ -7,6 +7,7 @@ use hsp_instance::BuildFault;
 use hsp_names::HandleFault;
 use hsp_record::RecordFault;
 use hsp_tables::TableFault;
+use hsp_text::push_whole;
 use std::alloc::{AllocError, Global};
 use std::process::Abort;
 use std::test::Fail;
@@ -378,6 +379,42 @@ fn plans_are_of_the_least_cost(rt: HostRuntime) -> Result<(), Fail> {
         b"HSPLAN 1\nPLAN\ncost 17\nuse 0 0 1\nuse 0 1 2\nuse 1 0 4\nuse 2 0 5\nrow 0 ",
     )?;
     Ok(())
+}
+
+// A query of each of 5,000 rows.
+fn many_once(alloc: Global) -> Result<Vec<u8>, AllocError> {
+    let mut text = Vec::from_slice(alloc, b"region,handle,count\n")?;
+    for row in 0..5000 {
+        text.extend_from_slice(b"r1,10/")?;
+        push_whole(&mut text, row)?;
+        text.extend_from_slice(b",1\n")?;
+    }
+    Ok(text)
+}
+
+// Where a growth is refused, the second call finds memory.
+fn many_twice(alloc: Global) -> Result<Vec<u8>, AllocError> {
+    match many_once(alloc) {
+        Err(AllocError) => many_once(alloc),
+        text => text,
+    }
+}
+
+#[test]
+fn many_rows_are_planned_and_judged(rt: HostRuntime) -> Result<(), Fail> {
+    let demand = many_twice(rt.alloc())?;
+    let texts = Texts {
+        demand: demand.as_slice(),
+        costs: b"region,site,cost\nr1,E,1\n",
+        capacity: b"site,server_id,capacity\nE,7,5000\nE,3,5000\nW,1,0\nW,2,0\nW,9,0\n",
+        ..BASE
+    };
+    plans_from(
+        &rt,
+        rt.alloc(),
+        texts,
+        b"HSPLAN 1\nPLAN\ncost 5000\nuse 0 0 1\nuse 1 0 1\nuse 2 0 1\n",
+    )
 }
 
 // Two texts, one behind the other.

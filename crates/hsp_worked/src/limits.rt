@@ -1,5 +1,6 @@
 // A plan and a shortage of as many rows, regions, sites and servers as there may be.
-use crate::inputs::Texts;
+use crate::checks::{reached_twice, summed_twice};
+use crate::inputs::{Texts, instance_of};
 use crate::plans::{is_plan, planned, solved};
 use hsp_flow::HeapFrontier;
 use hsp_text::push_whole;
@@ -128,6 +129,21 @@ fn a_plan_at_the_limits_is_found(rt: HostRuntime) {
     is_plan(&rt, &certificate, 182_784_000_000, None);
 }
 
+#[test]
+fn a_plan_at_the_limits_is_summed(rt: HostRuntime) {
+    let texts = texts_of(&rt, rt.alloc(), 8192, 122_000_000);
+    let certificate = solved(&rt, rt.alloc(), lent(&texts));
+    let instance = instance_of(&rt, rt.alloc(), lent(&texts));
+    let sums = summed_twice(&rt, rt.alloc(), &instance, &certificate);
+    assert_eq!(rt; sums.cost, 182_784_000_000);
+    assert_eq!(rt; sums.loads.rows.len(), 8192);
+    for load in sums.loads.rows.as_slice() {
+        assert_eq!(rt; *load, 1_000_000);
+    }
+    assert_eq!(rt; sums.loads.servers.len(), 1024);
+    assert_eq!(rt; sums.loads.servers.first(), Some(&5_000_000));
+}
+
 // With one query less at the last server of place 0 the 277 rows of that place fall short.
 #[test]
 fn a_shortage_at_the_limits_is_found(rt: HostRuntime) {
@@ -137,6 +153,20 @@ fn a_shortage_at_the_limits_is_found(rt: HostRuntime) {
     assert_eq!(rt; short.rows().len(), 277);
     assert_eq!(rt; short.demand(), 277_000_000);
     assert_eq!(rt; short.capacity(), 276_999_999);
+}
+
+// They reach the server of place 0 at each of the 32 sites.
+#[test]
+fn a_shortage_at_the_limits_reaches_its_servers(rt: HostRuntime) {
+    let texts = texts_of(&rt, rt.alloc(), 8192, 121_999_999);
+    let certificate = solved(&rt, rt.alloc(), lent(&texts));
+    let instance = instance_of(&rt, rt.alloc(), lent(&texts));
+    let servers = reached_twice(&rt, rt.alloc(), &instance, &certificate);
+    assert_eq!(rt; servers.len(), 32);
+    for (site, server) in servers.iter().enumerate() {
+        assert_eq!(rt; *server as usize / 32, site);
+        assert_eq!(rt; *server % 32, 0);
+    }
 }
 
 // Of the first 256 rows a place has 13 at most: of those of one place five cost one, the next five two and the others three, a million times. The nodes of the

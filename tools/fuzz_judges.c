@@ -1,0 +1,591 @@
+/* Judges what the program answers, without a second implementation. */
+#define _GNU_SOURCE
+#include "fuzz.h"
+
+#include <fcntl.h>
+#include <stdio.h>
+#include <stdlib.h>
+#include <string.h>
+#include <sys/mman.h>
+#include <sys/stat.h>
+#include <unistd.h>
+
+/* Within these a run has to stay: so much at once, and so much more for each octet of its files. */
+static const uint64_t LEAST_OCTETS = 1 << 19, OCTETS_EACH = 200, LEAST_NANOSECONDS = 100000000, NANOSECONDS_EACH = 20000;
+
+/* One of so many cases is judged by all that is known, at more runs. */
+enum { DEEP = 8, MOST_SEEDS = 512, MOST_FAULTS = 20, LONG_SEED = 20000, SHOWN = 200 };
+
+#define INPUTS "--settings settings.toml --demand demand.csv --costs costs.csv --capacity capacity.csv"
+#define PLANNED INPUTS " --plan plan.txt"
+
+static const struct text PLAN = TEXT("plan " INPUTS), CHECK = TEXT("check " PLANNED), DISPATCH = TEXT("dispatch " PLANNED " --log log.csv");
+static const struct text LOCATE = TEXT("locate --settings settings.toml --values list.values 10/3");
+
+static struct files base;
+static struct text seed_kinds[MOST_SEEDS], seeds[MOST_SEEDS];
+static int seed_count;
+
+/* The case that is judged, and how many cases and runs there were, and runs that had no fault to tell. */
+struct progress {
+    uint64_t number, cases, runs, plain_runs;
+};
+
+/* The case, and what was found. */
+static const char *kind;
+static unsigned long seed, number;
+static int is_deep, faults;
+static volatile struct progress *progress;
+
+static void show(struct text text)
+{
+    struct text some = front(text, SHOWN);
+    printf(" '");
+    for (size_t at = 0; at < some.length; at++)
+        printf(some.octets[at] >= ' ' && some.octets[at] < 127 ? "%c" : "\\x%02x", (unsigned char)some.octets[at]);
+    printf(text.length > some.length ? "'.. of %zu" : "'", text.length);
+}
+
+static void tell(const char *fault, struct text first, struct text second, struct text third)
+{
+    faults++;
+    printf("--seed %lu: %s %lu: %s:", seed, kind, number, fault);
+    show(first), show(second), show(third);
+    printf("\n");
+}
+
+static void want(int holds, const char *fault, struct text first, struct text second, struct text third)
+{
+    if (!holds)
+        tell(fault, first, second, third);
+}
+
+static int is_same(const struct answer *one, const struct answer *other)
+{
+    return one->status == other->status && is_equal(one->printed, other->printed) && is_equal(one->told, other->told);
+}
+
+/* Whether the program printed and told so, and ended with this status. */
+static int is_answer(const struct answer *answer, struct text printed, struct text told, int status)
+{
+    return answer->status == status && is_equal(answer->printed, printed) && is_equal(answer->told, told);
+}
+
+static void wants_same(const char *fault, struct text words, const struct answer *one, const struct answer *other)
+{
+    want(is_same(one, other), fault, words, glued(one->told, one->printed, TEXT("")), glued(other->told, other->printed, TEXT("")));
+}
+
+static struct answer run_counted(struct text words, const struct files *files)
+{
+    struct answer answer = run(words, files);
+    progress->runs++;
+    progress->plain_runs += !begins(answer.told, TEXT("hsplan: "));
+    return answer;
+}
+
+/* The answer to these words with these files, as it has to be of every input. */
+static struct answer answered(struct text words, const struct files *files)
+{
+    struct answer first = run_counted(words, files);
+    uint64_t size = words.length;
+    for (int at = 0; at < files->count; at++)
+        size += files->holds[at].length;
+    if (is_deep) {
+        struct answer second = run_counted(words, files);
+        wants_same("two answers", words, &first, &second);
+        first.spent = second.spent < first.spent ? second.spent : first.spent;
+    }
+    struct text sums = numbered("status %lu, at most %lu octets, %lu nanoseconds", first.status, first.most, first.spent);
+    want(is_suiting(words, &first), "status or line", words, first.told, glued(sums, TEXT(" "), first.printed));
+    want(!first.held, "memory kept", words, first.told, sums);
+    want(first.most <= LEAST_OCTETS + OCTETS_EACH * size, "memory", words, first.told, sums);
+    want(first.spent <= LEAST_NANOSECONDS + NANOSECONDS_EACH * size, "time", words, first.told, sums);
+    return first;
+}
+
+static struct text *held_by(struct files *files, struct text name)
+{
+    for (int at = 0; at < files->count; at++)
+        if (is_equal(files->names[at], name))
+            return &files->holds[at];
+    files->names[files->count] = name;
+    return &files->holds[files->count++];
+}
+
+static struct files with(const struct files *files, struct text name, struct text holds)
+{
+    struct files others = *files;
+    *held_by(&others, name) = holds;
+    return others;
+}
+
+static struct answer answered_with(struct text words, struct text name, struct text holds)
+{
+    struct files files = with(&base, name, holds);
+    return answered(words, &files);
+}
+
+/* A table without quotes, whose last line has an end, so that what comes behind it are further rows. */
+static int ends_plainly(struct text text)
+{
+    size_t blank = 0;
+    while (blank < text.length && strchr("\n\xef\xbb\xbf", text.octets[blank]) && text.octets[blank])
+        blank++;
+    return blank < text.length && !holds_octet(text, '"') && !holds_octet(text, '\r') && ends(text, TEXT("\n"));
+}
+
+/* ---- plans */
+
+/* The lines of a certificate's version, kind and cost. */
+static struct text cost_of(const struct answer *plan)
+{
+    struct text rest = behind_line(behind_line(behind_line(plan->printed)));
+    return front(plan->printed, plan->printed.length - (plan->status == 0 ? rest.length : behind_line(behind_line(plan->printed)).length));
+}
+
+/* The order of costs and of capacities has no effect on the cost. */
+static void judge_order(const struct files *files, const struct answer *plan)
+{
+    struct files others = *files;
+    struct text *costs = held_by(&others, TEXT("costs.csv")), *capacity = held_by(&others, TEXT("capacity.csv"));
+    if (!ends_plainly(*costs) || !ends_plainly(*capacity) || !begins(*costs, TEXT("region,")) || !begins(*capacity, TEXT("site,")))
+        return;
+    *costs = reordered(*costs);
+    *capacity = reordered(*capacity);
+    struct answer again = answered(PLAN, &others);
+    want(!again.told.length && is_equal(cost_of(&again), cost_of(plan)), "another order", cost_of(&again), cost_of(plan), *costs);
+}
+
+static void judge_reports(const struct files *made, int is_short)
+{
+#define REPORT(kind) TEXT("report " PLANNED " --kind " kind)
+    static const struct text reports[] = {REPORT("load"), REPORT("region"), REPORT("shortage")};
+    for (int at = 0; at < 3; at++) {
+        struct answer report = answered(reports[at], made);
+        want(report.status == ((at == 2) == is_short ? 0 : 3), "report", reports[at], report.told, report.printed);
+    }
+}
+
+/* Plans, and has the text of the plan judged and reported; gives the answer. */
+static struct answer judge_plan(const struct files *files)
+{
+    struct answer plan = answered(PLAN, files);
+    if (plan.told.length)
+        return plan;
+    struct files made = with(files, TEXT("plan.txt"), plan.printed);
+    struct answer verdict = answered(CHECK, &made);
+    want(is_answer(&verdict, TEXT("yes\n"), TEXT(""), 0), "check of a plan", verdict.printed, verdict.told, plan.printed);
+    if (is_deep) {
+        judge_reports(&made, plan.status == 3);
+        judge_order(files, &plan);
+    }
+    return plan;
+}
+
+static void judge_settings(struct text text)
+{
+    struct files files = with(&base, TEXT("settings.toml"), text);
+    struct answer plan = judge_plan(&files);
+    if (!is_deep)
+        return;
+    struct answer places = answered(LOCATE, &files);
+    if (!is_equal(plan.told, TEXT("hsplan: settings: NotToml\n"))) {
+        struct answer more = answered_with(LOCATE, TEXT("settings.toml"), glued(text, TEXT("\n# a comment\n"), TEXT("")));
+        wants_same("a comment behind", text, &places, &more);
+    }
+}
+
+static void judge_table(struct text text)
+{
+    struct text name = glued((struct text){kind, strlen(kind)}, TEXT(".csv"), TEXT(""));
+    struct text part = glued(TEXT("hsplan: "), (struct text){kind, strlen(kind)}, TEXT(": "));
+    struct files files = with(&base, name, text);
+    struct answer plan = judge_plan(&files);
+    if (is_deep && begins(plan.told, part) && ends_plainly(text)) {
+        struct answer more = answered_with(PLAN, name, continued(text));
+        wants_same("rows behind a fault", text, &plan, &more);
+    }
+}
+
+/* ---- records and value lists */
+
+static int is_of_octets(struct text line, struct text part)
+{
+    return begins(line, glued(TEXT("hsplan: "), part, TEXT(": ")));
+}
+
+/* Whether the line on the first `end` octets of a text of so many suits the line on the whole text. */
+static int begins_well(struct text part, struct text whole, struct text begun, size_t end, size_t size)
+{
+    uint64_t at = 0, begun_at = 0;
+    int fault = place_in(whole, part, &at), is_whole_bad = is_of_octets(whole, part);
+    int is_cut = place_in(begun, part, &begun_at) == 'c' && begun_at <= end;
+    if (end == size || (fault && end >= at + (fault == 't')))
+        return is_equal(begun, whole);
+    if (fault == 't' && end == at)
+        return !is_of_octets(begun, part);
+    return is_cut || (is_whole_bad && !fault && is_equal(begun, whole));
+}
+
+/* A beginning of the text, and what goes on behind it, have the fault that stands. */
+static void judge_beginning(struct text words, struct text name, struct text part, struct text text)
+{
+    uint64_t at;
+    struct answer whole = answered_with(words, name, text);
+    if (!is_deep)
+        return;
+    struct text beginning = cut(text);
+    struct answer begun = answered_with(words, name, beginning);
+    int is_well = begins_well(part, line_of(&whole), line_of(&begun), beginning.length, text.length);
+    want(is_well, "a beginning", in_digits(beginning), begun.told, whole.told);
+    if (is_of_octets(line_of(&whole), part) && place_in(line_of(&whole), part, &at) != 'c') {
+        struct answer more = answered_with(words, name, continued(text));
+        want(is_equal(more.told, whole.told), "behind a fault", in_digits(text), more.told, whole.told);
+    }
+}
+
+static void judge_record(struct text text)
+{
+    judge_beginning(TEXT("site two_servers.site"), TEXT("two_servers.site"), TEXT("site"), text);
+}
+
+static void judge_values(struct text text)
+{
+    judge_beginning(TEXT("site --index 1 list.values"), TEXT("list.values"), TEXT("values"), text);
+    if (is_deep) {
+        struct files files = with(&base, TEXT("settings.toml"), TEXT("[[site]]\nname = \"E\"\nindex = 1\n"));
+        files = with(&files, TEXT("list.values"), text);
+        answered(LOCATE, &files);
+    }
+}
+
+/* What a beginning of a written text, the text itself, and a continuation are told of. */
+static void judge_spelling(struct text words, struct text name, const char *part, const struct spelling *spelling)
+{
+    struct text whole = spelled(spelling), beginning = front(whole, below(whole.length)), more = drawn_octets(3);
+    char form[64];
+    snprintf(form, sizeof form, "hsplan: %s: %s at %%lu\n", part, "Truncated");
+    struct answer begun = answered_with(words, name, beginning);
+    struct text told = numbered(form, field_at(spelling, beginning.length), 0, 0);
+    want(is_answer(&begun, TEXT(""), told, 1), "a beginning of a spelling", in_digits(beginning), begun.told, told);
+    if (!more.length)
+        return;
+    snprintf(form, sizeof form, "hsplan: %s: %s at %%lu\n", part, "Trailing");
+    struct answer behind = answered_with(words, name, glued(whole, more, TEXT("")));
+    told = numbered(form, whole.length, 0, 0);
+    want(is_answer(&behind, TEXT(""), told, 1), "behind a spelling", in_digits(whole), behind.told, told);
+}
+
+static void judge_written_record(struct text text)
+{
+    struct spelling spelling;
+    static const struct text words = TEXT("site two_servers.site"), name = TEXT("two_servers.site");
+    (void)text;
+    begin_spelling(&spelling);
+    struct text lines = put_record(&spelling);
+    struct answer whole = answered_with(words, name, spelled(&spelling));
+    want(is_answer(&whole, lines, TEXT(""), 0), "what was written", in_digits(spelled(&spelling)), lines, glued(whole.told, whole.printed, TEXT("")));
+    if (is_deep)
+        judge_spelling(words, name, "site", &spelling);
+}
+
+/* What is told of the value of an index in a list: the lines of its record, or its fault; then where the list is written wrongly, that. */
+struct wanted {
+    struct text printed, told;
+};
+
+static struct wanted put_drawn_value(struct spelling *list, uint32_t index)
+{
+    struct spelling record;
+    int is_site = below(3) > 0;
+    begin_spelling(&record);
+    struct text lines = put_record(&record), type = is_site ? TEXT("HS_SITE") : changed(TEXT("HS_SITE"));
+    put_value(list, index, type, spelled(&record));
+    return is_equal(type, TEXT("HS_SITE")) ? (struct wanted){lines, TEXT("")} : (struct wanted){TEXT(""), TEXT("hsplan: NotSiteValue\n")};
+}
+
+static void judge_written_values(struct text text)
+{
+    struct spelling list;
+    uint32_t count = below(6), first = below(2) ? below(10) : 0xfffffff0, sought = first + below(6);
+    struct wanted wanted = {TEXT(""), TEXT("hsplan: NoValue\n")};
+    (void)text;
+    begin_spelling(&list);
+    put_number(&list, count, 4);
+    for (uint32_t at = 0; at < count; at++) {
+        struct wanted here = put_drawn_value(&list, first + at);
+        wanted = first + at == sought ? here : wanted;
+    }
+    struct text words = numbered("site --index %lu list.values", sought, 0, 0);
+    struct answer whole = answered_with(words, TEXT("list.values"), spelled(&list));
+    struct text said = glued(whole.told, whole.printed, TEXT(""));
+    want(is_answer(&whole, wanted.printed, wanted.told, wanted.told.length > 0), "what was written", wanted.told, wanted.printed, said);
+    if (is_deep)
+        judge_spelling(words, TEXT("list.values"), "values", &list);
+}
+
+/* ---- certificates */
+
+/* A dispatcher takes a text just where `check` says yes to it, or refuses it for the same reason. */
+static void judge_verdict(const struct files *files, const struct answer *verdict)
+{
+    struct answer dispatched = answered(DISPATCH, files);
+    struct text reason = begins(verdict->printed, TEXT("no ")) ? verdict->printed : TEXT("");
+    size_t at = reason.length;
+    while (at && reason.octets[at - 1] != ' ')
+        at--;
+    if (reason.length) {
+        struct text told = glued(TEXT("hsplan: check: "), (struct text){reason.octets + at, reason.length - at}, TEXT(""));
+        want(is_answer(&dispatched, TEXT(""), told, 3), "dispatch after no", verdict->printed, dispatched.told, dispatched.printed);
+    } else if (verdict->printed.length) {
+        int is_well = dispatched.status == 0 || is_equal(dispatched.told, TEXT("hsplan: WrongKind\n"));
+        want(is_well, "dispatch after yes", verdict->printed, dispatched.told, dispatched.printed);
+    } else
+        wants_same("dispatch after a fault", verdict->told, verdict, &dispatched);
+}
+
+static void judge_certificate(struct text text)
+{
+    static const struct text ended = TEXT("hsplan: certificate: Ended\n"), name = TEXT("plan.txt");
+    struct files files = with(&base, name, text);
+    struct answer verdict = answered(CHECK, &files);
+    if (!is_deep)
+        return;
+    judge_verdict(&files, &verdict);
+    if (verdict.printed.length && text.length) {
+        struct text beginning = front(text, below(text.length));
+        struct answer begun = answered_with(CHECK, name, beginning);
+        want(is_equal(begun.told, ended), "a beginning", beginning, begun.told, begun.printed);
+    } else if (!is_equal(verdict.told, ended) && ends(text, TEXT("\n"))) {
+        struct answer more = answered_with(CHECK, name, continued(text));
+        wants_same("behind a bad line", text, &verdict, &more);
+    }
+}
+
+/* ---- logs */
+
+/* How many lines of an answer begin so. */
+static uint64_t lines_of(struct text answers, struct text beginning)
+{
+    uint64_t count = 0;
+    for (; answers.length; answers = behind_line(answers))
+        count += begins(answers, beginning);
+    return count;
+}
+
+/* An answer's lines are of their forms, and its sums are those of its lines; no more queries are assigned than the plan has. */
+static void judge_lines(struct text log, const struct answer *answer, int is_of_fronts)
+{
+    uint64_t assigned = lines_of(answer->printed, TEXT("assigned ")), spent = lines_of(answer->printed, TEXT("spent\n"));
+    uint64_t unknown = lines_of(answer->printed, TEXT("unknown\n")), lacking = lines_of(answer->printed, TEXT("nofront\n"));
+    want(assigned <= 12, "more than the plan", log, answer->printed, answer->told);
+    want(is_of_fronts || !lacking, "nofront", log, answer->printed, answer->told);
+    want(assigned + spent + unknown + lacking == lines_of(answer->printed, TEXT("")), "lines", log, answer->printed, answer->told);
+    for (struct text rest = answer->printed; rest.length; rest = behind_line(rest)) {
+        struct text line = first_line(rest);
+        int is_well = !begins(line, TEXT("assigned ")) || (line.length == 14 && strchr("EW", line.octets[9]) && line.octets[10] == ' ');
+        want(is_well, "line", log, line, answer->printed);
+    }
+    struct text sums = numbered("assigned %lu spent %lu unknown %lu\n", assigned, spent, unknown);
+    want(is_of_fronts || answer->status || is_equal(answer->told, sums), "sums", sums, answer->told, answer->printed);
+}
+
+static void judge_log_text(struct text words, struct text name, struct text text, int is_of_fronts)
+{
+    struct answer answer = answered_with(words, name, text);
+    judge_lines(text, &answer, is_of_fronts);
+    if (!is_deep || !ends_plainly(text))
+        return;
+    struct answer more = answered_with(words, name, continued(text));
+    want(begins(more.printed, answer.printed), "a longer log", text, answer.printed, more.printed);
+    if (answer.status)
+        wants_same("behind a fault", text, &answer, &more);
+}
+
+static void judge_log(struct text text)
+{
+    judge_log_text(DISPATCH, TEXT("log.csv"), text, 0);
+}
+
+static void judge_events(struct text text)
+{
+    static const uint32_t counts[] = {1, 2, 3, 64};
+    struct text words = numbered("dispatch " PLANNED " --log events.csv --fronts %lu", counts[below(4)], 0, 0);
+    judge_log_text(words, TEXT("events.csv"), text, 1);
+}
+
+static struct answer of_log(struct text header, struct text rows)
+{
+    return answered_with(DISPATCH, TEXT("log.csv"), glued(header, TEXT("\n"), rows));
+}
+
+/* The field that holds these octets, each quote of which stands twice (RFC 4180, section 2). */
+static struct text in_quotes(struct text text)
+{
+    char *octets = room(2 * text.length + 2), *to = octets;
+    *to++ = '"';
+    for (size_t at = 0; at < text.length; at++) {
+        *to++ = text.octets[at];
+        if (text.octets[at] == '"')
+            *to++ = '"';
+    }
+    *to++ = '"';
+    return (struct text){octets, to - octets};
+}
+
+/* The row of a body is answered as that of its handle, and a beginning of a body is none. */
+static void judge_body(struct text text)
+{
+    static const struct text regions[] = {TEXT("r1,"), TEXT("r2,"), TEXT("r9,")}, of_bodies = TEXT("region,body"), of_handles = TEXT("region,handle");
+    struct text region = regions[below(3)], digits = in_digits(body_of(front(text, 5000)));
+    struct answer by_body = of_log(of_bodies, glued(region, digits, TEXT("\n")));
+    struct answer by_handle = of_log(of_handles, glued(region, in_quotes(front(text, 5000)), TEXT("\n")));
+    wants_same("the row of the handle", text, &by_body, &by_handle);
+    if (!is_deep)
+        return;
+    struct answer begun = of_log(of_bodies, glued(region, front(digits, below(digits.length)), TEXT("\n")));
+    want(is_answer(&begun, TEXT(""), TEXT("hsplan: log: BadBody row 0\n"), 1), "a beginning of a body", digits, begun.told, begun.printed);
+    of_log(of_bodies, glued(region, changed(digits), TEXT("\n")));
+}
+
+/* Rows of drawn regions and handles are answered alike as handles, as bodies, and as events at the only front. */
+static void judge_written_log(struct text text)
+{
+    static const struct text regions[] = {TEXT("r1,"), TEXT("r1,"), TEXT("r2,"), TEXT("r2,"), TEXT("r9,")};
+    static const struct text handles[] = {TEXT("10/1"), TEXT("10/2"), TEXT("10/3"), TEXT("10/3"), TEXT("10/4"), TEXT("10.1/x")};
+    struct text by_handle = TEXT(""), by_body = TEXT(""), by_front = TEXT("front,region,handle\n");
+    (void)text;
+    for (uint32_t left = below(30); left; left--) {
+        struct text region = regions[below(5)], handle = handles[below(6)], row = glued(region, handle, TEXT("\n"));
+        by_handle = glued(by_handle, row, TEXT(""));
+        by_body = glued(by_body, region, glued(in_digits(body_of(handle)), TEXT("\n"), TEXT("")));
+        by_front = glued(by_front, TEXT("0,"), row);
+    }
+    struct answer handled = of_log(TEXT("region,handle"), by_handle), bodied = of_log(TEXT("region,body"), by_body);
+    judge_lines(by_handle, &handled, 0);
+    wants_same("a log of bodies", by_handle, &handled, &bodied);
+    struct answer fronted = answered_with(TEXT("dispatch " PLANNED " --log events.csv --fronts 1"), TEXT("events.csv"), by_front);
+    want(is_equal(fronted.printed, handled.printed), "a log at one front", by_handle, handled.printed, fronted.printed);
+}
+
+static void judge_words(struct text text)
+{
+    answered(first_line(text), &base);
+}
+
+/* ---- all cases */
+
+/* The kinds in turn, each so many times: those oftener whose runs take least. */
+static const struct {
+    const char *kind;
+    void (*judge)(struct text);
+    int times;
+} JUDGES[] = {
+    {"settings", judge_settings, 3}, {"values", judge_values, 5}, {"record", judge_record, 5}, {"words", judge_words, 3}, {"body", judge_body, 1},
+    {"demand", judge_table, 1}, {"costs", judge_table, 1}, {"capacity", judge_table, 1}, {"plan", judge_certificate, 1}, {"log", judge_log, 1},
+    {"events", judge_events, 1}, {"written_record", judge_written_record, 5}, {"written_values", judge_written_values, 5}, {"written_log", judge_written_log, 1},
+};
+
+enum { TURN = 34 };
+
+/* Which judge the case of this number has. */
+static int judge_of(unsigned long of)
+{
+    int at = 0;
+    for (int left = of % TURN; left >= JUDGES[at].times; at++)
+        left -= JUDGES[at].times;
+    return at;
+}
+
+/* A seed of the kind, one of the long ones seldom. */
+static struct text drawn_seed(void)
+{
+    struct text name = {kind, strlen(kind)}, found[MOST_SEEDS], drawn;
+    uint32_t count = 0;
+    for (int at = 0; at < seed_count; at++)
+        if (is_equal(seed_kinds[at], name))
+            found[count++] = seeds[at];
+    if (!count)
+        return TEXT("");
+    do
+        drawn = found[below(count)];
+    while (drawn.length > LONG_SEED && below(256));
+    return drawn;
+}
+
+static void judge_case(int at)
+{
+    kind = JUDGES[at].kind;
+    begin_draws(seed, at, number);
+    is_deep = number / TURN % DEEP == 0;
+    JUDGES[at].judge(changed(drawn_seed()));
+}
+
+static struct text taken(struct text *rest)
+{
+    uint32_t length;
+    memcpy(&length, rest->octets, 4);
+    struct text part = {rest->octets + 4, length};
+    *rest = (struct text){part.octets + length, rest->length - 4 - length};
+    return part;
+}
+
+/* Takes what the file holds: of each kind `file` a file that the program may open, of each other kind a text to be changed. */
+static void take_seeds(const char *path)
+{
+    struct stat status;
+    int file = open(path, O_RDONLY);
+    if (file < 0 || fstat(file, &status))
+        exit(1);
+    struct text rest = {mmap(NULL, status.st_size, PROT_READ, MAP_PRIVATE, file, 0), status.st_size};
+    while (rest.length) {
+        struct text of = taken(&rest), name = taken(&rest), holds = taken(&rest);
+        if (is_equal(of, TEXT("file")) && base.count < MOST_FILES - 4)
+            *held_by(&base, name) = holds;
+        else if (seed_count < MOST_SEEDS) {
+            seed_kinds[seed_count] = of;
+            seeds[seed_count++] = holds;
+        }
+    }
+}
+
+static volatile struct progress *progress_at(const char *path)
+{
+    int file = open(path, O_RDWR);
+    void *place = mmap(NULL, sizeof(struct progress), PROT_READ | PROT_WRITE, MAP_SHARED, file, 0);
+    if (place == MAP_FAILED)
+        exit(1);
+    return place;
+}
+
+static unsigned long means(const char *name)
+{
+    const char *text = getenv(name);
+    return text ? strtoul(text, NULL, 10) : 0;
+}
+
+static int is_wanted(const char *name)
+{
+    const char *names = getenv("FUZZ_KINDS"), *found = names ? strstr(names, name) : NULL;
+    size_t length = strlen(name);
+    while (found && ((found > names && found[-1] != ',') || (found[length] && found[length] != ',')))
+        found = strstr(found + 1, name);
+    return !names || found;
+}
+
+int judge_all(void)
+{
+    unsigned long cases = means("FUZZ_CASES"), step = means("FUZZ_STEP");
+    progress = progress_at(getenv("FUZZ_PROGRESS"));
+    seed = means("FUZZ_SEED");
+    take_seeds(getenv("FUZZ_SEEDS"));
+    for (number = means("FUZZ_FIRST"); number < cases && faults < MOST_FAULTS; number += step)
+        if (is_wanted(JUDGES[judge_of(number)].kind)) {
+            progress->number = number;
+            judge_case(judge_of(number));
+            fflush(stdout);
+            progress->cases++;
+        }
+    return 0;
+}
