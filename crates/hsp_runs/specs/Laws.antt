@@ -1,4 +1,4 @@
--- What holds of all runs over logs.
+-- What holds of all inputs, and of all runs over logs.
 use Rattle.std.specs.Prelude.{◌≡◌, ℕ, List, Ok}
 use Rattle.hsp_cert.specs.Certificate.{Best}
 use Rattle.hsp_cert.specs.Certificate.Claim.{best}
@@ -6,7 +6,10 @@ use Rattle.hsp_check.specs.Uses.{table}
 use Rattle.hsp_dispatch.specs.Dispatch.{Entry, answer_to}
 use Rattle.hsp_dispatch.specs.Fronts.{share_of}
 use Rattle.hsp_dispatch.specs.Laws.{IsByHash}
+use Rattle.hsp_instance.specs.Instance.{Instance}
 use Rattle.hsp_runs.specs.Accepted.{IsAcceptedOf}
+use Rattle.hsp_runs.specs.Headline.{Defines}
+use Rattle.hsp_runs.specs.Instance.{IsInstanceOf}
 use Rattle.hsp_runs.specs.declared.accepted.Accepted.{Accepted}
 use Rattle.hsp_runs.specs.declared.inputs.Inputs.{Inputs}
 
@@ -21,3 +24,13 @@ abbrev pub LogsGoByHash : Type 0
 LogsGoByHash =
     (inputs : Inputs) (octets : List ℕ) (accepted : Accepted) (claim : Best) → IsAcceptedOf inputs octets (Ok accepted) → accepted.certificate ≡ best claim
     → AnswersByHash accepted claim
+
+-- ---- the page
+
+-- an instance that inputs give is one that they define by the page
+abbrev pub GivesTheDefined : Type 0
+GivesTheDefined = (inputs : Inputs) (it : Instance) → IsInstanceOf inputs (Ok it) → Defines inputs it
+
+-- inputs that define an instance by the page give it
+abbrev pub AcceptsTheDefined : Type 0
+AcceptsTheDefined = (inputs : Inputs) (it : Instance) → Defines inputs it → IsInstanceOf inputs (Ok it)
