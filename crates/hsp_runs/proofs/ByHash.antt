@@ -1,6 +1,6 @@
 -- Logs go by the hashes of handles.
-use Rattle.std.proofs.Common.{◌≡◌, ◌∙◌, ℕ, List, Result, Ok, Err, ap, sym}
-use Rattle.hsp_text.specs.Answers.{Follows, Then, told_as}
+use Rattle.std.proofs.Common.{◌≡◌, ◌∙◌, ℕ, Result, Ok, Err, sym}
+use Rattle.hsp_text.specs.Answers.{Then, told_as}
 use Rattle.hsp_instance.specs.Building.{Inputs, IsBuilt}
 use Rattle.hsp_instance.specs.Instance.{Instance}
 use Rattle.hsp_instance.specs.declared.fault.BuildFault.{BuildFault}
@@ -15,10 +15,9 @@ use Rattle.hsp_dispatch.proofs.ByHash.{goes_by_hash}
 use Rattle.hsp_dispatch.proofs.FrontShares.{share_none}
 use Rattle.hsp_runs.specs.Accepted.{IsAccepted}
 use Rattle.hsp_runs.specs.Check.{IsCertificate}
-use Rattle.hsp_runs.specs.Instance.{IsInstanceOf, IsWithCosts, IsWithDemand, IsWithSettings, IsWithValues}
+use Rattle.hsp_runs.specs.Instance.{IsInstanceOf}
 use Rattle.hsp_runs.specs.Laws.{AnswersByHash, LogsGoByHash}
 use Rattle.hsp_runs.specs.declared.accepted.Accepted.{Accepted}
-use Rattle.hsp_runs.specs.declared.fault.Fault.{Fault}
 use Rattle.hsp_runs.specs.declared.fault.Fault.TheVariants.{Build}
 use Rattle.hsp_runs.specs.declared.inputs.Inputs as files
 

@@ -1,8 +1,7 @@
 -- Elements of lists, and those that a test finds.
-use Rattle.std.proofs.Common.{◌≡◌, ◌≢◌, ◌∙◌, ◌<◌, ◌+◌, ℕ, zero, suc, Bool, true, false, cond, List, [], ◌∷◌, Option, Some, None, get_or, length, map, option_map, refl, ap, sym, arith}
-use Rattle.std.proofs.lemmas.Bool.{cases_Bool}
+use Rattle.std.proofs.Common.{◌≡◌, ◌∙◌, ℕ, zero, suc, Bool, true, false, cond, List, [], ◌∷◌, Option, Some, None, length, refl, ap, arith}
 use Rattle.std.proofs.lemmas.Option.{get_or_from_slice_get, slice_get-get_or, slice_get_within}
-use Rattle.std.specs.List.{AllByRecursion, Contains, IsDistinct, find, slice_get}
+use Rattle.std.specs.List.{Contains, IsDistinct, find, slice_get}
 use Rattle.hsp_instance.proofs.Lists.{all_at}
 
 -- an element stands at a place

@@ -13,3 +13,4 @@ pub mod PageSites
 pub mod PageBuilt
 pub mod Page
 pub mod PageRead
+pub mod ShownLog

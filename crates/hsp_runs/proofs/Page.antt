@@ -1,28 +1,27 @@
 -- The page is what is read and built: in both directions.
-use Rattle.std.proofs.Common.{◌≡◌, ◌∙◌, ◌≤◌, ◌<◌, ◌+◌, ℕ, List, [], ◌∷◌, ◌++◌, Option, Some, None, Result, Ok, decimal, length, map, option_map, refl, ap, sym, subst, arith}
+use Rattle.std.proofs.Common.{◌≡◌, ◌∙◌, ◌≤◌, ℕ, List, [], ◌∷◌, Option, Some, None, Ok, decimal, length, map, option_map, refl, ap, sym, subst, arith}
 use Rattle.std.proofs.lemmas.List.{length-map}
-use Rattle.std.proofs.lemmas.Slice.Eq.{bytes_eq-Decides}
-use Rattle.std.specs.List.{AllByRecursion, Contains, IsDistinct, slice_get}
+use Rattle.std.specs.List.{AllByRecursion, IsDistinct}
 use Rattle.std.specs.Str.{bytes_eq}
 use Rattle.hsp_csv.specs.Records.{records_of}
 use Rattle.hsp_names.specs.Handle.{ReadingsAreHandles, local_name, naming_authority}
 use Rattle.hsp_record.specs.Values.{HandleValue}
-use Rattle.hsp_text.specs.declared.limits.TheConstants.{MOST_SERVERS, MOST_SITES}
+use Rattle.hsp_text.specs.declared.limits.TheConstants.{MOST_SITES}
 use Rattle.hsp_tables.specs.Capacities.{CapacityEntry, capacity_table, same_capacity}
 use Rattle.hsp_tables.specs.Costs.{CostEntry, cost_table}
 use Rattle.hsp_tables.specs.Demand.{DemandEntry, IsDemandEntry, demand_table, same_demand}
 use Rattle.hsp_tables.specs.Settings as settings
 use Rattle.hsp_tables.specs.Settings.{HostEntry, SettingsEntries, SiteEntry, settings_of}
-use Rattle.hsp_tables.specs.Table.{AreRows, first_seen, table_of}
+use Rattle.hsp_tables.specs.Table.{table_of}
 use Rattle.hsp_tables.proofs.TableKinds.{capacities_are_their_relation, costs_are_their_relation, demand_is_its_relation}
 use Rattle.hsp_tables.proofs.TableRows as table_rows
 use Rattle.hsp_instance.specs.Building as building
 use Rattle.hsp_instance.specs.Building.{IsBuilt, arcs_from, host_of_entry, row_of}
-use Rattle.hsp_instance.specs.Instance.{Host, Instance, IsSite, Row, Server, Site, SiteServer, number_at, same_address, same_keys, same_name, servers_of}
+use Rattle.hsp_instance.specs.Instance.{Host, Instance, IsSite, Row, Server, Site, same_address, same_keys, same_name}
 use Rattle.hsp_instance.specs.declared.arc.Arc.{Arc}
 use Rattle.hsp_instance.proofs.BuiltParts.{built_has_its_parts}
 use Rattle.hsp_instance.proofs.Lists.{all_from, all_map, distinct_map, map_twice}
-use Rattle.hsp_runs.specs.Headline.{AreArcs, AreCapacities, AreCosts, AreDemand, AreServers, AreSettings, AreValues, Defines, IsCapacity, IsCost, IsDemand}
+use Rattle.hsp_runs.specs.Headline.{AreCapacities, AreCosts, AreDemand, AreServers, AreSettings, AreValues, Defines, IsDemand}
 use Rattle.hsp_runs.specs.declared.inputs.Inputs.{Inputs}
 use Rattle.hsp_runs.proofs.PageArcs.{arcs_alone, arcs_are, servers_alone}
 use Rattle.hsp_runs.proofs.PageBuilt.{BuiltOf, HasCapacity, built_of, capacities_have_no_fault, capacities_known, capacity_entries, cost_entries, costs_have_no_fault, costs_known, is_built, servers_built, sites_of_instance}
@@ -73,7 +72,8 @@ module _ (handles : ReadingsAreHandles) where
           each = all_map IsDemandEntry IsDemand row_of rows demand_row are.keyed.each;
           apart = distinct_map same_demand same_keys row_of rows (λ x y. refl) table.apart;
         },
-        rw (map_twice row_of (λ (row : Row). row.region) rows) table.regions)
+        rw (map_twice row_of (λ (row : Row). row.region) rows) table.regions,
+      )
 
 costs_are : (sites : List Site) (text : List ℕ) (rows : List CostEntry) → building.cost_fault sites 0 rows ≡ None → table_of cost_table (records_of text) ≡ Ok rows → AreCosts sites text rows
 costs_are sites text rows none e =
@@ -86,7 +86,8 @@ costs_are sites text rows none e =
         each = costs_known sites 0 rows none are.keyed.each;
         apart = table.apart;
       },
-      table.regions)
+      table.regions,
+    )
 
 capacities_are : (sites : List Site) (text : List ℕ) (rows : List CapacityEntry) → building.capacity_fault sites 0 rows ≡ None → table_of capacity_table (records_of text) ≡ Ok rows
     → AreCapacities sites text rows
@@ -264,14 +265,17 @@ module _ (handles : ReadingsAreHandles) where
       let count : length made.arcs ≡ length made.rows = length-map it.rows (λ row. arcs_from page.costs row 0 0 it.sites) in
       let same_servers : it.servers ≡ servers.0 = servers_alone page.capacities it made page.are_capacities.apart page.settings.addresses refl refl page.servers (servers_are read made has) in
       let same_arcs : it.arcs ≡ made.arcs = arcs_alone page.costs it made refl refl page.arcs (arcs_are read made page.are_costs.0.apart has refl count) in
-      let same : made ≡ it = same_instance it servers.0 made.arcs same_servers same_arcs in
-      (read, record {
-        settings = own.settings;
-        values = page.are_values;
-        demand = demand_is_read_as handles inputs.demand.items it.rows page.demand;
-        costs = costs_are_read_as it.sites inputs.costs.items page.costs of page.are_costs;
-        capacities = capacities_are_read_as it.sites inputs.capacity.items page.capacities of page.are_capacities;
-      }, subst (λ (i : Instance). IsBuilt read (Ok i)) same whole)
+      let same : made ≡ it = same_instance it servers.0 made.arcs same_servers same_arcs in (
+        read,
+        record {
+          settings = own.settings;
+          values = page.are_values;
+          demand = demand_is_read_as handles inputs.demand.items it.rows page.demand;
+          costs = costs_are_read_as it.sites inputs.costs.items page.costs of page.are_costs;
+          capacities = capacities_are_read_as it.sites inputs.capacity.items page.capacities of page.are_capacities;
+        },
+        subst (λ (i : Instance). IsBuilt read (Ok i)) same whole,
+      )
     where
       same_instance : (it : Instance) (servers : List Server) (arcs : List (List Arc)) → it.servers ≡ servers → it.arcs ≡ arcs
           → record { rows = it.rows; sites = it.sites; servers = servers; hosts = it.hosts; arcs = arcs } ≡ it

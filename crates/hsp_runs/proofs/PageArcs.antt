@@ -1,12 +1,11 @@
 -- Servers and arcs are those of the page alone.
-use Rattle.std.proofs.Common.{◌≡◌, ◌≢◌, ◌∙◌, ◌≤◌, ◌<◌, ◌+◌, ℕ, zero, suc, List, [], ◌∷◌, Option, Some, None, length, map, option_map, refl, ap, sym, subst, arith}
-use Rattle.std.specs.Prelude.{◌↔◌}
+use Rattle.std.proofs.Common.{◌≡◌, ◌∙◌, ◌<◌, ℕ, zero, suc, List, [], ◌∷◌, Option, Some, length, map, option_map, refl, ap, sym, subst, arith}
 use Rattle.std.proofs.lemmas.Option.{slice_get-map, slice_get_within}
-use Rattle.std.specs.List.{AllByRecursion, Contains, IsDistinct, slice_get}
+use Rattle.std.specs.List.{Contains, IsDistinct, slice_get}
 use Rattle.hsp_tables.specs.Capacities.{CapacityEntry, same_capacity}
 use Rattle.hsp_tables.specs.Costs.{CostEntry, same_cost}
-use Rattle.hsp_instance.specs.Building.{Inputs, arcs_from, capacity_of, cost_of}
-use Rattle.hsp_instance.specs.Instance.{Host, Instance, IsAscending, Row, Server, Site, SiteServer, number_at, same_address, servers_of}
+use Rattle.hsp_instance.specs.Building.{Inputs, arcs_from}
+use Rattle.hsp_instance.specs.Instance.{Host, Instance, IsAscending, Row, Server, Site, number_at, same_address, servers_of}
 use Rattle.hsp_instance.specs.Parts.{AreArcsOf, HasPartsOf, IsArcOf}
 use Rattle.hsp_instance.specs.declared.arc.Arc.{Arc}
 use Rattle.hsp_instance.proofs.ArcLists.{arcs_ascending}
@@ -86,7 +85,8 @@ arcs_same (x ∷ xs) (y ∷ ys) p q same =
     let head : x ≡ y = first_is x xs y a.0 b.0 ys p q a.1 b.1 in
     let later : SameMembers xs ys = λ arc. (
       λ is. in_rest y ys arc ((same arc).0 (in_more x xs arc is)) (λ e. let e2 : x ≡ arc = head ∙ e in let less = after x xs arc p is in absurd (below_itself arc.site (rw e2 at less))),
-      λ is. in_rest x xs arc ((same arc).1 (in_more y ys arc is)) (λ e. let e2 : y ≡ arc = sym head ∙ e in let less = after y ys arc q is in absurd (below_itself arc.site (rw e2 at less)))) in
+      λ is. in_rest x xs arc ((same arc).1 (in_more y ys arc is)) (λ e. let e2 : y ≡ arc = sym head ∙ e in let less = after y ys arc q is in absurd (below_itself arc.site (rw e2 at less))),
+    ) in
     let tail : xs ≡ ys = arcs_same xs ys p.1 q.1 later in
     cc (head, tail)
   where
@@ -104,7 +104,8 @@ arcs_alone costs a b rows sites p q =
     let two = q.each i row.0 other.0 (sym (ap (λ (t : List Row). slice_get t i) rows) ∙ row.1) other.1 in
     let same : SameMembers arcs other.0 = λ arc. (
       λ is. (two.1 arc).1 (subst (λ (t : List Site). IsArc costs t row.0 arc) sites ((one.1 arc).0 is)),
-      λ is. (one.1 arc).1 (subst (λ (t : List Site). IsArc costs t row.0 arc) (sym sites) ((two.1 arc).0 is))) in
+      λ is. (one.1 arc).1 (subst (λ (t : List Site). IsArc costs t row.0 arc) (sym sites) ((two.1 arc).0 is)),
+    ) in
     let are : arcs ≡ other.0 = arcs_same arcs other.0 one.0 two.0 same in
     other.1 ∙ ap (λ (t : List Arc). Some t) (sym are))
 
@@ -121,14 +122,17 @@ arcs_are inputs it apart has made count = record {
       let are : AreArcsOf inputs.costs it.sites row arcs = rw same at of_row.2 in
       let mapped : slice_get it.arcs i ≡ Some (arcs_from inputs.costs row 0 0 it.sites) =
       rw made (rw slice_get-map (ap (option_map (λ (r : Row). arcs_from inputs.costs r 0 0 it.sites)) at)) in
-      let from : arcs ≡ arcs_from inputs.costs row 0 0 it.sites = let e : Some arcs ≡ Some (arcs_from inputs.costs row 0 0 it.sites) = sym here ∙ mapped in cc (e) in
-      (rw from (arcs_ascending inputs.costs row 0 0 it.sites), λ arc. (
-        λ is.
-            let place = place_of arcs arc is in
-            let of_page = all_at (IsArcOf inputs.costs it.sites row) arcs place.0 arc are.each place.1 in
-            record { site = of_page.site; is_site = of_page.is_site; cost = cost_is inputs.costs row.region of_page.site.name arc.cost of_page.cost; server = of_page.server },
-        λ is.
-            let cost = cost_is_found inputs.costs row.region is.site.name arc.cost apart is.cost in
-            let among = are.all arc.site is.site arc.cost is.is_site cost in
-            is_at_place arcs arc among.0 (among.1 ∙ rw (← is.server) refl)));
+      let from : arcs ≡ arcs_from inputs.costs row 0 0 it.sites = let e : Some arcs ≡ Some (arcs_from inputs.costs row 0 0 it.sites) = sym here ∙ mapped in cc (e) in (
+        rw from (arcs_ascending inputs.costs row 0 0 it.sites),
+        λ arc. (
+          λ is.
+              let place = place_of arcs arc is in
+              let of_page = all_at (IsArcOf inputs.costs it.sites row) arcs place.0 arc are.each place.1 in
+              record { site = of_page.site; is_site = of_page.is_site; cost = cost_is inputs.costs row.region of_page.site.name arc.cost of_page.cost; server = of_page.server },
+          λ is.
+              let cost = cost_is_found inputs.costs row.region is.site.name arc.cost apart is.cost in
+              let among = are.all arc.site is.site arc.cost is.is_site cost in
+              is_at_place arcs arc among.0 (among.1 ∙ rw (← is.server) refl),
+        ),
+      );
 }

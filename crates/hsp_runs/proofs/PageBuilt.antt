@@ -1,26 +1,22 @@
 -- What is built, and from what.
-use Rattle.std.proofs.Common.{◌≡◌, ◌∙◌, ◌≤◌, ◌<◌, ◌+◌, ◌==◌, ◌^◌, inl, inr, ℕ, zero, suc, Bool, true, false, cond, List, [], ◌∷◌, ◌++◌, Option, Some, None, Result, Ok, Err, length, map, refl, ap, sym, arith}
+use Rattle.std.proofs.Common.{◌≡◌, ◌∙◌, ◌+◌, ◌==◌, inl, inr, ℕ, zero, suc, Bool, true, false, cond, List, [], ◌∷◌, Option, Some, None, Result, Ok, Err, map, refl, sym, arith}
 use Rattle.std.proofs.lemmas.Bool.{or_cases, or_right}
 use Rattle.std.proofs.lemmas.Bool.Decides.{Decides-eqb}
 use Rattle.std.proofs.lemmas.Slice.Eq.{bytes_eq-Decides}
 use Rattle.std.specs.Option.{is_some}
 use Rattle.std.specs.List.{AllByRecursion, Contains, IsDistinct, find, list_any, slice_get}
-use Rattle.std.specs.Str.{bytes_eq}
 use Rattle.toml.specs.Data as toml
 use Rattle.toml.specs.Data.{Items}
 use Rattle.hsp_record.specs.Site as records
 use Rattle.hsp_record.specs.Values.{HandleValue}
 use Rattle.hsp_text.specs.Answers.{◌>>=◌}
-use Rattle.hsp_text.specs.Name.{is_name}
-use Rattle.hsp_text.specs.declared.limits.TheConstants.{GREATEST_CAPACITY, GREATEST_COST}
 use Rattle.hsp_tables.specs.Capacities.{CapacityEntry, IsCapacityEntry}
 use Rattle.hsp_tables.specs.Costs.{CostEntry, IsCostEntry}
-use Rattle.hsp_tables.specs.Fields.{greatest_of_32_bits}
-use Rattle.hsp_instance.specs.Building.{AreSitesOf, Inputs, IsBuilt, arcs_from, capacity_fault, capacity_of, capacity_row_fault, cost_fault, has_id, host_of_entry, instance_with, is_named, or_else, row_of, server_at, server_of_record, servers_at, servers_from, unless}
-use Rattle.hsp_instance.specs.Instance.{Host, Instance, IsSite, IsSiteServer, Row, Server, Site, SiteServer, same_name, servers_of}
+use Rattle.hsp_instance.specs.Building.{AreSitesOf, Inputs, IsBuilt, arcs_from, capacity_fault, capacity_of, capacity_row_fault, cost_fault, has_id, host_of_entry, instance_with, is_named, or_else, row_of, server_of_record, servers_at, servers_from, unless}
+use Rattle.hsp_instance.specs.Instance.{Host, Instance, IsSite, IsSiteServer, Server, Site, SiteServer, same_name}
 use Rattle.hsp_instance.specs.declared.fault.BuildFault.{BuildFault}
 use Rattle.hsp_instance.specs.declared.fault.BuildFault.TheVariants.{UnknownServer, UnknownSite}
-use Rattle.hsp_instance.specs.declared.fault.Table.TheVariants.{Capacity, Costs}
+use Rattle.hsp_instance.specs.declared.fault.Table.TheVariants.{Costs}
 use Rattle.hsp_instance.proofs.Lists.{all_at, all_map}
 use Rattle.hsp_instance.proofs.ServerLists.{both_gave}
 use Rattle.hsp_runs.specs.Headline.{IsCapacity, IsCost}
@@ -123,9 +119,18 @@ capacities_known sites n (row ∷ rows) e all = by (find (is_named row.site) sit
     of_site site is false has e more = cc (e)
     of_site site is true has e more =
         let at = found (is_named row.site) sites site is in
-        let own = any_is (λ (server : SiteServer). server.id == row.server_id) site.servers has in
-        ((site, own.1, is_at_place sites site at.0.0 at.0.1, named row.site site at.1, is_at_place site.servers own.1 own.0 own.2,
-        (Decides-eqb own.1.id row.server_id).0 own.3, all.0.capacity), more e)
+        let own = any_is (λ (server : SiteServer). server.id == row.server_id) site.servers has in (
+          (
+            site,
+            own.1,
+            is_at_place sites site at.0.0 at.0.1,
+            named row.site site at.1,
+            is_at_place site.servers own.1 own.0 own.2,
+            (Decides-eqb own.1.id row.server_id).0 own.3,
+            all.0.capacity,
+          ),
+          more e,
+        )
 
     by : (o : Option Site) → find (is_named row.site) sites ≡ o → or_else (capacity_row_fault n row.server_id o) (capacity_fault sites (n + 1) rows) ≡ None
         → (capacity_fault sites (n + 1) rows ≡ None → AllByRecursion (IsCapacity sites) rows) → AllByRecursion (IsCapacity sites) (row ∷ rows)

@@ -1,11 +1,9 @@
 -- What the runs read from inputs, and what the page says of them.
-use Rattle.std.proofs.Common.{◌≡◌, ℕ, List, Option, Some, None, Result, Ok, Err, option_map, refl, ap, sym}
-use Rattle.std.specs.Prelude.{IfOk}
+use Rattle.std.proofs.Common.{◌≡◌, ℕ, List, Option, Some, None, Result, Ok, Err, refl, ap, sym}
 use Rattle.hsp_names.specs.Handle.{ReadingsAreHandles}
 use Rattle.hsp_record.specs.Fields.{Means}
 use Rattle.hsp_record.specs.Values.{HandleValue, values_format}
-use Rattle.hsp_record.specs.declared.fault.RecordFault.{RecordFault}
-use Rattle.hsp_text.specs.Answers.{Stands, told_as}
+use Rattle.hsp_text.specs.Answers.{told_as}
 use Rattle.hsp_instance.specs.Building as building
 use Rattle.hsp_instance.specs.Building.{IsBuilt}
 use Rattle.hsp_instance.specs.Instance.{Instance}
@@ -15,7 +13,7 @@ use Rattle.hsp_runs.specs.Instance.{IsInstanceOf}
 use Rattle.hsp_runs.specs.Laws.{AcceptsTheDefined, GivesTheDefined}
 use Rattle.hsp_runs.specs.Readings.{AreListed, AreValues, some_list}
 use Rattle.hsp_runs.specs.declared.fault.Fault.{Fault}
-use Rattle.hsp_runs.specs.declared.fault.Fault.TheVariants.{Build, Capacity, Costs, Demand, OutOfMemory, Settings, Values}
+use Rattle.hsp_runs.specs.declared.fault.Fault.TheVariants.{Capacity, Costs, Demand, Settings, Values}
 use Rattle.hsp_runs.specs.declared.inputs.Inputs.{Inputs}
 use Rattle.hsp_runs.proofs.ByHash.{built_so, went_on}
 use Rattle.hsp_runs.proofs.Page.{Holds, is_defined, is_read}
@@ -50,14 +48,17 @@ hold inputs it is =
     let demand = went_on _ _ it values.2 in
     let costs = went_on _ _ it demand.2 in
     let capacities = went_on _ _ it costs.2 in
-    let read : building.Inputs = record { settings = settings.0; values = values.0; demand = demand.0; costs = costs.0; capacities = capacities.0 } in
-    (read, record {
-      settings = told_well Settings _ settings.0 settings.1;
-      values = values_are _ values.0 values.1;
-      demand = told_well Demand _ demand.0 demand.1;
-      costs = told_well Costs _ costs.0 costs.1;
-      capacities = told_well Capacity _ capacities.0 capacities.1;
-    }, built_so read it capacities.2.0 capacities.2.1 capacities.2.2)
+    let read : building.Inputs = record { settings = settings.0; values = values.0; demand = demand.0; costs = costs.0; capacities = capacities.0 } in (
+      read,
+      record {
+        settings = told_well Settings _ settings.0 settings.1;
+        values = values_are _ values.0 values.1;
+        demand = told_well Demand _ demand.0 demand.1;
+        costs = told_well Costs _ costs.0 costs.1;
+        capacities = told_well Capacity _ capacities.0 capacities.1;
+      },
+      built_so read it capacities.2.0 capacities.2.1 capacities.2.2,
+    )
 
 pub gives_the_defined : ReadingsAreHandles → GivesTheDefined
 gives_the_defined handles inputs it is = let read = hold inputs it is in is_defined handles inputs read.0 it read.1 read.2
@@ -68,12 +69,12 @@ accepts_the_defined handles inputs it page =
     let settings = sym (ap (λ r. told_as Settings r) holds.settings) in
     let demand = sym (ap (λ r. told_as Demand r) holds.demand) in
     let costs = sym (ap (λ r. told_as Costs r) holds.costs) in
-    let capacities = sym (ap (λ r. told_as Capacity r) holds.capacities) in
-    (Ok read.settings, settings, (Ok read.values, values_are_read _ read.values holds.values,
-    (Ok read.demand, demand, (Ok read.costs, costs, (Ok read.capacities, capacities, (Ok it, built, refl))))))
-
--- the instance of an answer is defined
-pub answer_is_defined : {X : Type 0} (view : X → Instance) (inputs : Inputs) (answer : Result X Fault) → GivesTheDefined
-    → Stands OutOfMemory view (IsInstanceOf inputs) answer → IfOk answer (λ x. Defines inputs (view x))
-answer_is_defined view inputs (Ok x) gives is = gives inputs (view x) is
-answer_is_defined view inputs (Err fault) gives is = tt
+    let capacities = sym (ap (λ r. told_as Capacity r) holds.capacities) in (
+      Ok read.settings,
+      settings,
+      (
+        Ok read.values,
+        values_are_read _ read.values holds.values,
+        (Ok read.demand, demand, (Ok read.costs, costs, (Ok read.capacities, capacities, (Ok it, built, refl)))),
+      ),
+    )

@@ -1,5 +1,5 @@
 -- Rows of tables and the fields that spell them.
-use Rattle.std.proofs.Common.{◌≡◌, ◌∙◌, ◌≤◌, ◌<◌, ◌+◌, ◌^◌, ℕ, Bool, true, false, cond, not, List, [], ◌∷◌, Result, Ok, Err, decimal, map, length, nat_le, nat_lt, refl, ap, sym, arith}
+use Rattle.std.proofs.Common.{◌≡◌, ◌∙◌, ◌≤◌, ◌<◌, ◌+◌, ◌^◌, ℕ, Bool, true, false, cond, not, List, [], ◌∷◌, Result, Ok, Err, decimal, map, length, nat_le, nat_lt, refl, ap, arith}
 use Rattle.std.specs.List.{AllByRecursion, list_any}
 use Rattle.std.specs.Str.{is_utf8}
 use Rattle.std.specs.Str.Parse.{digits_value}
@@ -20,7 +20,7 @@ use Rattle.hsp_tables.specs.Demand.{DemandEntry, IsDemandEntry, demand_in}
 use Rattle.hsp_tables.specs.Fields.{greatest_of_32_bits, handle_in, handle_or, name_in, number_in, number_or}
 use Rattle.hsp_tables.specs.Table.{SpellRows, Table}
 use Rattle.hsp_tables.specs.declared.fault.TableFault.{TableFault}
-use Rattle.hsp_tables.proofs.TurnLaws.{first_step, test_held}
+use Rattle.hsp_tables.proofs.TurnLaws.{test_held}
 
 -- ---- fields
 

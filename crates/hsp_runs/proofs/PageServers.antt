@@ -1,23 +1,18 @@
 -- Servers and arcs of the page are those that are built.
-use Rattle.std.proofs.Common.{◌≡◌, ◌≢◌, ◌∙◌, ◌≤◌, ◌<◌, ◌+◌, ◌==◌, ◌⊎◌, inl, inr, ℕ, zero, suc, Bool, true, false, cond, List, [], ◌∷◌, Option, Some, None, Result, Ok, Err, length, map, option_map, take, refl, ap, sym, subst, arith, zero-add}
-use Rattle.std.proofs.lemmas.Bool.{and_parts, and_from, cases_Bool}
-use Rattle.std.proofs.lemmas.List.{length-map}
-use Rattle.std.proofs.lemmas.Option.{slice_get-map, slice_get_within}
+use Rattle.std.proofs.Common.{◌≡◌, ◌≢◌, ◌∙◌, ◌<◌, ◌+◌, ◌==◌, ◌⊎◌, inl, inr, ℕ, zero, suc, Bool, true, false, cond, List, [], ◌∷◌, Option, Some, None, length, option_map, refl, ap, sym, arith}
+use Rattle.std.proofs.lemmas.Bool.{and_parts, cases_Bool}
 use Rattle.std.proofs.lemmas.Slice.Eq.{bytes_eq-Decides}
 use Rattle.std.proofs.lemmas.Bool.Decides.{Decides-eqb}
 use Rattle.std.specs.List.{AllByRecursion, Contains, IsDistinct, find, position_from, slice_get}
 use Rattle.std.specs.Str.{bytes_eq}
-use Rattle.hsp_hash.specs.Place.{server_place}
 use Rattle.hsp_tables.specs.Capacities.{CapacityEntry, same_capacity}
 use Rattle.hsp_tables.specs.Costs.{CostEntry, same_cost}
-use Rattle.hsp_instance.specs.Building.{Inputs, arcs_from, capacity_of, cost_of, is_at, is_capacity_of, is_cost_of}
-use Rattle.hsp_instance.specs.Instance.{Host, Instance, IsAscending, Row, Server, Site, SiteServer, number_at, same_address, servers_of}
-use Rattle.hsp_instance.specs.Parts.{AreArcsOf, HasPartsOf, IsArcOf}
-use Rattle.hsp_instance.specs.declared.arc.Arc.{Arc}
-use Rattle.hsp_instance.proofs.ArcLists.{arcs_ascending}
+use Rattle.hsp_instance.specs.Building.{Inputs, capacity_of, cost_of, is_at, is_capacity_of, is_cost_of}
+use Rattle.hsp_instance.specs.Instance.{Host, Instance, Server, Site, SiteServer, number_at, same_address, servers_of}
+use Rattle.hsp_instance.specs.Parts.{HasPartsOf}
 use Rattle.hsp_instance.proofs.Lists.{all_at, there}
-use Rattle.hsp_runs.specs.Headline.{AreArcs, AreServers, IsArc, StandsOn}
-use Rattle.hsp_runs.proofs.Finding.{found, finds, first_or_later, is_at_place, place_of, same_places}
+use Rattle.hsp_runs.specs.Headline.{AreServers, StandsOn}
+use Rattle.hsp_runs.proofs.Finding.{found, finds, is_at_place, place_of}
 
 -- octets that are the same
 pub same_octets : (a b : List ℕ) → bytes_eq a b ≡ true → a ≡ b
@@ -171,9 +166,13 @@ servers_are inputs it has = record {
   each = λ n place site own at here.
       let one = has.servers n place site own at here in
       let server : Server = record { site = n; place = place; id = own.id; capacity = one.server.capacity; host = one.server.host } in
-      let same : one.server ≡ server = by_parts one.server n place own.id one.is_of.site one.is_of.place one.is_of.id in
-      (one.server.capacity, one.server.host, one.is_server ∙ ap (λ (s : Server). Some s) same, capacity_is inputs.capacities site.name own.id one.server.capacity one.is_of.capacity,
-      stands it.hosts own.address one.server.host (sym one.is_of.host));
+      let same : one.server ≡ server = by_parts one.server n place own.id one.is_of.site one.is_of.place one.is_of.id in (
+        one.server.capacity,
+        one.server.host,
+        one.is_server ∙ ap (λ (s : Server). Some s) same,
+        capacity_is inputs.capacities site.name own.id one.server.capacity one.is_of.capacity,
+        stands it.hosts own.address one.server.host (sym one.is_of.host),
+      );
 }
 
 -- each number below that of all servers is that of one of them
@@ -191,4 +190,4 @@ number_of (site ∷ sites) i less = elim (split i (length site.servers)) [
     split : (i many : ℕ) → (i < many) ⊎ ((k : ℕ) × (i ≡ many + k))
     split i zero = inr (i, omega arith)
     split zero (suc many) = inl (omega arith)
-    split (suc i) (suc many) = elim (split i many) [ | inl less ↦ inl (omega arith) | inr (k, is) ↦ inr (k, omega arith) ]
+    split (suc i) (suc many) = elim (split i many) [ inl less ↦ inl (omega arith) | inr (k, is) ↦ inr (k, omega arith) ]

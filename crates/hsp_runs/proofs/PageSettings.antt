@@ -1,7 +1,7 @@
 -- The settings of the page are those that are read.
-use Rattle.std.proofs.Common.{◌≡◌, ◌∙◌, ◌≤◌, ◌<◌, ◌+◌, ◌⊎◌, inl, inr, ℕ, ℤ, pos, negsuc, Bool, true, false, cond, List, [], ◌∷◌, Option, Some, None, Result, Ok, Err, codes, length, map, nat_le, refl, ap, sym, arith}
-use Rattle.std.specs.Prelude.{◌||◌, ◌&&◌, IsUtf8, option_and_then}
-use Rattle.std.proofs.lemmas.Bool.{cases_Bool, le-leb, leb-true}
+use Rattle.std.proofs.Common.{◌≡◌, ◌∙◌, ◌≤◌, ◌+◌, ◌⊎◌, inl, inr, ℕ, ℤ, pos, negsuc, Bool, true, false, cond, List, [], ◌∷◌, Option, Some, None, Result, Ok, Err, codes, length, map, nat_le, refl, ap, sym}
+use Rattle.std.specs.Prelude.{◌||◌, IsUtf8}
+use Rattle.std.proofs.lemmas.Bool.{le-leb, leb-true}
 use Rattle.std.proofs.lemmas.Str.{IsUtf8-from_is_utf8}
 use Rattle.std.specs.List.{IsDistinct, list_all, list_any}
 use Rattle.std.specs.Str.{bytes_eq, is_utf8}
@@ -15,14 +15,13 @@ use Rattle.hsp_text.specs.Name.{is_name}
 use Rattle.hsp_text.specs.declared.limits.TheConstants.{GREATEST_LIMIT, MOST_HOSTS, MOST_SITES}
 use Rattle.hsp_tables.specs.Fields.{greatest_of_32_bits}
 use Rattle.hsp_tables.specs.InTurn.{Reading, ReadsAsSpelled, SpellInTurn, SpellKeyed, rows_after}
-use Rattle.hsp_tables.specs.Settings.{HostEntry, SettingsEntries, SiteEntry, SiteSource, decoded, document_in, elements_in, host_address, host_after, host_at, host_in, host_limit, index, index_source, integer_of, is_host_key, is_root_key, is_site_key, keys_in, listed, number_up_to, octets, record_source, same_address, same_name, settings_in, settings_of, site_after, site_at, site_in, site_name, site_source, text_of}
+use Rattle.hsp_tables.specs.Settings.{HostEntry, SettingsEntries, SiteEntry, SiteSource, decoded, document_in, elements_in, host_address, host_after, host_at, host_in, host_limit, index, integer_of, is_host_key, is_root_key, is_site_key, keys_in, listed, number_up_to, octets, same_address, same_name, settings_in, settings_of, site_after, site_at, site_in, site_name, site_source, text_of}
 use Rattle.hsp_tables.specs.declared.fault.TableFault.{TableFault}
 use Rattle.hsp_tables.specs.declared.fault.TableFault.TheVariants as fault
 use Rattle.hsp_tables.proofs.Documents.{document_is}
 use Rattle.hsp_tables.proofs.SettingsLists.{hosts_read_as_spelled, sites_read_as_spelled}
 use Rattle.hsp_tables.proofs.TurnLaws.{first_step, test_held}
 use Rattle.hsp_instance.specs.Building.{host_of_entry}
-use Rattle.hsp_instance.specs.Instance.{Host}
 use Rattle.hsp_runs.specs.Told.{HasKeys, Tell, TellsHost}
 
 -- ---- values of a document

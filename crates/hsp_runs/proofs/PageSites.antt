@@ -1,11 +1,10 @@
 -- The sites of the page are those that are built.
-use Rattle.std.proofs.Common.{◌≡◌, ◌≢◌, ◌∙◌, ◌≤◌, ◌<◌, ◌+◌, ◌^◌, ◌==◌, inl, inr, ℕ, suc, Bool, true, false, cond, List, [], ◌∷◌, ◌++◌, Option, Some, None, Result, Ok, Err, codes, length, map, nat_eq, nat_lt, refl, ap, sym, subst, arith, append_assoc}
-use Rattle.std.specs.Prelude.{◌||◌}
-use Rattle.std.proofs.lemmas.Bool.{eqb-false, le-ltb, ltb-false, ne_eqb}
+use Rattle.std.proofs.Common.{◌≡◌, ◌∙◌, ◌≤◌, ◌+◌, ◌==◌, inl, inr, ℕ, Bool, true, false, cond, List, [], ◌∷◌, ◌++◌, Option, Some, None, Result, Ok, Err, codes, length, map, nat_eq, nat_lt, refl, ap, sym, arith, append_assoc}
+use Rattle.std.proofs.lemmas.Bool.{le-ltb, ne_eqb}
 use Rattle.std.proofs.lemmas.Bool.Decides.{Decides-eqb}
 use Rattle.std.proofs.lemmas.List.{append-nil}
 use Rattle.std.proofs.lemmas.Slice.Eq.{bytes_eq-Decides}
-use Rattle.std.specs.List.{AllByRecursion, Contains, IsDistinct, find, slice_get}
+use Rattle.std.specs.List.{AllByRecursion, IsDistinct, find}
 use Rattle.std.specs.Str.{bytes_eq}
 use Rattle.toml.specs.Data as toml
 use Rattle.toml.specs.Data.{Data, Items, Members, get_member}
@@ -13,14 +12,13 @@ use Rattle.hsp_hash.specs.Option.{option_of}
 use Rattle.hsp_hash.specs.declared.option.HashOption.{HashOption}
 use Rattle.hsp_record.specs.Fields.{spelling}
 use Rattle.hsp_record.specs.Site as records
-use Rattle.hsp_record.specs.Values.{HandleValue, IsValue, IsValueList, indices}
+use Rattle.hsp_record.specs.Values.{HandleValue, IsValue, IsValueList}
 use Rattle.hsp_record.specs.declared.fault.RecordFault.{RecordFault}
 use Rattle.hsp_text.specs.Answers.{◌>>=◌, or_fault}
-use Rattle.hsp_text.specs.Name.{is_name}
 use Rattle.hsp_text.specs.declared.limits.TheConstants.{MOST_SERVERS}
 use Rattle.hsp_tables.specs.Fields.{greatest_of_32_bits}
 use Rattle.hsp_tables.specs.Settings.{SiteEntry, SiteSource, index, octets}
-use Rattle.hsp_instance.specs.Building.{AreSitesAfter, IsNextSite, IsReading, IsSiteOf, checked_site, has_id, has_id_twice, server_of_record, site_octets, site_of_reading, site_value, value_of}
+use Rattle.hsp_instance.specs.Building.{AreSitesAfter, IsNextSite, IsReading, IsSiteOf, checked_site, has_id, has_id_twice, server_of_record, site_octets, site_of_reading, site_value}
 use Rattle.hsp_instance.specs.Instance.{Site, SiteServer, same_id, servers_of}
 use Rattle.hsp_instance.specs.declared.fault.BuildFault.{BuildFault}
 use Rattle.hsp_instance.specs.declared.fault.BuildFault.TheVariants.{BadHashOption, NotSiteValue}

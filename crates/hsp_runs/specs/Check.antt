@@ -1,21 +1,13 @@
 -- What checking a certificate answers.
 pub use Rattle.hsp_runs.specs.Headline.{ShowsOf}
 pub use Rattle.hsp_runs.specs.Shown.{Holds, HoldsBest, HoldsShort, Shows}
-use Rattle.std.specs.Prelude.{◌≡◌, ◌≢◌, ◌↔◌, ◌+◌, ℕ, List, Result, Ok, Err}
+use Rattle.std.specs.Prelude.{◌≡◌, ◌≢◌, ◌↔◌, ℕ, List, Result, Ok, Err}
 use Rattle.hsp_instance.specs.Instance.{Instance}
-use Rattle.hsp_cert.specs.Certificate as certificates
 use Rattle.hsp_cert.specs.Certificate.{Claim}
-use Rattle.hsp_cert.specs.Certificate.Claim.{best, short}
 use Rattle.hsp_cert.specs.Reading.{Means}
-use Rattle.hsp_cert.specs.Text.{text_of}
 use Rattle.hsp_cert.specs.declared.fault.CertFault.{CertFault}
 use Rattle.hsp_cert.specs.declared.fault.CertFault.TheVariants as cert_fault
 use Rattle.hsp_check.specs.Instance.{network_of}
-use Rattle.hsp_check.specs.Network.{Network}
-use Rattle.hsp_check.specs.Plan.{Best, Feasible, Plan, total}
-use Rattle.hsp_check.specs.Short.{IsShort}
-use Rattle.hsp_check.specs.Sums.{times}
-use Rattle.hsp_check.specs.Uses.{table}
 use Rattle.hsp_check.specs.Valid.{IsValid}
 use Rattle.hsp_check.specs.Verdict as verdicts
 use Rattle.hsp_check.specs.Verdict.{is_one_of}

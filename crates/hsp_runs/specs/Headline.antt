@@ -18,10 +18,12 @@ use Rattle.hsp_csv.specs.Records.{Fields, records_of}
 use Rattle.hsp_tables.specs.Capacities.{CapacityEntry}
 use Rattle.hsp_tables.specs.Costs.{CostEntry}
 use Rattle.hsp_tables.specs.Table.{first_seen}
-use Rattle.hsp_instance.specs.Instance.{Host, Instance, IsAscending, Row, Server, Site, SiteServer, number_at, servers_of}
+use Rattle.hsp_instance.specs.Instance.{Host, Instance, IsAscending, Row, Site, SiteServer, number_at, servers_of}
 use Rattle.hsp_instance.specs.declared.arc.Arc.{Arc}
+use Rattle.hsp_dispatch.specs.Runs.{Streams}
+use Rattle.hsp_dispatch.specs.declared.answer.LogSums.{LogSums}
 use Rattle.hsp_runs.specs.declared.inputs.Inputs.{Inputs}
-use Rattle.hsp_runs.specs.Shown.{Shows}
+use Rattle.hsp_runs.specs.Shown.{Shows, ShowsLog}
 use Rattle.hsp_runs.specs.Told.{HasKeys, Lists, TellsHost, TellsSite}
 
 -- ---- settings and values
@@ -140,3 +142,7 @@ pub record Defines (inputs : Inputs) (it : Instance) : Type 0 where
 -- 9.3 and 6.7). What `plan` prints, and what `check` says Yes to, is the text of a certificate that holds for the instance of the inputs.
 abbrev pub ShowsOf : Inputs → List ℕ → Type 0
 ShowsOf inputs octets = (instance : Instance) × Defines inputs instance × Shows octets instance
+
+-- a log that `dispatch` has answered to its end was answered by the plan of such a certificate
+abbrev pub ShowsLogOf : Inputs → List ℕ → Streams → LogSums → Type 0
+ShowsLogOf inputs octets run sums = (instance : Instance) × Defines inputs instance × ShowsLog octets instance run sums
