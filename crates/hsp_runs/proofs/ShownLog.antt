@@ -1,5 +1,5 @@
 -- What an answered log shows of inputs and a certificate.
-use Rattle.std.proofs.Common.{◌≡◌, ◌∙◌, inl, inr, ℕ, List, [], ◌∷◌, ◌++◌, Option, None, Some, Result, Ok, Err, map, refl, ap, sym}
+use Rattle.std.proofs.Common.{◌≡◌, ◌∙◌, inl, inr, ℕ, List, [], ◌∷◌, ◌++◌, Option, None, Some, Result, Ok, Err, map, refl}
 use Rattle.std.specs.Prelude.{IfOk}
 use Rattle.hsp_instance.specs.Instance.{Instance}
 use Rattle.hsp_cert.specs.Certificate.{Best, Claim}
