@@ -21,7 +21,8 @@ CALLS = (("plan.rt", "plan_run"), ("checking.rt", "check_run"), ("dispatch.rt", 
 # The parts in reading order: a title and the definitions at which each begins; the last one begins at the clauses.
 PARTS = (
     ("Which inputs define which instance", (("Rattle.hsp_runs.specs.Headline", "Defines"),)),
-    ("What a certificate shows of an instance", (("Rattle.hsp_runs.specs.Shown", "Shows"),)),
+    ("What a certificate shows of it", (("Rattle.hsp_runs.specs.Headline", "ShowsOf"),)),
+    ("What an answered log shows of it", (("Rattle.hsp_runs.specs.Headline", "ShowsLogOf"),)),
     ("What the three calls answer, with every fault in its order", ()),
 )
 STARTS = re.compile(r"^(?:infix[lr]? .*|(?:unfoldable |opaque )*(?:abbrev |record |data |pub )+(?:record |data )?(?P<name>\S+) .*)$")

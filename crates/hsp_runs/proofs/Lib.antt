@@ -14,3 +14,6 @@ pub mod PageBuilt
 pub mod Page
 pub mod PageRead
 pub mod ShownLog
+pub mod Alike
+pub mod Alone
+pub mod PageAlone

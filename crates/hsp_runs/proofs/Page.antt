@@ -17,7 +17,7 @@ use Rattle.hsp_tables.proofs.TableKinds.{capacities_are_their_relation, costs_ar
 use Rattle.hsp_tables.proofs.TableRows as table_rows
 use Rattle.hsp_instance.specs.Building as building
 use Rattle.hsp_instance.specs.Building.{IsBuilt, arcs_from, host_of_entry, row_of}
-use Rattle.hsp_instance.specs.Instance.{Host, Instance, IsSite, Row, Server, Site, same_address, same_keys, same_name}
+use Rattle.hsp_instance.specs.Instance.{AreSites, HasServer, Host, Instance, IsInstance, IsSite, Row, Server, Site, same_address, same_keys, same_name}
 use Rattle.hsp_instance.specs.declared.arc.Arc.{Arc}
 use Rattle.hsp_instance.proofs.BuiltParts.{built_has_its_parts}
 use Rattle.hsp_instance.proofs.Lists.{all_from, all_map, distinct_map, map_twice}
@@ -27,7 +27,11 @@ use Rattle.hsp_runs.proofs.PageArcs.{arcs_alone, arcs_are, servers_alone}
 use Rattle.hsp_runs.proofs.PageBuilt.{BuiltOf, HasCapacity, built_of, capacities_have_no_fault, capacities_known, capacity_entries, cost_entries, costs_have_no_fault, costs_known, is_built, servers_built, sites_of_instance}
 use Rattle.hsp_runs.proofs.PageRows.{body_is, body_spells, capacity_fields, capacity_is_read, capacity_spelled, cost_fields, cost_is_read, cost_spelled, demand_fields, demand_is_read, demand_spelled}
 use Rattle.hsp_runs.proofs.PageServers.{capacity_is_found, servers_are}
-use Rattle.hsp_runs.proofs.PageSettings.{AreTold, map_itself, settings_are, settings_are_read}
+use Rattle.hsp_instance.proofs.Limits.{are_instance}
+use Rattle.toml.specs.Data as toml
+use Rattle.toml.specs.Data.{Items}
+use Rattle.hsp_runs.specs.Told.{Tell, TellsSite}
+use Rattle.hsp_runs.proofs.PageSettings.{settings_are_within, AreTold, map_itself, settings_are, settings_are_read}
 use Rattle.hsp_runs.proofs.PageSites.{AreListed, distinct_before, sites_are, sites_are_read}
 
 -- what the five inputs hold
@@ -280,3 +284,28 @@ module _ (handles : ReadingsAreHandles) where
       same_instance : (it : Instance) (servers : List Server) (arcs : List (List Arc)) → it.servers ≡ servers → it.arcs ≡ arcs
           → record { rows = it.rows; sites = it.sites; servers = servers; hosts = it.hosts; arcs = arcs } ≡ it
       same_instance it servers arcs p q = rw (← p, ← q) refl
+
+-- ---- what is built is within its limits
+
+have_servers : (values : Option (List HandleValue)) (items : Items) (sites : List Site) → Tell (TellsSite values) items sites → AllByRecursion HasServer sites
+have_servers values toml.no_items [] tell = tt
+have_servers values toml.no_items (site ∷ sites) tell = absurd tell
+have_servers values (toml.item value items) [] tell = absurd tell
+have_servers values (toml.item value items) (site ∷ sites) tell = (tell.2.spelled.some, have_servers values items sites tell.3)
+
+pub is_within : (inputs : Inputs) (read : building.Inputs) (it : Instance) → Holds inputs read → IsBuilt read (Ok it) → Defines inputs it → IsInstance it
+is_within inputs read it holds built page =
+    let of = built_of read it built in
+    let of_page = page.settings in
+    let sites : AreSites it.sites = record {
+      few = of_page.few_sites;
+      each = have_servers page.values of_page.site.0 it.sites of_page.site.2;
+      servers = of_page.few_servers;
+      are = sites_of_instance page.values of_page.site.0 it.sites of_page.site.2;
+      apart = of_page.names;
+    } in
+    let within = are_instance read it.sites it.servers (settings_are_within inputs.settings.items read.settings holds.settings)
+    (table_rows.demand_is_read (records_of inputs.demand.items) read.demand holds.demand) (table_rows.costs_are (records_of inputs.costs.items) read.costs holds.costs)
+    (table_rows.capacities_are (records_of inputs.capacity.items) read.capacities holds.capacities) sites
+    (rw of.hosts at of.servers) in
+    rw (← of.hosts, ← of.rows, ← of.arcs) at within

@@ -6,7 +6,7 @@ use Rattle.hsp_record.specs.Values.{HandleValue, values_format}
 use Rattle.hsp_text.specs.Answers.{told_as}
 use Rattle.hsp_instance.specs.Building as building
 use Rattle.hsp_instance.specs.Building.{IsBuilt}
-use Rattle.hsp_instance.specs.Instance.{Instance}
+use Rattle.hsp_instance.specs.Instance.{Instance, IsInstance}
 use Rattle.hsp_runs.specs.Headline as page
 use Rattle.hsp_runs.specs.Headline.{Defines}
 use Rattle.hsp_runs.specs.Instance.{IsInstanceOf}
@@ -16,14 +16,14 @@ use Rattle.hsp_runs.specs.declared.fault.Fault.{Fault}
 use Rattle.hsp_runs.specs.declared.fault.Fault.TheVariants.{Capacity, Costs, Demand, Settings, Values}
 use Rattle.hsp_runs.specs.declared.inputs.Inputs.{Inputs}
 use Rattle.hsp_runs.proofs.ByHash.{built_so, went_on}
-use Rattle.hsp_runs.proofs.Page.{Holds, is_defined, is_read}
+use Rattle.hsp_runs.proofs.Page.{Holds, is_defined, is_read, is_within}
 
 -- what a part gave well is what the whole tells
-told_well : {A E : Type 0} (part : E → Fault) (r : Result A E) (x : A) → Ok x ≡ told_as part r → r ≡ Ok x
+pub told_well : {A E : Type 0} (part : E → Fault) (r : Result A E) (x : A) → Ok x ≡ told_as part r → r ≡ Ok x
 told_well part (Ok y) x e = let same : x ≡ y = cc (e) in ap (λ z. Ok z) (sym same)
 told_well part (Err fault) x e = cc (e)
 
-listed : (octets : List ℕ) (values : List HandleValue) → AreListed octets (Ok values) → Means values_format octets (Ok values)
+pub listed : (octets : List ℕ) (values : List HandleValue) → AreListed octets (Ok values) → Means values_format octets (Ok values)
 listed octets values are = let same = told_well Values are.0 values are.3 in rw same at are.1
 
 values_are : (given : Option (List ℕ)) (values : Option (List HandleValue)) → AreValues given (Ok values) → page.AreValues given values
@@ -78,3 +78,9 @@ accepts_the_defined handles inputs it page =
         (Ok read.demand, demand, (Ok read.costs, costs, (Ok read.capacities, capacities, (Ok it, built, refl)))),
       ),
     )
+
+-- an instance that is given is within its limits
+pub is_instance : ReadingsAreHandles → (inputs : Inputs) (it : Instance) → IsInstanceOf inputs (Ok it) → IsInstance it
+is_instance handles inputs it is =
+    let read = hold inputs it is in
+    is_within inputs read.0 it read.1 read.2 (is_defined handles inputs read.0 it read.1 read.2)

@@ -15,11 +15,11 @@ use Rattle.hsp_text.specs.Name.{is_name}
 use Rattle.hsp_text.specs.declared.limits.TheConstants.{GREATEST_LIMIT, MOST_HOSTS, MOST_SITES}
 use Rattle.hsp_tables.specs.Fields.{greatest_of_32_bits}
 use Rattle.hsp_tables.specs.InTurn.{Reading, ReadsAsSpelled, SpellInTurn, SpellKeyed, rows_after}
-use Rattle.hsp_tables.specs.Settings.{HostEntry, SettingsEntries, SiteEntry, SiteSource, decoded, document_in, elements_in, host_address, host_after, host_at, host_in, host_limit, index, integer_of, is_host_key, is_root_key, is_site_key, keys_in, listed, number_up_to, octets, same_address, same_name, settings_in, settings_of, site_after, site_at, site_in, site_name, site_source, text_of}
+use Rattle.hsp_tables.specs.Settings.{AreSettings, HostEntry, SettingsEntries, SiteEntry, SiteSource, decoded, document_in, elements_in, host_address, host_after, host_at, host_in, host_limit, index, integer_of, is_host_key, is_root_key, is_site_key, keys_in, listed, number_up_to, octets, same_address, same_name, settings_in, settings_of, site_after, site_at, site_in, site_name, site_source, text_of}
 use Rattle.hsp_tables.specs.declared.fault.TableFault.{TableFault}
 use Rattle.hsp_tables.specs.declared.fault.TableFault.TheVariants as fault
 use Rattle.hsp_tables.proofs.Documents.{document_is}
-use Rattle.hsp_tables.proofs.SettingsLists.{hosts_read_as_spelled, sites_read_as_spelled}
+use Rattle.hsp_tables.proofs.SettingsLists.{hosts_are, hosts_read_as_spelled, sites_are, sites_read_as_spelled}
 use Rattle.hsp_tables.proofs.TurnLaws.{first_step, test_held}
 use Rattle.hsp_instance.specs.Building.{host_of_entry}
 use Rattle.hsp_runs.specs.Told.{HasKeys, Tell, TellsHost}
@@ -324,3 +324,15 @@ settings_are_read text settings told =
     let hosts = lists (fault.BadHost 0) MOST_HOSTS host_at same_address host_after hosts_read_as_spelled _ told.host_items settings.hosts told.host_array
     (record { spelled = spelled host_at host_of_entry TellsHost host_is_read 0 told.host_items settings.hosts told.hosts; few = told.few_hosts; apart = told.addresses }) in
     rw (opened, keys, sites, hosts) refl
+
+-- and they are within their limits
+pub settings_are_within : (text : List ℕ) (settings : SettingsEntries) → settings_of text ≡ Ok settings → AreSettings settings
+settings_are_within text settings e =
+    let opened = first_step (document_in text) settings_in settings e in
+    let document = opened.0 in
+    let tested = under_test (list_all is_root_key (keys_in document)) fault.UnknownKey _ settings opened.2 in
+    let made = λ (sites : List SiteEntry) (hosts : List HostEntry). let s : SettingsEntries = record { sites = sites; hosts = hosts } in s in
+    let site_list = listed (fault.BadSite 0) site_after (get_member (codes "site") document) in
+    let host_list = listed (fault.BadHost 0) host_after (get_member (codes "host") document) in
+    let steps = two_steps site_list host_list made settings tested.1 in
+    rw (← steps.4) (record { sites = sites_are (get_member (codes "site") document) steps.0 steps.2; hosts = hosts_are (get_member (codes "host") document) steps.1 steps.3 })

@@ -1,6 +1,5 @@
 -- What an answered log shows of inputs and a certificate.
-use Rattle.std.proofs.Common.{◌≡◌, ◌∙◌, inl, inr, ℕ, List, [], ◌∷◌, ◌++◌, Option, None, Some, Result, Ok, Err, map, refl}
-use Rattle.std.specs.Prelude.{IfOk}
+use Rattle.std.proofs.Common.{◌≡◌, ◌∙◌, inl, inr, ℕ, List, [], ◌∷◌, ◌++◌, Option, None, Some, Result, Ok, Err, map, refl, sym, subst}
 use Rattle.hsp_instance.specs.Instance.{Instance}
 use Rattle.hsp_cert.specs.Certificate.{Best, Claim}
 use Rattle.hsp_cert.specs.Certificate.Claim.{best, short}
@@ -27,7 +26,11 @@ use Rattle.hsp_runs.specs.declared.fault.Fault.{Fault}
 use Rattle.hsp_runs.specs.declared.fault.Fault.TheVariants.{Cert, OutOfMemory, WrongKind}
 use Rattle.hsp_runs.specs.declared.inputs.Inputs.{Inputs}
 use Rattle.hsp_text.specs.Answers.{Then, told_as}
+use Rattle.hsp_runs.specs.Laws.{DispatchedLogsShow}
 use Rattle.hsp_runs.proofs.ByHash.{logs_go_by_hash, went_on}
+use Rattle.hsp_runs.proofs.PageRead.{gives_the_defined, is_instance}
+use Rattle.hsp_runs.proofs.Showing.{valid_holds}
+use Rattle.hsp_names.specs.Handle.{ReadingsAreHandles}
 
 -- ---- the same plan
 
@@ -63,6 +66,18 @@ accepted_text inputs octets accepted is =
     let judged = went_on (IsCertificate octets) (IsAccepted read.0) accepted read.2 in
     rw judged.2.1 (certificate_is octets judged.0 judged.1)
 
+-- the instance is defined, and the certificate holds for it
+accepted_holds : ReadingsAreHandles → (inputs : Inputs) (octets : List ℕ) (accepted : Accepted) → IsAcceptedOf inputs octets (Ok accepted)
+    → Defines inputs accepted.instance × Holds (network_of accepted.instance) accepted.certificate
+accepted_holds handles inputs octets accepted is =
+    let read = went_on (IsInstanceOf inputs) (λ instance. Then (IsCertificate octets) (IsAccepted instance)) accepted is in
+    let judged = went_on (IsCertificate octets) (IsAccepted read.0) accepted read.2 in
+    let same : read.0 ≡ accepted.instance = sym judged.2.0 in
+    let kind : judged.0 ≡ accepted.certificate = sym judged.2.1 in
+    let defines = gives_the_defined handles inputs read.0 read.1 in
+    let holds = valid_holds read.0 judged.0 (is_instance handles inputs read.0 read.1) judged.2.2 in
+    (subst (λ it. Defines inputs it) same defines, subst (λ claim. Holds (network_of accepted.instance) claim) kind (subst (λ it. Holds (network_of it) judged.0) same holds))
+
 -- ---- the log
 
 never_both : (sums : LogSums) (fault : Fault) → ◌≡◌ {A = Result LogSums Fault} (Ok sums) (Err fault) → ⊥
@@ -97,14 +112,9 @@ module _ (inputs : Inputs) (octets : List ℕ) (accepted : Accepted) (is : IsAcc
   shown (inr answered) = by_claim accepted.certificate refl holds (accepted_text inputs octets accepted is) answered
 
 -- a log that was answered to its end
-shown_log : (inputs : Inputs) (octets : List ℕ) (accepted : Accepted) (run : Streams) (sums : LogSums) → IsAcceptedOf inputs octets (Ok accepted)
-    → Defines inputs accepted.instance → Holds (network_of accepted.instance) accepted.certificate → AnswersBy a_dispatcher accepted run (Ok sums)
-    → ShowsLogOf inputs octets run sums
-shown_log inputs octets accepted run sums is defines holds answered = shown inputs octets accepted is defines holds run sums answered
-
--- of whatever was answered
-pub shown_where : (inputs : Inputs) (octets : List ℕ) (accepted : Accepted) (run : Streams) (answer : Result LogSums Fault) → IsAcceptedOf inputs octets (Ok accepted)
-    → Defines inputs accepted.instance → Holds (network_of accepted.instance) accepted.certificate → AnswersBy a_dispatcher accepted run answer
-    → IfOk answer (λ sums. ShowsLogOf inputs octets run sums)
-shown_where inputs octets accepted run (Ok sums) is defines holds answered = shown_log inputs octets accepted run sums is defines holds answered
-shown_where inputs octets accepted run (Err fault) is defines holds answered = tt
+pub dispatched_logs_show : ReadingsAreHandles → DispatchedLogsShow
+dispatched_logs_show handles inputs octets run sums (inl refused) = absurd (never_both sums OutOfMemory refused.1)
+dispatched_logs_show handles inputs octets run sums (inr (Err fault, is, refused)) = absurd (never_both sums fault refused.1)
+dispatched_logs_show handles inputs octets run sums (inr (Ok accepted, is, answered)) =
+    let of = accepted_holds handles inputs octets accepted is in
+    shown inputs octets accepted is of.0 of.1 run sums (inr answered)
