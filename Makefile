@@ -26,6 +26,7 @@ test:
 	tools/make_examples.py --check
 	tools/draw_loads.py --check
 	tools/check_docs.py --names
+	tools/list_reading.py --check
 	tools/check_manual.py
 	tools/check_completions.py
 	rt ci

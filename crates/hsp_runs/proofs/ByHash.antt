@@ -1,6 +1,6 @@
 -- Logs go by the hashes of handles.
-use Rattle.std.proofs.Common.{◌≡◌, ◌∙◌, ℕ, List, Result, Ok, Err, ap, sym}
-use Rattle.hsp_text.specs.Answers.{Follows, Then, told_as}
+use Rattle.std.proofs.Common.{◌≡◌, ◌∙◌, ℕ, Result, Ok, Err, sym}
+use Rattle.hsp_text.specs.Answers.{Then, told_as}
 use Rattle.hsp_instance.specs.Building.{Inputs, IsBuilt}
 use Rattle.hsp_instance.specs.Instance.{Instance}
 use Rattle.hsp_instance.specs.declared.fault.BuildFault.{BuildFault}
@@ -15,20 +15,19 @@ use Rattle.hsp_dispatch.proofs.ByHash.{goes_by_hash}
 use Rattle.hsp_dispatch.proofs.FrontShares.{share_none}
 use Rattle.hsp_runs.specs.Accepted.{IsAccepted}
 use Rattle.hsp_runs.specs.Check.{IsCertificate}
-use Rattle.hsp_runs.specs.Instance.{IsInstanceOf, IsWithCosts, IsWithDemand, IsWithSettings, IsWithValues}
+use Rattle.hsp_runs.specs.Instance.{IsInstanceOf}
 use Rattle.hsp_runs.specs.Laws.{AnswersByHash, LogsGoByHash}
 use Rattle.hsp_runs.specs.declared.accepted.Accepted.{Accepted}
-use Rattle.hsp_runs.specs.declared.fault.Fault.{Fault}
 use Rattle.hsp_runs.specs.declared.fault.Fault.TheVariants.{Build}
 use Rattle.hsp_runs.specs.declared.inputs.Inputs as files
 
 -- what the second of two steps answers, the first gave rise to
-went_on : {A B E : Type 0} (First : Result A E → Type 0) (Next : A → Result B E → Type 0) (b : B) → Then First Next (Ok b)
+pub went_on : {A B E : Type 0} (First : Result A E → Type 0) (Next : A → Result B E → Type 0) (b : B) → Then First Next (Ok b)
     → (a : A) × First (Ok a) × Next a (Ok b)
 went_on First Next b (Ok a, first, next) = (a, first, next)
 went_on First Next b (Err e, first, same) = absurd (cc same)
 
-built_so : (read : Inputs) (it : Instance) (built : Result Instance BuildFault) → IsBuilt read built → Ok it ≡ told_as Build built → IsBuilt read (Ok it)
+pub built_so : (read : Inputs) (it : Instance) (built : Result Instance BuildFault) → IsBuilt read built → Ok it ≡ told_as Build built → IsBuilt read (Ok it)
 built_so read it (Ok other) is same = let one : it ≡ other = cc same in rw one is
 built_so read it (Err e) is same = absurd (cc same)
 

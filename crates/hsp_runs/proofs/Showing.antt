@@ -9,7 +9,7 @@ use Rattle.hsp_check.specs.Valid.{IsValid, IsValidPlan}
 use Rattle.hsp_check.specs.Verdict.{is_one_of}
 use Rattle.hsp_check.proofs.Duality.{prices_show_best, short_shows_none}
 use Rattle.hsp_check.proofs.InstanceNetwork.{is_network}
-use Rattle.hsp_runs.specs.Check.{Holds, HoldsBest}
+use Rattle.hsp_runs.specs.Shown.{Holds, HoldsBest}
 
 -- a valid plan is best, at its cost
 pub valid_plan_holds : (n : Network) (c : Best) → IsNetwork n → IsValidPlan n c → HoldsBest n c

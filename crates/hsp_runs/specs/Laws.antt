@@ -1,13 +1,20 @@
--- What holds of all runs over logs.
-use Rattle.std.specs.Prelude.{◌≡◌, ℕ, List, Ok}
+-- What holds of all inputs, and of all runs over logs.
+use Rattle.std.specs.Prelude.{◌≡◌, ℕ, List, Result, Ok}
 use Rattle.hsp_cert.specs.Certificate.{Best}
 use Rattle.hsp_cert.specs.Certificate.Claim.{best}
 use Rattle.hsp_check.specs.Uses.{table}
 use Rattle.hsp_dispatch.specs.Dispatch.{Entry, answer_to}
 use Rattle.hsp_dispatch.specs.Fronts.{share_of}
 use Rattle.hsp_dispatch.specs.Laws.{IsByHash}
+use Rattle.hsp_instance.specs.Instance.{Instance}
 use Rattle.hsp_runs.specs.Accepted.{IsAcceptedOf}
+use Rattle.hsp_dispatch.specs.Runs.{Streams}
+use Rattle.hsp_dispatch.specs.declared.answer.LogSums.{LogSums}
+use Rattle.hsp_runs.specs.Dispatch.{IsDispatched}
+use Rattle.hsp_runs.specs.Headline.{Defines, ShowsLogOf}
+use Rattle.hsp_runs.specs.Instance.{IsInstanceOf}
 use Rattle.hsp_runs.specs.declared.accepted.Accepted.{Accepted}
+use Rattle.hsp_runs.specs.declared.fault.Fault.{Fault}
 use Rattle.hsp_runs.specs.declared.inputs.Inputs.{Inputs}
 
 -- Where inputs and a certificate are accepted, each entry is answered by the server that is responsible for its handle by the hash option
@@ -21,3 +28,21 @@ abbrev pub LogsGoByHash : Type 0
 LogsGoByHash =
     (inputs : Inputs) (octets : List ℕ) (accepted : Accepted) (claim : Best) → IsAcceptedOf inputs octets (Ok accepted) → accepted.certificate ≡ best claim
     → AnswersByHash accepted claim
+
+-- ---- the page
+
+-- an instance that inputs give is one that they define by the page
+abbrev pub GivesTheDefined : Type 0
+GivesTheDefined = (inputs : Inputs) (it : Instance) → IsInstanceOf inputs (Ok it) → Defines inputs it
+
+-- inputs that define an instance by the page give it
+abbrev pub AcceptsTheDefined : Type 0
+AcceptsTheDefined = (inputs : Inputs) (it : Instance) → Defines inputs it → IsInstanceOf inputs (Ok it)
+
+-- and they give nothing else: no fault stands beside it, and no other instance
+abbrev pub GivesNothingElse : Type 0
+GivesNothingElse = (inputs : Inputs) (it : Instance) (answer : Result Instance Fault) → Defines inputs it → IsInstanceOf inputs answer → answer ≡ Ok it
+
+-- a log that was answered to its end, with its sums, shows what the page says of it
+abbrev pub DispatchedLogsShow : Type 0
+DispatchedLogsShow = (inputs : Inputs) (octets : List ℕ) (run : Streams) (sums : LogSums) → IsDispatched inputs octets run (Ok sums) → ShowsLogOf inputs octets run sums

@@ -4,6 +4,9 @@ pub mod Locate
 pub mod SiteText
 pub mod Readings
 pub mod Instance
+pub mod Shown
+pub mod Told
+pub mod Headline
 pub mod Check
 pub mod Accepted
 pub mod VerdictText

@@ -5,7 +5,8 @@ ghost use Rattle.hsp_text.specs.Answers.{Gives, Stands};
 ghost use Rattle.hsp_check.specs.Instance.{network_of};
 ghost use Rattle.hsp_check.specs.Valid.{IsValid};
 ghost use Rattle.hsp_runs.specs.Accepted.{IsAccepted, IsAcceptedOf, plan_in, shortage_in};
-ghost use Rattle.hsp_runs.specs.Check.{Holds};
+ghost use Rattle.hsp_runs.specs.Headline.{Defines};
+ghost use Rattle.hsp_runs.specs.Shown.{Holds};
 
 use crate::checking::{certificate_in, judged};
 use crate::fault::Fault;
@@ -67,6 +68,8 @@ pub(crate) fn accepted_in(alloc: Global, inputs: &Inputs, octets: &[u8]) -> Resu
     ensures valid { IfOk result (λ accepted. IsValid (network_of accepted.instance) accepted.certificate) }
     // The plan is best, or there is no feasible plan.
     ensures holds { IfOk result (λ accepted. Holds (network_of accepted.instance) accepted.certificate) }
+    // The inputs define the instance.
+    ensures defines { IfOk result (λ accepted. Defines inputs.now accepted.instance) }
 {
     let instance = instance_in(alloc, inputs)?;
     let certificate = certificate_in(alloc, octets)?;

@@ -3,7 +3,9 @@
 ghost use Rattle.std.specs.Prelude.{◌≡◌, IfOk};
 ghost use Rattle.hsp_check.specs.Instance.{network_of};
 ghost use Rattle.hsp_check.specs.declared.verdict.Verdict.TheVariants.{Yes};
-ghost use Rattle.hsp_runs.specs.Check.{Holds, IsCertificate, IsChecked, IsVerdict, IsVerdictOn, Shows, ShowsOf};
+ghost use Rattle.hsp_runs.specs.Check.{IsCertificate, IsChecked, IsVerdict, IsVerdictOn};
+ghost use Rattle.hsp_runs.specs.Headline.{ShowsOf};
+ghost use Rattle.hsp_runs.specs.Shown.{Holds, Shows};
 ghost use Rattle.hsp_text.specs.Answers.{Stands};
 
 use crate::fault::Fault;

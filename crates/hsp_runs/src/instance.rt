@@ -1,11 +1,13 @@
 // The instance that inputs define.
 
-ghost use Rattle.std.specs.Prelude.{option_map};
+ghost use Rattle.std.specs.Prelude.{IfOk, option_map};
+ghost use Rattle.hsp_runs.specs.Headline.{Defines};
 ghost use Rattle.hsp_runs.specs.Instance.{AreCapacities, AreCosts, IsBuilt, IsDemand, IsInstanceOf, IsWithCosts, IsWithDemand, IsWithSettings, IsWithValues};
 ghost use Rattle.hsp_text.specs.Answers.{Stands};
 
 use crate::fault::Fault;
 use crate::inputs::Inputs;
+use crate::laws::instances_are_defined;
 use crate::readings::{settings_in, values_in};
 use hsp_instance::{BuildFault, Instance, build};
 use hsp_record::ValueList;
@@ -114,8 +116,11 @@ fn with_settings(alloc: Global, inputs: &Inputs, settings: &Settings) -> Result<
 
 /// The instance that the inputs define. Faults in this order: `Settings`, `Values`, `Demand`, `Costs`, `Capacity`, `Build`.
 pub(crate) fn instance_in(alloc: Global, inputs: &Inputs) -> Result<Instance, Fault>
-    ensures { Stands Fault.OutOfMemory (λ instance. instance) (IsInstanceOf inputs.now) result }
+    ensures instance { Stands Fault.OutOfMemory (λ instance. instance) (IsInstanceOf inputs.now) result }
+    // The inputs define it, by the page of the headline.
+    ensures defines { IfOk result (λ instance. Defines inputs.now instance) }
 {
+    instances_are_defined();
     let settings = settings_in(alloc, &inputs.settings)?;
     with_settings(alloc, inputs, &settings)
 }

@@ -1,9 +1,31 @@
-// What holds of all runs over logs.
+// What holds of all inputs, and of all runs over logs.
 
-ghost use Rattle.hsp_runs.specs.Laws.{LogsGoByHash};
+ghost use Rattle.hsp_runs.specs.Laws.{AcceptsTheDefined, DispatchedLogsShow, GivesNothingElse, GivesTheDefined, LogsGoByHash};
+
+use hsp_names::laws::readings_are_handles;
+use hsp_record::laws::one_spelling;
 
 /// Where inputs and a certificate of a plan are accepted, each entry of a log is answered by the server that is responsible for its
 /// handle, by the hash option and the servers of the site's record; so is each event at a front.
 pub fn logs_go_by_hash()
     ensures { LogsGoByHash }
 {}
+
+/// The page of the headline is what runs do: an instance that inputs give is one that they define by the page, and inputs that define an
+/// instance by the page give it and nothing else, no other instance and no fault.
+pub fn instances_are_defined()
+    ensures given { GivesTheDefined }
+    ensures accepted { AcceptsTheDefined }
+    ensures alone { GivesNothingElse }
+{
+    readings_are_handles();
+    one_spelling();
+}
+
+/// A log that was answered to its end, by the plan of a certificate, was answered by a best plan of the instance that the inputs define, none
+/// beyond what the plan sends, and each entry by the hash of its handle.
+pub fn dispatched_logs_show()
+    ensures { DispatchedLogsShow }
+{
+    readings_are_handles();
+}

@@ -2,7 +2,8 @@
 
 ghost use Rattle.std.specs.Prelude.{◌≡◌, IfOk};
 ghost use Rattle.hsp_cert.specs.Certificate.{IsCertificate};
-ghost use Rattle.hsp_runs.specs.Check.{Shows, ShowsOf};
+ghost use Rattle.hsp_runs.specs.Headline.{ShowsOf};
+ghost use Rattle.hsp_runs.specs.Shown.{Shows};
 ghost use Rattle.hsp_runs.specs.Plan.{IsPlanText, IsPlanned, printed};
 ghost use Rattle.hsp_text.specs.Answers.{Stands};
 

@@ -1,0 +1,311 @@
+-- The page is what is read and built: in both directions.
+use Rattle.std.proofs.Common.{◌≡◌, ◌∙◌, ◌≤◌, ℕ, List, [], ◌∷◌, Option, Some, None, Ok, decimal, length, map, option_map, refl, ap, sym, subst, arith}
+use Rattle.std.proofs.lemmas.List.{length-map}
+use Rattle.std.specs.List.{AllByRecursion, IsDistinct}
+use Rattle.std.specs.Str.{bytes_eq}
+use Rattle.hsp_csv.specs.Records.{records_of}
+use Rattle.hsp_names.specs.Handle.{ReadingsAreHandles, local_name, naming_authority}
+use Rattle.hsp_record.specs.Values.{HandleValue}
+use Rattle.hsp_text.specs.declared.limits.TheConstants.{MOST_SITES}
+use Rattle.hsp_tables.specs.Capacities.{CapacityEntry, capacity_table, same_capacity}
+use Rattle.hsp_tables.specs.Costs.{CostEntry, cost_table}
+use Rattle.hsp_tables.specs.Demand.{DemandEntry, IsDemandEntry, demand_table, same_demand}
+use Rattle.hsp_tables.specs.Settings as settings
+use Rattle.hsp_tables.specs.Settings.{HostEntry, SettingsEntries, SiteEntry, settings_of}
+use Rattle.hsp_tables.specs.Table.{table_of}
+use Rattle.hsp_tables.proofs.TableKinds.{capacities_are_their_relation, costs_are_their_relation, demand_is_its_relation}
+use Rattle.hsp_tables.proofs.TableRows as table_rows
+use Rattle.hsp_instance.specs.Building as building
+use Rattle.hsp_instance.specs.Building.{IsBuilt, arcs_from, host_of_entry, row_of}
+use Rattle.hsp_instance.specs.Instance.{AreSites, HasServer, Host, Instance, IsInstance, IsSite, Row, Server, Site, same_address, same_keys, same_name}
+use Rattle.hsp_instance.specs.declared.arc.Arc.{Arc}
+use Rattle.hsp_instance.proofs.BuiltParts.{built_has_its_parts}
+use Rattle.hsp_instance.proofs.Lists.{all_from, all_map, distinct_map, map_twice}
+use Rattle.hsp_runs.specs.Headline.{AreCapacities, AreCosts, AreDemand, AreServers, AreSettings, AreValues, Defines, IsDemand}
+use Rattle.hsp_runs.specs.declared.inputs.Inputs.{Inputs}
+use Rattle.hsp_runs.proofs.PageArcs.{arcs_alone, arcs_are, servers_alone}
+use Rattle.hsp_runs.proofs.PageBuilt.{BuiltOf, HasCapacity, built_of, capacities_have_no_fault, capacities_known, capacity_entries, cost_entries, costs_have_no_fault, costs_known, is_built, servers_built, sites_of_instance}
+use Rattle.hsp_runs.proofs.PageRows.{body_is, body_spells, capacity_fields, capacity_is_read, capacity_spelled, cost_fields, cost_is_read, cost_spelled, demand_fields, demand_is_read, demand_spelled}
+use Rattle.hsp_runs.proofs.PageServers.{capacity_is_found, servers_are}
+use Rattle.hsp_instance.proofs.Limits.{are_instance}
+use Rattle.toml.specs.Data as toml
+use Rattle.toml.specs.Data.{Items}
+use Rattle.hsp_runs.specs.Told.{Tell, TellsSite}
+use Rattle.hsp_runs.proofs.PageSettings.{settings_are_within, AreTold, map_itself, settings_are, settings_are_read}
+use Rattle.hsp_runs.proofs.PageSites.{AreListed, distinct_before, sites_are, sites_are_read}
+
+-- what the five inputs hold
+pub record Holds (inputs : Inputs) (read : building.Inputs) : Type 0 where
+  pub settings : settings_of inputs.settings.items ≡ Ok read.settings
+  pub values : AreValues (option_map (λ octets. octets.items) inputs.values) read.values
+  pub demand : table_of demand_table (records_of inputs.demand.items) ≡ Ok read.demand
+  pub costs : table_of cost_table (records_of inputs.costs.items) ≡ Ok read.costs
+  pub capacities : table_of capacity_table (records_of inputs.capacity.items) ≡ Ok read.capacities
+
+-- ---- names
+
+apart_by_names : (entries : List SiteEntry) (sites : List Site) → map (λ (entry : SiteEntry). entry.name) entries ≡ map (λ (site : Site). site.name) sites
+    → IsDistinct settings.same_name entries → IsDistinct same_name sites
+apart_by_names entries sites named apart =
+    let names = distinct_map settings.same_name bytes_eq (λ (entry : SiteEntry). entry.name) entries (λ x y. refl) apart in
+    distinct_before same_name bytes_eq (λ (site : Site). site.name) (λ x y. refl) sites (rw named at names)
+
+entries_apart : (entries : List SiteEntry) (sites : List Site) → map (λ (entry : SiteEntry). entry.name) entries ≡ map (λ (site : Site). site.name) sites
+    → IsDistinct same_name sites → IsDistinct settings.same_name entries
+entries_apart entries sites named apart =
+    let names = distinct_map same_name bytes_eq (λ (site : Site). site.name) sites (λ x y. refl) apart in
+    distinct_before settings.same_name bytes_eq (λ (entry : SiteEntry). entry.name) (λ x y. refl) entries (rw (← named) at names)
+
+as_many : (entries : List SiteEntry) (sites : List Site) → map (λ (entry : SiteEntry). entry.name) entries ≡ map (λ (site : Site). site.name) sites → length entries ≡ length sites
+as_many entries sites named = sym (length-map entries (λ (entry : SiteEntry). entry.name)) ∙ ap length named ∙ length-map sites (λ (site : Site). site.name)
+
+-- ---- tables
+
+module _ (handles : ReadingsAreHandles) where
+  demand_row : (row : DemandEntry) → IsDemandEntry row → IsDemand (row_of row)
+  demand_row row is = (is.region, (naming_authority row.handle, local_name row.handle, (handles row.handle (naming_authority row.handle) (local_name row.handle)).1 (is.handle, refl, refl)), is.count)
+
+  demand_are : (text : List ℕ) (rows : List DemandEntry) → table_of demand_table (records_of text) ≡ Ok rows → AreDemand text (map row_of rows)
+  demand_are text rows e =
+      let table = (demand_is_its_relation.rows (records_of text) rows).0 e in
+      let body = body_is demand_table demand_fields demand_spelled 0 table.body rows table.spelled in
+      let are = table_rows.demand_is_read (records_of text) rows e in (
+        record {
+          records = table.headed ∙ ap (λ t. demand_table.header ∷ t) (body ∙ sym (map_twice row_of (λ (row : Row). row.region ∷ row.handle ∷ decimal row.count ∷ []) rows));
+          few = rw length-map table.few;
+          each = all_map IsDemandEntry IsDemand row_of rows demand_row are.keyed.each;
+          apart = distinct_map same_demand same_keys row_of rows (λ x y. refl) table.apart;
+        },
+        rw (map_twice row_of (λ (row : Row). row.region) rows) table.regions,
+      )
+
+costs_are : (sites : List Site) (text : List ℕ) (rows : List CostEntry) → building.cost_fault sites 0 rows ≡ None → table_of cost_table (records_of text) ≡ Ok rows → AreCosts sites text rows
+costs_are sites text rows none e =
+    let table = (costs_are_their_relation.rows (records_of text) rows).0 e in
+    let body = body_is cost_table cost_fields cost_spelled 0 table.body rows table.spelled in
+    let are = table_rows.costs_are (records_of text) rows e in (
+      record {
+        records = table.headed ∙ ap (λ t. cost_table.header ∷ t) body;
+        few = table.few;
+        each = costs_known sites 0 rows none are.keyed.each;
+        apart = table.apart;
+      },
+      table.regions,
+    )
+
+capacities_are : (sites : List Site) (text : List ℕ) (rows : List CapacityEntry) → building.capacity_fault sites 0 rows ≡ None → table_of capacity_table (records_of text) ≡ Ok rows
+    → AreCapacities sites text rows
+capacities_are sites text rows none e =
+    let table = (capacities_are_their_relation.rows (records_of text) rows).0 e in
+    let body = body_is capacity_table capacity_fields capacity_spelled 0 table.body rows table.spelled in
+    let are = table_rows.capacities_are (records_of text) rows e in
+    record {
+      records = table.headed ∙ ap (λ t. capacity_table.header ∷ t) body;
+      few = table.few;
+      each = capacities_known sites 0 rows none are.keyed.each;
+      apart = table.apart;
+    }
+
+-- ---- what is built is of the page
+
+settings_of_page : (values : Option (List HandleValue)) (text : List ℕ) (read : SettingsEntries) (sites : List Site) → settings_of text ≡ Ok read
+    → building.AreSitesOf read values (Ok sites) → AreSettings values text sites (map host_of_entry read.hosts)
+settings_of_page values text read sites e are =
+    let told = settings_are text read e in
+    let next = sites_are values [] told.site_items read.sites sites (omega arith) told.sites are in
+    let whole : next.sites ≡ sites = sym next.whole in
+    let many = as_many read.sites next.sites next.named in
+    let few : length next.sites ≤ MOST_SITES = omega (arith, many, told.few_sites) in
+    record {
+      utf8 = told.utf8;
+      document = told.document;
+      read = told.read;
+      keys = told.keys;
+      site = (told.site_items, told.site_array, rw whole at next.told);
+      few_sites = rw whole at few;
+      few_servers = next.few;
+      names = rw whole at (apart_by_names read.sites next.sites next.named told.names);
+      host = (told.host_items, told.host_array, told.hosts);
+      few_hosts = rw length-map told.few_hosts;
+      addresses = distinct_map settings.same_address same_address host_of_entry read.hosts (λ x y. refl) told.addresses;
+    }
+
+module _ (handles : ReadingsAreHandles) where
+  pub is_defined : (inputs : Inputs) (read : building.Inputs) (it : Instance) → Holds inputs read → IsBuilt read (Ok it) → Defines inputs it
+  is_defined inputs read it holds built =
+      let of = built_of read it built in
+      let has = built_has_its_parts read it built in
+      let page = settings_of_page read.values inputs.settings.items read.settings it.sites holds.settings of.sites in
+      let costs = costs_are it.sites inputs.costs.items read.costs of.costs holds.costs in
+      record {
+        values = read.values;
+        are_values = holds.values;
+        settings = rw (← of.hosts) at page;
+        demand = rw (← of.rows) at (demand_are handles inputs.demand.items read.demand holds.demand);
+        costs = read.costs;
+        are_costs = costs;
+        capacities = read.capacities;
+        are_capacities = capacities_are it.sites inputs.capacity.items read.capacities of.capacities holds.capacities;
+        servers = servers_are read it has;
+        arcs = arcs_are read it costs.0.apart has of.arcs (rw of.arcs (length-map it.rows (λ row. arcs_from read.costs row 0 0 it.sites)));
+      }
+
+-- ---- what is of the page is read and built
+
+abbrev host_entry : Host → HostEntry
+host_entry host = record { address = host.address; limit = host.limit }
+
+abbrev demand_entry : Row → DemandEntry
+demand_entry row = record { region = row.region; handle = row.handle; count = row.count }
+
+values_are : (given : Option (List ℕ)) (values : Option (List HandleValue)) → AreValues given values → AreListed values
+values_are None None are = tt
+values_are None (Some values) are = absurd are
+values_are (Some octets) None are = absurd are
+values_are (Some octets) (Some values) are = are.0
+
+-- the settings of the page are read as those of its sites
+pub record AreReadAs (values : Option (List HandleValue)) (text : List ℕ) (sites : List Site) (hosts : List Host) : Type 0 where
+  pub read : SettingsEntries
+  pub settings : settings_of text ≡ Ok read
+  pub built : building.AreSitesOf read values (Ok sites)
+  pub same_hosts : map host_of_entry read.hosts ≡ hosts
+
+settings_read : (values : Option (List HandleValue)) (text : List ℕ) (sites : List Site) (hosts : List Host) → AreListed values → AreSettings values text sites hosts
+    → AreReadAs values text sites hosts
+settings_read values text sites hosts listed are =
+    let from = sites_are_read values [] are.site.0 sites listed are.few_servers are.site.2 in
+    let back : map host_of_entry (map host_entry hosts) ≡ hosts = map_twice host_entry host_of_entry hosts ∙ map_itself hosts in
+    let many = as_many from.entries sites from.named in
+    let few : length from.entries ≤ MOST_SITES = omega (arith, many, are.few_sites) in
+    let told : AreTold text (record { sites = from.entries; hosts = map host_entry hosts }) = record {
+      utf8 = are.utf8;
+      document = are.document;
+      read = are.read;
+      keys = are.keys;
+      site_items = are.site.0;
+      site_array = are.site.1;
+      sites = from.told;
+      few_sites = few;
+      names = entries_apart from.entries sites from.named are.names;
+      host_items = are.host.0;
+      host_array = are.host.1;
+      hosts = rw back are.host.2;
+      few_hosts = rw length-map are.few_hosts;
+      addresses = distinct_map same_address settings.same_address host_entry hosts (λ x y. refl) are.addresses;
+    } in
+    record { read = record { sites = from.entries; hosts = map host_entry hosts }; settings = settings_are_read text _ told; built = from.read; same_hosts = back }
+
+module _ (handles : ReadingsAreHandles) where
+  demand_entries : (rows : List Row) → AllByRecursion IsDemand rows → AllByRecursion IsDemandEntry (map demand_entry rows)
+  demand_entries rows all = all_map IsDemand IsDemandEntry demand_entry rows (λ row is.
+      record { region = is.0; handle = ((handles row.handle is.1.0 is.1.1).0 is.1.2).0; count = is.2 }) all
+
+  demand_is_read_as : (text : List ℕ) (rows : List Row) → AreDemand text rows → table_of demand_table (records_of text) ≡ Ok (map demand_entry rows)
+  demand_is_read_as text rows are =
+      let entries = demand_entries rows are.0.each in
+      let spelled = body_spells demand_table demand_fields IsDemandEntry demand_is_read 0 (map demand_entry rows) entries in
+      (demand_is_its_relation.rows (records_of text) (map demand_entry rows)).1 (record {
+        body = map demand_fields (map demand_entry rows);
+        headed = are.0.records ∙ ap (λ t. demand_table.header ∷ t) (sym (map_twice demand_entry demand_fields rows));
+        spelled = spelled;
+        few = rw length-map are.0.few;
+        apart = distinct_map same_keys same_demand demand_entry rows (λ x y. refl) are.0.apart;
+        regions = rw (map_twice demand_entry (λ (row : DemandEntry). row.region) rows) are.1;
+      })
+
+costs_are_read_as : (sites : List Site) (text : List ℕ) (rows : List CostEntry) → AllByRecursion IsSite sites → AreCosts sites text rows → table_of cost_table (records_of text) ≡ Ok rows
+costs_are_read_as sites text rows of are =
+    (costs_are_their_relation.rows (records_of text) rows).1 (record {
+      body = map cost_fields rows;
+      headed = are.0.records;
+      spelled = body_spells cost_table cost_fields _ cost_is_read 0 rows (cost_entries sites rows of are.0.each);
+      few = are.0.few;
+      apart = are.0.apart;
+      regions = are.1;
+    })
+
+capacities_are_read_as : (sites : List Site) (text : List ℕ) (rows : List CapacityEntry) → AllByRecursion IsSite sites → AreCapacities sites text rows
+    → table_of capacity_table (records_of text) ≡ Ok rows
+capacities_are_read_as sites text rows of are =
+    (capacities_are_their_relation.rows (records_of text) rows).1 (record {
+      body = map capacity_fields rows;
+      headed = are.records;
+      spelled = body_spells capacity_table capacity_fields _ capacity_is_read 0 rows (capacity_entries sites rows of are.each);
+      few = are.few;
+      apart = are.apart;
+      regions = omega arith;
+    })
+
+-- each server of the page has a capacity
+have_capacities : (capacities : List CapacityEntry) (it : Instance) → IsDistinct same_capacity capacities → AreServers capacities it
+    → AllByRecursion (λ (site : Site). AllByRecursion (HasCapacity capacities site.name) site.servers) it.sites
+have_capacities capacities it apart are =
+    all_from (λ (site : Site). AllByRecursion (HasCapacity capacities site.name) site.servers) it.sites (λ n site at.
+    all_from (HasCapacity capacities site.name) site.servers (λ place own here.
+    let one = are.each n place site own at here in
+    (one.0, capacity_is_found capacities site.name own.id one.0 apart one.3)))
+
+module _ (handles : ReadingsAreHandles) where
+  pub is_read : (inputs : Inputs) (it : Instance) → Defines inputs it → (read : building.Inputs) × Holds inputs read × IsBuilt read (Ok it)
+  is_read inputs it page =
+      let values = values_are _ page.values page.are_values in
+      let own = settings_read page.values inputs.settings.items it.sites it.hosts values page.settings in
+      let of = sites_of_instance page.values page.settings.site.0 it.sites page.settings.site.2 in
+      let servers = servers_built page.capacities it.hosts 0 [] it.sites (have_capacities page.capacities it page.are_capacities.apart page.servers) in
+      let read : building.Inputs = record { settings = own.read; values = page.values; demand = map demand_entry it.rows; costs = page.costs; capacities = page.capacities } in
+      let made : Instance = record { rows = it.rows; sites = it.sites; servers = servers.0; hosts = it.hosts; arcs = map (λ row. arcs_from page.costs row 0 0 it.sites) it.rows } in
+      let built : BuiltOf read made = record {
+        sites = own.built;
+        costs = costs_have_no_fault it.sites 0 page.costs page.settings.names page.are_costs.0.each;
+        capacities = capacities_have_no_fault it.sites 0 page.capacities page.settings.names page.are_capacities.each;
+        rows = sym (map_twice demand_entry row_of it.rows ∙ map_itself it.rows);
+        hosts = sym own.same_hosts;
+        servers = servers.1;
+        arcs = refl;
+      } in
+      let whole = is_built read made built in
+      let has = built_has_its_parts read made whole in
+      let count : length made.arcs ≡ length made.rows = length-map it.rows (λ row. arcs_from page.costs row 0 0 it.sites) in
+      let same_servers : it.servers ≡ servers.0 = servers_alone page.capacities it made page.are_capacities.apart page.settings.addresses refl refl page.servers (servers_are read made has) in
+      let same_arcs : it.arcs ≡ made.arcs = arcs_alone page.costs it made refl refl page.arcs (arcs_are read made page.are_costs.0.apart has refl count) in
+      let same : made ≡ it = same_instance it servers.0 made.arcs same_servers same_arcs in (
+        read,
+        record {
+          settings = own.settings;
+          values = page.are_values;
+          demand = demand_is_read_as handles inputs.demand.items it.rows page.demand;
+          costs = costs_are_read_as it.sites inputs.costs.items page.costs of page.are_costs;
+          capacities = capacities_are_read_as it.sites inputs.capacity.items page.capacities of page.are_capacities;
+        },
+        subst (λ (i : Instance). IsBuilt read (Ok i)) same whole,
+      )
+    where
+      same_instance : (it : Instance) (servers : List Server) (arcs : List (List Arc)) → it.servers ≡ servers → it.arcs ≡ arcs
+          → record { rows = it.rows; sites = it.sites; servers = servers; hosts = it.hosts; arcs = arcs } ≡ it
+      same_instance it servers arcs p q = rw (← p, ← q) refl
+
+-- ---- what is built is within its limits
+
+have_servers : (values : Option (List HandleValue)) (items : Items) (sites : List Site) → Tell (TellsSite values) items sites → AllByRecursion HasServer sites
+have_servers values toml.no_items [] tell = tt
+have_servers values toml.no_items (site ∷ sites) tell = absurd tell
+have_servers values (toml.item value items) [] tell = absurd tell
+have_servers values (toml.item value items) (site ∷ sites) tell = (tell.2.spelled.some, have_servers values items sites tell.3)
+
+pub is_within : (inputs : Inputs) (read : building.Inputs) (it : Instance) → Holds inputs read → IsBuilt read (Ok it) → Defines inputs it → IsInstance it
+is_within inputs read it holds built page =
+    let of = built_of read it built in
+    let of_page = page.settings in
+    let sites : AreSites it.sites = record {
+      few = of_page.few_sites;
+      each = have_servers page.values of_page.site.0 it.sites of_page.site.2;
+      servers = of_page.few_servers;
+      are = sites_of_instance page.values of_page.site.0 it.sites of_page.site.2;
+      apart = of_page.names;
+    } in
+    let within = are_instance read it.sites it.servers (settings_are_within inputs.settings.items read.settings holds.settings)
+    (table_rows.demand_is_read (records_of inputs.demand.items) read.demand holds.demand) (table_rows.costs_are (records_of inputs.costs.items) read.costs holds.costs)
+    (table_rows.capacities_are (records_of inputs.capacity.items) read.capacities holds.capacities) sites
+    (rw of.hosts at of.servers) in
+    rw (← of.hosts, ← of.rows, ← of.arcs) at within

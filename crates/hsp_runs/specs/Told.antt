@@ -1,0 +1,69 @@
+-- How the tables of a TOML document tell sites and hosts.
+use Rattle.std.specs.Prelude.{◌≡◌, ◌≤◌, ◌<◌, ◌==◌, ◌⊎◌, ⊤, true, ℕ, pos, List, [], ◌∷◌, codes, length, map, Option, Some, None, Ok}
+use Rattle.std.specs.List.{Contains, IsDistinct, list_all, list_any}
+use Rattle.std.specs.Str.{bytes_eq}
+use Rattle.hex.specs.Hex.{decode_of, decode_sized}
+use Rattle.toml.specs.Data as toml
+use Rattle.toml.specs.Data.{Data, Items, Members, get_member}
+use Rattle.hsp_text.specs.Name.{is_name}
+use Rattle.hsp_text.specs.declared.limits.TheConstants.{GREATEST_LIMIT}
+use Rattle.hsp_hash.specs.Option.{option_of}
+use Rattle.hsp_record.specs.Fields.{spelling}
+use Rattle.hsp_record.specs.Site as records
+use Rattle.hsp_record.specs.Values.{HandleValue}
+use Rattle.hsp_tables.specs.Settings.{keys_in}
+use Rattle.hsp_instance.specs.Building.{server_of_record}
+use Rattle.hsp_instance.specs.Instance.{Host, Site, SiteServer}
+
+-- a table has no other keys
+abbrev pub HasKeys : List (List ℕ) → Members → Type 0
+HasKeys keys members = list_all (λ key. list_any (bytes_eq key) keys) (keys_in members) ≡ true
+
+-- the tables of an array tell the rows, one each
+abbrev pub Tell : {Row : Type 0} → (Members → Row → Type 0) → Items → List Row → Type 0
+Tell Tells toml.no_items [] = ⊤
+Tell Tells (toml.item value items) (row ∷ rows) = (members : Members) × (value ≡ toml.table members) × Tells members row × Tell Tells items rows
+Tell Tells items rows = ⊥
+
+-- those of the array at a key, or none where there is no such key
+abbrev pub Lists : {Row : Type 0} → (Members → Row → Type 0) → Option Data → List Row → Type 0
+Lists Tells value rows = (items : Items) × ((value ≡ Some (toml.array items)) ⊎ ((value ≡ None) × (items ≡ toml.no_items))) × Tell Tells items rows
+
+-- the data of the value of an index, of type HS_SITE
+abbrev pub IsData : Option (List HandleValue) → ℕ → List ℕ → Type 0
+IsData None index octets = ⊥
+IsData (Some values) index octets =
+    (value : HandleValue) × Contains values value × (value.index ≡ index) × (value.type_octets ≡ codes "HS_SITE") × (value.octets ≡ octets)
+
+-- the octets of a site: its `record` in hexadecimal digits, or the data of the value of its `index`, never both
+abbrev pub IsSource : Option (List HandleValue) → Option Data → Option Data → List ℕ → Type 0
+IsSource values hexadecimal number octets =
+    ((digits : List ℕ) × (hexadecimal ≡ Some (toml.string digits)) × (number ≡ None) × (decode_of digits ≡ Ok octets))
+    ⊎ ((index : ℕ) × (hexadecimal ≡ None) × (number ≡ Some (toml.integer (pos index))) × IsData values index octets)
+
+-- octets spell a record of the site's hash option and servers, of which there are some, no two with one identifier
+pub record IsRecordOf (site : Site) (octets : List ℕ) : Type 0 where
+  pub read : records.Site
+  pub is : records.IsSite read
+  pub spelled : octets ≡ spelling records.site_format read
+  pub option : option_of read.option ≡ Some site.option
+  pub servers : site.servers ≡ map server_of_record read.servers
+  pub some : 0 < length site.servers
+  pub apart : IsDistinct (λ (a b : SiteServer). b.id == a.id) site.servers
+
+pub record TellsSite (values : Option (List HandleValue)) (members : Members) (site : Site) : Type 0 where
+  pub keys : HasKeys (codes "name" ∷ codes "record" ∷ codes "index" ∷ []) members
+  pub name : get_member (codes "name") members ≡ Some (toml.string site.name)
+  pub is_name : is_name site.name ≡ true
+  pub octets : List ℕ
+  pub source : IsSource values (get_member (codes "record") members) (get_member (codes "index") members) octets
+  pub spelled : IsRecordOf site octets
+
+-- an address of 16 octets, in hexadecimal digits, and a limit
+pub record TellsHost (members : Members) (host : Host) : Type 0 where
+  pub keys : HasKeys (codes "address" ∷ codes "limit" ∷ []) members
+  pub digits : List ℕ
+  pub address : get_member (codes "address") members ≡ Some (toml.string digits)
+  pub decoded : decode_sized digits 16 ≡ Ok host.address
+  pub limit : get_member (codes "limit") members ≡ Some (toml.integer (pos host.limit))
+  pub limited : host.limit ≤ GREATEST_LIMIT
