@@ -14,10 +14,10 @@ import argparse
 import concurrent.futures
 import os
 import re
+import resource
 import subprocess
 import sys
 import tempfile
-import time
 
 TOP = os.path.dirname(os.path.dirname(os.path.abspath(__file__)))
 
@@ -71,16 +71,22 @@ def numbers(count, most=None):
     return list(range(1, first + 1)) + [first + 1 + at * (count - first - 1) // max(1, spread - 1) for at in range(spread)]
 
 
+def spent_below():
+    """The seconds of the processor that ended processes took."""
+    spent = resource.getrusage(resource.RUSAGE_CHILDREN)
+    return spent.ru_utime + spent.ru_stime
+
+
 def tests_of(program):
     listed = subprocess.run([program, "--list"], stdout=subprocess.PIPE, text=True).stdout
     return [line[: -len(": test")] for line in listed.splitlines() if line.endswith(": test")]
 
 
 def check_test(pool, program, test, preloaded, most):
-    """The faults of a test, how many of its allocations were refused, how many there are, and the seconds of so many runs without a refusal."""
-    begun = time.monotonic()
+    """The faults of a test, how many of its allocations were refused, how many there are, and the seconds of so many runs."""
+    before = spent_below()
     status, count, said = run(program, test, preloaded, 0)
-    spent = time.monotonic() - begun
+    spent = spent_below() - before
     if status or count is None:
         return [f"{test}: status {status}, count {count}: {said}"], 0, 0, 0
     chosen = numbers(count, most)
@@ -108,7 +114,8 @@ def check(pool, crate, preloaded, most):
         faults.append(f"{crate}: the test program lists no test")
     if takes_memory and not (refused or (most == 0 and count)):
         faults.append(f"{crate}: it takes memory, and no test of it took any")
-    print(f"{crate}: {len(tests)} tests, {refused} of {count} allocations refused, {len(faults)} faults, all would take {seconds / 60:.1f} minutes", flush=True)
+    print(f"{crate}: {len(tests)} tests, {refused} of {count} allocations refused, {len(faults)} faults, all would take {seconds / 60:.1f} "
+          "minutes of the processor", flush=True)
     return faults
 
 

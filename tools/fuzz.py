@@ -34,7 +34,6 @@ and of one case in eight besides:
 import argparse
 import glob
 import os
-import resource
 import signal
 import struct
 import subprocess
@@ -145,12 +144,6 @@ class Job:
         return [line for line in read(self.said).decode(errors="replace").splitlines() if line]
 
 
-def spent_below():
-    """The seconds of the processor that ended processes took."""
-    spent = resource.getrusage(resource.RUSAGE_CHILDREN)
-    return spent.ru_utime + spent.ru_stime
-
-
 def judge(given, folder):
     """The faults, and how many cases, runs, and runs without a fault to tell there were."""
     jobs = 1 if given.only is not None else given.jobs
@@ -185,9 +178,9 @@ def main():
     with tempfile.TemporaryDirectory() as folder:
         build(folder)
         write_seeds(os.path.join(folder, "seeds"))
-        begun, below = time.monotonic(), spent_below()
+        begun, below = time.monotonic(), check_growth.spent_below()
         faults, (cases, runs, plain) = judge(given, folder)
-        spent, spent_by_jobs = time.monotonic() - begun, spent_below() - below
+        spent, spent_by_jobs = time.monotonic() - begun, check_growth.spent_below() - below
     for fault in faults:
         print(fault[:2000])
     print(f"fuzz: {cases} cases from seed {given.seed}, {runs} runs, {plain} of them without a fault to tell, in {spent:.0f} seconds "
