@@ -52,9 +52,6 @@ rows_alike Fits f g p q = told_alike Fits (λ x. joined (f x) ++ joined (g x)) (
 fixed_alike : {A : Type 0} (Fits : A → Type 0) (f : A → List ℕ) (n : ℕ) → ((x : A) → Fits x → length (f x) ≡ n) → AreAlike Fits f
 fixed_alike Fits f n long x y a b is_x is_y e = same_front (f x) (f y) a b (long x is_x ∙ sym (long y is_y)) e
 
-none_alike : {A : Type 0} (Fits : A → Type 0) → AreAlike Fits (λ x. [])
-none_alike Fits x y a b is_x is_y e = (refl, e)
-
 -- ---- numbers and runs
 
 pub same_number : (m n : ℕ) (a b : List ℕ) → m < 2 ^ 32 → n < 2 ^ 32 → to_be_bytes w32 m ++ a ≡ to_be_bytes w32 n ++ b → (m ≡ n) × (a ≡ b)

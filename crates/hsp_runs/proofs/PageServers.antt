@@ -1,6 +1,6 @@
 -- Servers and arcs of the page are those that are built.
 use Rattle.std.proofs.Common.{◌≡◌, ◌≢◌, ◌∙◌, ◌<◌, ◌+◌, ◌==◌, ◌⊎◌, inl, inr, ℕ, zero, suc, Bool, true, false, cond, List, [], ◌∷◌, Option, Some, None, length, option_map, refl, ap, sym, arith}
-use Rattle.std.proofs.lemmas.Bool.{and_parts, cases_Bool}
+use Rattle.std.proofs.lemmas.Bool.{and_parts}
 use Rattle.std.proofs.lemmas.Slice.Eq.{bytes_eq-Decides}
 use Rattle.std.proofs.lemmas.Bool.Decides.{Decides-eqb}
 use Rattle.std.specs.List.{AllByRecursion, Contains, IsDistinct, find, position_from, slice_get}
@@ -89,16 +89,7 @@ cost_is_found rows region name c apart is =
 
 -- ---- hosts
 
--- the place that is found is that of the host of the address
-host_from : (address : List ℕ) (all hosts : List Host) (n : ℕ) (found_at : Option ℕ) → ((k : ℕ) → slice_get all (n + k) ≡ slice_get hosts k)
-    → AllByRecursion (λ (host : Host). host.address ≢ address) hosts → position_from (is_at address) n hosts ≡ None
-host_from address all [] n found_at same other = refl
-host_from address all (host ∷ hosts) n found_at same other =
-    elim (cases_Bool (bytes_eq host.address address)) [
-      | inl is ↦ absurd (other.0 (same_octets host.address address is))
-      | inr none ↦ rw none (host_from address all hosts (n + 1) found_at (λ k. let e : n + 1 + k ≡ n + suc k = omega arith in rw e (same (suc k))) other.1)
-    ]
-
+-- the place that is found is that of a host of the address
 stands_from : (address : List ℕ) (n : ℕ) (hosts : List Host) (m : ℕ) → position_from (is_at address) n hosts ≡ Some m
     → (k : ℕ) × (m ≡ n + k) × ((host : Host) × (slice_get hosts k ≡ Some host) × (host.address ≡ address))
 stands_from address n [] m e = let none : ◌≡◌ {A = Option ℕ} None (Some m) = e in cc
