@@ -1,5 +1,5 @@
 -- What an answered log shows of inputs and a certificate.
-use Rattle.std.proofs.Common.{◌≡◌, ◌∙◌, inl, inr, ℕ, List, [], ◌∷◌, ◌++◌, Option, None, Some, Result, Ok, Err, map, refl, sym, subst}
+use Rattle.std.proofs.Common.{◌≡◌, ◌∙◌, inl, inr, ℕ, List, [], ◌∷◌, ◌++◌, Option, None, Some, Result, Ok, Err, IfOk, map, refl, sym, subst}
 use Rattle.hsp_instance.specs.Instance.{Instance}
 use Rattle.hsp_cert.specs.Certificate.{Best, Claim}
 use Rattle.hsp_cert.specs.Certificate.Claim.{best, short}
@@ -118,3 +118,10 @@ dispatched_logs_show handles inputs octets run sums (inr (Err fault, is, refused
 dispatched_logs_show handles inputs octets run sums (inr (Ok accepted, is, answered)) =
     let of = accepted_holds handles inputs octets accepted is in
     shown inputs octets accepted is of.0 of.1 run sums (inr answered)
+
+-- of whatever was answered
+pub shown_where : (inputs : Inputs) (octets : List ℕ) (accepted : Accepted) (run : Streams) (answer : Result LogSums Fault) → IsAcceptedOf inputs octets (Ok accepted)
+    → Defines inputs accepted.instance → Holds (network_of accepted.instance) accepted.certificate → AnswersBy a_dispatcher accepted run answer
+    → IfOk answer (λ sums. ShowsLogOf inputs octets run sums)
+shown_where inputs octets accepted run (Ok sums) is defines holds answered = shown inputs octets accepted is defines holds run sums answered
+shown_where inputs octets accepted run (Err fault) is defines holds answered = tt

@@ -1,8 +1,10 @@
 // Logs, answered by the plans of certificates.
 
+ghost use Rattle.std.specs.Prelude.{IfOk};
 ghost use Rattle.hsp_check.specs.Instance.{network_of};
 ghost use Rattle.hsp_check.specs.Valid.{IsValid};
 ghost use Rattle.hsp_runs.specs.Dispatch.{AnswersBy, IsDispatched, a_dispatcher, over};
+ghost use Rattle.hsp_runs.specs.Headline.{ShowsLogOf};
 
 use crate::accepted::{Accepted, accepted_in};
 use crate::fault::Fault;
@@ -38,8 +40,11 @@ pub fn dispatch_run<R: Read + Drop, W: Write>(
     reader: R,
     writer: &mut W,
 ) -> Result<LogSums, Fault>
-    ensures { IsDispatched inputs.now certificate.now
+    ensures answers { IsDispatched inputs.now certificate.now
         (over (R.remaining reader) (W.contents writer.old) (W.contents writer.new)) result }
+    // The answers are those of a best plan, none beyond it, and each by the hash of its handle.
+    ensures shows { IfOk result (λ sums. ShowsLogOf inputs.now certificate.now
+        (over (R.remaining reader) (W.contents writer.old) (W.contents writer.new)) sums) }
 {
     let accepted = accepted_in(alloc, inputs, certificate)?;
     dispatched(alloc, &accepted, reader, writer)
