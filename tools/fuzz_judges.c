@@ -96,11 +96,15 @@ static struct answer answered(struct text words, const struct files *files)
         wants_same("two answers", words, &first, &second);
         first.spent = second.spent < first.spent ? second.spent : first.spent;
     }
+    uint64_t bound = LEAST_NANOSECONDS + NANOSECONDS_EACH * size;
+    /* The machine may have stood still meanwhile: what took long is run again. */
+    if (first.spent > bound)
+        first.spent = run_counted(words, files).spent;
     struct text sums = numbered("status %lu, at most %lu octets, %lu nanoseconds", first.status, first.most, first.spent);
     want(is_suiting(words, &first), "status or line", words, first.told, glued(sums, TEXT(" "), first.printed));
     want(!first.held, "memory kept", words, first.told, sums);
     want(first.most <= LEAST_OCTETS + OCTETS_EACH * size, "memory", words, first.told, sums);
-    want(first.spent <= LEAST_NANOSECONDS + NANOSECONDS_EACH * size, "time", words, first.told, sums);
+    want(first.spent <= bound, "time", words, first.told, sums);
     return first;
 }
 
