@@ -7,6 +7,7 @@ It runs the test programs that `rt ci` leaves in crates/NAME/out/NAME_tests, sid
 is refused, but for a test with more than MOST of them: of that the first half of MOST, and as many spread evenly over the others; a
 fifth as many where there are more than MANY. With `--most N` so many are refused of each test that has more, with `--all` each one of
 all tests, and with `--count` none: then it tells how many allocations there are, and how long it would take to refuse each of them.
+Each test of which some are left out is named with both numbers.
 Fails where a test program is missing, where a test of a program has no count, where a test fails, and where no test of a crate that
 takes memory took any.
 """
@@ -83,18 +84,18 @@ def tests_of(program):
 
 
 def check_test(pool, program, test, preloaded, most):
-    """The faults of a test, how many of its allocations were refused, how many there are, and the seconds of so many runs."""
+    """The faults of a test, how many of its allocations were refused, how many there are, the seconds of so many runs, and its name."""
     before = spent_below()
     status, count, said = run(program, test, preloaded, 0)
     spent = spent_below() - before
     if status or count is None:
-        return [f"{test}: status {status}, count {count}: {said}"], 0, 0, 0
+        return [f"{test}: status {status}, count {count}: {said}"], 0, 0, 0, test
     chosen = numbers(count, most)
     faults = []
     for number, (status, told, said) in zip(chosen, pool.map(lambda it: run(program, test, preloaded, it), chosen)):
         if status or told is None:
             faults.append(f"{test}: allocation {number} refused: status {status}: {said}")
-    return faults, len(chosen), count, count * spent
+    return faults, len(chosen), count, count * spent, test
 
 
 def check(pool, crate, preloaded, most):
@@ -116,6 +117,9 @@ def check(pool, crate, preloaded, most):
         faults.append(f"{crate}: it takes memory, and no test of it took any")
     print(f"{crate}: {len(tests)} tests, {refused} of {count} allocations refused, {len(faults)} faults, all would take {seconds / 60:.1f} "
           "minutes of the processor", flush=True)
+    for _, refused, count, _, test in found:
+        if refused < count:
+            print(f"  {test}: {refused} of {count}", flush=True)
     return faults
 
 

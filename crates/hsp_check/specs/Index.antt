@@ -5,8 +5,10 @@ use Rattle.hsp_text.specs.declared.limits.TheConstants.{MOST_SITES}
 use Rattle.hsp_cert.specs.declared.use_line.UseLine.{UseLine}
 use Rattle.hsp_instance.specs.declared.arc.Arc.{Arc}
 use Rattle.hsp_check.specs.declared.arc.NetworkArc.{NetworkArc}
+use Rattle.hsp_check.specs.declared.indexing.IndexedArcs.{IndexedArcs}
 use Rattle.hsp_check.specs.declared.sums.LaidArc.{LaidArc}
 use Rattle.hsp_check.specs.Instance.{arc_of, arcs_from}
+use Rattle.hsp_check.specs.Uses.{table}
 
 -- what stands past the end of the arcs
 abbrev pub no_arc : LaidArc
@@ -29,6 +31,14 @@ pub record ByRow (rows : ℕ) (laid : List LaidArc) (starts : List ℕ) : Type 0
   pub upto : (k : ℕ) → k < length laid → k < slice_index starts ((arc_at laid k).row + 1)
   pub apart : (k m : ℕ) → k < length laid → m < length laid → (arc_at laid k).row ≡ (arc_at laid m).row → (arc_at laid k).site ≡ (arc_at laid m).site → k ≡ m
 
+-- the place of a row's arc to a site
+abbrev pub IsPlaceOf : List LaidArc → ℕ → ℕ → ℕ → Type 0
+IsPlaceOf laid row site k = (k < length laid) × ((arc_at laid k).row ≡ row) × ((arc_at laid k).site ≡ site)
+
+-- no arc leads from the row to the site
+abbrev pub HasNoPlace : List LaidArc → ℕ → ℕ → Type 0
+HasNoPlace laid row site = (k : ℕ) → k < length laid → (arc_at laid k).row ≡ row → (arc_at laid k).site ≡ site → ⊥
+
 -- the use goes over an arc
 pub record HasArc (laid : List LaidArc) (one : UseLine) : Type 0 where
   pub place : ℕ
@@ -43,6 +53,22 @@ has_arc laid one = list_any (λ a. a.row == one.row && a.site == one.site) (map 
 abbrev pub use_at : List UseLine → ℕ → UseLine
 use_at uses i = slice_index_or uses i (record { row = 0; site = 0; count = 0 })
 
+-- every use goes over an arc
+abbrev pub HaveArcs : List LaidArc → List UseLine → Type 0
+HaveArcs laid uses = (i : ℕ) → i < length uses → HasArc laid (use_at uses i)
+
+-- some use goes over none
+abbrev pub LacksAnArc : List LaidArc → List UseLine → Type 0
+LacksAnArc laid uses = (i : ℕ) × (i < length uses) × (HasArc laid (use_at uses i) → ⊥)
+
+-- nothing uses the arcs yet
+abbrev pub AreBare : List LaidArc → Type 0
+AreBare laid = (k : ℕ) → k < length laid → flow_at laid k ≡ 0
+
+-- what flows on the arcs is what the uses give them
+abbrev pub AreUsedBy : List UseLine → List LaidArc → List LaidArc → Type 0
+AreUsedBy uses arcs laid = (k : ℕ) → k < length arcs → flow_at laid k ≡ table uses (arc_at arcs k).row (arc_at arcs k).site
+
 -- an arc of a row that nothing uses yet
 abbrev pub bare_arc : ℕ → Arc → LaidArc
 bare_arc i a = record { arc = arc_of i a; flow = 0 }
@@ -52,5 +78,9 @@ pub record IsIndexed (lists : List (List Arc)) (laid : List LaidArc) (starts : L
   pub by_row : ByRow (length lists) laid starts
   pub last : slice_index starts (length lists) ≡ length laid
   pub arcs : map (λ l. l.arc) laid ≡ arcs_from 0 lists
-  pub bare : (k : ℕ) → k < length laid → flow_at laid k ≡ 0
+  pub bare : AreBare laid
   pub few : length laid ≤ length lists * MOST_SITES
+
+-- the same of arcs with the run of each row among them
+abbrev pub AreByRow : IndexedArcs → Type 0
+AreByRow arcs = (rows : ℕ) × ByRow rows arcs.laid.items arcs.runs

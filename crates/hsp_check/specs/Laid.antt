@@ -15,10 +15,18 @@ end_of end.Server a = a.server
 abbrev pub home_in : List (Option ℕ) → ℕ → Option ℕ
 home_in homes j = slice_index_or homes j None
 
+-- the arcs alone
+abbrev pub arcs_in : List LaidArc → List NetworkArc
+arcs_in laid = map (λ l. l.arc) laid
+
+-- each arc has what the plan gives it
+abbrev pub AreLaidBy : Plan → List LaidArc → Type 0
+AreLaidBy x laid = All (λ l. l.flow ≡ planned x l.arc) laid
+
 -- the arcs, each with what the plan gives it
 pub record IsLaid (arcs : List NetworkArc) (x : Plan) (laid : List LaidArc) : Type 0 where
-  pub arcs_are : map (λ l. l.arc) laid ≡ arcs
-  pub flows_are : All (λ l. l.flow ≡ planned x l.arc) laid
+  pub arcs_are : arcs_in laid ≡ arcs
+  pub flows_are : AreLaidBy x laid
 
 -- whether a row, a server or a host is among those that the flags name
 abbrev pub flag_at : List Bool → ℕ → Bool

@@ -1,9 +1,18 @@
 -- The prices of a certificate as they are listed.
-use Rattle.std.specs.Prelude.{ℕ, ◌+◌, slice_index}
+use Rattle.std.specs.Prelude.{◌≡◌, ℕ, ◌+◌, ◌<◌, ◌≤◌, List, All, slice_index}
 use Rattle.hsp_check.specs.declared.prices.PriceLists.{PriceLists}
+use Rattle.hsp_check.specs.declared.sums.LaidArc.{LaidArc}
 use Rattle.hsp_check.specs.Prices.{at_home}
 use Rattle.hsp_check.specs.Laid.{home_in}
 
 -- what a query to the server pays beside the arc's cost
 abbrev pub listed_at : PriceLists → ℕ → ℕ
 listed_at prices j = slice_index prices.servers.now j + at_home (home_in prices.homes.now j) (λ h. slice_index prices.hosts.now h)
+
+-- no row pays more than an arc's cost and prices
+abbrev pub AreLow : PriceLists → List LaidArc → Type 0
+AreLow prices laid = All (λ l. slice_index prices.rows.now l.arc.row ≤ l.arc.cost + listed_at prices l.arc.server) laid
+
+-- and just that where it uses the arc
+abbrev pub AreTight : PriceLists → List LaidArc → Type 0
+AreTight prices laid = All (λ l. 0 < l.flow → slice_index prices.rows.now l.arc.row ≡ l.arc.cost + listed_at prices l.arc.server) laid

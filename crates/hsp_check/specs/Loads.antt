@@ -1,8 +1,11 @@
 -- What a plan brings to rows, servers and hosts.
 use Rattle.std.specs.Prelude.{◌≡◌, ℕ, ◌<◌, length, slice_index}
+use Rattle.hsp_check.specs.declared.lists.NetworkLists.{NetworkLists}
 use Rattle.hsp_check.specs.declared.loads.Loads.{Loads}
+use Rattle.hsp_check.specs.Laid.{AreLaidBy}
 use Rattle.hsp_check.specs.Network.{Network}
 use Rattle.hsp_check.specs.Plan.{Plan, served, load, host_load}
+use Rattle.hsp_check.specs.Reach.{network_in}
 
 -- what goes to each row, each server and each host
 pub record AreLoads (n : Network) (x : Plan) (loads : Loads) : Type 0 where
@@ -12,3 +15,7 @@ pub record AreLoads (n : Network) (x : Plan) (loads : Loads) : Type 0 where
   pub servers_are : (j : ℕ) → j < length n.capacities → slice_index loads.servers.items j ≡ load n x j
   pub hosts_many : length loads.hosts.items ≡ length n.limits
   pub hosts_are : (h : ℕ) → h < length n.limits → slice_index loads.hosts.items h ≡ host_load n x h
+
+-- the loads of whatever plan is laid on the lists
+abbrev pub AreLaidLoads : NetworkLists → Loads → Type 0
+AreLaidLoads lists loads = (x : Plan) → AreLaidBy x lists.laid.now → AreLoads (network_in lists) x loads

@@ -1,7 +1,8 @@
 -- A transportation problem (Ahuja, Magnanti and Orlin, Network Flows, section 1.2): rows ask for queries, an arc leads from a row to
 -- its server at a site, servers take no more than their capacities, and the servers on one host together no more than its limit.
-use Rattle.std.specs.Prelude.{◌≡◌, ℕ, ◌<◌, ◌==◌, ◌&&◌, Bool, List, length, All, Option, Some}
+use Rattle.std.specs.Prelude.{◌≡◌, ℕ, ◌<◌, ◌≤◌, ◌==◌, ◌&&◌, Bool, List, length, All, Option, Some}
 use Rattle.std.specs.List.{list_any}
+use Rattle.hsp_text.specs.declared.limits.TheConstants.{GREATEST_COST}
 use Rattle.hsp_check.specs.declared.arc.NetworkArc.{NetworkArc}
 
 pub record Network : Type 0 where
@@ -24,3 +25,7 @@ pub record IsNetwork (n : Network) : Type 0 where
 -- whether the row may use the site
 abbrev pub is_allowed : Network → ℕ → ℕ → Bool
 is_allowed n i s = list_any (λ a. a.row == i && a.site == s) n.arcs
+
+-- no arc costs more than the limit
+abbrev pub AreCheap : Network → Type 0
+AreCheap n = All (λ a. a.cost ≤ GREATEST_COST) n.arcs

@@ -1,5 +1,6 @@
 -- The networks that lists hold.
 use Rattle.std.specs.Prelude.{List, map}
+use Rattle.hsp_check.specs.declared.drawing.DrawnNetwork.{DrawnNetwork}
 use Rattle.hsp_check.specs.declared.lists.NetworkLists.{NetworkLists}
 use Rattle.hsp_check.specs.declared.numbers.NetworkNumbers.{NetworkNumbers}
 use Rattle.hsp_check.specs.declared.sums.LaidArc.{LaidArc}
@@ -25,3 +26,7 @@ network_with numbers laid = record {
   home = home_in numbers.homes.items;
   arcs = map (λ l. l.arc) laid;
 }
+
+-- the network that was drawn
+abbrev pub drawn_network : DrawnNetwork → Network
+drawn_network drawn = network_with drawn.numbers drawn.arcs.laid.items

@@ -1,15 +1,11 @@
 // The check of a certificate.
 
-ghost use Rattle.std.specs.Prelude.{◌≡◌, ◌+◌, ◌↔◌, IfOk, IfSome};
-ghost use Rattle.hsp_cert.specs.Certificate.{best_of, short_of};
+ghost use Rattle.std.specs.Prelude.{◌≡◌, ◌↔◌, IfOk};
 ghost use Rattle.hsp_check.specs.declared.verdict.Verdict.TheVariants.{Yes};
-ghost use Rattle.hsp_check.specs.Sums.{times};
 ghost use Rattle.hsp_check.specs.Instance.{network_of};
-ghost use Rattle.hsp_check.specs.Plan.{Best, Feasible, Plan};
-ghost use Rattle.hsp_check.specs.Short.{IsShort};
-ghost use Rattle.hsp_check.specs.Uses.{table};
+ghost use Rattle.hsp_check.specs.Shown.{AtYes, HasBestPlan, HasEqualSums, HasNoPlan, HasShortSet};
 ghost use Rattle.hsp_check.specs.Valid.{IsValid};
-ghost use Rattle.hsp_check.specs.Verdict.{IsVerdict, is_one_of};
+ghost use Rattle.hsp_check.specs.Verdict.{IsVerdict};
 
 use crate::drawing::{DrawnNetwork, draw};
 use crate::plan_check::check_plan;
@@ -27,18 +23,19 @@ pub fn check(
     instance: &Instance,
     certificate: &Certificate,
 ) -> Result<Verdict, AllocError>
-    ensures verdict { IfOk result (λ verdict. IsVerdict (network_of instance.now) certificate.now verdict) }
-    ensures valid { IfOk result (λ verdict. (verdict ≡ Yes) ↔ IsValid (network_of instance.now) certificate.now) }
+    ensures verdict { IfOk result (IsVerdict (network_of instance.now) certificate.now) }
+    ensures valid { IfOk result (λ verdict.
+        (verdict ≡ Yes) ↔ IsValid (network_of instance.now) certificate.now) }
 
     // The plan of the uses is best: no feasible plan costs less.
-    ensures best { IfOk result (λ verdict. verdict ≡ Yes → IfSome (best_of certificate.now) (λ c. Best (network_of instance.now) (table c.uses))) }
+    ensures best { IfOk result (AtYes (HasBestPlan (network_of instance.now) certificate.now)) }
 
     // What the rows pay is the cost and what servers and hosts take.
-    ensures prices { IfOk result (λ verdict. verdict ≡ Yes → IfSome (best_of certificate.now) (λ c. let n = network_of instance.now in times n.demands c.row_prices ≡ c.cost + times n.capacities c.server_prices + times n.limits c.host_prices)) }
+    ensures prices { IfOk result (AtYes (HasEqualSums (network_of instance.now) certificate.now)) }
 
     // The rows ask for more than all that they can reach, and no plan is feasible.
-    ensures short { IfOk result (λ verdict. verdict ≡ Yes → IfSome (short_of certificate.now) (λ c. IsShort (network_of instance.now) (is_one_of c.rows))) }
-    ensures none { IfOk result (λ verdict. verdict ≡ Yes → IfSome (short_of certificate.now) (λ _. (x : Plan) → Feasible (network_of instance.now) x → ⊥)) }
+    ensures short { IfOk result (AtYes (HasShortSet (network_of instance.now) certificate.now)) }
+    ensures none { IfOk result (AtYes (HasNoPlan (network_of instance.now) certificate.now)) }
 {
     let DrawnNetwork { numbers, arcs } = draw(alloc, instance)?;
     match certificate.as_best() {

@@ -1,11 +1,12 @@
 // The conditions of a plan and its prices, each tested by itself.
 
-ghost use Rattle.std.specs.Prelude.{◌≡◌, ℕ, ◌<◌, ◌≤◌, ◌↔◌, length, slice_index, IsTrue};
+ghost use Rattle.std.specs.Prelude.{◌≡◌, ◌↔◌, length, IsTrue};
+ghost use Rattle.hsp_check.specs.Lists.{AreIdle, AreMet, AreWithin};
 
 /// Whether each number is its sum.
 pub(crate) fn are_met(demands: &[u64], sums: &[u128]) -> bool
     requires { length sums.now ≡ length demands.now }
-    ensures { IsTrue result ↔ ((i : ℕ) → i < length demands.now → slice_index sums.now i ≡ slice_index demands.now i) }
+    ensures { IsTrue result ↔ AreMet demands.now sums.now }
 {
     for row in 0..demands.len() {
         if sums[row] != u128::from(demands[row]) {
@@ -18,7 +19,7 @@ pub(crate) fn are_met(demands: &[u64], sums: &[u128]) -> bool
 /// Whether each sum is within its bound.
 pub(crate) fn are_within(bounds: &[u64], sums: &[u128]) -> bool
     requires { length sums.now ≡ length bounds.now }
-    ensures { IsTrue result ↔ ((j : ℕ) → j < length bounds.now → slice_index sums.now j ≤ slice_index bounds.now j) }
+    ensures { IsTrue result ↔ AreWithin bounds.now sums.now }
 {
     for place in 0..bounds.len() {
         if sums[place] > u128::from(bounds[place]) {
@@ -32,7 +33,7 @@ pub(crate) fn are_within(bounds: &[u64], sums: &[u128]) -> bool
 pub(crate) fn idle_are_free(bounds: &[u64], sums: &[u128], prices: &[u64]) -> bool
     requires sums { length sums.now ≡ length bounds.now }
     requires prices { length prices.now ≡ length bounds.now }
-    ensures { IsTrue result ↔ ((j : ℕ) → j < length bounds.now → slice_index sums.now j < slice_index bounds.now j → slice_index prices.now j ≡ 0) }
+    ensures { IsTrue result ↔ AreIdle bounds.now sums.now prices.now }
 {
     for place in 0..bounds.len() {
         if sums[place] < u128::from(bounds[place]) && prices[place] != 0 {

@@ -1,11 +1,10 @@
 // The network of an instance, as numbers and arcs.
 
-ghost use Rattle.std.specs.Prelude.{◌≡◌, ℕ, ◌<◌, ◌≤◌, ◌^◌, All, IfOk, length};
-ghost use Rattle.hsp_text.specs.declared.limits.TheConstants.{GREATEST_COST};
-ghost use Rattle.hsp_check.specs.Index.{ByRow, flow_at};
+ghost use Rattle.std.specs.Prelude.{◌≡◌, ◌<◌, ◌^◌, IfOk, length};
+ghost use Rattle.hsp_check.specs.Index.{AreBare, AreByRow};
 ghost use Rattle.hsp_check.specs.Instance.{network_of};
-ghost use Rattle.hsp_check.specs.Network.{IsNetwork};
-ghost use Rattle.hsp_check.specs.Reach.{network_with};
+ghost use Rattle.hsp_check.specs.Network.{AreCheap, IsNetwork};
+ghost use Rattle.hsp_check.specs.Reach.{drawn_network};
 
 use crate::indexing::{IndexedArcs, arcs_of};
 use crate::numbers::{NetworkNumbers, numbers_of};
@@ -21,11 +20,11 @@ pub(crate) struct DrawnNetwork {
 
 /// The network of an instance.
 pub(crate) fn draw(alloc: Global, instance: &Instance) -> Result<DrawnNetwork, AllocError>
-    ensures network { IfOk result (λ drawn. network_with drawn.numbers drawn.arcs.laid.items ≡ network_of instance.now) }
+    ensures network { IfOk result (λ drawn. drawn_network drawn ≡ network_of instance.now) }
     ensures is { IfOk result (λ _. IsNetwork (network_of instance.now)) }
-    ensures cheap { IfOk result (λ _. All (λ a. a.cost ≤ GREATEST_COST) (network_of instance.now).arcs) }
-    ensures index { IfOk result (λ drawn. (rows : ℕ) × ByRow rows drawn.arcs.laid.items drawn.arcs.runs) }
-    ensures bare { IfOk result (λ drawn. (k : ℕ) → k < length drawn.arcs.laid.items → flow_at drawn.arcs.laid.items k ≡ 0) }
+    ensures cheap { IfOk result (λ _. AreCheap (network_of instance.now)) }
+    ensures index { IfOk result (λ drawn. AreByRow drawn.arcs) }
+    ensures bare { IfOk result (λ drawn. AreBare drawn.arcs.laid.items) }
     ensures few { IfOk result (λ drawn. length drawn.arcs.laid.items < 2 ^ 32) }
 {
     let numbers = numbers_of(alloc, instance)?;

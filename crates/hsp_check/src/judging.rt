@@ -3,10 +3,9 @@
 ghost use Rattle.std.specs.Prelude.{◌≡◌, ℕ, ◌<◌, ◌↔◌, length, All, IsTrue};
 ghost use Rattle.hsp_cert.specs.Certificate.Claim.{best};
 ghost use Rattle.hsp_check.specs.declared.verdict.Reason.TheVariants.{NoSuchUse, RowSum, Load, Cost, ArcPrice, UsedArcPrice, IdlePrice};
-ghost use Rattle.hsp_check.specs.Plan.{planned};
 ghost use Rattle.hsp_check.specs.Uses.{table};
 ghost use Rattle.hsp_check.specs.Reach.{network_in};
-ghost use Rattle.hsp_check.specs.Judged.{claim_of};
+ghost use Rattle.hsp_check.specs.Laid.{AreLaidBy};
 ghost use Rattle.hsp_check.specs.Loads.{AreLoads};
 
 use crate::conditions::{are_met, are_within, idle_are_free};
@@ -28,23 +27,24 @@ pub(crate) struct LaidPlan<'a, 's> {
     ghost homes: { prices.homes.now ≡ lists.homes.now },
     ghost rows_many: { length prices.rows.now ≡ length lists.demands.now },
     ghost hosts_many: { length prices.hosts.now ≡ length lists.limits.now },
-    ghost laid: { All (λ l. l.flow ≡ planned (table uses.now) l.arc) lists.laid.now },
+    ghost laid: { AreLaidBy (table uses.now) lists.laid.now },
     ghost loads_are: { AreLoads (network_in lists) (table uses.now) loads.now },
 }
 
 impl<'a, 's> LaidPlan<'a, 's> {
-    ghost use Rattle.hsp_check.specs.Verdict.{IsVerdict, PlanMeets};
+    ghost use Rattle.hsp_check.specs.LaidPlans.{LaidMeets, laid_claim};
+    ghost use Rattle.hsp_check.specs.Verdict.{IsVerdict};
 
     // Whether each row gets what it asks for.
     fn meets_rows(self) -> bool
-        ensures { IsTrue result ↔ PlanMeets (network_in self.entry.lists) (claim_of self.entry.cost self.entry.uses.now self.entry.prices) RowSum }
+        ensures { IsTrue result ↔ LaidMeets self.entry RowSum }
     {
         are_met(self.lists.demands, &self.loads.rows)
     }
 
     // Whether no server and no host takes more than it can.
     fn meets_loads(self) -> bool
-        ensures { IsTrue result ↔ PlanMeets (network_in self.entry.lists) (claim_of self.entry.cost self.entry.uses.now self.entry.prices) Load }
+        ensures { IsTrue result ↔ LaidMeets self.entry Load }
     {
         are_within(self.lists.capacities, &self.loads.servers)
             && are_within(self.lists.limits, &self.loads.hosts)
@@ -52,28 +52,28 @@ impl<'a, 's> LaidPlan<'a, 's> {
 
     // Whether the cost is the plan's.
     fn meets_cost(self) -> bool
-        ensures { IsTrue result ↔ PlanMeets (network_in self.entry.lists) (claim_of self.entry.cost self.entry.uses.now self.entry.prices) Cost }
+        ensures { IsTrue result ↔ LaidMeets self.entry Cost }
     {
         u128::from(self.cost) == total_of(self.lists.laid)
     }
 
     // Whether no row pays more than an arc's cost and prices.
     fn meets_arc_prices(self) -> bool
-        ensures { IsTrue result ↔ PlanMeets (network_in self.entry.lists) (claim_of self.entry.cost self.entry.uses.now self.entry.prices) ArcPrice }
+        ensures { IsTrue result ↔ LaidMeets self.entry ArcPrice }
     {
         self.prices.are_low(self.lists.laid)
     }
 
     // Whether each row pays just that where it uses the arc.
     fn meets_used_prices(self) -> bool
-        ensures { IsTrue result ↔ PlanMeets (network_in self.entry.lists) (claim_of self.entry.cost self.entry.uses.now self.entry.prices) UsedArcPrice }
+        ensures { IsTrue result ↔ LaidMeets self.entry UsedArcPrice }
     {
         self.prices.are_tight(self.lists.laid)
     }
 
     // Whether the servers and the hosts with room left are free.
     fn meets_idle_prices(self) -> bool
-        ensures { IsTrue result ↔ PlanMeets (network_in self.entry.lists) (claim_of self.entry.cost self.entry.uses.now self.entry.prices) IdlePrice }
+        ensures { IsTrue result ↔ LaidMeets self.entry IdlePrice }
     {
         let loads = self.loads;
         idle_are_free(self.lists.capacities, &loads.servers, self.prices.servers)
@@ -82,8 +82,8 @@ impl<'a, 's> LaidPlan<'a, 's> {
 
     /// The verdict on a plan whose uses go where they may.
     pub(crate) fn verdict(self) -> Verdict
-        requires { PlanMeets (network_in self.lists) (claim_of self.cost self.uses.now self.prices) NoSuchUse }
-        ensures { IsVerdict (network_in self.entry.lists) (best (claim_of self.entry.cost self.entry.uses.now self.entry.prices)) result }
+        requires { LaidMeets self NoSuchUse }
+        ensures { IsVerdict (network_in self.entry.lists) (best (laid_claim self.entry)) result }
     {
         if !self.meets_rows() {
             return Verdict::No(Reason::RowSum);

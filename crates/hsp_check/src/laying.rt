@@ -1,9 +1,9 @@
 // The uses of a certificate, laid on the arcs.
 
-ghost use Rattle.std.specs.Prelude.{◌≡◌, ℕ, ◌+◌, ◌<◌, ◌≤◌, ◌^◌, length, slice_index, All, IfSome, IfNone, true, false, map};
+ghost use Rattle.std.specs.Prelude.{◌≡◌, ℕ, ◌<◌, ◌≤◌, ◌^◌, length, All, IfSome, IfNone, true, false};
 ghost use Rattle.hsp_text.specs.declared.limits.TheConstants.{GREATEST_COUNT};
-ghost use Rattle.hsp_check.specs.Index.{ByRow, HasArc, arc_at, flow_at, has_arc, use_at};
-ghost use Rattle.hsp_check.specs.Laid.{IsLaid};
+ghost use Rattle.hsp_check.specs.Index.{AreBare, AreByRow, AreUsedBy, ByRow, HasNoPlace, HaveArcs, IsPlaceOf, LacksAnArc, arc_at, has_arc};
+ghost use Rattle.hsp_check.specs.Laid.{IsLaid, arcs_in};
 ghost use Rattle.hsp_check.specs.Uses.{table};
 
 use crate::indexing::IndexedArcs;
@@ -14,8 +14,8 @@ use hsp_instance::Runs;
 // The place of the row's arc to the site.
 fn place_of(laid: &[LaidArc], runs: &Runs, row: u32, site: u32) -> Option<usize>
     requires { (rows : ℕ) × ByRow rows laid.now runs.now }
-    ensures found { IfSome result (λ k. (k < length laid.now) × ((arc_at laid.now k).row ≡ row) × ((arc_at laid.now k).site ≡ site)) }
-    ensures none { IfNone result ((k : ℕ) → k < length laid.now → (arc_at laid.now k).row ≡ row → (arc_at laid.now k).site ≡ site → ⊥) }
+    ensures found { IfSome result (IsPlaceOf laid.now row site) }
+    ensures none { IfNone result (HasNoPlace laid.now row site) }
 {
     let row = row as usize;
     if row >= runs.len() {
@@ -33,13 +33,13 @@ fn place_of(laid: &[LaidArc], runs: &Runs, row: u32, site: u32) -> Option<usize>
 // Adds each use to its arc, up to the first use without one. The flows are 0 at first.
 fn lay_each(laid: &mut [LaidArc], runs: &Runs, uses: &[UseLine]) -> bool
     requires index { (rows : ℕ) × ByRow rows laid.old runs.now }
-    requires bare { (k : ℕ) → k < length laid.old → flow_at laid.old k ≡ 0 }
+    requires bare { AreBare laid.old }
     requires counts { All (λ u. u.count ≤ GREATEST_COUNT) uses.now }
     requires few { length uses.now < 2 ^ 32 }
     ensures arcs { (k : ℕ) → k < length laid.old → arc_at laid.new k ≡ arc_at laid.old k }
-    ensures flows { result ≡ true → (k : ℕ) → k < length laid.old → flow_at laid.new k ≡ table uses.now (arc_at laid.old k).row (arc_at laid.old k).site }
-    ensures each { result ≡ true → (i : ℕ) → i < length uses.now → HasArc laid.old (use_at uses.now i) }
-    ensures lost { result ≡ false → (i : ℕ) × (i < length uses.now) × (HasArc laid.old (use_at uses.now i) → ⊥) }
+    ensures flows { result ≡ true → AreUsedBy uses.now laid.old laid.new }
+    ensures each { result ≡ true → HaveArcs laid.old uses.now }
+    ensures lost { result ≡ false → LacksAnArc laid.old uses.now }
 {
     for index in 0..uses.len() {
         let one = uses[index];
@@ -53,11 +53,11 @@ fn lay_each(laid: &mut [LaidArc], runs: &Runs, uses: &[UseLine]) -> bool
 
 /// The arcs with what the uses give them, and None where a use has no arc.
 pub(crate) fn lay(arcs: IndexedArcs, uses: &[UseLine]) -> Option<Vec<LaidArc>>
-    requires index { (rows : ℕ) × ByRow rows arcs.laid.items arcs.runs }
-    requires bare { (k : ℕ) → k < length arcs.laid.items → flow_at arcs.laid.items k ≡ 0 }
+    requires index { AreByRow arcs }
+    requires bare { AreBare arcs.laid.items }
     requires counts { All (λ u. u.count ≤ GREATEST_COUNT) uses.now }
     requires few { length uses.now < 2 ^ 32 }
-    ensures laid { IfSome result (λ laid. IsLaid (map (λ l. l.arc) arcs.laid.items) (table uses.now) laid.items) }
+    ensures laid { IfSome result (λ laid. IsLaid (arcs_in arcs.laid.items) (table uses.now) laid.items) }
     ensures each { IfSome result (λ _. All (λ u. has_arc arcs.laid.items u ≡ true) uses.now) }
     ensures lost { IfNone result (All (λ u. has_arc arcs.laid.items u ≡ true) uses.now → ⊥) }
 {

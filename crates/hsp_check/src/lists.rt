@@ -2,7 +2,7 @@
 
 ghost use Rattle.std.specs.Prelude.{◌≡◌, ℕ, ◌<◌, ◌≤◌, ◌^◌, length, All, Some};
 ghost use Rattle.hsp_text.specs.declared.limits.TheConstants.{GREATEST_COST};
-ghost use Rattle.hsp_check.specs.Laid.{home_in};
+ghost use Rattle.hsp_check.specs.Lists.{HomesAreBelow};
 
 use crate::sums::LaidArc;
 
@@ -19,7 +19,7 @@ pub(crate) struct NetworkLists<'a> {
     ghost few_rows: { length demands.now < 2 ^ 16 },
     ghost few_servers: { length homes.now < 2 ^ 16 },
     ghost few_hosts: { length limits.now < 2 ^ 16 },
-    ghost homes_in: { (j h : ℕ) → j < length homes.now → home_in homes.now j ≡ Some h → h < length limits.now },
+    ghost homes_in: { HomesAreBelow (length limits.now) homes.now },
     ghost rows_in: { All (λ l. l.arc.row < length demands.now) laid.now },
     ghost servers_in: { All (λ l. l.arc.server < length homes.now) laid.now },
     ghost cheap: { All (λ l. l.arc.cost ≤ GREATEST_COST) laid.now },

@@ -1,9 +1,7 @@
 // What a plan brings to rows, servers and hosts.
 
-ghost use Rattle.std.specs.Prelude.{◌≡◌, All, IfOk};
-ghost use Rattle.hsp_check.specs.Plan.{Plan, planned};
-ghost use Rattle.hsp_check.specs.Reach.{network_in};
-ghost use Rattle.hsp_check.specs.Loads.{AreLoads};
+ghost use Rattle.std.specs.Prelude.{IfOk};
+ghost use Rattle.hsp_check.specs.Loads.{AreLaidLoads};
 
 use crate::lists::NetworkLists;
 use crate::sums::{End, add_hosts, add_up};
@@ -19,7 +17,7 @@ pub struct Loads {
 
 /// The loads of the plan that is laid on the arcs.
 pub(crate) fn loads_of(alloc: Global, lists: NetworkLists<'_>) -> Result<Loads, AllocError>
-    ensures { IfOk result (λ loads. (x : Plan) → All (λ l. l.flow ≡ planned x l.arc) lists.entry.laid.now → AreLoads (network_in lists.entry) x loads) }
+    ensures { IfOk result (AreLaidLoads lists.entry) }
 {
     let rows = add_up(alloc, End::Row, lists.laid, lists.demands.len())?;
     let servers = add_up(alloc, End::Server, lists.laid, lists.capacities.len())?;

@@ -1,7 +1,8 @@
 // The numbers of an instance, as lists.
 
-ghost use Rattle.std.specs.Prelude.{◌≡◌, ◌<◌, ◌≤◌, ◌^◌, All, IfOk, length, map};
+ghost use Rattle.std.specs.Prelude.{◌≡◌, ◌<◌, ◌≤◌, ◌^◌, All, IfOk, length};
 ghost use Rattle.hsp_text.specs.declared.limits.TheConstants.{GREATEST_COST};
+ghost use Rattle.hsp_check.specs.Instance.{capacities_in, demands_in, homes_in, limits_in};
 
 use crate::lists::NetworkLists;
 use crate::sums::LaidArc;
@@ -23,10 +24,10 @@ pub(crate) struct NetworkNumbers {
 
 /// The numbers of an instance.
 pub(crate) fn numbers_of(alloc: Global, instance: &Instance) -> Result<NetworkNumbers, AllocError>
-    ensures demands { IfOk result (λ numbers. numbers.demands.items ≡ map (λ r. r.count) instance.now.rows) }
-    ensures capacities { IfOk result (λ numbers. numbers.capacities.items ≡ map (λ s. s.capacity) instance.now.servers) }
-    ensures limits { IfOk result (λ numbers. numbers.limits.items ≡ map (λ h. h.limit) instance.now.hosts) }
-    ensures homes { IfOk result (λ numbers. numbers.homes.items ≡ map (λ s. s.host) instance.now.servers) }
+    ensures demands { IfOk result (λ numbers. numbers.demands.items ≡ demands_in instance.now) }
+    ensures capacities { IfOk result (λ numbers. numbers.capacities.items ≡ capacities_in instance.now) }
+    ensures limits { IfOk result (λ numbers. numbers.limits.items ≡ limits_in instance.now) }
+    ensures homes { IfOk result (λ numbers. numbers.homes.items ≡ homes_in instance.now) }
 {
     let demands = counts_of(alloc, instance)?;
     let capacities = capacities_of(alloc, instance)?;

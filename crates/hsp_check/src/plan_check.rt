@@ -1,14 +1,14 @@
 // The check of a plan.
 
-ghost use Rattle.std.specs.Prelude.{◌≡◌, ℕ, ◌<◌, ◌≤◌, ◌^◌, ◌↔◌, length, All, IfOk, IsTrue};
-ghost use Rattle.hsp_text.specs.declared.limits.TheConstants.{GREATEST_COST};
+ghost use Rattle.std.specs.Prelude.{◌<◌, ◌^◌, ◌↔◌, length, IfOk, IsTrue};
 ghost use Rattle.hsp_cert.specs.Certificate.{IsBest};
 ghost use Rattle.hsp_cert.specs.Certificate.Claim.{best};
 ghost use Rattle.hsp_check.specs.declared.verdict.Reason.TheVariants.{Shape, NoSuchUse};
-ghost use Rattle.hsp_check.specs.Network.{IsNetwork};
-ghost use Rattle.hsp_check.specs.Plan.{planned};
+ghost use Rattle.hsp_check.specs.Network.{AreCheap, IsNetwork};
 ghost use Rattle.hsp_check.specs.Uses.{table};
-ghost use Rattle.hsp_check.specs.Index.{ByRow, flow_at};
+ghost use Rattle.hsp_check.specs.Index.{AreBare, AreByRow};
+ghost use Rattle.hsp_check.specs.Judged.{IsShaped};
+ghost use Rattle.hsp_check.specs.Laid.{AreLaidBy};
 ghost use Rattle.hsp_check.specs.Reach.{network_in, network_with};
 ghost use Rattle.hsp_check.specs.Verdict.{IsVerdict, PlanMeets};
 
@@ -25,7 +25,7 @@ use std::alloc::{AllocError, Global};
 
 // Whether there are as many prices as rows, as servers and as hosts.
 fn is_shaped(numbers: &NetworkNumbers, plan: &BestRef<'_>) -> bool
-    ensures { IsTrue result ↔ ((length plan.now.row_prices ≡ length numbers.now.demands.items) × (length plan.now.server_prices ≡ length numbers.now.capacities.items) × (length plan.now.host_prices ≡ length numbers.now.limits.items)) }
+    ensures { IsTrue result ↔ IsShaped numbers.now plan.now }
 {
     plan.row_prices().len() == numbers.demands.len()
         && plan.server_prices().len() == numbers.capacities.len()
@@ -41,7 +41,7 @@ fn judge<'a>(
     requires ranges { IsBest plan.now }
     requires shape { PlanMeets (network_in lists) plan.now Shape }
     requires uses { PlanMeets (network_in lists) plan.now NoSuchUse }
-    requires laid { All (λ l. l.flow ≡ planned (table plan.now.uses) l.arc) lists.laid.now }
+    requires laid { AreLaidBy (table plan.now.uses) lists.laid.now }
     ensures { IfOk result (λ verdict. IsVerdict (network_in lists.entry) (best plan.now) verdict) }
 {
     let loads = loads_of(alloc, lists)?;
@@ -69,12 +69,12 @@ pub(crate) fn check_plan(
     plan: &BestRef<'_>,
 ) -> Result<Verdict, AllocError>
     requires network { IsNetwork (network_with numbers.now arcs.laid.items) }
-    requires index { (rows : ℕ) × ByRow rows arcs.laid.items arcs.runs }
-    requires bare { (k : ℕ) → k < length arcs.laid.items → flow_at arcs.laid.items k ≡ 0 }
-    requires cheap { All (λ a. a.cost ≤ GREATEST_COST) (network_with numbers.now arcs.laid.items).arcs }
+    requires index { AreByRow arcs }
+    requires bare { AreBare arcs.laid.items }
+    requires cheap { AreCheap (network_with numbers.now arcs.laid.items) }
     requires few { length arcs.laid.items < 2 ^ 32 }
     requires ranges { IsBest plan.now }
-    ensures { IfOk result (λ verdict. IsVerdict (network_with numbers.now arcs.laid.items) (best plan.now) verdict) }
+    ensures { IfOk result (IsVerdict (network_with numbers.now arcs.laid.items) (best plan.now)) }
 {
     if !is_shaped(numbers, plan) {
         return Ok(Verdict::No(Reason::Shape));

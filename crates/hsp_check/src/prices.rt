@@ -2,7 +2,7 @@
 
 ghost use Rattle.std.specs.Prelude.{◌≡◌, ℕ, ◌+◌, ◌<◌, ◌≤◌, ◌↔◌, length, slice_index, All, IsTrue, Some};
 ghost use Rattle.hsp_text.specs.declared.limits.TheConstants.{GREATEST_COST};
-ghost use Rattle.hsp_check.specs.Laid.{home_in};
+ghost use Rattle.hsp_check.specs.Lists.{HomesAreBelow};
 
 use crate::arc::NetworkArc;
 use crate::sums::LaidArc;
@@ -15,13 +15,13 @@ pub(crate) struct PriceLists<'a> {
     pub(crate) hosts: &'a [u64],
     pub(crate) homes: &'a [Option<u32>],
     ghost servers_many: { length servers.now ≡ length homes.now },
-    ghost homes_in: { (j h : ℕ) → j < length homes.now → home_in homes.now j ≡ Some h → h < length hosts.now },
+    ghost homes_in: { HomesAreBelow (length hosts.now) homes.now },
     ghost servers_low: { All (λ v. v ≤ 1000000000000) servers.now },
     ghost hosts_low: { All (λ v. v ≤ 1000000000000) hosts.now },
 }
 
 impl<'a> PriceLists<'a> {
-    ghost use Rattle.hsp_check.specs.Listed.{listed_at};
+    ghost use Rattle.hsp_check.specs.Listed.{AreLow, AreTight, listed_at};
 
     // What a query to the server pays beside an arc's cost.
     fn at(self, server: usize) -> u64
@@ -49,7 +49,7 @@ impl<'a> PriceLists<'a> {
         requires rows { All (λ l. l.arc.row < length self.rows.now) laid.now }
         requires servers { All (λ l. l.arc.server < length self.homes.now) laid.now }
         requires cheap { All (λ l. l.arc.cost ≤ GREATEST_COST) laid.now }
-        ensures { IsTrue result ↔ All (λ l. slice_index self.entry.rows.now l.arc.row ≤ l.arc.cost + listed_at self.entry l.arc.server) laid.now }
+        ensures { IsTrue result ↔ AreLow self.entry laid.now }
     {
         for place in 0..laid.len() {
             let arc = laid[place].arc;
@@ -65,7 +65,7 @@ impl<'a> PriceLists<'a> {
         requires rows { All (λ l. l.arc.row < length self.rows.now) laid.now }
         requires servers { All (λ l. l.arc.server < length self.homes.now) laid.now }
         requires cheap { All (λ l. l.arc.cost ≤ GREATEST_COST) laid.now }
-        ensures { IsTrue result ↔ All (λ l. 0 < l.flow → slice_index self.entry.rows.now l.arc.row ≡ l.arc.cost + listed_at self.entry l.arc.server) laid.now }
+        ensures { IsTrue result ↔ AreTight self.entry laid.now }
     {
         for place in 0..laid.len() {
             let one = laid[place];

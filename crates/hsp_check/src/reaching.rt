@@ -1,10 +1,9 @@
 // The servers that a short set of rows may use.
 
-ghost use Rattle.std.specs.Prelude.{◌≡◌, ◌<◌, IfOk, filter, length};
-ghost use Rattle.std.specs.List.{range_with_len};
+ghost use Rattle.std.specs.Prelude.{◌≡◌, ◌<◌, IfOk, length};
 ghost use Rattle.hsp_cert.specs.Certificate.Claim.{short};
 ghost use Rattle.hsp_check.specs.Instance.{network_of};
-ghost use Rattle.hsp_check.specs.Laid.{flag_at};
+ghost use Rattle.hsp_check.specs.Reached.{flagged_places};
 ghost use Rattle.hsp_check.specs.Short.{reached};
 ghost use Rattle.hsp_check.specs.Valid.{IsValid};
 ghost use Rattle.hsp_check.specs.Verdict.{is_one_of};
@@ -19,7 +18,7 @@ use std::alloc::{AllocError, Global};
 // The places of the flags that are set.
 fn flagged(alloc: Global, flags: &[bool]) -> Result<Vec<u32>, AllocError>
     requires { length flags.now < 4294967296 }
-    ensures { IfOk result (λ places. places.items ≡ filter (flag_at flags.now) (range_with_len 0 (length flags.now))) }
+    ensures { IfOk result (λ places. places.items ≡ flagged_places flags.now) }
 {
     let mut places = Vec::new(alloc);
     for place in 0..flags.len() {
@@ -37,7 +36,8 @@ pub fn reached_servers(
     set: &ShortRef<'_>,
 ) -> Result<Vec<u32>, AllocError>
     requires { IsValid (network_of instance.now) (short set.now) }
-    ensures { IfOk result (λ servers. servers.items ≡ reached (network_of instance.now) (is_one_of set.now.rows)) }
+    ensures { IfOk result (λ servers.
+        servers.items ≡ reached (network_of instance.now) (is_one_of set.now.rows)) }
 {
     let drawn = draw(alloc, instance)?;
     let lists = drawn.numbers.with(&drawn.arcs.laid);

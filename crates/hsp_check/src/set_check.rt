@@ -3,7 +3,7 @@
 ghost use Rattle.std.specs.Prelude.{◌≡◌, ℕ, ◌<◌, ◌↔◌, false, length, All, IfOk, IfSome, IfNone, IsTrue, vec_len};
 ghost use Rattle.hsp_cert.specs.Certificate.Claim.{short};
 ghost use Rattle.hsp_check.specs.declared.verdict.Reason.TheVariants.{DemandSum, CapacitySum};
-ghost use Rattle.hsp_check.specs.Laid.{flag_at};
+ghost use Rattle.hsp_check.specs.Lists.{AreFlagsOf};
 ghost use Rattle.hsp_check.specs.Reach.{network_in};
 ghost use Rattle.hsp_check.specs.Verdict.{IsVerdict, SetMeets, is_one_of};
 
@@ -15,9 +15,9 @@ use std::alloc::{AllocError, Global};
 
 // Flags the rows, up to the first that isn't there. None is flagged at first.
 fn flag_rows(flags: &mut [bool], rows: &[u32]) -> bool
-    requires { (i : ℕ) → i < length flags.old → flag_at flags.old i ≡ false }
+    requires { AreFlagsOf (λ _. false) (length flags.old) flags.old }
     ensures there { IsTrue result ↔ All (λ r. r < length flags.old) rows.now }
-    ensures flags { IsTrue result → (i : ℕ) → i < length flags.old → flag_at flags.new i ≡ is_one_of rows.now i }
+    ensures flags { IsTrue result → AreFlagsOf (is_one_of rows.now) (length flags.old) flags.new }
 {
     for place in 0..rows.len() {
         let row = rows[place] as usize;
@@ -38,7 +38,7 @@ pub(crate) fn flags_of(
     ensures there { IfOk result (λ flags. IfSome flags (λ _. All (λ r. r < count) rows.now)) }
     ensures lost { IfOk result (λ flags. IfNone flags (All (λ r. r < count) rows.now → ⊥)) }
     ensures len { IfOk result (λ flags. IfSome flags (λ f. length f.items ≡ count)) }
-    ensures flags { IfOk result (λ flags. IfSome flags (λ f. (i : ℕ) → i < count → flag_at f.items i ≡ is_one_of rows.now i)) }
+    ensures flags { IfOk result (λ flags. IfSome flags (λ f. AreFlagsOf (is_one_of rows.now) count f.items)) }
 {
     let mut flags = vec![in alloc; false; count]?;
     if flag_rows(&mut flags, rows) {
@@ -51,7 +51,7 @@ pub(crate) fn flags_of(
 // Whether the demand is what the rows of the set ask for.
 fn meets_demand(lists: NetworkLists<'_>, set: &ShortRef<'_>, flags: &[bool]) -> bool
     requires many { length flags.now ≡ length lists.demands.now }
-    requires flags { (i : ℕ) → i < length lists.demands.now → flag_at flags.now i ≡ is_one_of set.now.rows i }
+    requires flags { AreFlagsOf (is_one_of set.now.rows) (length lists.demands.now) flags.now }
     ensures { IsTrue result ↔ SetMeets (network_in lists.entry) set.now DemandSum }
 {
     u128::from(set.demand()) == sum_flagged(lists.demands, flags)
@@ -65,8 +65,8 @@ fn meets_capacity(
     flags: &[bool],
 ) -> Result<bool, AllocError>
     requires many { length flags.now ≡ length lists.demands.now }
-    requires flags { (i : ℕ) → i < length lists.demands.now → flag_at flags.now i ≡ is_one_of set.now.rows i }
-    ensures { IfOk result (λ met. IsTrue met ↔ SetMeets (network_in lists.entry) set.now CapacitySum) }
+    requires flags { AreFlagsOf (is_one_of set.now.rows) (length lists.demands.now) flags.now }
+    ensures { IfOk result (λ yes. IsTrue yes ↔ SetMeets (network_in lists.entry) set.now CapacitySum) }
 {
     let capacity = reached_capacity(alloc, lists, flags)?;
     Ok(u128::from(set.capacity()) == capacity)

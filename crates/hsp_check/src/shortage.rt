@@ -1,11 +1,11 @@
 // What a set of rows asks for, and what it can reach.
 
-ghost use Rattle.std.specs.Prelude.{◌≡◌, ℕ, ◌<◌, ◌≤◌, ◌==◌, ◌&&◌, ◌↔◌, ◌^◌, false, length, slice_index, is_none, min, All, IfOk, IsTrue, vec_len, if◌then◌else◌};
-ghost use Rattle.std.specs.List.{list_any};
-ghost use Rattle.hsp_check.specs.Sums.{sum_below};
+ghost use Rattle.std.specs.Prelude.{◌≡◌, ℕ, ◌<◌, ◌≤◌, ◌^◌, false, length, All, IfOk, vec_len};
 ghost use Rattle.hsp_check.specs.Short.{capacity_of};
-ghost use Rattle.hsp_check.specs.Laid.{flag_at, home_in};
+ghost use Rattle.hsp_check.specs.Laid.{flag_at};
+ghost use Rattle.hsp_check.specs.Lists.{AreFlagsOf, AreRooms, AreSmall, AreZero, flagged_sum, free_sum, hosted_sum};
 ghost use Rattle.hsp_check.specs.Reach.{network_in};
+ghost use Rattle.hsp_check.specs.Reached.{AreReached, AreRoomsOf, laid_reaches};
 
 use crate::lists::NetworkLists;
 use crate::sums::{LaidArc, add_hosts};
@@ -15,7 +15,7 @@ use std::alloc::{AllocError, Global};
 pub(crate) fn sum_flagged(numbers: &[u64], flags: &[bool]) -> u128
     requires many { length flags.now ≡ length numbers.now }
     requires few { length numbers.now < 2 ^ 16 }
-    ensures { result ≡ sum_below (length numbers.now) (λ i. if flag_at flags.now i then slice_index numbers.now i else 0) }
+    ensures { result ≡ flagged_sum numbers.now flags.now }
 {
     let mut sum: u128 = 0;
     for place in 0..numbers.len() {
@@ -30,8 +30,8 @@ pub(crate) fn sum_flagged(numbers: &[u64], flags: &[bool]) -> u128
 fn flag_each(reached: &mut [bool], laid: &[LaidArc], rows: &[bool])
     requires rows { All (λ l. l.arc.row < length rows.now) laid.now }
     requires servers { All (λ l. l.arc.server < length reached.old) laid.now }
-    requires none { (j : ℕ) → j < length reached.old → flag_at reached.old j ≡ false }
-    ensures { (j : ℕ) → j < length reached.old → flag_at reached.new j ≡ list_any (λ l. flag_at rows.now l.arc.row && l.arc.server == j) laid.now }
+    requires none { AreFlagsOf (λ _. false) (length reached.old) reached.old }
+    ensures { AreFlagsOf (laid_reaches laid.now (flag_at rows.now)) (length reached.old) reached.new }
 {
     for place in 0..laid.len() {
         let arc = laid[place].arc;
@@ -45,9 +45,9 @@ fn flag_each(reached: &mut [bool], laid: &[LaidArc], rows: &[bool])
 fn set_rooms(rooms: &mut [u128], capacities: &[u64], reached: &[bool])
     requires rooms { length rooms.old ≡ length capacities.now }
     requires reached { length reached.now ≡ length capacities.now }
-    requires zero { (j : ℕ) → j < length rooms.old → slice_index rooms.old j ≡ 0 }
-    ensures rooms { (j : ℕ) → j < length capacities.now → slice_index rooms.new j ≡ (if flag_at reached.now j then slice_index capacities.now j else 0) }
-    ensures small { (j : ℕ) → j < length capacities.now → slice_index rooms.new j < 2 ^ 64 }
+    requires zero { AreZero rooms.old }
+    ensures rooms { AreRooms capacities.now (flag_at reached.now) rooms.new }
+    ensures small { AreSmall (2 ^ 64) (length capacities.now) rooms.new }
 {
     for server in 0..capacities.len() {
         if reached[server] {
@@ -60,8 +60,8 @@ fn set_rooms(rooms: &mut [u128], capacities: &[u64], reached: &[bool])
 fn free_room(homes: &[Option<u32>], rooms: &[u128]) -> u128
     requires many { length rooms.now ≡ length homes.now }
     requires few { length homes.now < 2 ^ 16 }
-    requires small { (j : ℕ) → j < length rooms.now → slice_index rooms.now j < 2 ^ 64 }
-    ensures sum { result ≡ sum_below (length homes.now) (λ j. if is_none (home_in homes.now j) then slice_index rooms.now j else 0) }
+    requires small { AreSmall (2 ^ 64) (length rooms.now) rooms.now }
+    ensures sum { result ≡ free_sum homes.now rooms.now }
     ensures low { result ≤ 2 ^ 80 }
 {
     let mut sum: u128 = 0;
@@ -77,7 +77,7 @@ fn free_room(homes: &[Option<u32>], rooms: &[u128]) -> u128
 fn hosted_room(limits: &[u64], rooms: &[u128]) -> u128
     requires many { length rooms.now ≡ length limits.now }
     requires few { length limits.now < 2 ^ 16 }
-    ensures sum { result ≡ sum_below (length limits.now) (λ h. min (slice_index limits.now h) (slice_index rooms.now h)) }
+    ensures sum { result ≡ hosted_sum limits.now rooms.now }
     ensures low { result ≤ 2 ^ 80 }
 {
     let mut sum: u128 = 0;
@@ -95,7 +95,7 @@ pub(crate) fn reached_by(
 ) -> Result<Vec<bool>, AllocError>
     requires { length rows.now ≡ length lists.demands.now }
     ensures len { IfOk result (λ reached. vec_len reached ≡ length lists.entry.capacities.now) }
-    ensures reached { IfOk result (λ reached. (j : ℕ) → j < length lists.entry.capacities.now → flag_at reached.items j ≡ list_any (λ l. flag_at rows.now l.arc.row && l.arc.server == j) lists.entry.laid.now) }
+    ensures reached { IfOk result (λ reached. AreReached lists.entry (flag_at rows.now) reached.items) }
 {
     let mut reached = vec![in alloc; false; lists.homes.len()]?;
     flag_each(&mut reached, lists.laid, rows);
@@ -106,8 +106,8 @@ pub(crate) fn reached_by(
 fn rooms_of(alloc: Global, lists: NetworkLists, rows: &[bool]) -> Result<Vec<u128>, AllocError>
     requires { length rows.now ≡ length lists.demands.now }
     ensures len { IfOk result (λ rooms. vec_len rooms ≡ length lists.entry.capacities.now) }
-    ensures rooms { IfOk result (λ rooms. (j : ℕ) → j < length lists.entry.capacities.now → slice_index rooms.items j ≡ (if list_any (λ l. flag_at rows.now l.arc.row && l.arc.server == j) lists.entry.laid.now then slice_index lists.entry.capacities.now j else 0)) }
-    ensures small { IfOk result (λ rooms. (j : ℕ) → j < length lists.entry.capacities.now → slice_index rooms.items j < 2 ^ 64) }
+    ensures rooms { IfOk result (λ rooms. AreRoomsOf lists.entry (flag_at rows.now) rooms.items) }
+    ensures small { IfOk result (λ rooms. AreSmall (2 ^ 64) (length lists.entry.capacities.now) rooms.items) }
 {
     let reached = reached_by(alloc, lists, rows)?;
     let mut rooms = vec![in alloc; 0u128; lists.capacities.len()]?;
@@ -122,7 +122,7 @@ pub(crate) fn reached_capacity(
     rows: &[bool],
 ) -> Result<u128, AllocError>
     requires { length rows.now ≡ length lists.demands.now }
-    ensures { IfOk result (λ capacity. capacity ≡ capacity_of (network_in lists.entry) (flag_at rows.now)) }
+    ensures { IfOk result (λ sum. sum ≡ capacity_of (network_in lists.entry) (flag_at rows.now)) }
 {
     let rooms = rooms_of(alloc, lists, rows)?;
     let hosted = add_hosts(alloc, lists.homes, rooms.as_slice(), lists.limits.len())?;

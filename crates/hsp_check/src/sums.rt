@@ -3,8 +3,8 @@
 ghost use Rattle.std.specs.Prelude.{◌≡◌, ℕ, ◌+◌, ◌*◌, ◌<◌, ◌≤◌, ◌==◌, ◌^◌, length, slice_index, slice_get, sum_by, option_and_then, All, IfOk, Some, vec_len, if◌then◌else◌};
 ghost use Rattle.hsp_text.specs.declared.limits.TheConstants.{GREATEST_COST};
 ghost use Rattle.hsp_check.specs.Sums.{sum_below, times};
-ghost use Rattle.hsp_check.specs.Plan.{is_on};
-ghost use Rattle.hsp_check.specs.Laid.{end_of, home_in};
+ghost use Rattle.hsp_check.specs.Laid.{end_of};
+ghost use Rattle.hsp_check.specs.Lists.{AreEndSums, AreHostSums, AreSmall, AreZero, HomesAreBelow};
 ghost use Rattle.hsp_check.specs.Prices.{ArePrices};
 
 use crate::arc::NetworkArc;
@@ -53,9 +53,9 @@ fn cost_of(one: LaidArc) -> u128
 fn add_each(sums: &mut [u128], end: End, laid: &[LaidArc])
     requires few { length laid.now < 2 ^ 32 }
     requires ends { All (λ l. end_of end l.arc < length sums.old) laid.now }
-    requires zero { (v : ℕ) → v < length sums.old → slice_index sums.old v ≡ 0 }
-    ensures sums { (v : ℕ) → v < length sums.old → slice_index sums.new v ≡ sum_by (λ l. if end_of end l.arc == v then l.flow else 0) laid.now }
-    ensures small { (v : ℕ) → v < length sums.old → slice_index sums.new v < 2 ^ 100 }
+    requires zero { AreZero sums.old }
+    ensures sums { AreEndSums end laid.now (length sums.old) sums.new }
+    ensures small { AreSmall (2 ^ 100) (length sums.old) sums.new }
 {
     for place in 0..laid.len() {
         let one = laid[place];
@@ -74,8 +74,8 @@ pub(crate) fn add_up(
     requires few { length laid.now < 2 ^ 32 }
     requires ends { All (λ l. end_of end l.arc < count) laid.now }
     ensures len { IfOk result (λ sums. vec_len sums ≡ count) }
-    ensures sums { IfOk result (λ sums. (v : ℕ) → v < count → slice_index sums.items v ≡ sum_by (λ l. if end_of end l.arc == v then l.flow else 0) laid.now) }
-    ensures small { IfOk result (λ sums. (v : ℕ) → v < count → slice_index sums.items v < 2 ^ 100) }
+    ensures sums { IfOk result (λ sums. AreEndSums end laid.now count sums.items) }
+    ensures small { IfOk result (λ sums. AreSmall (2 ^ 100) count sums.items) }
 {
     let mut sums = vec![in alloc; 0u128; count]?;
     add_each(&mut sums, end, laid);
@@ -86,10 +86,10 @@ pub(crate) fn add_up(
 fn add_each_host(sums: &mut [u128], homes: &[Option<u32>], numbers: &[u128])
     requires many { length numbers.now ≡ length homes.now }
     requires few { length homes.now < 2 ^ 16 }
-    requires small { (j : ℕ) → j < length numbers.now → slice_index numbers.now j < 2 ^ 100 }
-    requires homes { (j h : ℕ) → j < length homes.now → home_in homes.now j ≡ Some h → h < length sums.old }
-    requires zero { (h : ℕ) → h < length sums.old → slice_index sums.old h ≡ 0 }
-    ensures { (h : ℕ) → h < length sums.old → slice_index sums.new h ≡ sum_below (length homes.now) (λ j. if is_on (home_in homes.now j) h then slice_index numbers.now j else 0) }
+    requires small { AreSmall (2 ^ 100) (length numbers.now) numbers.now }
+    requires homes { HomesAreBelow (length sums.old) homes.now }
+    requires zero { AreZero sums.old }
+    ensures { AreHostSums homes.now numbers.now (length sums.old) sums.new }
 {
     for server in 0..homes.len() {
         if let Some(host) = homes[server] {
@@ -107,10 +107,10 @@ pub(crate) fn add_hosts(
 ) -> Result<Vec<u128>, AllocError>
     requires many { length numbers.now ≡ length homes.now }
     requires few { length homes.now < 2 ^ 16 }
-    requires small { (j : ℕ) → j < length numbers.now → slice_index numbers.now j < 2 ^ 100 }
-    requires homes { (j h : ℕ) → j < length homes.now → home_in homes.now j ≡ Some h → h < count }
+    requires small { AreSmall (2 ^ 100) (length numbers.now) numbers.now }
+    requires homes { HomesAreBelow count homes.now }
     ensures len { IfOk result (λ sums. vec_len sums ≡ count) }
-    ensures sums { IfOk result (λ sums. (h : ℕ) → h < count → slice_index sums.items h ≡ sum_below (length homes.now) (λ j. if is_on (home_in homes.now j) h then slice_index numbers.now j else 0)) }
+    ensures sums { IfOk result (λ sums. AreHostSums homes.now numbers.now count sums.items) }
 {
     let mut sums = vec![in alloc; 0u128; count]?;
     add_each_host(&mut sums, homes, numbers);

@@ -1,10 +1,10 @@
 // The sums of a plan that is valid for an instance.
 
-ghost use Rattle.std.specs.Prelude.{◌≡◌, All, IfOk};
+ghost use Rattle.std.specs.Prelude.{IfOk};
 ghost use Rattle.hsp_cert.specs.Certificate.{IsBest};
 ghost use Rattle.hsp_cert.specs.Certificate.Claim.{best};
 ghost use Rattle.hsp_check.specs.Instance.{network_of};
-ghost use Rattle.hsp_check.specs.Plan.{planned};
+ghost use Rattle.hsp_check.specs.Laid.{AreLaidBy};
 ghost use Rattle.hsp_check.specs.PlanSums.{AreSums};
 ghost use Rattle.hsp_check.specs.Reach.{network_in};
 ghost use Rattle.hsp_check.specs.Uses.{table};
@@ -37,7 +37,7 @@ fn sums_of(
     lists: NetworkLists<'_>,
     plan: &BestRef<'_>,
 ) -> Result<PlanSums, AllocError>
-    requires laid { All (λ l. l.flow ≡ planned (table plan.now.uses) l.arc) lists.laid.now }
+    requires laid { AreLaidBy (table plan.now.uses) lists.laid.now }
     requires valid { IsValidPlan (network_in lists) plan.now }
     ensures { IfOk result (AreSums (network_in lists.entry) plan.now) }
 {

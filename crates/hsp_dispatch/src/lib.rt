@@ -30,6 +30,8 @@ pub use run::{run_fronts, run_log};
 #[cfg(test)]
 mod dispatcher_tests;
 #[cfg(test)]
+mod each_octet_tests;
+#[cfg(test)]
 pub mod fakes;
 #[cfg(test)]
 mod front_run_tests;

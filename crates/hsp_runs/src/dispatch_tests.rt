@@ -5,9 +5,10 @@ use hsp_check::Reason;
 use hsp_dispatch::{LogFault, LogSums};
 use std::alloc::{AllocError, Global};
 use std::io::{self, Read, Write};
+use std::process::Abort;
 use std::test::Fail;
 
-// Takes octets while there is room for them, and then none.
+// Takes an octet a call while there is room, and then none.
 #[derive(Drop)]
 pub(crate) struct Page {
     pub(crate) taken: Vec<u8>,
@@ -16,7 +17,7 @@ pub(crate) struct Page {
 
 impl Write for Page {
     fn write(&mut self, octets: &[u8]) -> io::Result<usize> {
-        let count = octets.len().min(self.room);
+        let count = octets.len().min(self.room).min(1);
         match self.taken.extend_from_slice(&octets[..count]) {
             Ok(()) => {
                 self.room -= count;
@@ -38,6 +39,28 @@ pub(crate) fn page_of(alloc: Global, room: usize) -> Result<Page, AllocError> {
         Err(_) => Vec::with_capacity(alloc, room)?,
     };
     Ok(Page { taken, room })
+}
+
+// Gives an octet of a log a call, and fails once so many were given.
+#[derive(Clone, Copy, Drop)]
+pub(crate) struct Cut<'a> {
+    pub(crate) log: &'a [u8],
+    pub(crate) good: usize,
+}
+
+impl Read for Cut<'_> {
+    fn read(&mut self, buf: &mut [u8]) -> io::Result<usize> {
+        if self.good == 0 {
+            return Err(io::Error::from(io::ErrorKind::Other));
+        }
+        let (Some(place), [octet, rest @ ..]) = (buf.first_mut(), self.log) else {
+            return Ok(0);
+        };
+        *place = *octet;
+        self.log = rest;
+        self.good -= 1;
+        Ok(1)
+    }
 }
 
 // What a run answers, and the page that it has written on.
@@ -63,11 +86,11 @@ fn run_once<R: Read + Drop>(
 }
 
 // The run over a log. Where a growth is refused, the second call finds memory.
-fn run_twice(
+fn run_twice<R: Read + Copy + Drop>(
     alloc: Global,
     texts: Texts<'_>,
     cert: &[u8],
-    log: &[u8],
+    log: R,
     room: usize,
 ) -> Result<Ended, AllocError> {
     let first = run_once(alloc, texts, cert, log, room)?;
@@ -157,6 +180,48 @@ fn a_log_that_cannot_be_read_is_told(rt: HostRuntime) -> Result<(), Fail> {
     };
     assert!(rt; ended.answer == Err(Fault::Log(LogFault::ReadFailed)));
     assert!(rt; ended.page.taken.is_empty());
+    Ok(())
+}
+
+// Up to how many octets of the log no further row is read whole, and how many octets the lines of the rows before have.
+const ROWS: [(usize, usize); 6] = [(22, 0), (30, 15), (38, 30), (46, 45), (54, 51), (55, 59)];
+
+// A reader that fails behind each octet from one on, up to another, tells so behind so many octets of lines.
+fn reads_fail(
+    rt: &impl Abort,
+    alloc: Global,
+    from: usize,
+    until: usize,
+    lines: usize,
+) -> Result<(), Fail> {
+    for good in from..until {
+        let log = Cut { log: LOG, good };
+        let ended = run_twice(alloc, BASE, PLAN, log, 100)?;
+        assert!(rt; ended.answer == Err(Fault::Log(LogFault::ReadFailed)));
+        assert_eq!(rt; ended.page.taken.len(), lines);
+        assert!(rt; LINES.starts_with(ended.page.taken.as_slice()));
+    }
+    Ok(())
+}
+
+#[test]
+fn logs_are_answered_up_to_each_octet_that_cannot_be_read(rt: HostRuntime) -> Result<(), Fail> {
+    let mut from = 0;
+    for (until, lines) in ROWS {
+        reads_fail(&rt, rt.alloc(), from, until, lines)?;
+        from = until;
+    }
+    Ok(())
+}
+
+#[test]
+fn logs_are_answered_up_to_each_octet_that_cannot_be_written(rt: HostRuntime) -> Result<(), Fail> {
+    for room in 0..LINES.len() {
+        let ended = run_twice(rt.alloc(), BASE, PLAN, LOG, room)?;
+        assert!(rt; ended.answer == Err(Fault::Log(LogFault::WriteFailed)));
+        assert_eq!(rt; ended.page.taken.len(), room);
+        assert!(rt; LINES.starts_with(ended.page.taken.as_slice()));
+    }
     Ok(())
 }
 

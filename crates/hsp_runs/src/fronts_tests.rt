@@ -1,11 +1,12 @@
 use super::*;
-use crate::dispatch_tests::{Page, page_of};
+use crate::dispatch_tests::{Cut, Page, page_of};
 use crate::run_tests::{BASE, CHEAPER_PLAN, LACKING, PLAN, SHORTAGE, Texts, inputs_of};
 use crate::tests::Broken;
 use hsp_check::Reason;
 use hsp_dispatch::{FrontSums, LogFault};
 use std::alloc::{AllocError, Global};
 use std::io::Read;
+use std::process::Abort;
 use std::test::Fail;
 
 // What a run answers, and the page that it has written on.
@@ -44,10 +45,10 @@ fn run_once<R: Read + Drop>(
 }
 
 // The run over a log. Where a growth is refused, the second call finds memory.
-fn run_twice(
+fn run_twice<R: Read + Copy + Drop>(
     alloc: Global,
     asked: Asked<'_>,
-    log: &[u8],
+    log: R,
     room: usize,
 ) -> Result<Ended, AllocError> {
     let first = run_once(alloc, asked, log, room)?;
@@ -197,6 +198,58 @@ fn events_that_cannot_be_read_are_told(rt: HostRuntime) -> Result<(), Fail> {
     };
     assert!(rt; ended.answer == Err(Fault::Log(LogFault::ReadFailed)));
     assert!(rt; ended.page.taken.is_empty());
+    Ok(())
+}
+
+// Up to how many octets of the log no further row is read whole, and how many octets the lines of the rows before have.
+const ROWS: [(usize, usize); 8] = [
+    (30, 0),
+    (40, 15),
+    (50, 30),
+    (60, 45),
+    (70, 51),
+    (80, 66),
+    (90, 74),
+    (91, 82),
+];
+
+// A reader that fails behind each octet from one on, up to another, tells so behind so many octets of lines.
+fn reads_fail(
+    rt: &impl Abort,
+    alloc: Global,
+    from: usize,
+    until: usize,
+    lines: usize,
+) -> Result<(), Fail> {
+    for good in from..until {
+        let ended = run_twice(alloc, TWO, Cut { log: LOG, good }, 100)?;
+        assert!(rt; ended.answer == Err(Fault::Log(LogFault::ReadFailed)));
+        assert_eq!(rt; ended.page.taken.len(), lines);
+        assert!(rt; LINES.starts_with(ended.page.taken.as_slice()));
+    }
+    Ok(())
+}
+
+#[test]
+fn events_are_answered_up_to_each_octet_that_cannot_be_read(rt: HostRuntime) -> Result<(), Fail> {
+    let mut from = 0;
+    for (until, lines) in ROWS {
+        reads_fail(&rt, rt.alloc(), from, until, lines)?;
+        from = until;
+    }
+    Ok(())
+}
+
+#[test]
+fn events_are_answered_up_to_each_octet_that_cannot_be_written(
+    rt: HostRuntime,
+) -> Result<(), Fail> {
+    for room in 0..LINES.len() {
+        let ended = run_twice(rt.alloc(), TWO, LOG, room)?;
+        assert!(rt; ended.answer == Err(Fault::Log(LogFault::WriteFailed)));
+        assert_eq!(rt; ended.page.taken.len(), room);
+        assert!(rt; LINES.starts_with(ended.page.taken.as_slice()));
+    }
     Ok(())
 }
 

@@ -1,0 +1,23 @@
+-- What a set of rows may use, over laid arcs.
+use Rattle.std.specs.Prelude.{ℕ, ◌==◌, ◌&&◌, Bool, List, filter, length}
+use Rattle.std.specs.List.{list_any, range_with_len}
+use Rattle.hsp_check.specs.declared.lists.NetworkLists.{NetworkLists}
+use Rattle.hsp_check.specs.declared.sums.LaidArc.{LaidArc}
+use Rattle.hsp_check.specs.Laid.{flag_at}
+use Rattle.hsp_check.specs.Lists.{AreFlagsOf, AreRooms}
+
+-- whether an arc leads from a row of the set to the server
+abbrev pub laid_reaches : List LaidArc → (ℕ → Bool) → ℕ → Bool
+laid_reaches laid rows j = list_any (λ l. rows l.arc.row && l.arc.server == j) laid
+
+-- a flag for each server, set where a row of the set may use it
+abbrev pub AreReached : NetworkLists → (ℕ → Bool) → List Bool → Type 0
+AreReached lists rows reached = AreFlagsOf (laid_reaches lists.laid.now rows) (length lists.capacities.now) reached
+
+-- the capacity of each server that a row of the set may use, 0 for the others
+abbrev pub AreRoomsOf : NetworkLists → (ℕ → Bool) → List ℕ → Type 0
+AreRoomsOf lists rows rooms = AreRooms lists.capacities.now (laid_reaches lists.laid.now rows) rooms
+
+-- the places of the flags that are set, in ascending order
+abbrev pub flagged_places : List Bool → List ℕ
+flagged_places flags = filter (flag_at flags) (range_with_len 0 (length flags))
