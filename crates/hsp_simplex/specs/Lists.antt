@@ -1,5 +1,6 @@
 -- What the lists of a network hold.
 use Rattle.std.specs.Prelude.{◌≡◌, ℕ, ◌+◌, ◌<◌, ◌≤◌, List, Option, None, Some, length, slice_index, slice_index_or}
+pub use Rattle.hsp_check.specs.Lists.{AreIdle, AreWithin}
 use Rattle.hsp_simplex.specs.Network.{at_host}
 
 abbrev pub AreBelow : ℕ → List ℕ → Type 0
@@ -14,11 +15,3 @@ AreOrdered ends = (j k : ℕ) → j ≤ k → k < length ends → slice_index en
 -- each is what a unit at the server costs beside the arc: the server's price and its host's
 abbrev pub ArePaid : List (Option ℕ) → List ℕ → List ℕ → List ℕ → Type 0
 ArePaid hosts p q paid = (j : ℕ) → j < length hosts → slice_index paid j ≡ slice_index p j + at_host (slice_index_or hosts j None) q
-
--- each load is within its bound
-abbrev pub AreWithin : List ℕ → List ℕ → Type 0
-AreWithin bounds loads = (j : ℕ) → j < length bounds → slice_index loads j ≤ slice_index bounds j
-
--- the price is 0 of each load that is below its bound
-abbrev pub AreIdle : List ℕ → List ℕ → List ℕ → Type 0
-AreIdle bounds loads prices = (j : ℕ) → j < length bounds → slice_index loads j < slice_index bounds j → slice_index prices j ≡ 0

@@ -1,11 +1,8 @@
 -- What a set of sources may use, by flags.
-use Rattle.std.specs.Prelude.{◌≡◌, ℕ, ◌<◌, Bool, false, List, Option, None, length, slice_index, slice_index_or, is_none, min, if◌then◌else◌}
+use Rattle.std.specs.Prelude.{◌≡◌, ℕ, ◌<◌, Bool, List, Option, None, length, slice_index, slice_index_or, is_none, min, if◌then◌else◌}
+pub use Rattle.hsp_check.specs.Laid.{flag_at}
 use Rattle.hsp_simplex.specs.Network.{Transport, reaches}
 use Rattle.hsp_simplex.specs.Sums.{sum_below}
-
--- the flag at the place, false past the end
-abbrev pub flag_at : List Bool → ℕ → Bool
-flag_at flags i = slice_index_or flags i false
 
 -- whether each server may be used by a flagged source
 abbrev pub AreReached : Transport → List Bool → List Bool → Type 0

@@ -1,5 +1,7 @@
 -- Sums over numbers.
-use Rattle.std.specs.Prelude.{◌≡◌, ℕ, suc, zero, ◌<◌, ◌==◌, ◌||◌, Bool, false, List, Option, None, Some, length, slice_index, slice_index_or, if◌then◌else◌}
+use Rattle.std.specs.Prelude.{◌≡◌, ℕ, suc, zero, ◌<◌, ◌==◌, ◌||◌, Bool, false, List, Option, None, length, slice_index, slice_index_or, if◌then◌else◌}
+pub use Rattle.hsp_check.specs.Lists.{AreZero}
+pub use Rattle.hsp_check.specs.Plan.{is_on}
 pub use Rattle.hsp_check.specs.Sums.{sum_below}
 
 -- n where the two numbers are one, else 0
@@ -11,11 +13,6 @@ abbrev pub any_below : ℕ → (ℕ → Bool) → Bool
 any_below zero test = false
 any_below (suc n) test = any_below n test || test n
 
--- whether that host is the host h
-abbrev pub is_on : Option ℕ → ℕ → Bool
-is_on None h = false
-is_on (Some g) h = g == h
-
 -- what flows on the first n arcs whose end is v: `ends` has an end of each arc, `flows` the flow on it
 abbrev pub carried : List ℕ → List ℕ → ℕ → ℕ → ℕ
 carried ends flows n v = sum_below n (λ k. only (slice_index ends k) v (slice_index flows k))
@@ -23,9 +20,6 @@ carried ends flows n v = sum_below n (λ k. only (slice_index ends k) v (slice_i
 -- the numbers of those of the first n servers that stand on the host h, added up
 abbrev pub hosted : List (Option ℕ) → List ℕ → ℕ → ℕ → ℕ
 hosted hosts numbers n h = sum_below n (λ j. if is_on (slice_index_or hosts j None) h then slice_index numbers j else 0)
-
-abbrev pub AreZero : List ℕ → Type 0
-AreZero sums = (v : ℕ) → v < length sums → slice_index sums v ≡ 0
 
 -- each sum is what all arcs with that end carry
 abbrev pub AreCarried : List ℕ → List ℕ → List ℕ → Type 0
