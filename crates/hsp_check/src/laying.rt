@@ -57,7 +57,8 @@ pub(crate) fn lay(arcs: IndexedArcs, uses: &[UseLine]) -> Option<Vec<LaidArc>>
     requires bare { AreBare arcs.laid.items }
     requires counts { All (λ u. u.count ≤ GREATEST_COUNT) uses.now }
     requires few { length uses.now < 2 ^ 32 }
-    ensures laid { IfSome result (λ laid. IsLaid (arcs_in arcs.laid.items) (table uses.now) laid.items) }
+    ensures laid { IfSome result (λ laid.
+        IsLaid (arcs_in arcs.laid.items) (table uses.now) laid.items) }
     ensures each { IfSome result (λ _. All (λ u. has_arc arcs.laid.items u ≡ true) uses.now) }
     ensures lost { IfNone result (All (λ u. has_arc arcs.laid.items u ≡ true) uses.now → ⊥) }
 {

@@ -25,7 +25,8 @@ pub(crate) struct NetworkNumbers {
 /// The numbers of an instance.
 pub(crate) fn numbers_of(alloc: Global, instance: &Instance) -> Result<NetworkNumbers, AllocError>
     ensures demands { IfOk result (λ numbers. numbers.demands.items ≡ demands_in instance.now) }
-    ensures capacities { IfOk result (λ numbers. numbers.capacities.items ≡ capacities_in instance.now) }
+    ensures capacities { IfOk result (λ numbers.
+        numbers.capacities.items ≡ capacities_in instance.now) }
     ensures limits { IfOk result (λ numbers. numbers.limits.items ≡ limits_in instance.now) }
     ensures homes { IfOk result (λ numbers. numbers.homes.items ≡ homes_in instance.now) }
 {

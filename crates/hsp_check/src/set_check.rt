@@ -38,7 +38,8 @@ pub(crate) fn flags_of(
     ensures there { IfOk result (λ flags. IfSome flags (λ _. All (λ r. r < count) rows.now)) }
     ensures lost { IfOk result (λ flags. IfNone flags (All (λ r. r < count) rows.now → ⊥)) }
     ensures len { IfOk result (λ flags. IfSome flags (λ f. length f.items ≡ count)) }
-    ensures flags { IfOk result (λ flags. IfSome flags (λ f. AreFlagsOf (is_one_of rows.now) count f.items)) }
+    ensures flags { IfOk result (λ flags. IfSome flags (λ f.
+        AreFlagsOf (is_one_of rows.now) count f.items)) }
 {
     let mut flags = vec![in alloc; false; count]?;
     if flag_rows(&mut flags, rows) {
@@ -66,7 +67,8 @@ fn meets_capacity(
 ) -> Result<bool, AllocError>
     requires many { length flags.now ≡ length lists.demands.now }
     requires flags { AreFlagsOf (is_one_of set.now.rows) (length lists.demands.now) flags.now }
-    ensures { IfOk result (λ yes. IsTrue yes ↔ SetMeets (network_in lists.entry) set.now CapacitySum) }
+    ensures { IfOk result (λ met.
+        IsTrue met ↔ SetMeets (network_in lists.entry) set.now CapacitySum) }
 {
     let capacity = reached_capacity(alloc, lists, flags)?;
     Ok(u128::from(set.capacity()) == capacity)

@@ -95,7 +95,8 @@ pub(crate) fn reached_by(
 ) -> Result<Vec<bool>, AllocError>
     requires { length rows.now ≡ length lists.demands.now }
     ensures len { IfOk result (λ reached. vec_len reached ≡ length lists.entry.capacities.now) }
-    ensures reached { IfOk result (λ reached. AreReached lists.entry (flag_at rows.now) reached.items) }
+    ensures reached { IfOk result (λ reached.
+        AreReached lists.entry (flag_at rows.now) reached.items) }
 {
     let mut reached = vec![in alloc; false; lists.homes.len()]?;
     flag_each(&mut reached, lists.laid, rows);
@@ -107,7 +108,8 @@ fn rooms_of(alloc: Global, lists: NetworkLists, rows: &[bool]) -> Result<Vec<u12
     requires { length rows.now ≡ length lists.demands.now }
     ensures len { IfOk result (λ rooms. vec_len rooms ≡ length lists.entry.capacities.now) }
     ensures rooms { IfOk result (λ rooms. AreRoomsOf lists.entry (flag_at rows.now) rooms.items) }
-    ensures small { IfOk result (λ rooms. AreSmall (2 ^ 64) (length lists.entry.capacities.now) rooms.items) }
+    ensures small { IfOk result (λ rooms.
+        AreSmall (2 ^ 64) (length lists.entry.capacities.now) rooms.items) }
 {
     let reached = reached_by(alloc, lists, rows)?;
     let mut rooms = vec![in alloc; 0u128; lists.capacities.len()]?;
