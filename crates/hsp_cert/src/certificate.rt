@@ -22,7 +22,13 @@ impl Model for PricedPlan {
 
     ghost Value = { Best };
 
-    ghost view = { λ p. record { cost = p.cost; uses = p.uses.items; row_prices = p.row_prices.items; server_prices = p.server_prices.items; host_prices = p.host_prices.items } };
+    ghost view = { λ p. record {
+      cost = p.cost;
+      uses = p.uses.items;
+      row_prices = p.row_prices.items;
+      server_prices = p.server_prices.items;
+      host_prices = p.host_prices.items;
+    } };
 }
 
 // A set of rows with what it asks for and what it can reach.
@@ -140,7 +146,13 @@ impl Certificate {
         row_prices: Vec<u64>,
         server_prices: Vec<u64>,
     ) -> Option<Certificate>
-        ensures { Makes (best (record { cost = cost; uses = uses.items; row_prices = row_prices.items; server_prices = server_prices.items; host_prices = [] })) result }
+        ensures { Makes (best (record {
+          cost = cost;
+          uses = uses.items;
+          row_prices = row_prices.items;
+          server_prices = server_prices.items;
+          host_prices = [];
+        })) result }
     {
         let host_prices = Vec::new(*uses.allocator());
         Certificate::best_with_hosts(cost, uses, row_prices, server_prices, host_prices)
@@ -154,7 +166,13 @@ impl Certificate {
         server_prices: Vec<u64>,
         host_prices: Vec<u64>,
     ) -> Option<Certificate>
-        ensures { Makes (best (record { cost = cost; uses = uses.items; row_prices = row_prices.items; server_prices = server_prices.items; host_prices = host_prices.items })) result }
+        ensures { Makes (best (record {
+          cost = cost;
+          uses = uses.items;
+          row_prices = row_prices.items;
+          server_prices = server_prices.items;
+          host_prices = host_prices.items;
+        })) result }
     {
         let plan = PricedPlan {
             cost,
@@ -174,7 +192,11 @@ impl Certificate {
     /// A short set of rows, which are in order, with what they ask for and what they can reach. None exactly where an order or a
     /// range is broken.
     pub fn short(rows: Vec<u32>, demand: u64, capacity: u64) -> Option<Certificate>
-        ensures { Makes (short (record { rows = rows.items; demand = demand; capacity = capacity })) result }
+        ensures { Makes (short (record {
+          rows = rows.items;
+          demand = demand;
+          capacity = capacity;
+        })) result }
     {
         let set = ShortSet {
             rows,

@@ -29,7 +29,12 @@ impl Model for Draft {
 
     ghost Value = { Drafted };
 
-    ghost view = { λ d. record { stage = d.stage; version = d.version; plan = d.plan; set = d.set } };
+    ghost view = { λ d. record {
+      stage = d.stage;
+      version = d.version;
+      plan = d.plan;
+      set = d.set;
+    } };
 }
 
 // Whether the number and the price can stand behind these prices.
@@ -100,7 +105,8 @@ fn row_in(row: u64) -> Option<u32>
 }
 
 fn take_use(plan: &mut PricedPlan, row: u64, site: u64, count: u64) -> Result<bool, AllocError>
-    ensures { IfOk result (λ taken. Took (use_step plan.old (use_in row site count)) taken plan.new) }
+    ensures { IfOk result
+        (λ taken. Took (use_step plan.old (use_in row site count)) taken plan.new) }
 {
     let Some(one) = use_in(row, site, count) else {
         return Ok(false);
@@ -138,7 +144,8 @@ fn take_host_price(
     number: u64,
     price: u64,
 ) -> Result<bool, AllocError>
-    ensures { IfOk result (λ taken. Took (host_price_step version plan.old number price) taken plan.new) }
+    ensures { IfOk result
+        (λ taken. Took (host_price_step version plan.old number price) taken plan.new) }
 {
     if !may_host_price(version, plan, number, price) {
         return Ok(false);

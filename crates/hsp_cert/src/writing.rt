@@ -44,7 +44,8 @@ fn put_line(out: &mut Vec<u8>, item: Item) -> Result<(), AllocError>
 }
 
 fn put_uses(out: &mut Vec<u8>, uses: &[UseLine]) -> Result<(), AllocError>
-    ensures { OnOk result (out.new.items ≡ out.old.items ++ unlines (map line_of (use_items uses.now))) }
+    ensures { OnOk result
+        (out.new.items ≡ out.old.items ++ unlines (map line_of (use_items uses.now))) }
 {
     for one in uses {
         put_line(
@@ -61,7 +62,8 @@ fn put_uses(out: &mut Vec<u8>, uses: &[UseLine]) -> Result<(), AllocError>
 }
 
 fn put_prices(out: &mut Vec<u8>, word: Word, prices: &[u64]) -> Result<(), AllocError>
-    ensures { OnOk result (out.new.items ≡ out.old.items ++ unlines (map line_of (price_items word 0 prices.now))) }
+    ensures { OnOk result
+        (out.new.items ≡ out.old.items ++ unlines (map line_of (price_items word 0 prices.now))) }
 {
     for (number, price) in prices.iter().enumerate() {
         put_line(out, Item::Two(word, number as u64, *price))?;
@@ -70,7 +72,8 @@ fn put_prices(out: &mut Vec<u8>, word: Word, prices: &[u64]) -> Result<(), Alloc
 }
 
 fn put_rows(out: &mut Vec<u8>, rows: &[u32]) -> Result<(), AllocError>
-    ensures { OnOk result (out.new.items ≡ out.old.items ++ unlines (map line_of (row_items rows.now))) }
+    ensures { OnOk result
+        (out.new.items ≡ out.old.items ++ unlines (map line_of (row_items rows.now))) }
 {
     for row in rows {
         put_line(out, Item::One(Word::Row, u64::from(*row)))?;
@@ -90,7 +93,8 @@ pub(crate) fn version_of(host_prices: &[u64]) -> u64
 
 // Appends the lines between the cost and the end.
 fn put_body(out: &mut Vec<u8>, plan: &PricedPlan) -> Result<(), AllocError>
-    ensures { OnOk result (out.new.items ≡ out.old.items ++ unlines (map line_of (body_items plan.now))) }
+    ensures { OnOk result
+        (out.new.items ≡ out.old.items ++ unlines (map line_of (body_items plan.now))) }
 {
     put_uses(out, &plan.uses)?;
     put_prices(out, Word::Row, &plan.row_prices)?;

@@ -27,7 +27,8 @@ fn needed_arg<'a>(arg: Arg<'a>) -> Arg<'a>
 fn with_arg<'a>(command: Command<'a>, arg: Arg<'a>) -> Result<Command<'a>, AllocError>
     requires command { has_globals_of command ≡ false }
     requires arg { arg.global ≡ false }
-    ensures app { IfOk result (λ c. app_of c ≡ with_rule (app_of command.entry) (rule_of arg.entry)) }
+    ensures app { IfOk result
+        (λ c. app_of c ≡ with_rule (app_of command.entry) (rule_of arg.entry)) }
     ensures local { IfOk result (λ c. has_globals_of c ≡ false) }
 {
     command.arg(arg)
@@ -140,7 +141,8 @@ fn with_subcommand<'a>(
     subcommand: Command<'a>,
 ) -> Result<Command<'a>, AllocError>
     requires { has_globals_of subcommand ≡ false }
-    ensures { IfOk result (λ c. app_of c ≡ with_subcommand (app_of command.entry) (app_of subcommand.entry).top) }
+    ensures { IfOk result
+        (λ c. app_of c ≡ with_subcommand (app_of command.entry) (app_of subcommand.entry).top) }
 {
     command.subcommand(subcommand)
 }

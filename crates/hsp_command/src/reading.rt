@@ -29,8 +29,10 @@ fn word_of(alloc: Global, matches: &ArgMatches<'_>, name: &str) -> Result<Option
 
 // A value that has to be there.
 fn needed_of(alloc: Global, matches: &ArgMatches<'_>, name: &str) -> Result<Word, CommandFault>
-    ensures given { IfOk result (λ word. first_of name.now (rows_of (found_of matches.now)) ≡ Some word) }
-    ensures absent { result ≡ Err fault.Usage → first_of name.now (rows_of (found_of matches.now)) ≡ None }
+    ensures given { IfOk result
+        (λ word. first_of name.now (rows_of (found_of matches.now)) ≡ Some word) }
+    ensures absent { result ≡ Err fault.Usage
+        → first_of name.now (rows_of (found_of matches.now)) ≡ None }
 {
     match word_of(alloc, matches, name)? {
         Some(word) => Ok(word),
@@ -40,7 +42,8 @@ fn needed_of(alloc: Global, matches: &ArgMatches<'_>, name: &str) -> Result<Word
 
 fn inputs_of(alloc: Global, matches: &ArgMatches<'_>) -> Result<InputFiles, CommandFault>
     ensures given { IfOk result (λ inputs. HasInputs (rows_of (found_of matches.now)) inputs) }
-    ensures absent { result ≡ Err fault.Usage → (inputs : InputFiles) → HasInputs (rows_of (found_of matches.now)) inputs → ⊥ }
+    ensures absent { result ≡ Err fault.Usage → (inputs : InputFiles)
+        → HasInputs (rows_of (found_of matches.now)) inputs → ⊥ }
 {
     let settings = needed_of(alloc, matches, "settings")?;
     let values = word_of(alloc, matches, "values")?;
@@ -58,8 +61,10 @@ fn inputs_of(alloc: Global, matches: &ArgMatches<'_>) -> Result<InputFiles, Comm
 
 // One of the two forms of `locate`, and neither a mixture nor a part.
 fn locate_of(alloc: Global, matches: &ArgMatches<'_>) -> Result<Order, CommandFault>
-    ensures order { IfOk result (λ order. IsOrderIn order (codes "locate") (rows_of (found_of matches.now))) }
-    ensures usage { result ≡ Err fault.Usage → (order : Order) → IsOrderIn order (codes "locate") (rows_of (found_of matches.now)) → ⊥ }
+    ensures order { IfOk result
+        (λ order. IsOrderIn order (codes "locate") (rows_of (found_of matches.now))) }
+    ensures usage { result ≡ Err fault.Usage → (order : Order)
+        → IsOrderIn order (codes "locate") (rows_of (found_of matches.now)) → ⊥ }
 {
     let option = word_of(alloc, matches, "option")?;
     let servers = word_of(alloc, matches, "servers")?;
@@ -95,8 +100,10 @@ fn kind_of(word: &Word) -> Option<Kind>
 }
 
 fn report_of(alloc: Global, matches: &ArgMatches<'_>) -> Result<Order, CommandFault>
-    ensures order { IfOk result (λ order. IsOrderIn order (codes "report") (rows_of (found_of matches.now))) }
-    ensures usage { result ≡ Err fault.Usage → (order : Order) → IsOrderIn order (codes "report") (rows_of (found_of matches.now)) → ⊥ }
+    ensures order { IfOk result
+        (λ order. IsOrderIn order (codes "report") (rows_of (found_of matches.now))) }
+    ensures usage { result ≡ Err fault.Usage → (order : Order)
+        → IsOrderIn order (codes "report") (rows_of (found_of matches.now)) → ⊥ }
 {
     let inputs = inputs_of(alloc, matches)?;
     let plan = needed_of(alloc, matches, "plan")?;
@@ -109,8 +116,10 @@ fn report_of(alloc: Global, matches: &ArgMatches<'_>) -> Result<Order, CommandFa
 
 // The order of a subcommand with its values.
 fn order_of(alloc: Global, name: &str, matches: &ArgMatches<'_>) -> Result<Order, CommandFault>
-    ensures order { IfOk result (λ order. IsOrderIn order name.now (rows_of (found_of matches.now))) }
-    ensures usage { result ≡ Err fault.Usage → (order : Order) → IsOrderIn order name.now (rows_of (found_of matches.now)) → ⊥ }
+    ensures order { IfOk result
+        (λ order. IsOrderIn order name.now (rows_of (found_of matches.now))) }
+    ensures usage { result ≡ Err fault.Usage → (order : Order)
+        → IsOrderIn order name.now (rows_of (found_of matches.now)) → ⊥ }
 {
     match name {
         "locate" => locate_of(alloc, matches),
@@ -159,7 +168,8 @@ fn command_fault(error: &Error) -> CommandFault
 /// The order that the words give, the first of them being the command. What clap's parser refuses is `Usage`, a request for
 /// help too, and so is a mixture or a part of the two forms of `locate`, and a kind of report that is none.
 pub fn read_command(alloc: Global, words: &[String]) -> Result<Order, CommandFault>
-    ensures order { IfOk result (λ order. IsOrderOf order (subcommand_of hsplan_app (map string_bytes words.now))) }
+    ensures order { IfOk result
+        (λ order. IsOrderOf order (subcommand_of hsplan_app (map string_bytes words.now))) }
     ensures taken { OnOk result (fault_of hsplan_app (map string_bytes words.now) ≡ []) }
     ensures usage { result ≡ Err fault.Usage → IsUsage (map string_bytes words.now) }
 {

@@ -8,7 +8,8 @@ use std::str;
 
 /// The words between single spaces, empty ones left out; None where the octets are no UTF-8.
 pub fn split_words(alloc: Global, line: &[u8]) -> Result<Option<Vec<String>>, AllocError>
-    ensures words { IfOk result (λ found. IfSome found (λ words. map string_bytes words.items ≡ words_of line.now)) }
+    ensures words { IfOk result
+        (λ found. IfSome found (λ words. map string_bytes words.items ≡ words_of line.now)) }
     ensures text { IfOk result (λ found. IfSome found (λ words. IsUtf8 line.now)) }
     ensures none { IfOk result (λ found. IfNone found (IsUtf8 line.now → ⊥)) }
 {

@@ -44,7 +44,8 @@ pub fn take_header<R: Read>(
     header: &[&[u8]],
 ) -> Result<bool, RecordsFault>
     requires { IsReading reader.old }
-    ensures header { IfOk result (λ headed. TakesHeader R.remaining (names_in header.now) reader.old reader.new headed) }
+    ensures header { IfOk result
+        (λ headed. TakesHeader R.remaining (names_in header.now) reader.old reader.new headed) }
     ensures reading { OnOk result (IsReading reader.new) }
     ensures stops { OnErr result (has_failed reader.new ≡ true) }
 {

@@ -17,7 +17,8 @@ pub fn read_records<R: Read>(alloc: Global, text: R) -> Reader<R>
     ensures reading { IsReading result }
     ensures working { has_failed result ≡ false }
     ensures known { IfSome (R.remaining text) (λ octets. IsKnown R.remaining result) }
-    ensures records { IfSome (R.remaining text) (λ octets. records_left R.remaining result ≡ records_of octets) }
+    ensures records { IfSome (R.remaining text) (λ octets.
+        records_left R.remaining result ≡ records_of octets) }
     ensures unknown { IfNone (R.remaining text) (source_of R.remaining result ≡ None) }
 {
     ReaderBuilder::new()
@@ -35,7 +36,8 @@ pub fn take_record<R: Read>(
     record: &mut ByteRecord,
 ) -> Result<bool, RecordsFault>
     requires { IsReading reader.old }
-    ensures takes { IfOk result (λ found. TakesRecord R.remaining reader.old reader.new found (fields_of «record».new)) }
+    ensures takes { IfOk result
+        (λ found. TakesRecord R.remaining reader.old reader.new found (fields_of «record».new)) }
     ensures reading { OnOk result (IsReading reader.new) }
     ensures working { OnOk result (has_failed reader.new ≡ has_failed reader.old) }
 

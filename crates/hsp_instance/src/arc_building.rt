@@ -59,7 +59,8 @@ fn arcs_by(
 ) -> Result<ArcList, AllocError>
     requires sites { AreSites sites.now }
     requires costs { length costs.now ≡ length sites.now }
-    ensures { IfOk result (λ arcs. arcs ≡ arcs_by (octets_of handle.entry) 0 0 sites.now costs.now) }
+    ensures { IfOk result
+        (λ arcs. arcs ≡ arcs_by (octets_of handle.entry) 0 0 sites.now costs.now) }
 {
     let mut arcs = Vec::with_capacity(alloc, sites.len())?;
     let mut digests = Digests::new(handle);

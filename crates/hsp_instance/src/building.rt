@@ -27,7 +27,14 @@ fn instance_with(
     costs: &Costs,
     capacity: &Capacities,
 ) -> Result<Instance, BuildFault>
-    ensures { (values : Option (List HandleValue)) → GivesUnless OutOfMemory (λ x. x) result (instance_with (record { settings = settings.now; values = values; demand = demand.now; costs = costs.now; capacities = capacity.now }) sites) }
+    ensures { (values : Option (List HandleValue)) → GivesUnless OutOfMemory (λ x. x) result
+        (instance_with (record {
+          settings = settings.now;
+          values = values;
+          demand = demand.now;
+          costs = costs.now;
+          capacities = capacity.now;
+        }) sites) }
 {
     let list = sites.sites.as_slice();
     check_costs(list, costs)?;
@@ -57,7 +64,13 @@ pub fn build(
     costs: &Costs,
     capacity: &Capacities,
 ) -> Result<Instance, BuildFault>
-    ensures { Stands OutOfMemory (λ x. x) (IsBuilt (record { settings = settings.now; values = option_map (λ v. v.now) values.entry; demand = demand.now; costs = costs.now; capacities = capacity.now })) result }
+    ensures { Stands OutOfMemory (λ x. x) (IsBuilt (record {
+      settings = settings.now;
+      values = option_map (λ v. v.now) values.entry;
+      demand = demand.now;
+      costs = costs.now;
+      capacities = capacity.now;
+    })) result }
 {
     let sites = build_sites(alloc, settings, values)?;
     instance_with(alloc, sites, settings, demand, costs, capacity)

@@ -44,7 +44,8 @@ pub(crate) fn check_costs(sites: &[Site], costs: &Costs) -> Result<(), BuildFaul
 
 // That the site of a row of the capacities is there, and has the row's server.
 fn check_capacity(row: u32, id: u32, site: Option<&Site>) -> Result<(), BuildFault>
-    ensures { Gives (λ u. u) result (unless (capacity_row_fault row id (option_map (λ s. s.now) site.entry))) }
+    ensures { Gives (λ u. u) result
+        (unless (capacity_row_fault row id (option_map (λ s. s.now) site.entry))) }
 {
     let Some(site) = site else {
         return Err(BuildFault::UnknownSite {

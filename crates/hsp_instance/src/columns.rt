@@ -21,7 +21,8 @@ pub fn counts_of(alloc: Global, instance: &Instance) -> Result<Vec<u64>, AllocEr
 
 /// The capacity of each server.
 pub fn capacities_of(alloc: Global, instance: &Instance) -> Result<Vec<u64>, AllocError>
-    ensures capacities { IfOk result (λ capacities. capacities.items ≡ map (λ s. s.capacity) instance.now.servers) }
+    ensures capacities { IfOk result
+        (λ capacities. capacities.items ≡ map (λ s. s.capacity) instance.now.servers) }
     ensures few { IfOk result (λ capacities. length capacities.items ≤ MOST_SERVERS) }
 {
     let mut capacities = Vec::new(alloc);

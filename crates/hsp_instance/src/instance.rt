@@ -23,7 +23,13 @@ impl Model for Server {
 
     ghost Value = { Server };
 
-    ghost view = { λ s. record { site = s.site; place = s.place; id = s.id; capacity = s.capacity; host = s.host } };
+    ghost view = { λ s. record {
+      site = s.site;
+      place = s.place;
+      id = s.id;
+      capacity = s.capacity;
+      host = s.host;
+    } };
 }
 
 // A host.
@@ -73,9 +79,21 @@ impl Model for Instance {
 
     ghost Value = { Instance };
 
-    ghost view = { λ i. record { rows = i.rows; sites = i.sites; servers = i.servers.items; hosts = i.hosts.items; arcs = i.arcs.items } };
+    ghost view = { λ i. record {
+      rows = i.rows;
+      sites = i.sites;
+      servers = i.servers.items;
+      hosts = i.hosts.items;
+      arcs = i.arcs.items;
+    } };
 
-    ghost invariant = { λ i. IsInstance (record { rows = i.rows; sites = i.sites; servers = i.servers.items; hosts = i.hosts.items; arcs = i.arcs.items }) };
+    ghost invariant = { λ i. IsInstance (record {
+      rows = i.rows;
+      sites = i.sites;
+      servers = i.servers.items;
+      hosts = i.hosts.items;
+      arcs = i.arcs.items;
+    }) };
 }
 
 impl Instance {
@@ -91,7 +109,8 @@ impl Instance {
     /// The region, the handle and the count of the row of a number below [`Instance::rows`].
     pub fn row(&self, row: u32) -> (&[u8], &[u8], u64)
         requires { row < length self.now.rows }
-        ensures { slice_get self.now.rows row ≡ Some (record { region = result.0.now; handle = result.1.now; count = result.2 }) }
+        ensures { slice_get self.now.rows row
+            ≡ Some (record { region = result.0.now; handle = result.1.now; count = result.2 }) }
     {
         self.rows.row(row as usize)
     }
@@ -116,10 +135,13 @@ impl Instance {
     /// [`Instance::servers`].
     pub fn server(&self, server: u32) -> (u32, u32, u32, u64)
         requires { server < length self.now.servers }
-        ensures site { option_map (λ s. s.site) (slice_get self.now.servers server) ≡ Some result.0 }
-        ensures place { option_map (λ s. s.place) (slice_get self.now.servers server) ≡ Some result.1 }
+        ensures site { option_map (λ s. s.site) (slice_get self.now.servers server)
+            ≡ Some result.0 }
+        ensures place { option_map (λ s. s.place) (slice_get self.now.servers server)
+            ≡ Some result.1 }
         ensures id { option_map (λ s. s.id) (slice_get self.now.servers server) ≡ Some result.2 }
-        ensures capacity { option_map (λ s. s.capacity) (slice_get self.now.servers server) ≡ Some result.3 }
+        ensures capacity { option_map (λ s. s.capacity) (slice_get self.now.servers server)
+            ≡ Some result.3 }
     {
         let server = &self.servers[server as usize];
         (server.site, server.place, server.id, server.capacity)
@@ -146,7 +168,8 @@ impl Instance {
     /// The address and the limit of the host of a number below [`Instance::hosts`].
     pub fn host(&self, host: u32) -> ([u8; 16], u64)
         requires { host < length self.now.hosts }
-        ensures { slice_get self.now.hosts host ≡ Some (record { address = result.0; limit = result.1 }) }
+        ensures { slice_get self.now.hosts host
+            ≡ Some (record { address = result.0; limit = result.1 }) }
     {
         let host = &self.hosts[host as usize];
         (host.address, host.limit)

@@ -43,7 +43,8 @@ fn costs_at(
 
 // The place of the costs of a region among those that are known.
 fn known_place(known: &[RegionCosts], region: &[u8]) -> Option<usize>
-    ensures { IfSome result (λ place. option_map (λ k. k.region) (slice_get known.now place) ≡ Some region.now) }
+    ensures { IfSome result
+        (λ place. option_map (λ k. k.region) (slice_get known.now place) ≡ Some region.now) }
 {
     for (place, costs) in known.iter().enumerate() {
         if costs.region.as_slice() == region {
@@ -63,7 +64,8 @@ pub(crate) fn place_of(
 ) -> Result<usize, AllocError>
     requires { AllByRecursion (HasCosts costs.now sites.now) known.old.items }
     ensures known { OnOk result (AllByRecursion (HasCosts costs.now sites.now) known.new.items) }
-    ensures place { IfOk result (λ place. option_map (λ k. k.costs) (slice_get known.new.items place) ≡ Some (costs_at costs.now region.now sites.now)) }
+    ensures place { IfOk result (λ place. option_map (λ k. k.costs)
+        (slice_get known.new.items place) ≡ Some (costs_at costs.now region.now sites.now)) }
 {
     if let Some(place) = known_place(known.as_slice(), region) {
         return Ok(place);

@@ -153,7 +153,8 @@ impl Rows {
     // The region, the handle and the count of a row, by its place.
     pub(crate) fn row(&self, place: usize) -> (&[u8], &[u8], u64)
         requires { place < length self.now }
-        ensures { slice_get self.now place ≡ Some (record { region = result.0.now; handle = result.1.now; count = result.2 }) }
+        ensures { slice_get self.now place
+            ≡ Some (record { region = result.0.now; handle = result.1.now; count = result.2 }) }
     {
         let (key, count) = self.rows.get_index(place).unwrap();
         (key.region(), key.handle(), *count)
@@ -177,7 +178,11 @@ impl Rows {
     ) -> Result<(), BuildFault>
         requires room { length self.old < MOST_DEMAND_ROWS }
         requires new { list_any (has_keys region.now handle.now) self.old ≡ false }
-        ensures ok { OnOk result (self.new ≡ self.old ++ record { region = region.now; handle = handle.now; count = count } ∷ []) }
+        ensures ok { OnOk result (self.new ≡ self.old ++ record {
+          region = region.now;
+          handle = handle.now;
+          count = count;
+        } ∷ []) }
         ensures err { IfErr result (λ e. e ≡ OutOfMemory) }
     {
         self.rows

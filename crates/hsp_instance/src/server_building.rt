@@ -53,7 +53,8 @@ fn server_at(
     own: &SiteServer,
 ) -> Result<Server, BuildFault>
     requires { length hosts.now ≤ MOST_HOSTS }
-    ensures { Gives (λ s. s) result (server_at capacities.now hosts.now site name.now place own.now) }
+    ensures { Gives (λ s. s) result
+        (server_at capacities.now hosts.now site name.now place own.now) }
 {
     let Some(capacity) = capacities.find(name, own.id) else {
         return Err(BuildFault::NoCapacity {
@@ -100,8 +101,10 @@ pub(crate) fn servers_of(
 ) -> Result<Vec<Server>, BuildFault>
     requires hosts { length hosts.now ≤ MOST_HOSTS }
     requires sites { AreSites sites.now }
-    ensures ok { IfOk result (λ v. servers_from capacities.now hosts.now 0 [] sites.now ≡ Ok v.items) }
-    ensures err { IfErr result (λ e. (e ≡ OutOfMemory) ⊎ (servers_from capacities.now hosts.now 0 [] sites.now ≡ Err e)) }
+    ensures ok { IfOk result
+        (λ v. servers_from capacities.now hosts.now 0 [] sites.now ≡ Ok v.items) }
+    ensures err { IfErr result (λ e.
+        (e ≡ OutOfMemory) ⊎ (servers_from capacities.now hosts.now 0 [] sites.now ≡ Err e)) }
 {
     let mut servers = Vec::new(alloc);
     for (number, site) in sites.iter().enumerate() {

@@ -36,7 +36,8 @@ fn site_octets<'a>(
     number: u32,
     source: Source<'a>,
 ) -> Result<&'a [u8], BuildFault>
-    ensures { Gives (λ o. o.now) result (site_octets (option_map (λ v. v.now) values.entry) number (source_shown source.entry)) }
+    ensures { Gives (λ o. o.now) result
+        (site_octets (option_map (λ v. v.now) values.entry) number (source_shown source.entry)) }
 {
     match (source, values) {
         (Source::Octets(octets), _) => Ok(octets),
@@ -116,7 +117,8 @@ fn site_of_record(
     decoded: &SiteRecord,
 ) -> Result<Site, BuildFault>
     requires { before ≤ MOST_SERVERS }
-    ensures { GivesUnless OutOfMemory (λ x. x) result (site_of_reading number before name.now (Ok decoded.now)) }
+    ensures { GivesUnless OutOfMemory (λ x. x) result
+        (site_of_reading number before name.now (Ok decoded.now)) }
 {
     let Some(option) = HashOption::of_octet(decoded.option_octet()) else {
         return Err(BuildFault::BadHashOption { site: number });
@@ -162,7 +164,8 @@ fn site_of(
     source: Source<'_>,
 ) -> Result<Site, BuildFault>
     requires { before ≤ MOST_SERVERS }
-    ensures { Stands OutOfMemory (λ x. x) (IsSiteOf number before name.now (site_octets (option_map (λ v. v.now) values.entry) number (source_shown source.entry))) result }
+    ensures { Stands OutOfMemory (λ x. x) (IsSiteOf number before name.now (site_octets
+        (option_map (λ v. v.now) values.entry) number (source_shown source.entry))) result }
 {
     let octets = site_octets(values, number, source)?;
     site_in(alloc, number, before, name, octets)
@@ -177,7 +180,8 @@ pub fn build_sites(
     settings: &Settings,
     values: Option<&ValueList<'_>>,
 ) -> Result<Sites, BuildFault>
-    ensures { Stands OutOfMemory (λ x. x) (AreSitesOf settings.now (option_map (λ v. v.now) values.entry)) result }
+    ensures { Stands OutOfMemory (λ x. x)
+        (AreSitesOf settings.now (option_map (λ v. v.now) values.entry)) result }
 {
     let mut sites: Vec<Site> = Vec::new(alloc);
     let mut before: u32 = 0;

@@ -35,7 +35,11 @@ impl Model for Site {
 
     ghost Value = { Site };
 
-    ghost view = { λ s. record { name = s.name.items; option = s.option; servers = s.servers.items } };
+    ghost view = { λ s. record {
+      name = s.name.items;
+      option = s.option;
+      servers = s.servers.items;
+    } };
 }
 
 /// Sites, each of a name, a hash option and one or more servers.

@@ -43,7 +43,8 @@ fn first_slash(octets: &[u8]) -> Option<usize>
 fn slash_in(octets: &[u8]) -> Option<usize>
     ensures none { IfNone result (has_slash octets.now ≡ false) }
     ensures some { OnSome result (has_slash octets.now ≡ true) }
-    ensures place { IfSome result (λ slash. (slash < length octets.now) × (slash ≡ position_or_len is_slash octets.now)) }
+    ensures place { IfSome result
+        (λ slash. (slash < length octets.now) × (slash ≡ position_or_len is_slash octets.now)) }
 {
     first_slash(octets)
 }
@@ -67,7 +68,8 @@ impl<'a> HandleRef<'a> {
     /// The handle that the octets spell, or the first fault in the order of [`HandleFault`].
     pub fn parse(octets: &'a [u8]) -> Result<HandleRef<'a>, HandleFault>
         // What is read is a handle, and what is refused has the fault.
-        ensures handle { IfOk result (λ handle. IsHandle octets.now (naming_authority octets.now) (local_name octets.now)) }
+        ensures handle { IfOk result (λ handle.
+            IsHandle octets.now (naming_authority octets.now) (local_name octets.now)) }
         ensures fault { IfErr result (λ fault. IsFault octets.now fault) }
         // The same as one value, whose octets are those that were lent.
         ensures reads { Gives octets_of result (handle_in octets.now) }

@@ -35,7 +35,8 @@ fn fault_at(len: usize, e: ReadError) -> RecordFault
 fn check_end(len: usize, rest: &[u8]) -> Result<(), RecordFault>
     requires { length rest.now ≤ len }
     ensures ok { OnOk result (rest.now ≡ []) }
-    ensures err { IfErr result (λ fault. (0 < length rest.now) × (fault ≡ Trailing (len - length rest.now))) }
+    ensures err { IfErr result
+        (λ fault. (0 < length rest.now) × (fault ≡ Trailing (len - length rest.now))) }
 {
     if rest.is_empty() {
         Ok(())
@@ -47,7 +48,8 @@ fn check_end(len: usize, rest: &[u8]) -> Result<(), RecordFault>
 }
 
 fn site_answer(alloc: Global, octets: &[u8]) -> Result<SiteRecord, RecordFault>
-    ensures { GivesUnless RecordFault.OutOfMemory (λ x. x) result (answer_of octets.now (site_at octets.now)) }
+    ensures { GivesUnless RecordFault.OutOfMemory (λ x. x) result
+        (answer_of octets.now (site_at octets.now)) }
 {
     match read_site(alloc, octets) {
         Ok((site, rest)) => {
@@ -64,13 +66,15 @@ pub fn decode_site(alloc: Global, octets: &[u8]) -> Result<SiteRecord, RecordFau
     // What is answered is true of the octets,
     ensures means { Means site_format octets.now result }
     // and whatever is true of them is answered, unless memory runs out.
-    ensures only { (other : Result Site RecordFault) → Means site_format octets.now other → Agrees result other }
+    ensures only { (other : Result Site RecordFault) → Means site_format octets.now other
+        → Agrees result other }
 {
     site_answer(alloc, octets)
 }
 
 fn values_answer(alloc: Global, octets: &[u8]) -> Result<ValueList<'_>, RecordFault>
-    ensures { GivesUnless RecordFault.OutOfMemory (λ x. x) result (answer_of octets.now (value_list_at octets.now)) }
+    ensures { GivesUnless RecordFault.OutOfMemory (λ x. x) result
+        (answer_of octets.now (value_list_at octets.now)) }
 {
     match read_value_list(alloc, octets) {
         Ok((values, rest)) => {
@@ -88,7 +92,8 @@ pub fn decode_values(alloc: Global, octets: &[u8]) -> Result<ValueList<'_>, Reco
     // What is answered is true of the octets,
     ensures means { Means values_format octets.now result }
     // and whatever is true of them is answered, unless memory runs out.
-    ensures only { (other : Result (List HandleValue) RecordFault) → Means values_format octets.now other → Agrees result other }
+    ensures only { (other : Result (List HandleValue) RecordFault)
+        → Means values_format octets.now other → Agrees result other }
 {
     values_answer(alloc, octets)
 }
@@ -109,9 +114,11 @@ fn request_answer(octets: &[u8]) -> Result<Request<'_>, RecordFault>
 /// spell. Octets that spell none are Truncated or Trailing. It takes no memory.
 pub fn decode_request(octets: &[u8]) -> Result<Request<'_>, RecordFault>
     // What is answered is true of the octets,
-    ensures means { (answer : Result RequestBody RecordFault) × Means request_format octets.now answer × (result ≡ handle_of answer) }
+    ensures means { (answer : Result RequestBody RecordFault)
+        × Means request_format octets.now answer × (result ≡ handle_of answer) }
     // and whatever is true of them is answered.
-    ensures only { (other : Result RequestBody RecordFault) → Means request_format octets.now other → Agrees result (handle_of other) }
+    ensures only { (other : Result RequestBody RecordFault)
+        → Means request_format octets.now other → Agrees result (handle_of other) }
     ensures memory { result ≡ Err OutOfMemory → ⊥ }
 {
     request_answer(octets)

@@ -33,7 +33,8 @@ impl<'a> Request<'a> {
 
 // What follows that many indices.
 fn skip_indices(count: u32, bytes: &[u8]) -> Result<&[u8], Stop>
-    ensures { Finds (λ rest read. read.1 ≡ rest.now) result (times_at (number_at w32) count bytes.now) }
+    ensures { Finds (λ rest read. read.1 ≡ rest.now) result
+        (times_at (number_at w32) count bytes.now) }
 {
     let mut rest = bytes;
     for _ in 0..count {
@@ -57,7 +58,8 @@ fn skip_types(count: u32, bytes: &[u8]) -> Result<&[u8], Stop>
 
 #[tactic(auto, unfolding(crate::specs::Reading::request_at, crate::specs::Reading::list_at))]
 pub(crate) fn read_request(bytes: &[u8]) -> Result<(Request<'_>, &[u8]), Stop>
-    ensures { Finds (λ x read. (x.0 ≡ read.0.handle) × (read.1 ≡ x.1.now)) result (request_at bytes.now) }
+    ensures { Finds (λ x read. (x.0 ≡ read.0.handle) × (read.1 ≡ x.1.now)) result
+        (request_at bytes.now) }
 {
     let (handle, rest) = read_run(bytes)?;
     let (index_count, rest) = read_u32(rest)?;

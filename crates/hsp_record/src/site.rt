@@ -32,7 +32,11 @@ impl Model for ServiceInterface {
 
     ghost Value = { Interface };
 
-    ghost view = { λ i. record { service_type = i.service_type; protocol = i.protocol; port = i.port } };
+    ghost view = { λ i. record {
+      service_type = i.service_type;
+      protocol = i.protocol;
+      port = i.port;
+    } };
 }
 
 /// A server record of a site (RFC 3651, section 3.2.2).
@@ -49,7 +53,12 @@ impl Model for ServerRecord {
 
     ghost Value = { Server };
 
-    ghost view = { λ s. record { id = s.id; address = s.address; key = s.key.items; interfaces = s.interfaces.items } };
+    ghost view = { λ s. record {
+      id = s.id;
+      address = s.address;
+      key = s.key.items;
+      interfaces = s.interfaces.items;
+    } };
 }
 
 impl ServerRecord {
@@ -84,7 +93,8 @@ impl ServerRecord {
     /// The service type, transmission protocol and port of the interface at place `k`.
     pub fn interface(&self, k: usize) -> (u8, u8, u32)
         requires { k < length self.now.interfaces }
-        ensures { slice_get self.now.interfaces k ≡ Some (record { service_type = result.0; protocol = result.1; port = result.2 }) }
+        ensures { slice_get self.now.interfaces k
+            ≡ Some (record { service_type = result.0; protocol = result.1; port = result.2 }) }
     {
         let interface = &self.interfaces[k];
         (interface.service_type, interface.protocol, interface.port)
@@ -109,9 +119,29 @@ impl Model for SiteRecord {
 
     ghost Value = { Site };
 
-    ghost view = { λ s. record { version = s.version; major = s.protocol.0; minor = s.protocol.1; serial = s.serial; mask = s.mask; option = s.option; filter = s.filter.items; attributes = s.attributes.items; servers = s.servers.items } };
+    ghost view = { λ s. record {
+      version = s.version;
+      major = s.protocol.0;
+      minor = s.protocol.1;
+      serial = s.serial;
+      mask = s.mask;
+      option = s.option;
+      filter = s.filter.items;
+      attributes = s.attributes.items;
+      servers = s.servers.items;
+    } };
 
-    ghost invariant = { λ s. IsSite (record { version = s.version; major = s.protocol.0; minor = s.protocol.1; serial = s.serial; mask = s.mask; option = s.option; filter = s.filter.items; attributes = s.attributes.items; servers = s.servers.items }) };
+    ghost invariant = { λ s. IsSite (record {
+      version = s.version;
+      major = s.protocol.0;
+      minor = s.protocol.1;
+      serial = s.serial;
+      mask = s.mask;
+      option = s.option;
+      filter = s.filter.items;
+      attributes = s.attributes.items;
+      servers = s.servers.items;
+    }) };
 }
 
 impl SiteRecord {
@@ -168,7 +198,8 @@ impl SiteRecord {
     /// The attribute at place `i` and its value.
     pub fn attribute(&self, i: usize) -> (&[u8], &[u8])
         requires { i < length self.now.attributes }
-        ensures { slice_get self.now.attributes i ≡ Some (record { name = result.0.now; value = result.1.now }) }
+        ensures { slice_get self.now.attributes i
+            ≡ Some (record { name = result.0.now; value = result.1.now }) }
     {
         let attribute = &self.attributes[i];
         (&attribute.name, &attribute.value)

@@ -30,7 +30,8 @@ fn read_interface(bytes: &[u8]) -> Result<(ServiceInterface, &[u8]), Stop>
 
 // What follows that many interfaces.
 fn skip_interfaces(count: u32, bytes: &[u8]) -> Result<&[u8], Stop>
-    ensures { Finds (λ rest read. read.1 ≡ rest.now) result (times_at interface_at count bytes.now) }
+    ensures { Finds (λ rest read. read.1 ≡ rest.now) result
+        (times_at interface_at count bytes.now) }
 {
     let mut rest = bytes;
     for _ in 0..count {
@@ -71,7 +72,17 @@ struct FoundServer<'a> {
 // Finds a server record whole, and takes no room.
 #[tactic(auto, unfolding(crate::specs::Reading::server_at, crate::specs::Reading::list_at))]
 fn find_server(bytes: &[u8]) -> Result<(FoundServer<'_>, &[u8]), Stop>
-    ensures { Finds (λ x read. (times_at interface_at x.0.interface_count x.0.interfaces.now ≡ Ok (read.0.interfaces, x.1.now)) × (read ≡ (record { id = x.0.id; address = x.0.address; key = x.0.key.now; interfaces = read.0.interfaces }, x.1.now))) result (server_at bytes.now) }
+    ensures { Finds (λ x read. (times_at interface_at x.0.interface_count x.0.interfaces.now ≡ Ok
+        (read.0.interfaces, x.1.now)) × (read ≡ (
+          record {
+            id = x.0.id;
+            address = x.0.address;
+            key = x.0.key.now;
+            interfaces = read.0.interfaces;
+          },
+          x.1.now,
+        ))) result
+        (server_at bytes.now) }
 {
     let (id, rest) = read_u32(bytes)?;
     let (address, rest) = read_address(rest)?;
@@ -166,7 +177,20 @@ struct Head<'a> {
 
 #[tactic(auto, unfolding(crate::specs::Reading::head_at, crate::specs::Reading::list_at))]
 fn read_head(alloc: Global, bytes: &[u8]) -> Result<(Head<'_>, &[u8]), ReadError>
-    ensures { Reads (λ x. (head_of (x.0.version, ((x.0.protocol.0, x.0.protocol.1), (x.0.serial, (x.0.mask, (x.0.option, (x.0.filter.now, x.0.attributes.items)))))), x.1.now)) result (head_at bytes.now) }
+    ensures { Reads (λ x. (
+      head_of (
+        x.0.version,
+        (
+          (x.0.protocol.0, x.0.protocol.1),
+          (
+            x.0.serial,
+            (x.0.mask, (x.0.option, (x.0.filter.now, x.0.attributes.items))),
+          ),
+        ),
+      ),
+      x.1.now,
+    )) result
+        (head_at bytes.now) }
 {
     let (version, rest) = read_u16(bytes)?;
     let (protocol, rest) = read_pair(rest)?;

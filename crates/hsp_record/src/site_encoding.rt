@@ -10,7 +10,8 @@ use std::alloc::{AllocError, Global};
 
 fn put_attribute(out: &mut Vec<u8>, attribute: &Attribute) -> Result<(), AllocError>
     requires { IsAttribute attribute.now }
-    ensures { OnOk result (out.new.items ≡ out.old.items ++ joined (attribute_fields attribute.now)) }
+    ensures { OnOk result
+        (out.new.items ≡ out.old.items ++ joined (attribute_fields attribute.now)) }
 {
     put_run(out, &attribute.name)?;
     put_run(out, &attribute.value)?;
@@ -19,7 +20,8 @@ fn put_attribute(out: &mut Vec<u8>, attribute: &Attribute) -> Result<(), AllocEr
 
 fn put_attributes(out: &mut Vec<u8>, attributes: &[Attribute]) -> Result<(), AllocError>
     requires { IsCounted IsAttribute attributes.now }
-    ensures { OnOk result (out.new.items ≡ out.old.items ++ joined (list_fields attribute_fields attributes.now)) }
+    ensures { OnOk result
+        (out.new.items ≡ out.old.items ++ joined (list_fields attribute_fields attributes.now)) }
 {
     out.extend_from_slice(&(attributes.len() as u32).to_be_bytes())?;
     for attribute in attributes {
@@ -29,7 +31,8 @@ fn put_attributes(out: &mut Vec<u8>, attributes: &[Attribute]) -> Result<(), All
 }
 
 fn put_interface(out: &mut Vec<u8>, interface: &ServiceInterface) -> Result<(), AllocError>
-    ensures { OnOk result (out.new.items ≡ out.old.items ++ joined (interface_fields interface.now)) }
+    ensures { OnOk result
+        (out.new.items ≡ out.old.items ++ joined (interface_fields interface.now)) }
 {
     put_octet(out, interface.service_type)?;
     put_octet(out, interface.protocol)?;
@@ -39,7 +42,8 @@ fn put_interface(out: &mut Vec<u8>, interface: &ServiceInterface) -> Result<(), 
 
 fn put_interfaces(out: &mut Vec<u8>, interfaces: &[ServiceInterface]) -> Result<(), AllocError>
     requires { length interfaces.now < 2 ^ 32 }
-    ensures { OnOk result (out.new.items ≡ out.old.items ++ joined (list_fields interface_fields interfaces.now)) }
+    ensures { OnOk result
+        (out.new.items ≡ out.old.items ++ joined (list_fields interface_fields interfaces.now)) }
 {
     out.extend_from_slice(&(interfaces.len() as u32).to_be_bytes())?;
     for interface in interfaces {
@@ -61,7 +65,8 @@ fn put_server(out: &mut Vec<u8>, server: &ServerRecord) -> Result<(), AllocError
 
 fn put_servers(out: &mut Vec<u8>, servers: &[ServerRecord]) -> Result<(), AllocError>
     requires { IsCounted IsServer servers.now }
-    ensures { OnOk result (out.new.items ≡ out.old.items ++ joined (list_fields server_fields servers.now)) }
+    ensures { OnOk result
+        (out.new.items ≡ out.old.items ++ joined (list_fields server_fields servers.now)) }
 {
     out.extend_from_slice(&(servers.len() as u32).to_be_bytes())?;
     for server in servers {

@@ -54,7 +54,16 @@ impl<'a> Model for Value<'a> {
 
     ghost Value = { HandleValue };
 
-    ghost view = { λ v. record { index = v.index; type_octets = v.type_octets.now; octets = v.octets.now; permission = v.permission; ttl_kind = v.ttl_kind; ttl = v.ttl; timestamp = v.timestamp; references = v.references } };
+    ghost view = { λ v. record {
+      index = v.index;
+      type_octets = v.type_octets.now;
+      octets = v.octets.now;
+      permission = v.permission;
+      ttl_kind = v.ttl_kind;
+      ttl = v.ttl;
+      timestamp = v.timestamp;
+      references = v.references;
+    } };
 }
 
 impl<'a> Value<'a> {

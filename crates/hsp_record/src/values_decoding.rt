@@ -13,7 +13,8 @@ use std::collections::BTreeSet;
 // A reference to a value of another handle: that handle, and the value's index.
 #[tactic(auto, unfolding(crate::specs::Reading::reference_at))]
 fn read_reference(bytes: &[u8]) -> Result<((&[u8], u32), &[u8]), Stop>
-    ensures { Gives (λ x. (record { handle = x.0.0.now; index = x.0.1 }, x.1.now)) result (reference_at bytes.now) }
+    ensures { Gives (λ x. (record { handle = x.0.0.now; index = x.0.1 }, x.1.now)) result
+        (reference_at bytes.now) }
 {
     let (handle, rest) = read_run(bytes)?;
     let (index, rest) = read_u32(rest)?;
@@ -22,7 +23,8 @@ fn read_reference(bytes: &[u8]) -> Result<((&[u8], u32), &[u8]), Stop>
 
 // What follows that many references.
 fn skip_references(count: u32, bytes: &[u8]) -> Result<&[u8], Stop>
-    ensures { Finds (λ rest read. read.1 ≡ rest.now) result (times_at reference_at count bytes.now) }
+    ensures { Finds (λ rest read. read.1 ≡ rest.now) result
+        (times_at reference_at count bytes.now) }
 {
     let mut rest = bytes;
     for _ in 0..count {

@@ -9,7 +9,8 @@ use crate::writing::{put_octet, put_run};
 use std::alloc::{AllocError, Global};
 
 fn put_references(out: &mut Vec<u8>, references: &References) -> Result<(), AllocError>
-    ensures { OnOk result (out.new.items ≡ out.old.items ++ joined (list_fields reference_fields references.now)) }
+    ensures { OnOk result
+        (out.new.items ≡ out.old.items ++ joined (list_fields reference_fields references.now)) }
 {
     out.extend_from_slice(&references.count.to_be_bytes())?;
     out.extend_from_slice(references.octets)?;
@@ -33,7 +34,8 @@ fn put_value(out: &mut Vec<u8>, value: &Value) -> Result<(), AllocError>
 
 fn put_values(out: &mut Vec<u8>, values: &[Value]) -> Result<(), AllocError>
     requires { IsCounted IsValue values.now }
-    ensures { OnOk result (out.new.items ≡ out.old.items ++ joined (list_fields value_fields values.now)) }
+    ensures { OnOk result
+        (out.new.items ≡ out.old.items ++ joined (list_fields value_fields values.now)) }
 {
     out.extend_from_slice(&(values.len() as u32).to_be_bytes())?;
     for value in values {

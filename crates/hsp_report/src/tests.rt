@@ -269,7 +269,8 @@ fn verdict_twice(
     instance: &Instance,
     certificate: &Certificate,
 ) -> Result<Verdict, AllocError>
-    ensures { IfOk result (λ verdict. verdict ≡ Yes → IsValid (network_of instance.now) certificate.now) }
+    ensures { IfOk result
+        (λ verdict. verdict ≡ Yes → IsValid (network_of instance.now) certificate.now) }
 {
     match check(alloc, instance, certificate) {
         Err(AllocError) => check(alloc, instance, certificate),

@@ -14,7 +14,8 @@ use std::alloc::{AllocError, Global};
 /// The greatest cost, 0 where there is none.
 pub fn greatest(costs: &[u64]) -> u64
     ensures bound { (k : ℕ) → k < length costs.now → slice_index costs.now k ≤ result }
-    ensures attained { (result ≡ 0) ⊎ ((k : ℕ) × (k < length costs.now) × (slice_index costs.now k ≡ result)) }
+    ensures attained { (result ≡ 0) ⊎ ((k : ℕ) × (k < length costs.now)
+        × (slice_index costs.now k ≡ result)) }
 {
     let mut most = 0;
     for cost in costs {
@@ -68,7 +69,8 @@ fn are_kept(
     requires lengths { HasLengths (problem_of network.now) plan.now }
     requires loads { length loads.now ≡ length network.now.capacities.now }
     requires hosted { length hosted.now ≡ length network.now.limits.now }
-    ensures { IsTrue result → AreKept (problem_of network.now) plan.now sent.now loads.now hosted.now }
+    ensures { IsTrue result
+        → AreKept (problem_of network.now) plan.now sent.now loads.now hosted.now }
 {
     sent == network.demands
         && are_loaded(network.capacities, loads, &plan.server_prices)
@@ -125,7 +127,8 @@ fn is_met(alloc: Global, network: &Network<'_>, plan: &PricedFlow) -> Result<boo
 pub fn accepts(alloc: Global, network: &Network<'_>, outcome: &Outcome) -> Result<bool, AllocError>
     ensures right { IfOk result (λ yes. IsTrue yes → Answers (problem_of network.now) outcome.now) }
     // No short set is refused.
-    ensures short { IfOk result (λ yes. IsShortAnswer (problem_of network.now) outcome.now → IsTrue yes) }
+    ensures short { IfOk result
+        (λ yes. IsShortAnswer (problem_of network.now) outcome.now → IsTrue yes) }
 {
     match outcome {
         Outcome::Met(plan) => is_met(alloc, network, plan),

@@ -26,8 +26,10 @@ pub(crate) struct PricedArcs<'a> {
     ghost servers_many: { length servers.now ≡ length sources.now },
     ghost costs_many: { length costs.now ≡ length sources.now },
     ghost flows_many: { length flows.now ≡ length sources.now },
-    ghost sources_in: { (k : ℕ) → k < length sources.now → slice_index sources.now k < length source_prices.now },
-    ghost servers_in: { (k : ℕ) → k < length sources.now → slice_index servers.now k < length paid.now },
+    ghost sources_in: { (k : ℕ) → k < length sources.now
+        → slice_index sources.now k < length source_prices.now },
+    ghost servers_in: { (k : ℕ) → k < length sources.now
+        → slice_index servers.now k < length paid.now },
 }
 
 impl<'a> PricedArcs<'a> {
@@ -53,8 +55,10 @@ impl<'a> PricedArcs<'a> {
         requires unsent { AreZero sent.old }
         requires unloaded { AreZero loads.old }
         ensures priced { IsTrue result → ArePriced self.entry }
-        ensures sent { IsTrue result → AreCarried self.entry.sources.now self.entry.flows.now sent.new }
-        ensures loads { IsTrue result → AreCarried self.entry.servers.now self.entry.flows.now loads.new }
+        ensures sent { IsTrue result
+            → AreCarried self.entry.sources.now self.entry.flows.now sent.new }
+        ensures loads { IsTrue result
+            → AreCarried self.entry.servers.now self.entry.flows.now loads.new }
     {
         for arc in 0..self.sources.len() {
             if !self.is_priced(arc) {
@@ -121,7 +125,8 @@ pub(crate) fn paid_at(
     requires servers { length server_prices.now ≡ length hosts.now }
     requires hosts { HostsAreBelow (length host_prices.now) hosts.now }
     ensures len { IfOk result (λ made. IfSome made (λ paid. vec_len paid ≡ length hosts.now)) }
-    ensures paid { IfOk result (λ made. IfSome made (λ paid. ArePaid hosts.now server_prices.now host_prices.now paid.items)) }
+    ensures paid { IfOk result (λ made.
+        IfSome made (λ paid. ArePaid hosts.now server_prices.now host_prices.now paid.items)) }
 {
     let mut paid = vec![in alloc; 0; hosts.len()]?;
     if fill_paid(&mut paid, hosts, server_prices, host_prices) {

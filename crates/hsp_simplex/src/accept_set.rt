@@ -99,7 +99,8 @@ fn hosted_room(limits: &[u64], rooms: &[u128]) -> u128
 fn reached_by(alloc: Global, network: &Network<'_>, set: &[bool]) -> Result<Vec<bool>, AllocError>
     requires set { length set.now ≡ length network.now.demands.now }
     ensures len { IfOk result (λ reached. vec_len reached ≡ length network.now.capacities.now) }
-    ensures reached { IfOk result (λ reached. AreReached (problem_of network.now) set.now reached.items) }
+    ensures reached { IfOk result
+        (λ reached. AreReached (problem_of network.now) set.now reached.items) }
 {
     let mut reached = vec![in alloc; false; network.capacities.len()]?;
     flag_reached(network, set, &mut reached);
@@ -137,7 +138,8 @@ fn host_rooms(
 // What the servers that the set may use can take.
 fn reached_capacity(alloc: Global, network: &Network<'_>, set: &[bool]) -> Result<u128, AllocError>
     requires set { length set.now ≡ length network.now.demands.now }
-    ensures { IfOk result (λ capacity. capacity ≡ capacity_of (problem_of network.now) (flag_at set.now)) }
+    ensures { IfOk result
+        (λ capacity. capacity ≡ capacity_of (problem_of network.now) (flag_at set.now)) }
 {
     let reached = reached_by(alloc, network, set)?;
     let rooms = rooms_of(alloc, network.capacities, &reached)?;

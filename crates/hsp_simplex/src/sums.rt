@@ -9,7 +9,8 @@ use std::alloc::{AllocError, Global};
 /// Adds the amount to the sum at the place, or tells that this wraps.
 pub(crate) fn add(sums: &mut [u64], place: usize, amount: u64) -> bool
     requires { place < length sums.old }
-    ensures { IsTrue result → (v : ℕ) → slice_index sums.new v ≡ slice_index sums.old v + only place v amount }
+    ensures { IsTrue result → (v : ℕ)
+        → slice_index sums.new v ≡ slice_index sums.old v + only place v amount }
 {
     if amount == 0 {
         return true;
@@ -50,7 +51,8 @@ pub(crate) fn host_sums(
     requires many { length numbers.now ≡ length hosts.now }
     requires hosts { HostsAreBelow count hosts.now }
     ensures len { IfOk result (λ made. IfSome made (λ sums. vec_len sums ≡ count)) }
-    ensures sums { IfOk result (λ made. IfSome made (λ sums. AreHosted hosts.now numbers.now sums.items)) }
+    ensures sums { IfOk result
+        (λ made. IfSome made (λ sums. AreHosted hosts.now numbers.now sums.items)) }
 {
     let mut sums = vec![in alloc; 0; count]?;
     if add_hosts(&mut sums, hosts, numbers) {

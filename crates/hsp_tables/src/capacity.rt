@@ -102,7 +102,8 @@ fn capacity_in(number: u32, fields: &ByteRecord) -> Result<CapacityRow<'_>, Tabl
 
 // Adds the row of a further record to the rows.
 fn add_record(alloc: Global, rows: &mut ServerRows, fields: &ByteRecord) -> Result<(), TableFault>
-    ensures ok { OnOk result (with_row (row_after capacity_table) rows.old (fields_of fields.now) ≡ Ok rows.new) }
+    ensures ok { OnOk result
+        (with_row (row_after capacity_table) rows.old (fields_of fields.now) ≡ Ok rows.new) }
     ensures err { IfErr result (λ e. (e ≡ OutOfMemory)
         ⊎ (with_row (row_after capacity_table) rows.old (fields_of fields.now) ≡ Err e)) }
 {

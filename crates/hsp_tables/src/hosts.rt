@@ -25,7 +25,8 @@ pub(crate) struct Host {
 
 // The address of a host.
 fn host_address(number: u32, value: Option<&Value>) -> Result<[u8; 16], TableFault>
-    ensures { Gives (λ a. a) result (host_address number (option_map (λ v. view v.now) value.entry)) }
+    ensures { Gives (λ a. a) result
+        (host_address number (option_map (λ v. view v.now) value.entry)) }
 {
     let fault = TableFault::BadHost { host: number };
     let text = text_of(fault, value)?;

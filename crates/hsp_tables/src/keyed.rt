@@ -130,8 +130,10 @@ impl PairRows {
 
     // Adds a row whose key is new, and tells whether it is.
     pub(crate) fn insert(&mut self, alloc: Global, row: PairRow<'_>) -> Result<bool, TableFault>
-        ensures found { IfOk result (λ new. new ≡ not (list_any (same_pair (pair_of row.entry)) self.old)) }
-        ensures added { IfOk result (λ new. new ≡ true → self.new ≡ self.old ++ pair_of row.entry ∷ []) }
+        ensures found { IfOk result
+            (λ new. new ≡ not (list_any (same_pair (pair_of row.entry)) self.old)) }
+        ensures added { IfOk result
+            (λ new. new ≡ true → self.new ≡ self.old ++ pair_of row.entry ∷ []) }
         ensures err { IfErr result (λ e. e ≡ OutOfMemory) }
     {
         insert_pair(alloc, &mut self.rows, row)

@@ -32,9 +32,15 @@ impl Model for Settings {
 
     ghost Value = { SettingsEntries };
 
-    ghost view = { λ t. record { sites = map site_entry t.sites.items; hosts = map host_entry t.hosts.items } };
+    ghost view = { λ t. record {
+      sites = map site_entry t.sites.items;
+      hosts = map host_entry t.hosts.items;
+    } };
 
-    ghost invariant = { λ t. AreSettings (record { sites = map site_entry t.sites.items; hosts = map host_entry t.hosts.items }) };
+    ghost invariant = { λ t. AreSettings (record {
+      sites = map site_entry t.sites.items;
+      hosts = map host_entry t.hosts.items;
+    }) };
 }
 
 impl Settings {
@@ -59,7 +65,8 @@ impl Settings {
     /// What the site of a number below [`Settings::len`] is read from.
     pub fn source(&self, number: u32) -> Source<'_>
         requires { number < length self.now.sites }
-        ensures { option_map (λ s. s.source) (slice_get self.now.sites number) ≡ Some (source_shown result) }
+        ensures { option_map (λ s. s.source) (slice_get self.now.sites number)
+            ≡ Some (source_shown result) }
     {
         match &self.sites[number as usize].source {
             OwnedSource::Octets(octets) => Source::Octets(octets.as_slice()),
@@ -79,7 +86,8 @@ impl Settings {
     /// The address and the limit of the host of a number below [`Settings::host_count`].
     pub fn host(&self, number: u32) -> ([u8; 16], u64)
         requires { number < length self.now.hosts }
-        ensures { slice_get self.now.hosts number ≡ Some (record { address = result.0; limit = result.1 }) }
+        ensures { slice_get self.now.hosts number
+            ≡ Some (record { address = result.0; limit = result.1 }) }
     {
         let host = &self.hosts[number as usize];
         (host.address, host.limit)

@@ -42,7 +42,8 @@ pub(crate) struct Site {
 
 // The name of a site.
 fn site_name(number: u32, value: Option<&Value>) -> Result<&[u8], TableFault>
-    ensures { Gives (λ o. o.now) result (site_name number (option_map (λ v. view v.now) value.entry)) }
+    ensures { Gives (λ o. o.now) result
+        (site_name number (option_map (λ v. view v.now) value.entry)) }
 {
     let fault = TableFault::BadSite { site: number };
     let name = text_of(fault, value)?.as_bytes();

@@ -40,7 +40,8 @@ pub fn locate_answer(alloc: Global, locate: &Locate, handle: &[u8]) -> Result<An
 
 /// The fields of a site record, or of that in the value with an index.
 pub fn site_answer(alloc: Global, octets: &[u8], index: Option<&[u8]>) -> Result<Answer, Failure>
-    ensures { IsAnswered fields_told (IsSiteRun octets.now (option_map (λ digits. digits.now) index.entry)) result }
+    ensures { IsAnswered fields_told
+        (IsSiteRun octets.now (option_map (λ digits. digits.now) index.entry)) result }
 {
     let text = site_run(alloc, octets, index)?;
     Ok(Answer { text, status: 0 })

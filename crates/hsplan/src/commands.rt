@@ -23,7 +23,8 @@ fn read_named<S: FileSource>(
     files: &S,
     path: &Option<Word>,
 ) -> Result<Option<Vec<u8>>, Failure>
-    ensures octets { IfOk result (λ octets. HoldsNamed (S.disk files.now) path.now (option_map (λ v. v.items) octets)) }
+    ensures octets { IfOk result
+        (λ octets. HoldsNamed (S.disk files.now) path.now (option_map (λ v. v.items) octets)) }
     ensures unread { IfErr result (IsUnread (FailsNamed (S.disk files.now) path.now)) }
 {
     match path {
@@ -56,7 +57,8 @@ fn locate_place(
     servers: &Word,
     handle: &Word,
 ) -> Result<Answer, Failure>
-    ensures { IsAnswered text_told (λ text. text ≡ placed option.now servers.now handle.now) result }
+    ensures { IsAnswered text_told (λ text.
+        text ≡ placed option.now servers.now handle.now) result }
 {
     let option = Vec::from_slice(alloc, option.as_bytes())?;
     let servers = Vec::from_slice(alloc, servers.as_bytes())?;
@@ -148,7 +150,8 @@ fn carry_out<S: FileSource, O: Output>(
     order: &Order,
     out: &mut O,
 ) -> Result<Completed, Failure>
-    ensures { CarriesOut (S.disk files.now) O.may_fail order.now (O.contents out.old) (O.contents out.new) result }
+    ensures { CarriesOut (S.disk files.now) O.may_fail order.now (O.contents out.old)
+        (O.contents out.new) result }
 {
     match order {
         Order::LocatePlace {

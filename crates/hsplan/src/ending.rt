@@ -25,7 +25,8 @@ pub fn last_line(alloc: Global, ended: &Result<Completed, Failure>) -> Result<Ve
 
 // Writes a text, and gives the status, which becomes 5 where the write failed.
 fn write_line<E: Output>(errors: &mut E, line: &[u8], status: u8) -> u8
-    ensures { TellsBy E.may_fail line.now status (E.contents errors.old) (E.contents errors.new) result }
+    ensures { TellsBy E.may_fail line.now status (E.contents errors.old)
+        (E.contents errors.new) result }
 {
     match errors.put(line) {
         Ok(()) => status,
@@ -35,7 +36,8 @@ fn write_line<E: Output>(errors: &mut E, line: &[u8], status: u8) -> u8
 
 // Writes the line or, where memory ran out for it, that it ran out, and gives the status to end with.
 fn tell_line<E: Output>(errors: &mut E, line: &Result<Vec<u8>, AllocError>, status: u8) -> u8
-    ensures { TellsLine E.may_fail line.now status (E.contents errors.old) (E.contents errors.new) result }
+    ensures { TellsLine E.may_fail line.now status (E.contents errors.old)
+        (E.contents errors.new) result }
 {
     match line {
         Ok(line) => write_line(errors, line.as_slice(), status),
@@ -45,7 +47,8 @@ fn tell_line<E: Output>(errors: &mut E, line: &Result<Vec<u8>, AllocError>, stat
 
 // Tells of the failure, of a refused input by the line, and gives the status to end with.
 fn tell<E: Output>(errors: &mut E, failure: &Failure, line: &Result<Vec<u8>, AllocError>) -> u8
-    ensures { Tells E.may_fail failure.now line.now (E.contents errors.old) (E.contents errors.new) result }
+    ensures { Tells E.may_fail failure.now line.now (E.contents errors.old)
+        (E.contents errors.new) result }
 {
     match failure {
         Failure::Usage => write_line(errors, b"hsplan: Usage\n", 2),
@@ -63,7 +66,8 @@ pub fn end_with<E: Output>(
     ended: &Result<Completed, Failure>,
     line: &Result<Vec<u8>, AllocError>,
 ) -> u8
-    ensures { Ends E.may_fail ended.now line.now (E.contents errors.old) (E.contents errors.new) result }
+    ensures { Ends E.may_fail ended.now line.now (E.contents errors.old)
+        (E.contents errors.new) result }
 {
     match ended {
         Ok(completed) if completed.sums.is_some() => tell_line(errors, line, completed.status),

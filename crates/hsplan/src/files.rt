@@ -44,8 +44,10 @@ pub trait FileSource {
 
     /// The file at this path, to be read.
     fn open(&self, path: &Word) -> Result<Self::File, Failure>
-        ensures held { IfOk result (λ file. HoldsRest (disk self.now) path.now (Self.File.remaining file)) }
-        ensures stops { IfOk result (λ file. Self.File.may_fail file → (disk self.now).fails path.now) }
+        ensures held { IfOk result
+            (λ file. HoldsRest (disk self.now) path.now (Self.File.remaining file)) }
+        ensures stops { IfOk result
+            (λ file. Self.File.may_fail file → (disk self.now).fails path.now) }
         ensures unopened { IfErr result (IsUnread ((disk self.now).fails path.now)) };
 }
 
