@@ -9,10 +9,12 @@ use Rattle.hsp_dispatch.specs.Laws.{IsByHash}
 use Rattle.hsp_instance.specs.Instance.{Instance}
 use Rattle.hsp_runs.specs.Accepted.{IsAcceptedOf}
 use Rattle.hsp_dispatch.specs.Runs.{Streams}
+use Rattle.hsp_dispatch.specs.declared.answer.FrontSums.{FrontSums}
 use Rattle.hsp_dispatch.specs.declared.answer.LogSums.{LogSums}
-use Rattle.hsp_runs.specs.Dispatch.{IsDispatched}
-use Rattle.hsp_runs.specs.Headline.{Defines, ShowsLogOf}
+use Rattle.hsp_runs.specs.Dispatch.{IsDispatched, IsDispatchedAt}
+use Rattle.hsp_runs.specs.Headline.{Defines}
 use Rattle.hsp_runs.specs.Instance.{IsInstanceOf}
+use Rattle.hsp_runs.specs.Logs.{ShowsFrontsOf, ShowsLogOf}
 use Rattle.hsp_runs.specs.declared.accepted.Accepted.{Accepted}
 use Rattle.hsp_runs.specs.declared.fault.Fault.{Fault}
 use Rattle.hsp_runs.specs.declared.inputs.Inputs.{Inputs}
@@ -41,8 +43,17 @@ AcceptsTheDefined = (inputs : Inputs) (it : Instance) → Defines inputs it → 
 
 -- and they give nothing else: no fault stands beside it, and no other instance
 abbrev pub GivesNothingElse : Type 0
-GivesNothingElse = (inputs : Inputs) (it : Instance) (answer : Result Instance Fault) → Defines inputs it → IsInstanceOf inputs answer → answer ≡ Ok it
+GivesNothingElse =
+    (inputs : Inputs) (it : Instance) (answer : Result Instance Fault)
+    → Defines inputs it → IsInstanceOf inputs answer → answer ≡ Ok it
 
--- a log that was answered to its end, with its sums, shows what the page says of it
+-- what a dispatcher answers, and fronts, to the end of a log or up to a fault, shows what the page says of it
 abbrev pub DispatchedLogsShow : Type 0
-DispatchedLogsShow = (inputs : Inputs) (octets : List ℕ) (run : Streams) (sums : LogSums) → IsDispatched inputs octets run (Ok sums) → ShowsLogOf inputs octets run sums
+DispatchedLogsShow =
+    (inputs : Inputs) (octets : List ℕ) (run : Streams) (answer : Result LogSums Fault)
+    → IsDispatched inputs octets run answer → ShowsLogOf inputs octets run answer
+
+abbrev pub FrontsLogsShow : Type 0
+FrontsLogsShow =
+    (word : List ℕ) (inputs : Inputs) (octets : List ℕ) (run : Streams) (answer : Result FrontSums Fault)
+    → IsDispatchedAt word inputs octets run answer → ShowsFrontsOf word inputs octets run answer

@@ -7,6 +7,7 @@ pub mod Instance
 pub mod Shown
 pub mod Told
 pub mod Headline
+pub mod Logs
 pub mod Check
 pub mod Accepted
 pub mod VerdictText

@@ -1,4 +1,5 @@
-use Rattle.hsp_runs.proofs.ShownLog.{shown_where}
+use Rattle.std.proofs.Common.{inl, refl}
+use Rattle.hsp_runs.proofs.ShownLog.{shown_nothing, shown_where}
 use Rattle.hsp_runs.proofs.dispatch.dispatch_run.Goals as goal
 
 pub returns-clause-shows : goal.returns-clause-shows
