@@ -1,5 +1,5 @@
 -- What a run over a log shows of inputs and a certificate.
-use Rattle.std.proofs.Common.{◌≡◌, ◌≢◌, ◌∙◌, ◌⊎◌, inl, inr, ℕ, List, [], ◌∷◌, ◌++◌, Option, None, Some, Result, Ok, Err, map, refl, sym, subst}
+use Rattle.std.proofs.Common.{◌≡◌, ◌≢◌, ◌∙◌, ◌⊎◌, inl, inr, ℕ, List, [], ◌∷◌, ◌++◌, Option, None, Some, Result, Ok, Err, IsErrAnd, map, refl, sym, subst}
 use Rattle.hsp_csv.specs.Records.{Fields}
 use Rattle.hsp_instance.specs.Instance.{Instance}
 use Rattle.hsp_cert.specs.Certificate.{Best, Claim}
@@ -32,6 +32,7 @@ use Rattle.hsp_runs.specs.declared.inputs.Inputs.{Inputs}
 use Rattle.hsp_text.specs.Answers.{Then, told_as}
 use Rattle.hsp_runs.specs.Laws.{DispatchedLogsShow}
 use Rattle.hsp_runs.proofs.ByHash.{logs_go_by_hash, went_on}
+use Rattle.hsp_runs.proofs.Dispatching.{is_fault}
 use Rattle.hsp_runs.proofs.Ending.{ends}
 use Rattle.hsp_runs.proofs.NoLog.{no_log}
 use Rattle.hsp_runs.proofs.PageRead.{gives_the_defined, is_instance}
@@ -156,7 +157,9 @@ shown_where inputs octets accepted run answer is defines holds answered =
 -- ---- nothing was answered
 
 -- the inputs or the certificate were refused, and the writer holds what it held
-pub shown_nothing : {S : Type 0} (inputs : Inputs) (octets : List ℕ) (run : Streams) (fault : Fault) → run.after ≡ run.before
-    → (fault ≡ OutOfMemory) ⊎ IsAcceptedOf inputs octets (Err fault) → IsRefused {S = S} run (Err fault)
-shown_nothing inputs octets run fault same (inl memory) = refused run fault (Err fault) (λ of e. of_memory of (sym memory ∙ e)) (same, refl)
-shown_nothing inputs octets run fault same (inr is) = refused run fault (Err fault) (λ of e. no_log inputs octets fault of is e) (same, refl)
+pub shown_nothing : {S : Type 0} (inputs : Inputs) (octets : List ℕ) (run : Streams) (fault : Fault) (answer : Result S Fault) → run.after ≡ run.before
+    → IsErrAnd answer (λ e. e ≡ fault) → (fault ≡ OutOfMemory) ⊎ IsAcceptedOf inputs octets (Err fault) → IsRefused run answer
+shown_nothing inputs octets run fault answer same told (inl memory) =
+    refused run fault answer (λ of e. of_memory of (sym memory ∙ e)) (same, sym (is_fault answer fault told))
+shown_nothing inputs octets run fault answer same told (inr is) =
+    refused run fault answer (λ of e. no_log inputs octets fault of is e) (same, sym (is_fault answer fault told))
