@@ -1,5 +1,5 @@
 -- Faults before a log is read are not the log's.
-use Rattle.std.proofs.Common.{◌≡◌, ◌≢◌, ◌∙◌, ℕ, List, Option, Some, None, Result, Ok, Err, sym}
+use Rattle.std.proofs.Common.{◌≡◌, ◌≢◌, ℕ, List, Option, Some, None, Result, Ok, Err}
 use Rattle.hsp_text.specs.Answers.{Then, told_as}
 use Rattle.hsp_record.specs.Values.{HandleValue}
 use Rattle.hsp_instance.specs.Instance.{Instance}
@@ -7,9 +7,8 @@ use Rattle.hsp_cert.specs.Certificate.{Claim}
 use Rattle.hsp_dispatch.specs.declared.fault.LogFault.{LogFault}
 use Rattle.hsp_runs.specs.Accepted.{IsAccepted, IsAcceptedOf}
 use Rattle.hsp_runs.specs.Check.{IsCertificate}
-use Rattle.hsp_runs.specs.Instance.{AreCapacities, AreCosts, IsBuilt, IsDemand, IsInstanceOf, IsWithCosts, IsWithDemand, IsWithSettings, IsWithValues}
-use Rattle.hsp_runs.specs.Readings.{AreListed, AreSettings, AreValues, some_list}
-use Rattle.hsp_runs.specs.declared.accepted.Accepted.{Accepted}
+use Rattle.hsp_runs.specs.Instance.{IsBuilt, IsInstanceOf, IsWithCosts, IsWithDemand, IsWithSettings, IsWithValues}
+use Rattle.hsp_runs.specs.Readings.{AreListed, AreValues, some_list}
 use Rattle.hsp_runs.specs.declared.fault.Fault.{Fault}
 use Rattle.hsp_runs.specs.declared.fault.Fault.TheVariants.{BadFronts, BadIndex, BadOption, BadServers, Build, Capacity, Cert, Costs, Demand, Handle, Log, NoValue, NotSiteValue, OutOfMemory, Refused, Settings, Site, Values, WrongKind}
 use Rattle.hsp_runs.specs.declared.inputs.Inputs.{Inputs}

@@ -8,7 +8,6 @@ use Rattle.hsp_instance.specs.Building as building
 use Rattle.hsp_instance.specs.Building.{IsBuilt}
 use Rattle.hsp_instance.specs.Instance.{Instance, IsInstance}
 use Rattle.hsp_runs.specs.Told as told
-use Rattle.hsp_runs.specs.Headline.{Defines}
 use Rattle.hsp_runs.specs.Instance.{IsInstanceOf}
 use Rattle.hsp_runs.specs.Laws.{AcceptsTheDefined, GivesTheDefined}
 use Rattle.hsp_runs.specs.Readings.{AreListed, AreValues, some_list}

@@ -1,6 +1,5 @@
 -- What a run of fronts over a log shows of inputs and a certificate.
-use Rattle.std.proofs.Common.{◌≡◌, ◌≢◌, ◌∙◌, ◌<◌, ◌≤◌, ◌^◌, ◌⊎◌, inl, inr, ℕ, zero, suc, Bool, true, false, List, [], ◌∷◌, ◌++◌, Result, Ok, Err, decimal, map, refl, ap, ap₂, sym, arith}
-use Rattle.std.specs.Prelude.{nat_lt}
+use Rattle.std.proofs.Common.{◌≡◌, ◌≢◌, ◌∙◌, ◌<◌, ◌≤◌, ◌⊎◌, inl, inr, ℕ, zero, suc, List, [], ◌∷◌, ◌++◌, Result, Ok, Err, decimal, map, refl, ap, ap₂, sym, arith}
 use Rattle.std.proofs.lemmas.Bool.{cases_eq, cases_lt, eq-eqb, le-ltb, lt-ltb, ne_eqb}
 use Rattle.std.proofs.lemmas.List.{append-nil}
 use Rattle.hsp_text.specs.Whole.{whole_within}
@@ -15,13 +14,12 @@ use Rattle.hsp_check.specs.Plan.{Plan}
 use Rattle.hsp_check.specs.Uses.{table}
 use Rattle.hsp_names.specs.Handle.{ReadingsAreHandles}
 use Rattle.hsp_dispatch.specs.Desks.{AnswersEvents, answers_by, by_fronts}
-use Rattle.hsp_dispatch.specs.Dispatch.{Entry, IsSame, answer_to, answers, answers_after}
-use Rattle.hsp_dispatch.specs.Fronts.{AreFrontsOf, Event, Tables, answers_at, entries_at, event_answer, event_answers_after, fronts_of, front_answers, front_sums_of, left_at_front, share_of, shares_of}
+use Rattle.hsp_dispatch.specs.Dispatch.{Entry, IsSame, answer_to, answers_after}
+use Rattle.hsp_dispatch.specs.Fronts.{AreFrontsOf, Event, Tables, answers_at, entries_at, event_answer, event_answers_after, front_answers, front_sums_of, left_at_front, share_of, shares_of}
 use Rattle.hsp_dispatch.specs.Lines.{front_line}
 use Rattle.hsp_dispatch.specs.Runs.{Streams}
-use Rattle.hsp_dispatch.specs.declared.answer.Answer.{Answer}
 use Rattle.hsp_dispatch.specs.declared.answer.FrontAnswer.{FrontAnswer}
-use Rattle.hsp_dispatch.specs.declared.answer.FrontAnswer.TheVariants.{Answered, NoFront}
+use Rattle.hsp_dispatch.specs.declared.answer.FrontAnswer.TheVariants.{Answered}
 use Rattle.hsp_dispatch.specs.declared.answer.FrontSums.{FrontSums}
 use Rattle.hsp_dispatch.specs.declared.fault.LogFault.{LogFault}
 use Rattle.hsp_dispatch.proofs.FrontLaws.{never_exceeds_together}
@@ -39,7 +37,7 @@ use Rattle.hsp_runs.specs.declared.inputs.Inputs.{Inputs}
 use Rattle.hsp_runs.proofs.ByHash.{logs_go_by_hash}
 use Rattle.hsp_runs.proofs.Ending.{ends}
 use Rattle.hsp_runs.proofs.PageRows.{whole_is}
-use Rattle.hsp_runs.proofs.ShownLog.{refused, same_answer, shown_by, shown_nothing, shown_of}
+use Rattle.hsp_runs.proofs.ShownLog.{refused, same_answer, shown_by, shown_of}
 
 -- ---- the answers by shares
 
@@ -110,7 +108,7 @@ log_at inputs octets fronts some run answer accepted c is kind (old, new, are, e
     let x = table c.uses in
     record {
       answered = ends (by_fronts old new) (by_shares it fronts x) run refl
-      (answers_events it x fronts old new are) (λ sums. sums) answer end;
+          (answers_events it x fronts old new are) (λ sums. sums) answer end;
       each = λ events front inside. at_front it fronts x front inside [] events;
       within = λ events row site. never_exceeds_together it fronts x events row site some;
       by_hash = (logs_go_by_hash inputs octets accepted c is kind).share fronts;

@@ -1,8 +1,8 @@
 -- The headline on one page: which inputs are accepted, which instance they define, and what plans show of it.
 -- These are relations between texts and what they hold, without faults. laws.rt ties them to the runs.
 --
--- Read elsewhere: handles in hsp_names/specs/Handle.antt (RFC 3651, section 2), value lists and site records in
--- hsp_record/specs (RFC 3651, sections 3.1 and 3.2.2), the responsible server in hsp_hash/specs/Place.antt
+-- Read before it: handles in hsp_names/specs/Handle.antt (RFC 3651, section 2), value lists and site records
+-- in hsp_record/specs (RFC 3651, sections 3.1 and 3.2.2), the responsible server in hsp_hash/specs/Place.antt
 -- (RFC 3652, section 3.1.3), how documents and tables tell rows in Told.antt.
 use Rattle.std.specs.Prelude.{◌≡◌, ◌≢◌, ◌≤◌, ◌==◌, ◌&&◌, ◌↔◌, IsUtf8, true, ℕ, List, [], ◌∷◌, codes, decimal}
 use Rattle.std.specs.Prelude.{Option, Some, None, length, map, option_map}
@@ -28,8 +28,8 @@ use Rattle.hsp_runs.specs.declared.inputs.Inputs.{Inputs}
 -- ---- settings
 
 -- a TOML document, as the `toml` crate reads it, lists sites and hosts: no two of one name or of one address
-pub record AreSettings (values : Option (List HandleValue)) (text : List ℕ) (sites : List Site) (hosts : List Host)
-    : Type 0 where
+pub record AreSettings (values : Option (List HandleValue)) (text : List ℕ) (sites : List Site)
+    (hosts : List Host) : Type 0 where
   pub utf8 : IsUtf8 text
   pub document : Members
   pub read : parse_document text ≡ Some document
@@ -46,7 +46,8 @@ pub record AreSettings (values : Option (List HandleValue)) (text : List ℕ) (s
 
 abbrev pub IsDemand : Row → Type 0
 IsDemand row =
-    (is_name row.region ≡ true) × ((authority : List ℕ) × (local : List ℕ) × IsHandle row.handle authority local)
+    (is_name row.region ≡ true)
+    × ((authority : List ℕ) × (local : List ℕ) × IsHandle row.handle authority local)
     × (row.count ≤ GREATEST_COUNT)
 
 -- so many queries for a handle come from a region
@@ -90,8 +91,8 @@ StandsOn hosts address (Some n) =
     (host : Host) × (slice_get hosts n ≡ Some host) × (host.address ≡ address)
 StandsOn hosts address None = AllByRecursion (λ (host : Host). host.address ≢ address) hosts
 
--- the servers of the sites, one site after the other: each has the capacity of its site's name and its identifier,
--- and stands on the host of its address
+-- the servers of the sites, one site after the other: each has the capacity of its site's name and its
+-- identifier, and stands on the host of its address
 pub record AreServers (capacities : List CapacityEntry) (it : Instance) : Type 0 where
   pub count : length it.servers ≡ servers_of it.sites
   pub each : (n place : ℕ) (site : Site) (own : SiteServer)
@@ -134,8 +135,8 @@ pub record Defines (inputs : Inputs) (it : Instance) : Type 0 where
 
 -- ---- what plans show
 
--- What `plan` prints, and what `check` says Yes to, is the text of a certificate that holds for the instance of
--- the inputs: of a best plan with prices that show it, or of a short set, with which there is no plan. Shown.antt
--- says what holds (Network Flows, sections 1.2, 9.1, 9.3 and 6.7), and Logs.antt what `dispatch` and `fronts` do.
+-- What `plan` prints, and what `check` says Yes to, is the text of a certificate that holds for the instance
+-- of the inputs: of a best plan with prices that show it, or of a short set, with which there is no plan.
+-- Shown.antt says what holds, and Logs.antt what the logs that `dispatch` and `fronts` answer show.
 abbrev pub ShowsOf : Inputs → List ℕ → Type 0
 ShowsOf inputs octets = (instance : Instance) × Defines inputs instance × Shows octets instance

@@ -19,16 +19,19 @@ use Rattle.hsp_runs.specs.declared.accepted.Accepted.{Accepted}
 use Rattle.hsp_runs.specs.declared.fault.Fault.{Fault}
 use Rattle.hsp_runs.specs.declared.inputs.Inputs.{Inputs}
 
--- Where inputs and a certificate are accepted, each entry is answered by the server that is responsible for its handle by the hash option
--- of the site, among the servers of the site's record: by the certificate's plan, and by any front's share of it.
+-- Where inputs and a certificate are accepted, each entry is answered by the server that is responsible for
+-- its handle by the hash option of the site: by the certificate's plan, and by any front's share of it.
 pub record AnswersByHash (accepted : Accepted) (claim : Best) : Type 0 where
-  pub plan : (earlier : List Entry) (entry : Entry) → IsByHash accepted.instance entry (answer_to accepted.instance (table claim.uses) earlier entry)
+  pub plan : (earlier : List Entry) (entry : Entry)
+      → IsByHash accepted.instance entry (answer_to accepted.instance (table claim.uses) earlier entry)
   pub share : (fronts front : ℕ) (earlier : List Entry) (entry : Entry)
-      → IsByHash accepted.instance entry (answer_to accepted.instance (share_of fronts front (table claim.uses)) earlier entry)
+      → IsByHash accepted.instance entry
+      (answer_to accepted.instance (share_of fronts front (table claim.uses)) earlier entry)
 
 abbrev pub LogsGoByHash : Type 0
 LogsGoByHash =
-    (inputs : Inputs) (octets : List ℕ) (accepted : Accepted) (claim : Best) → IsAcceptedOf inputs octets (Ok accepted) → accepted.certificate ≡ best claim
+    (inputs : Inputs) (octets : List ℕ) (accepted : Accepted) (claim : Best)
+    → IsAcceptedOf inputs octets (Ok accepted) → accepted.certificate ≡ best claim
     → AnswersByHash accepted claim
 
 -- ---- the page

@@ -1,4 +1,5 @@
 pub mod FaultText
+pub mod Tells
 pub mod Input
 pub mod Locate
 pub mod SiteText

@@ -6,7 +6,8 @@ use Rattle.hsp_instance.specs.Instance.{Instance}
 use Rattle.hsp_check.specs.Plan.{Plan}
 use Rattle.hsp_dispatch.specs.Desks.{RefusesEvent, by_plan}
 use Rattle.hsp_dispatch.specs.Dispatch.{Entry, all_of, answer_to, answers, assigned_in}
-use Rattle.hsp_dispatch.specs.Fronts.{Event, answers_at, assigned_by_all, entries_at, front_answers, front_sums_of, share_of}
+use Rattle.hsp_dispatch.specs.Fronts.{Event, answers_at, assigned_by_all, entries_at, front_answers}
+use Rattle.hsp_dispatch.specs.Fronts.{front_sums_of, share_of}
 use Rattle.hsp_dispatch.specs.Laws.{IsByHash}
 use Rattle.hsp_dispatch.specs.Lines.{front_line}
 use Rattle.hsp_dispatch.specs.Log.{AreEvents, front_header}
@@ -21,17 +22,17 @@ use Rattle.hsp_runs.specs.declared.fault.Fault.{Fault}
 use Rattle.hsp_runs.specs.declared.fault.Fault.TheVariants.{Log, OutOfMemory}
 use Rattle.hsp_runs.specs.declared.inputs.Inputs.{Inputs}
 
--- A run answered the log to its end, and the sums count the answers; or it stopped at a fault, and has answered rows
--- from the log's beginning: their lines are written, of the last one perhaps a part. A log or a writer whose octets
--- no one knows, as a terminal's, may have any: then some rows were answered so, and some lines written.
+-- A run answered the log to its end, and the sums count the answers; or it stopped at a fault, when it had
+-- answered rows from the log's beginning and written their lines, of the last one perhaps a part. Of a log or
+-- a writer whose octets no one can know, as a terminal's, it says less: some rows were answered so.
 abbrev pub Ends : {S : Type 0} → (S → FrontSums) → Streams → Result S Fault → Desk → Type 0
 Ends all run (Ok sums) desk = EndsWhole desk run (all sums)
 Ends all run (Err (Log fault)) desk = StopsSomewhere desk run ⊎ StopsInLine desk run
 Ends all run (Err OutOfMemory) desk = StopsSomewhere desk run ⊎ StopsInLine desk run
 Ends all run (Err fault) desk = ⊥
 
--- The plan answered the log, or its beginning. Of no log are more entries of a row assigned to a site than the plan
--- sends there, and each goes to the server that is responsible for its handle by the hash option of the site.
+-- The plan answered the log, or its beginning. Of any entries no more of a row are assigned to a site than
+-- the plan sends there, each to the server that is responsible for its handle by the site's hash option.
 pub record IsLogOf (run : Streams) (answer : Result LogSums Fault) (it : Instance) (x : Plan) : Type 0 where
   pub left : Plan
   pub answered : Ends all_of run answer (by_plan it x left)
@@ -41,7 +42,8 @@ pub record IsLogOf (run : Streams) (answer : Result LogSums Fault) (it : Instanc
 -- the rows spell events, each answered by the share of its front
 abbrev pub AnswersByShares : Instance → ℕ → Plan → List Fields → List (List ℕ) → FrontSums → Type 0
 AnswersByShares it fronts x rows lines sums =
-    (events : List Event) × AreEvents rows events × (lines ≡ map (front_line it) (front_answers it fronts x events))
+    (events : List Event) × AreEvents rows events
+    × (lines ≡ map (front_line it) (front_answers it fronts x events))
     × (sums ≡ front_sums_of (front_answers it fronts x events))
 
 abbrev pub by_shares : Instance → ℕ → Plan → Desk
@@ -51,8 +53,8 @@ by_shares it fronts x = record {
   Refuses = RefusesEvent;
 }
 
--- So many fronts answered the log, or its beginning, each as a dispatcher that holds its share of the plan; and all
--- together keep within the plan.
+-- So many fronts answered the log, or its beginning, each as a dispatcher that holds its share of the plan.
+-- All together they assign no more of a row to a site than the plan sends there.
 pub record IsLogAt (fronts : ℕ) (run : Streams) (answer : Result FrontSums Fault) (it : Instance) (x : Plan)
     : Type 0 where
   pub answered : Ends (λ sums. sums) run answer (by_shares it fronts x)

@@ -1,6 +1,6 @@
 -- How tables tell their rows, values their octets, and the tables of a TOML document sites and hosts.
-use Rattle.std.specs.Prelude.{◌≡◌, ◌≤◌, ◌<◌, ◌==◌, ◌⊎◌, ⊤, Bool, true, ℕ, pos, List, [], ◌∷◌, codes, length, map, Option}
-use Rattle.std.specs.Prelude.{Some, None, Ok}
+use Rattle.std.specs.Prelude.{◌≡◌, ◌≤◌, ◌<◌, ◌==◌, ◌⊎◌, ⊤, Bool, true, ℕ, pos, List, [], ◌∷◌, codes, length}
+use Rattle.std.specs.Prelude.{Option, Some, None, Ok, map}
 use Rattle.std.specs.List.{AllByRecursion, Contains, IsDistinct, list_all, list_any}
 use Rattle.std.specs.Str.{bytes_eq}
 use Rattle.hex.specs.Hex.{decode_of, decode_sized}
@@ -26,7 +26,7 @@ AreValues None None = ⊤
 AreValues (Some octets) (Some values) = IsValueList values × (octets ≡ spelling values_format values)
 AreValues octets values = ⊥
 
--- the records of a text are the header and the fields of the rows: each row is as it should be, no two have one key
+-- the records of a text are the header and the fields of the rows, each as it should be, no two of one key
 pub record IsTable {Row : Type 0} (header : Fields) (most : ℕ) (fields : Row → Fields) (Is : Row → Type 0)
     (same_key : Row → Row → Bool) (text : List ℕ) (rows : List Row) : Type 0 where
   pub records : records_of text ≡ header ∷ map fields rows
@@ -61,10 +61,10 @@ Lists Tells value rows =
 abbrev pub IsData : Option (List HandleValue) → ℕ → List ℕ → Type 0
 IsData None index octets = ⊥
 IsData (Some values) index octets =
-    (value : HandleValue) × Contains values value × (value.index ≡ index) × (value.type_octets ≡ codes "HS_SITE")
-    × (value.octets ≡ octets)
+    (value : HandleValue) × Contains values value × (value.index ≡ index)
+    × (value.type_octets ≡ codes "HS_SITE") × (value.octets ≡ octets)
 
--- the octets of a site: its `record` in hexadecimal digits, or the data of the value of its `index`, never both
+-- the octets of a site: its `record` in hexadecimal digits, or the data of the value of its `index`, not both
 abbrev pub IsSource : Option (List HandleValue) → Option Data → Option Data → List ℕ → Type 0
 IsSource values hexadecimal number octets =
     ((digits : List ℕ) × (hexadecimal ≡ Some (toml.string digits)) × (number ≡ None)
@@ -72,7 +72,7 @@ IsSource values hexadecimal number octets =
     ⊎ ((index : ℕ) × (hexadecimal ≡ None) × (number ≡ Some (toml.integer (pos index)))
     × IsData values index octets)
 
--- octets spell a record of the site's hash option and servers, of which there are some, no two with one identifier
+-- octets spell a record of the site's hash option and servers: there are some, no two of one identifier
 pub record IsRecordOf (site : Site) (octets : List ℕ) : Type 0 where
   pub read : records.Site
   pub is : records.IsSite read
@@ -87,7 +87,8 @@ pub record TellsSite (values : Option (List HandleValue)) (members : Members) (s
   pub name : get_member (codes "name") members ≡ Some (toml.string site.name)
   pub is_name : is_name site.name ≡ true
   pub octets : List ℕ
-  pub source : IsSource values (get_member (codes "record") members) (get_member (codes "index") members) octets
+  pub source :
+      IsSource values (get_member (codes "record") members) (get_member (codes "index") members) octets
   pub spelled : IsRecordOf site octets
 
 -- an address of 16 octets, in hexadecimal digits, and a limit
