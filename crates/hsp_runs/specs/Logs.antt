@@ -24,7 +24,7 @@ use Rattle.hsp_runs.specs.declared.inputs.Inputs.{Inputs}
 
 -- A run answered the log to its end, and the sums count the answers; or it stopped at a fault, when it had
 -- answered rows from the log's beginning and written their lines, of the last one perhaps a part. Of a log or
--- a writer whose octets no one can know, as a terminal's, it says less: some rows were answered so.
+-- a writer whose octets no one can know, as a file's, it says less: some rows were answered so.
 abbrev pub Ends : {S : Type 0} → (S → FrontSums) → Streams → Result S Fault → Desk → Type 0
 Ends all run (Ok sums) desk = EndsWhole desk run (all sums)
 Ends all run (Err (Log fault)) desk = StopsSomewhere desk run ⊎ StopsInLine desk run
