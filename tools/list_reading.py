@@ -1,11 +1,16 @@
 #!/usr/bin/env python3
-"""Lists in docs/READING.md every definition that the clauses of plan, check and dispatch reach, in reading order with file and line.
+"""Writes into docs/READING.md what it takes to read the proof of the headline, and every definition that is read, with file and line.
 
-The list begins with the names in the clauses of the three calls and goes down: a definition stands before those that it mentions first. What
-the list counts are definitions of this repository's specs folders and their lines, without comments.
+Three parts of the page are written: how long the page and the calls take; the questions of an auditor, each with the line that answers it;
+and the list. The list begins at the clauses of the calls that plan, check and answer logs, and at the laws beside them, and goes down to
+all definitions that they mention, to types and limits of the sources too. It goes from below: nothing is used before it was read, within a
+file by its lines, among files by what they mention. The script fails where that can't be.
 
-    tools/list_reading.py            writes the list into the page
-    tools/list_reading.py --check    writes nothing, and compares the list that is there
+Words are names and words of comments, those above a definition with it; signs and lines of `use` are not counted. Lines are those of the
+definitions, without comments.
+
+    tools/list_reading.py            writes the parts into the page
+    tools/list_reading.py --check    writes nothing, and compares the parts that are there
 """
 import argparse
 import glob
@@ -16,25 +21,56 @@ import textwrap
 
 TOP = os.path.dirname(os.path.dirname(os.path.abspath(__file__)))
 PAGE = os.path.join(TOP, "docs", "READING.md")
-BEGIN, END = "<!-- the list begins -->\n", "<!-- the list ends -->\n"
-CALLS = (("plan.rt", "plan_run"), ("checking.rt", "check_run"), ("dispatch.rt", "dispatch_run"))
-# The parts in reading order: a title and the definitions at which each begins; the last one begins at the clauses.
+RUNS = os.path.join(TOP, "crates", "hsp_runs")
+# How many words of definitions and clauses are read in a minute.
+RATE = 130
+HEADLINE, SHOWN, LOGS, LAWS = (f"Rattle.hsp_runs.specs.{it}" for it in ("Headline", "Shown", "Logs", "Laws"))
+CALLS = (("plan.rt", "plan_run"), ("checking.rt", "check_run"), ("dispatch.rt", "dispatch_run"), ("fronts.rt", "fronts_run"))
+# The parts in reading order: a title and the definitions at which each begins; one without any begins at the clauses of the calls.
 PARTS = (
-    ("Which inputs define which instance", (("Rattle.hsp_runs.specs.Headline", "Defines"),)),
-    ("What a certificate shows of it", (("Rattle.hsp_runs.specs.Headline", "ShowsOf"),)),
-    ("What an answered log shows of it", (("Rattle.hsp_runs.specs.Headline", "ShowsLogOf"),)),
-    ("What the three calls answer, with every fault in its order", ()),
+    ("Which inputs define which instance", ((HEADLINE, "Defines"),)),
+    ("What a certificate shows of it", ((HEADLINE, "ShowsOf"),)),
+    ("What logs that are answered show of it", ((LOGS, "ShowsLogOf"), (LOGS, "ShowsFrontsOf"))),
+    ("No log exceeds a plan", (("Rattle.hsp_dispatch.specs.Laws", "NeverExceeds"), ("Rattle.hsp_dispatch.specs.FrontLaws", "NeverExceedsTogether"))),
+    ("What the calls answer, with every fault in its order", ()),
+    ("What holds of all inputs and of all runs", tuple((LAWS, it) for it in (
+        "GivesTheDefined", "AcceptsTheDefined", "GivesNothingElse", "DispatchedLogsShow", "FrontsLogsShow", "LogsGoByHash"))),
+)
+# The files of the page in reading order, and what each is.
+FILES = (
+    ("Headline.antt", "the page"),
+    ("Shown.antt", "what a certificate shows"),
+    ("Logs.antt", "what logs show"),
+    ("Told.antt", "how documents and tables tell rows"),
+)
+# What an auditor asks, and the file of hsp_runs/specs and the words in it that answer it.
+QUESTIONS = (
+    ("May two sites have one name?", "Headline.antt", "pub names : IsDistinct"),
+    ("May a table have two rows of one key?", "Told.antt", "pub apart : IsDistinct same_key rows"),
+    ("To which sites may a region's queries go, and at what cost?", "Headline.antt", "pub cost : Contains costs"),
+    ("To which server of a site does a row's handle go?", "Headline.antt", "number_at sites arc.site (server_place"),
+    ("Is a site's server without a row of capacity let in?", "Headline.antt", "× Contains capacities (record {"),
+    ("What does the text of a plan show of cheaper plans?", "Shown.antt", "pub best : Best n"),
+    ("What must hold of each price that the text tells?", "Shown.antt", "pub valid : IsValidPlan n c"),
+    ("Are the demand and the capacity of a shortage the true sums?", "Shown.antt", "pub valid : IsValidSet n c"),
+    ("What was answered when a log stopped at a fault?", "Logs.antt", "Ends all run (Err (Log fault)) desk"),
+    ("Do all fronts together stay within the plan?", "Logs.antt", "pub within : (events : List Event)"),
 )
 STARTS = re.compile(r"^(?:infix[lr]? .*|(?:unfoldable |opaque )*(?:abbrev |record |data |pub )+(?:record |data )?(?P<name>\S+) .*)$")
+TYPE = re.compile(r"^pub(?:\(crate\))? (?:struct|enum|const) (?P<name>\w+)")
 WORD = re.compile(r"[A-Za-z_][\w'\-]*(?:\.[A-Za-z_][\w'\-]*)*|>>=")
 BOUND = re.compile(r"λ ([^.]*)\.|\(([\w '\-]+) : |\{([\w '\-]+) : |^  pub ([\w'\-]+) :", re.M)
 
 
+def words_in(lines):
+    return sum(len(re.findall(r"[^\W\d_][\w']*", it)) for it in lines if not re.match(r"(?:pub |ghost )*use ", it))
+
+
 class Module:
-    """A file of definitions: each by its name with its line and text, and what its `use` lines bring in."""
+    """A file of definitions: each by its name with its line, its text and its words, and what its `use` lines bring in."""
 
     def __init__(self, path):
-        self.path, self.definitions, self.brought, self.aliases = path, {}, {}, {}
+        self.path, self.definitions, self.words, self.brought, self.aliases = path, {}, {}, {}, {}
         with open(path, encoding="utf-8") as file:
             self.read(file.read().split("\n"))
 
@@ -61,9 +97,32 @@ class Module:
         end = at
         while end < len(lines) and lines[end].strip():
             end += 1
-        text = [it for it in lines[at:end] if not it.strip().startswith("--")]
-        self.definitions[name.strip("◌")] = (at + 1, text)
+        self.put(name.strip("◌"), lines, at, end, "--")
         return end
+
+    def put(self, name, lines, at, end, mark):
+        """A definition of the lines from `at` to `end`, with the comment that stands directly above it."""
+        above = at
+        while above > 0 and lines[above - 1].startswith(mark):
+            above -= 1
+        self.definitions[name] = (at + 1, [it for it in lines[at:end] if not it.strip().startswith(mark)])
+        self.words[name] = words_in(lines[above:end])
+
+
+class Source(Module):
+    """A file of the sources: its types and limits."""
+
+    def read(self, lines):
+        for at, line in enumerate(lines):
+            begins = TYPE.match(line)
+            if begins:
+                end = at
+                while not lines[end].rstrip().endswith(";") and lines[end] != "}":
+                    end += 1
+                kept = [it for it in lines[: end + 1] if not it.startswith("#[")]
+                shift = end + 1 - len(kept)
+                self.put(begins.group("name"), kept, at - shift, end + 1 - shift, "//")
+                self.definitions[begins.group("name")] = (at + 1, self.definitions[begins.group("name")][1])
 
 
 def modules():
@@ -71,6 +130,9 @@ def modules():
     for path in sorted(glob.glob(os.path.join(TOP, "crates", "*", "specs", "*.antt"))):
         crate, name = path.split(os.sep)[-3], os.path.basename(path)[:-5]
         found[f"Rattle.{crate}.specs.{name}"] = Module(path)
+    for path in sorted(glob.glob(os.path.join(TOP, "crates", "*", "src", "*.rt"))):
+        crate, name = path.split(os.sep)[-3], os.path.basename(path)[:-3]
+        found[f"Rattle.{crate}.specs.declared.{name}"] = Source(path)
     return found
 
 
@@ -78,6 +140,7 @@ def settle(known, module, name):
     """The definition that a name of a module is: its own, one that it passes on, or the type of which it is a constructor."""
     while module in known and name not in known[module].definitions and name in known[module].brought:
         module, name = known[module].brought[name]
+    module, name = declared(known, module, name)
     above, _, kind = module.rpartition(".")
     if module not in known and above in known and kind in known[above].definitions:
         return above, kind
@@ -86,6 +149,17 @@ def settle(known, module, name):
             if any(line.startswith(f"  {name} :") for line in text):
                 return module, own
     return module, name
+
+
+def declared(known, module, name):
+    """A type, a variant or a limit of the sources, as the type or the limit and its file; anything else as it is."""
+    parts = module.split(".")
+    if "declared" not in parts:
+        return module, name
+    file = ".".join(parts[: parts.index("declared") + 2])
+    kind = parts[parts.index("declared") + 2 :] + [name]
+    own = name if kind[0] == "TheConstants" else kind[0]
+    return (file, own) if file in known and own in known[file].definitions else (module, name)
 
 
 def names_in(module, text):
@@ -101,44 +175,84 @@ def names_in(module, text):
             yield None, first
 
 
-def mentioned(known, module, name):
-    text = "\n".join(known[module].definitions[name][1])
-    for other, word in names_in(known[module], text):
-        yield settle(known, other or module, word)
+def is_own(known, one):
+    return one[0] in known and one[1] in known[one[0]].definitions
+
+
+def mentioned(known, one):
+    """What a definition mentions; a type of the sources mentions the types and limits of its crate by their names."""
+    text = "\n".join(known[one[0]].definitions[one[1]][1])
+    if isinstance(known[one[0]], Source):
+        crate = one[0].split(".")[1]
+        for word in dict.fromkeys(re.findall(r"\w+", re.sub(r"//.*", "", text))):
+            owners = [it for it in known if it.startswith(f"Rattle.{crate}.specs.declared.") and word in known[it].definitions]
+            if owners and word != one[1]:
+                yield owners[0], word
+    else:
+        for other, word in names_in(known[one[0]], text):
+            yield settle(known, other or one[0], word)
 
 
 def reach(known, starts, seen):
-    """What the starts reach and was not seen before, each before those that it mentions first."""
+    """What the starts reach and was not seen before."""
     found, waiting = [], list(starts)
     while waiting:
         one = waiting.pop(0)
-        if one in seen:
-            continue
-        seen.add(one)
-        found.append(one)
-        if one[0] in known and one[1] in known[one[0]].definitions:
-            waiting = [it for it in mentioned(known, *one) if it not in seen] + waiting
+        if one not in seen:
+            seen.add(one)
+            found.append(one)
+            if is_own(known, one):
+                waiting = [it for it in mentioned(known, one) if it not in seen] + waiting
     return found
 
 
 def clauses(known):
-    """The definitions that the clauses of the three calls name."""
+    """The definitions that the clauses of the calls name."""
     starts = []
     for file, call in CALLS:
-        module = Module(os.path.join(TOP, "crates", "hsp_runs", "src", file))
-        with open(module.path, encoding="utf-8") as source:
-            text = source.read()
-        head = re.search(rf"pub fn {call}\b.*?\n\{{\n", text, re.S).group(0)
-        starts += [settle(known, *it) for it in names_in(module, "\n".join(re.findall(r"ensures.*", head, re.S))) if it[0]]
+        module = Module(os.path.join(RUNS, "src", file))
+        starts += [settle(known, *it) for it in names_in(module, "\n".join(re.findall(r"ensures.*", head_of(file, call), re.S))) if it[0]]
     return starts
 
 
+def head_of(file, call):
+    """The comment and the head of a call, up to its body."""
+    with open(os.path.join(RUNS, "src", file), encoding="utf-8") as source:
+        return re.search(rf"((?:^///[^\n]*\n)*^pub fn {call}\b.*?)\n\{{\n", source.read(), re.S | re.M).group(1)
+
+
+def by_need(items, needs):
+    """The items, each behind those that it needs, else in their order."""
+    ordered, left = [], list(items)
+    while left:
+        free = [it for it in left if not needs[it] - set(ordered)]
+        if not free:
+            sys.exit(f"reading: these mention one another: {left}")
+        ordered.append(free[0])
+        left.remove(free[0])
+    return ordered
+
+
+def in_order(known, found):
+    """The own definitions of a part: by files, each behind those that it mentions, and so in each, else by lines."""
+    own = sorted((it for it in found if is_own(known, it)), key=lambda one: known[one[0]].definitions[one[1]][0])
+    below = {it: {other for other in mentioned(known, it) if other in own and other != it} for it in own}
+    files = list(dict.fromkeys(it[0] for it in reversed(found) if it in below))
+    needs = {file: {other[0] for it in own if it[0] == file for other in below[it]} - {file} for file in files}
+    inside = {it: {other for other in below[it] if other[0] == it[0]} for it in own}
+    return [it for file in by_need(files, needs) for it in by_need([one for one in own if one[0] == file], inside)]
+
+
+def unread(known, order):
+    """The definitions that are mentioned before they are read."""
+    place = {it: at for at, it in enumerate(order)}
+    return [(one, it) for one in order for it in mentioned(known, one) if it in place and place[it] > place[one] and it != one]
+
+
 def paragraph(known, found):
-    """The definitions by their files, in the order in which they are met."""
     files = {}
     for module, name in found:
-        if module in known and name in known[module].definitions:
-            files.setdefault(module, []).append((name, known[module].definitions[name][0]))
+        files.setdefault(module, []).append((name, known[module].definitions[name][0]))
     lines = []
     for module, names in files.items():
         path = os.path.relpath(known[module].path, os.path.join(TOP, "crates"))
@@ -147,37 +261,86 @@ def paragraph(known, found):
     return lines
 
 
-def measures(known, found):
-    own = [it for it in found if it[0] in known and it[1] in known[it[0]].definitions]
+def minutes(words):
+    return f"{words / RATE:.0f} minutes" if words >= 2 * RATE else f"{words / RATE:.1f} minutes"
+
+
+def measures(known, own):
     lines = sum(len(known[module].definitions[name][1]) for module, name in own)
-    return f"{len(own)} definitions in {len({it[0] for it in own})} files, {lines} lines."
+    words = sum(known[module].words[name] for module, name in own)
+    return f"{len(own)} definitions in {len({it[0] for it in own})} files, {lines} lines, {words} words: {minutes(words)}."
 
 
-def outside(known, found):
+def outside(found):
     """The names of ported crates, and how many of std, among what is reached."""
     ported = sorted({f"`{it[0].split('.')[1]}`" for it in found if it[0].startswith("Rattle.") and not it[0].startswith(("Rattle.hsp", "Rattle.std"))})
     std = {it for it in found if it[0].startswith("Rattle.std")}
-    types = {it[0] for it in found if it[0].startswith("Rattle.hsp") and ".declared." in it[0] and "TheConstants" not in it[0]}
-    return f"Beside these they name {len(std)} words of std, {len(types)} types of the sources or their variants, and readings of {', '.join(ported)}."
+    return f"Beside these they name {len(std)} words of std, and readings of {', '.join(ported)}."
 
 
 def listed():
-    known, seen, lines, whole = modules(), set(), [], []
+    known, seen, lines, whole, read = modules(), set(), [], [], []
     for title, starts in PARTS:
         found = reach(known, starts or clauses(known), seen)
-        whole += found
-        lines += [f"### {title}", "", measures(known, found), ""] + paragraph(known, found) + [""]
-    lines += ["### All", "", measures(known, whole), ""] + textwrap.wrap(outside(known, whole), 150) + [""]
-    return BEGIN + "\n" + "\n".join(lines) + "\n" + END
+        own = in_order(known, found)
+        whole, read = whole + found, read + own
+        lines += [f"### {title}", "", measures(known, own), ""] + paragraph(known, own) + [""]
+    early = unread(known, read)
+    if early:
+        sys.exit("reading: mentioned before it is read: " + ", ".join(f"{it[1]} by {one[1]}" for one, it in early))
+    return lines + ["### All", "", measures(known, read), ""] + textwrap.wrap(outside(whole), 150) + [""]
+
+
+def shows_of(file, call):
+    """The clause `shows` of a call with its comment, and the comment of the call."""
+    lines = head_of(file, call).split("\n")
+    at = next(it for it, line in enumerate(lines) if line.strip().startswith("ensures shows"))
+    return [it for it in lines if it.startswith("///")] + lines[at - 1 :]
+
+
+def figures():
+    """How many words the page and the clauses of the calls have, and how long they are read."""
+    lines, total = [f"At {RATE} words a minute:", "", "| Read | Lines | Words | Minutes |", "|---|---|---|---|"], 0
+    for name, what in FILES:
+        with open(os.path.join(RUNS, "specs", name), encoding="utf-8") as file:
+            text = file.read().rstrip("\n").split("\n")
+        words = words_in(text)
+        lines.append(f"| `{name}`, {what} | {len(text)} | {words} | {words / RATE:.1f} |")
+        total += words
+        if name == FILES[0][0]:
+            heads = [it for call in CALLS[:3] for it in shows_of(*call)]
+            words = words_in(heads)
+            total += words
+            lines.append(f"| what `plan_run`, `check_run` and `dispatch_run` say of themselves, and their clauses `shows` | {len(heads)} | {words} | {words / RATE:.1f} |")
+            lines.append(f"| **these together** | | **{total}** | **{total / RATE:.1f}** |")
+    return lines + [f"| all | | {total} | {total / RATE:.1f} |", ""]
+
+
+def answered():
+    lines = ["| Question | Answer |", "|---|---|"]
+    for question, name, words in QUESTIONS:
+        with open(os.path.join(RUNS, "specs", name), encoding="utf-8") as file:
+            found = [at for at, line in enumerate(file, 1) if words in line]
+        if len(found) != 1:
+            sys.exit(f"reading: {name} has {len(found)} lines with {words}")
+        lines.append(f"| {question} | `{name}`, line {found[0]} |")
+    return lines + [""]
+
+
+def written(page):
+    for name, part in (("figures", figures), ("questions", answered), ("list", listed)):
+        begin, end = f"<!-- the {name} begin{'s' if name == 'list' else ''} -->\n", f"<!-- the {name} end{'s' if name == 'list' else ''} -->\n"
+        page = page[: page.index(begin)] + begin + "\n" + "\n".join(part()) + "\n" + page[page.index(end) :]
+    return page
 
 
 def main():
     parser = argparse.ArgumentParser(description=__doc__.split("\n", 1)[0])
-    parser.add_argument("--check", action="store_true", help="write nothing, and compare the list that is there")
+    parser.add_argument("--check", action="store_true", help="write nothing, and compare the parts that are there")
     check = parser.parse_args().check
     with open(PAGE, encoding="utf-8") as file:
         page = file.read()
-    made = page[: page.index(BEGIN)] + listed() + page[page.index(END) + len(END) :]
+    made = written(page)
     if check:
         print("reading: docs/READING.md " + ("as listed" if made == page else "is not what tools/list_reading.py lists"))
         return 0 if made == page else 1

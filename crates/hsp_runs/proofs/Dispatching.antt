@@ -33,7 +33,7 @@ stops_told all desk run (log_fault.BadBody row) s = s
 stops_told all desk run (log_fault.BadFront row) s = s
 
 -- a result that is of this fault
-is_fault : {A : Type 0} (answer : Result A Fault) (fault : Fault) → IsErrAnd answer (λ e. e ≡ fault) → Err fault ≡ answer
+pub is_fault : {A : Type 0} (answer : Result A Fault) (fault : Fault) → IsErrAnd answer (λ e. e ≡ fault) → Err fault ≡ answer
 is_fault (Ok x) fault is = absurd is
 is_fault (Err e) fault is = sym (ap (λ f. Err f) is)
 

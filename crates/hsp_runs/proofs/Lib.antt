@@ -13,7 +13,10 @@ pub mod PageSites
 pub mod PageBuilt
 pub mod Page
 pub mod PageRead
+pub mod NoLog
+pub mod Ending
 pub mod ShownLog
+pub mod ShownFronts
 pub mod Alike
 pub mod Alone
 pub mod PageAlone

@@ -21,7 +21,8 @@ use Rattle.hsp_instance.specs.Instance.{AreSites, HasServer, Host, Instance, IsI
 use Rattle.hsp_instance.specs.declared.arc.Arc.{Arc}
 use Rattle.hsp_instance.proofs.BuiltParts.{built_has_its_parts}
 use Rattle.hsp_instance.proofs.Lists.{all_from, all_map, distinct_map, map_twice}
-use Rattle.hsp_runs.specs.Headline.{AreCapacities, AreCosts, AreDemand, AreServers, AreSettings, AreValues, Defines, IsDemand}
+use Rattle.hsp_runs.specs.Headline.{AreCapacities, AreCosts, AreDemand, AreServers, AreSettings, Defines, IsDemand}
+use Rattle.hsp_runs.specs.Told.{AreValues}
 use Rattle.hsp_runs.specs.declared.inputs.Inputs.{Inputs}
 use Rattle.hsp_runs.proofs.PageArcs.{arcs_alone, arcs_are, servers_alone}
 use Rattle.hsp_runs.proofs.PageBuilt.{BuiltOf, HasCapacity, built_of, capacities_have_no_fault, capacities_known, capacity_entries, cost_entries, costs_have_no_fault, costs_known, is_built, servers_built, sites_of_instance}

@@ -32,7 +32,7 @@ up_to_is most v n e = by (nat_le v most) refl e
     by false is e = cc (e)
 
 -- a text that is read as a number is the number's digits, within the limit
-whole_is : (most : ℕ) (text : List ℕ) (n : ℕ) → most < 2 ^ 64 → whole_within most text ≡ Ok n → (text ≡ decimal n) × (n ≤ most)
+pub whole_is : (most : ℕ) (text : List ℕ) (n : ℕ) → most < 2 ^ 64 → whole_within most text ≡ Ok n → (text ≡ decimal n) × (n ≤ most)
 whole_is most text n small e = by (is_whole text) refl e
   where
     by : (b : Bool) → is_whole text ≡ b → cond b (up_to most (digits_value 10 text)) (Err NotWhole) ≡ Ok n → (text ≡ decimal n) × (n ≤ most)

@@ -15,10 +15,10 @@ use Rattle.hsp_runs.specs.Shown.{Holds, HoldsBest}
 pub valid_plan_holds : (n : Network) (c : Best) → IsNetwork n → IsValidPlan n c → HoldsBest n c
 valid_plan_holds n c is valid =
     let shown = prices_show_best n (table c.uses) c.row_prices c.server_prices c.host_prices is valid.feasible valid.prices in
-    record { best = shown.0; cost = valid.cost; prices = rw valid.cost shown.1 }
+    record { valid = valid; best = shown.0; dual = rw valid.cost shown.1 }
 
 -- a valid claim holds
 pub valid_holds : (it : Instance) (claim : Claim) → IsInstance it → IsValid (network_of it) claim → Holds (network_of it) claim
 valid_holds it (best c) is valid = valid_plan_holds (network_of it) c (is_network it is) valid
 valid_holds it (short c) is valid =
-    record { is_short = valid.is_short; none = short_shows_none (network_of it) (is_one_of c.rows) (is_network it is) valid.is_short }
+    record { valid = valid; none = short_shows_none (network_of it) (is_one_of c.rows) (is_network it is) valid.is_short }

@@ -1,5 +1,6 @@
--- What an answered log shows of inputs and a certificate.
-use Rattle.std.proofs.Common.{◌≡◌, ◌∙◌, inl, inr, ℕ, List, [], ◌∷◌, ◌++◌, Option, None, Some, Result, Ok, Err, IfOk, map, refl, sym, subst}
+-- What a run over a log shows of inputs and a certificate.
+use Rattle.std.proofs.Common.{◌≡◌, ◌≢◌, ◌∙◌, ◌⊎◌, inl, inr, ℕ, List, [], ◌∷◌, ◌++◌, Option, None, Some, Result, Ok, Err, IsErrAnd, map, refl, sym, subst}
+use Rattle.hsp_csv.specs.Records.{Fields}
 use Rattle.hsp_instance.specs.Instance.{Instance}
 use Rattle.hsp_cert.specs.Certificate.{Best, Claim}
 use Rattle.hsp_cert.specs.Certificate.Claim.{best, short}
@@ -10,24 +11,30 @@ use Rattle.hsp_check.specs.Plan.{Plan}
 use Rattle.hsp_check.specs.Uses.{table}
 use Rattle.hsp_dispatch.specs.Dispatch.{Entry, IsSame, all_of, answer_in, answer_to, answers, answers_after, rest, row_of, sums_of}
 use Rattle.hsp_dispatch.specs.Lines.{line_of}
-use Rattle.hsp_dispatch.specs.Runs.{EndsWhole, Streams}
-use Rattle.hsp_dispatch.specs.Desks.{by_plan}
+use Rattle.hsp_dispatch.specs.Runs.{Streams}
+use Rattle.hsp_dispatch.specs.Desks.{AnswersEntries, by_plan}
+use Rattle.hsp_dispatch.specs.declared.answer.FrontSums.{FrontSums}
+use Rattle.hsp_dispatch.specs.declared.fault.LogFault.{LogFault}
 use Rattle.hsp_dispatch.specs.declared.answer.LogSums.{LogSums}
 use Rattle.hsp_dispatch.proofs.Dispatching.{never_exceeds}
 use Rattle.hsp_dispatch.proofs.Resting.{spread_same}
 use Rattle.hsp_runs.specs.Accepted.{IsAccepted, IsAcceptedOf}
 use Rattle.hsp_runs.specs.Check.{IsCertificate}
-use Rattle.hsp_runs.specs.Dispatch.{AnswersAs, AnswersBy, a_dispatcher}
-use Rattle.hsp_runs.specs.Headline.{Defines, ShowsLogOf}
+use Rattle.hsp_runs.specs.Dispatch.{AnswersAs, AnswersBy, EndsLog, IsAnsweredBy, Refuses, Staff, a_dispatcher}
+use Rattle.hsp_runs.specs.Headline.{Defines}
 use Rattle.hsp_runs.specs.Instance.{IsInstanceOf}
-use Rattle.hsp_runs.specs.Shown.{Holds, IsLogOf}
+use Rattle.hsp_runs.specs.Logs.{IsLogOf, IsRefused, ShowsPlanOf, ShowsLogOf}
+use Rattle.hsp_runs.specs.Shown.{Holds}
 use Rattle.hsp_runs.specs.declared.accepted.Accepted.{Accepted}
 use Rattle.hsp_runs.specs.declared.fault.Fault.{Fault}
-use Rattle.hsp_runs.specs.declared.fault.Fault.TheVariants.{Cert, OutOfMemory, WrongKind}
+use Rattle.hsp_runs.specs.declared.fault.Fault.TheVariants.{Cert, Log, OutOfMemory, WrongKind}
 use Rattle.hsp_runs.specs.declared.inputs.Inputs.{Inputs}
 use Rattle.hsp_text.specs.Answers.{Then, told_as}
 use Rattle.hsp_runs.specs.Laws.{DispatchedLogsShow}
 use Rattle.hsp_runs.proofs.ByHash.{logs_go_by_hash, went_on}
+use Rattle.hsp_runs.proofs.Dispatching.{is_fault}
+use Rattle.hsp_runs.proofs.Ending.{ends}
+use Rattle.hsp_runs.proofs.NoLog.{no_log}
 use Rattle.hsp_runs.proofs.PageRead.{gives_the_defined, is_instance}
 use Rattle.hsp_runs.proofs.Showing.{valid_holds}
 use Rattle.hsp_names.specs.Handle.{ReadingsAreHandles}
@@ -35,7 +42,7 @@ use Rattle.hsp_names.specs.Handle.{ReadingsAreHandles}
 -- ---- the same plan
 
 -- plans that send alike answer alike
-same_answer : (it : Instance) (x y : Plan) (earlier : List Entry) (entry : Entry) → IsSame x y → answer_to it x earlier entry ≡ answer_to it y earlier entry
+pub same_answer : (it : Instance) (x y : Plan) (earlier : List Entry) (entry : Entry) → IsSame x y → answer_to it x earlier entry ≡ answer_to it y earlier entry
 same_answer it x y earlier entry same = by (row_of it entry)
   where
     by : (row : Option ℕ) → answer_in it x earlier row ≡ answer_in it y earlier row
@@ -78,50 +85,81 @@ accepted_holds handles inputs octets accepted is =
     let holds = valid_holds read.0 judged.0 (is_instance handles inputs read.0 read.1) judged.2.2 in
     (subst (λ it. Defines inputs it) same defines, subst (λ claim. Holds (network_of accepted.instance) claim) kind (subst (λ it. Holds (network_of it) judged.0) same holds))
 
--- ---- the log
+-- ---- what is refused
 
-never_both : (sums : LogSums) (fault : Fault) → ◌≡◌ {A = Result LogSums Fault} (Ok sums) (Err fault) → ⊥
-never_both sums fault e = cc (e)
+-- nothing was written, and the fault is none of the log's
+pub refused : {S : Type 0} (run : Streams) (fault : Fault) (answer : Result S Fault) → ((of : LogFault) → fault ≢ Log of) → Refuses run fault answer
+    → IsRefused run answer
+refused run fault answer apart is = record { unwritten = is.0; fault = fault; is = is.1; before = apart }
 
-module _ (inputs : Inputs) (octets : List ℕ) (accepted : Accepted) (is : IsAcceptedOf inputs octets (Ok accepted)) (defines : Defines inputs accepted.instance)
-    (holds : Holds (network_of accepted.instance) accepted.certificate) (run : Streams) (sums : LogSums) where
-  log_is : (c : Best) → accepted.certificate ≡ best c → (held left : Plan) → IsSame held (table c.uses) → EndsWhole (by_plan accepted.instance held left) run (all_of sums)
-      → IsLogOf accepted.instance (table c.uses) run sums
-  log_is c kind held left same whole =
-      let (form, rows, begins, (lines, (entries, are, lines_are, sums_are, rest_is), written)) = whole in
-      let given = same_answers accepted.instance held (table c.uses) [] entries same in
-      let of_plan : lines ≡ map (line_of accepted.instance) (answers accepted.instance (table c.uses) entries) = rw given at lines_are in
-      let counted : all_of sums ≡ all_of (sums_of (answers accepted.instance (table c.uses) entries)) = rw given at sums_are in
-      let left_is : IsSame left (rest accepted.instance (table c.uses) entries) =
-      λ row site. rest_is row site ∙ same_rest accepted.instance held (table c.uses) entries same row site in
-      record {
-        left = left;
-        answered = (form, rows, begins, (lines, (entries, are, of_plan, counted, left_is), written));
-        within = never_exceeds accepted.instance (table c.uses);
-        by_hash = (logs_go_by_hash inputs octets accepted c is kind).plan;
-      }
+pub of_memory : (of : LogFault) → OutOfMemory ≢ Log of
+of_memory of e = cc (e)
 
-  by_claim : (claim : Claim) → accepted.certificate ≡ claim → Holds (network_of accepted.instance) claim → Means octets (Ok claim)
-      → AnswersAs a_dispatcher accepted.instance claim run (Ok sums) → ShowsLogOf inputs octets run sums
-  by_claim (short c) kind shows text answered = absurd (never_both sums WrongKind answered.1)
-  by_claim (best c) kind shows text answered =
-      (accepted.instance, defines, (c, text.0, text.1, shows, log_is c kind answered.0 answered.1 answered.2 answered.3))
+-- ---- whoever answers
 
-  shown : AnswersBy a_dispatcher accepted run (Ok sums) → ShowsLogOf inputs octets run sums
-  shown (inl refused) = absurd (never_both sums OutOfMemory refused.1)
-  shown (inr answered) = by_claim accepted.certificate refl holds (accepted_text inputs octets accepted is) answered
+-- whoever answers by the plan of what is accepted is refused, or answers by the plan of a certificate that holds
+module _ {S : Type 0} (staff : Staff S) (inputs : Inputs) (octets : List ℕ) (run : Streams) (answer : Result S Fault)
+    (Is : Instance → Plan → Type 0)
+    (is_so : (accepted : Accepted) (c : Best) → IsAcceptedOf inputs octets (Ok accepted) → accepted.certificate ≡ best c
+    → staff.At accepted.instance (table c.uses) (EndsLog staff.all run answer) → Is accepted.instance (table c.uses)) where
+  by_claim : (accepted : Accepted) (claim : Claim) → IsAcceptedOf inputs octets (Ok accepted) → Defines inputs accepted.instance → accepted.certificate ≡ claim
+      → Holds (network_of accepted.instance) claim → Means octets (Ok claim) → AnswersAs staff accepted.instance claim run answer
+      → IsRefused run answer ⊎ ShowsPlanOf inputs octets Is
+  by_claim accepted (short c) is defines kind holds text answered = inl (refused run WrongKind answer (λ of e. cc (e)) answered)
+  by_claim accepted (best c) is defines kind holds text answered =
+      inr (accepted.instance, defines, (c, record { is = text.0; text = text.1; holds = holds }, is_so accepted c is kind answered))
 
--- a log that was answered to its end
+  pub shown_by : (accepted : Accepted) → IsAcceptedOf inputs octets (Ok accepted) → Defines inputs accepted.instance
+      → Holds (network_of accepted.instance) accepted.certificate → AnswersBy staff accepted run answer → IsRefused run answer ⊎ ShowsPlanOf inputs octets Is
+  shown_by accepted is defines holds (inl none) = inl (refused run OutOfMemory answer of_memory none)
+  shown_by accepted is defines holds (inr answered) =
+      by_claim accepted accepted.certificate is defines refl holds (accepted_text inputs octets accepted is) answered
+
+  pub shown_of : ReadingsAreHandles → IsAnsweredBy staff inputs octets run answer → IsRefused run answer ⊎ ShowsPlanOf inputs octets Is
+  shown_of handles (inl none) = inl (refused run OutOfMemory answer of_memory none)
+  shown_of handles (inr (Err fault, is, none)) = inl (refused run fault answer (λ of e. no_log inputs octets fault of is e) none)
+  shown_of handles (inr (Ok accepted, is, answered)) =
+      let of = accepted_holds handles inputs octets accepted is in
+      shown_by accepted is of.0 of.1 (inr answered)
+
+-- ---- a dispatcher
+
+answers_entries : (it : Instance) (x y left : Plan) → IsSame x y → (form : _) (rows : List Fields) (lines : List (List ℕ)) (sums : FrontSums)
+    → AnswersEntries it x left form rows lines sums → AnswersEntries it y left form rows lines sums
+answers_entries it x y left same form rows lines sums (entries, are, lines_are, sums_are, rest_is) =
+    let given = same_answers it x y [] entries same in
+    let of_plan : lines ≡ map (line_of it) (answers it y entries) = rw given at lines_are in
+    let counted : sums ≡ all_of (sums_of (answers it y entries)) = rw given at sums_are in
+    (entries, are, of_plan, counted, λ row site. rest_is row site ∙ same_rest it x y entries same row site)
+
+log_is : (inputs : Inputs) (octets : List ℕ) (run : Streams) (answer : Result LogSums Fault) (accepted : Accepted) (c : Best)
+    → IsAcceptedOf inputs octets (Ok accepted) → accepted.certificate ≡ best c
+    → a_dispatcher.At accepted.instance (table c.uses) (EndsLog all_of run answer) → IsLogOf run answer accepted.instance (table c.uses)
+log_is inputs octets run answer accepted c is kind (held, left, same, end) =
+    let it = accepted.instance in
+    let x = table c.uses in
+    record {
+      left = left;
+      answered = ends (by_plan it held left) (by_plan it x left) run refl (answers_entries it held x left same) all_of answer end;
+      within = never_exceeds it x;
+      by_hash = (logs_go_by_hash inputs octets accepted c is kind).plan;
+    }
+
 pub dispatched_logs_show : ReadingsAreHandles → DispatchedLogsShow
-dispatched_logs_show handles inputs octets run sums (inl refused) = absurd (never_both sums OutOfMemory refused.1)
-dispatched_logs_show handles inputs octets run sums (inr (Err fault, is, refused)) = absurd (never_both sums fault refused.1)
-dispatched_logs_show handles inputs octets run sums (inr (Ok accepted, is, answered)) =
-    let of = accepted_holds handles inputs octets accepted is in
-    shown inputs octets accepted is of.0 of.1 run sums (inr answered)
+dispatched_logs_show handles inputs octets run answer is = shown_of a_dispatcher inputs octets run answer (IsLogOf run answer) (log_is inputs octets run answer) handles is
 
--- of whatever was answered
 pub shown_where : (inputs : Inputs) (octets : List ℕ) (accepted : Accepted) (run : Streams) (answer : Result LogSums Fault) → IsAcceptedOf inputs octets (Ok accepted)
     → Defines inputs accepted.instance → Holds (network_of accepted.instance) accepted.certificate → AnswersBy a_dispatcher accepted run answer
-    → IfOk answer (λ sums. ShowsLogOf inputs octets run sums)
-shown_where inputs octets accepted run (Ok sums) is defines holds answered = shown inputs octets accepted is defines holds run sums answered
-shown_where inputs octets accepted run (Err fault) is defines holds answered = tt
+    → ShowsLogOf inputs octets run answer
+shown_where inputs octets accepted run answer is defines holds answered =
+    shown_by a_dispatcher inputs octets run answer (IsLogOf run answer) (log_is inputs octets run answer) accepted is defines holds answered
+
+-- ---- nothing was answered
+
+-- the inputs or the certificate were refused, and the writer holds what it held
+pub shown_nothing : {S : Type 0} (inputs : Inputs) (octets : List ℕ) (run : Streams) (fault : Fault) (answer : Result S Fault) → run.after ≡ run.before
+    → IsErrAnd answer (λ e. e ≡ fault) → (fault ≡ OutOfMemory) ⊎ IsAcceptedOf inputs octets (Err fault) → IsRefused run answer
+shown_nothing inputs octets run fault answer same told (inl memory) =
+    refused run fault answer (λ of e. of_memory of (sym memory ∙ e)) (same, sym (is_fault answer fault told))
+shown_nothing inputs octets run fault answer same told (inr is) =
+    refused run fault answer (λ of e. no_log inputs octets fault of is e) (same, sym (is_fault answer fault told))

@@ -1,35 +1,35 @@
--- The headline on one page: which inputs are accepted, which instance they define, and what the calls promise of it. These are relations between
--- texts and what they hold; no word on faults or their order. The laws of laws.rt tie them to what the runs read and answer.
+-- The headline on one page: which inputs are accepted, which instance they define, and what plans show of it.
+-- These are relations between texts and what they hold, without faults. laws.rt ties them to the runs.
 --
--- Read elsewhere: handles in hsp_names/specs/Handle.antt (RFC 3651, section 2), value lists and site records in hsp_record/specs (RFC 3651, sections
--- 3.1 and 3.2.2), the responsible server in hsp_hash/specs/Place.antt (RFC 3652, section 3.1.3), the tables of a document in Told.antt.
-use Rattle.std.specs.Prelude.{◌≡◌, ◌≢◌, ◌≤◌, ◌==◌, ◌&&◌, ◌↔◌, ⊤, Bool, IsUtf8, true, ℕ, List, [], ◌∷◌, codes, decimal, length, map, Option, Some, None, option_map}
+-- Read before it: handles in hsp_names/specs/Handle.antt (RFC 3651, section 2), value lists and site records
+-- in hsp_record/specs (RFC 3651, sections 3.1 and 3.2.2), the responsible server in hsp_hash/specs/Place.antt
+-- (RFC 3652, section 3.1.3), how documents and tables tell rows in Told.antt.
+use Rattle.std.specs.Prelude.{◌≡◌, ◌≢◌, ◌≤◌, ◌==◌, ◌&&◌, ◌↔◌, IsUtf8, true, ℕ, List, [], ◌∷◌, codes, decimal}
+use Rattle.std.specs.Prelude.{Option, Some, None, length, map, option_map}
 use Rattle.std.specs.List.{AllByRecursion, Contains, IsDistinct, slice_get}
 use Rattle.std.specs.Str.{bytes_eq}
 use Rattle.toml.specs.Data.{Members, get_member}
 use Rattle.toml.specs.Parse.{parse_document}
 use Rattle.hsp_text.specs.Name.{is_name}
-use Rattle.hsp_text.specs.declared.limits.TheConstants.{GREATEST_CAPACITY, GREATEST_COST, GREATEST_COUNT, MOST_CAPACITY_ROWS, MOST_COST_ROWS, MOST_DEMAND_ROWS, MOST_HOSTS, MOST_REGIONS, MOST_SERVERS, MOST_SITES}
+use Rattle.hsp_text.specs.declared.limits.TheConstants.{GREATEST_CAPACITY, GREATEST_COST, GREATEST_COUNT}
+use Rattle.hsp_text.specs.declared.limits.TheConstants.{MOST_CAPACITY_ROWS, MOST_COST_ROWS, MOST_DEMAND_ROWS}
+use Rattle.hsp_text.specs.declared.limits.TheConstants.{MOST_HOSTS, MOST_SERVERS, MOST_SITES}
 use Rattle.hsp_names.specs.Handle.{IsHandle}
 use Rattle.hsp_hash.specs.Place.{server_place}
-use Rattle.hsp_record.specs.Fields.{spelling}
-use Rattle.hsp_record.specs.Values.{HandleValue, IsValueList, values_format}
-use Rattle.hsp_csv.specs.Records.{Fields, records_of}
+use Rattle.hsp_record.specs.Values.{HandleValue}
 use Rattle.hsp_tables.specs.Capacities.{CapacityEntry}
 use Rattle.hsp_tables.specs.Costs.{CostEntry}
-use Rattle.hsp_tables.specs.Table.{first_seen}
 use Rattle.hsp_instance.specs.Instance.{Host, Instance, IsAscending, Row, Site, SiteServer, number_at, servers_of}
 use Rattle.hsp_instance.specs.declared.arc.Arc.{Arc}
-use Rattle.hsp_dispatch.specs.Runs.{Streams}
-use Rattle.hsp_dispatch.specs.declared.answer.LogSums.{LogSums}
+use Rattle.hsp_runs.specs.Shown.{Shows}
+use Rattle.hsp_runs.specs.Told.{AreFew, AreValues, HasKeys, IsTable, Lists, TellsHost, TellsSite}
 use Rattle.hsp_runs.specs.declared.inputs.Inputs.{Inputs}
-use Rattle.hsp_runs.specs.Shown.{Shows, ShowsLog}
-use Rattle.hsp_runs.specs.Told.{HasKeys, Lists, TellsHost, TellsSite}
 
--- ---- settings and values
+-- ---- settings
 
--- a TOML document, as the `toml` crate reads it, lists sites and hosts: no two sites of one name, no two hosts of one address
-pub record AreSettings (values : Option (List HandleValue)) (text : List ℕ) (sites : List Site) (hosts : List Host) : Type 0 where
+-- a TOML document, as the `toml` crate reads it, lists sites and hosts: no two of one name or of one address
+pub record AreSettings (values : Option (List HandleValue)) (text : List ℕ) (sites : List Site)
+    (hosts : List Host) : Type 0 where
   pub utf8 : IsUtf8 text
   pub document : Members
   pub read : parse_document text ≡ Some document
@@ -42,49 +42,39 @@ pub record AreSettings (values : Option (List HandleValue)) (text : List ℕ) (s
   pub few_hosts : length hosts ≤ MOST_HOSTS
   pub addresses : IsDistinct (λ (a b : Host). bytes_eq a.address b.address) hosts
 
--- the value list, where one is given
-abbrev pub AreValues : Option (List ℕ) → Option (List HandleValue) → Type 0
-AreValues None None = ⊤
-AreValues (Some octets) (Some values) = IsValueList values × (octets ≡ spelling values_format values)
-AreValues octets values = ⊥
-
 -- ---- tables: comma-separated values (RFC 4180)
 
--- the records of a text are the header and the fields of the rows: each row is as it should be, and no two have one key
-pub record IsTable {Row : Type 0} (header : Fields) (most : ℕ) (fields : Row → Fields) (Is : Row → Type 0) (same_key : Row → Row → Bool) (text : List ℕ) (rows : List Row) : Type 0 where
-  pub records : records_of text ≡ header ∷ map fields rows
-  pub few : length rows ≤ most
-  pub each : AllByRecursion Is rows
-  pub apart : IsDistinct same_key rows
-
--- the rows of a table name no more regions than there may be
-abbrev pub AreFew : List (List ℕ) → Type 0
-AreFew regions = length (first_seen regions) ≤ MOST_REGIONS
-
 abbrev pub IsDemand : Row → Type 0
-IsDemand row = (is_name row.region ≡ true) × ((authority : List ℕ) × (local : List ℕ) × IsHandle row.handle authority local) × (row.count ≤ GREATEST_COUNT)
+IsDemand row =
+    (is_name row.region ≡ true)
+    × ((authority : List ℕ) × (local : List ℕ) × IsHandle row.handle authority local)
+    × (row.count ≤ GREATEST_COUNT)
 
 -- so many queries for a handle come from a region
 abbrev pub AreDemand : List ℕ → List Row → Type 0
 AreDemand text rows =
-    IsTable (codes "region" ∷ codes "handle" ∷ codes "count" ∷ []) MOST_DEMAND_ROWS (λ (row : Row). row.region ∷ row.handle ∷ decimal row.count ∷ []) IsDemand
+    IsTable (codes "region" ∷ codes "handle" ∷ codes "count" ∷ []) MOST_DEMAND_ROWS
+    (λ (row : Row). row.region ∷ row.handle ∷ decimal row.count ∷ []) IsDemand
     (λ (a b : Row). bytes_eq a.region b.region && bytes_eq a.handle b.handle) text rows
     × AreFew (map (λ (row : Row). row.region) rows)
 
 abbrev pub IsCost : List Site → CostEntry → Type 0
-IsCost sites row = (is_name row.region ≡ true) × ((site : Site) × Contains sites site × (site.name ≡ row.site)) × (row.cost ≤ GREATEST_COST)
+IsCost sites row =
+    (is_name row.region ≡ true) × ((site : Site) × Contains sites site × (site.name ≡ row.site))
+    × (row.cost ≤ GREATEST_COST)
 
 -- a query from a region costs so much at a site
 abbrev pub AreCosts : List Site → List ℕ → List CostEntry → Type 0
 AreCosts sites text rows =
-    IsTable (codes "region" ∷ codes "site" ∷ codes "cost" ∷ []) MOST_COST_ROWS (λ (row : CostEntry). row.region ∷ row.site ∷ decimal row.cost ∷ []) (IsCost sites)
+    IsTable (codes "region" ∷ codes "site" ∷ codes "cost" ∷ []) MOST_COST_ROWS
+    (λ (row : CostEntry). row.region ∷ row.site ∷ decimal row.cost ∷ []) (IsCost sites)
     (λ (a b : CostEntry). bytes_eq a.region b.region && bytes_eq a.site b.site) text rows
     × AreFew (map (λ (row : CostEntry). row.region) rows)
 
 abbrev pub IsCapacity : List Site → CapacityEntry → Type 0
 IsCapacity sites row =
-    (site : Site) × (own : SiteServer) × Contains sites site × (site.name ≡ row.site) × Contains site.servers own × (own.id ≡ row.server_id)
-    × (row.capacity ≤ GREATEST_CAPACITY)
+    (site : Site) × (own : SiteServer) × Contains sites site × (site.name ≡ row.site)
+    × Contains site.servers own × (own.id ≡ row.server_id) × (row.capacity ≤ GREATEST_CAPACITY)
 
 -- the server of an identifier takes so many queries at a site
 abbrev pub AreCapacities : List Site → List ℕ → List CapacityEntry → Type 0
@@ -97,28 +87,35 @@ AreCapacities sites text rows =
 
 -- the host of an address, or none where no host has it
 abbrev pub StandsOn : List Host → List ℕ → Option ℕ → Type 0
-StandsOn hosts address (Some n) = (host : Host) × (slice_get hosts n ≡ Some host) × (host.address ≡ address)
+StandsOn hosts address (Some n) =
+    (host : Host) × (slice_get hosts n ≡ Some host) × (host.address ≡ address)
 StandsOn hosts address None = AllByRecursion (λ (host : Host). host.address ≢ address) hosts
 
--- the servers of the sites, one site after the other: each has the capacity of its site's name and its identifier, and stands on the host of its address
+-- the servers of the sites, one site after the other: each has the capacity of its site's name and its
+-- identifier, and stands on the host of its address
 pub record AreServers (capacities : List CapacityEntry) (it : Instance) : Type 0 where
   pub count : length it.servers ≡ servers_of it.sites
-  pub each : (n place : ℕ) (site : Site) (own : SiteServer) → slice_get it.sites n ≡ Some site → slice_get site.servers place ≡ Some own
+  pub each : (n place : ℕ) (site : Site) (own : SiteServer)
+      → slice_get it.sites n ≡ Some site → slice_get site.servers place ≡ Some own
       → (capacity : ℕ) × (host : Option ℕ)
-      × (slice_get it.servers (number_at it.sites n place) ≡ Some (record { site = n; place = place; id = own.id; capacity = capacity; host = host }))
-      × Contains capacities (record { site = site.name; server_id = own.id; capacity = capacity }) × StandsOn it.hosts own.address host
+      × (slice_get it.servers (number_at it.sites n place)
+      ≡ Some (record { site = n; place = place; id = own.id; capacity = capacity; host = host }))
+      × Contains capacities (record { site = site.name; server_id = own.id; capacity = capacity })
+      × StandsOn it.hosts own.address host
 
--- a row may go to a site where its region has a cost, and goes to the server there that is responsible for its handle
+-- a row may go to a site where its region has a cost, to the server there that is responsible for its handle
 pub record IsArc (costs : List CostEntry) (sites : List Site) (row : Row) (arc : Arc) : Type 0 where
   pub site : Site
   pub is_site : slice_get sites arc.site ≡ Some site
   pub cost : Contains costs (record { region = row.region; site = site.name; cost = arc.cost })
-  pub server : arc.server ≡ number_at sites arc.site (server_place site.option row.handle (length site.servers))
+  pub server : arc.server
+      ≡ number_at sites arc.site (server_place site.option row.handle (length site.servers))
 
 -- the arcs of each row are all of these, in the order of the sites
 pub record AreArcs (costs : List CostEntry) (it : Instance) : Type 0 where
   pub count : length it.arcs ≡ length it.rows
-  pub each : (i : ℕ) (row : Row) (arcs : List Arc) → slice_get it.rows i ≡ Some row → slice_get it.arcs i ≡ Some arcs
+  pub each : (i : ℕ) (row : Row) (arcs : List Arc)
+      → slice_get it.rows i ≡ Some row → slice_get it.arcs i ≡ Some arcs
       → IsAscending arcs × ((arc : Arc) → Contains arcs arc ↔ IsArc costs it.sites row arc)
 
 -- ---- the instance
@@ -136,13 +133,10 @@ pub record Defines (inputs : Inputs) (it : Instance) : Type 0 where
   pub servers : AreServers capacities it
   pub arcs : AreArcs costs it
 
--- ---- what the calls promise
+-- ---- what plans show
 
--- Plans, best plans, prices and short sets are those of hsp_check/specs/Plan.antt, Prices.antt and Short.antt (Network Flows, sections 1.2, 9.1,
--- 9.3 and 6.7). What `plan` prints, and what `check` says Yes to, is the text of a certificate that holds for the instance of the inputs.
+-- What `plan` prints, and what `check` says Yes to, is the text of a certificate that holds for the instance
+-- of the inputs: of a best plan with prices that show it, or of a short set, with which there is no plan.
+-- Shown.antt says what holds, and Logs.antt what the logs that `dispatch` and `fronts` answer show.
 abbrev pub ShowsOf : Inputs → List ℕ → Type 0
 ShowsOf inputs octets = (instance : Instance) × Defines inputs instance × Shows octets instance
-
--- a log that `dispatch` has answered to its end was answered by the plan of such a certificate
-abbrev pub ShowsLogOf : Inputs → List ℕ → Streams → LogSums → Type 0
-ShowsLogOf inputs octets run sums = (instance : Instance) × Defines inputs instance × ShowsLog octets instance run sums

@@ -9,24 +9,29 @@ use Rattle.hsp_dispatch.specs.Laws.{IsByHash}
 use Rattle.hsp_instance.specs.Instance.{Instance}
 use Rattle.hsp_runs.specs.Accepted.{IsAcceptedOf}
 use Rattle.hsp_dispatch.specs.Runs.{Streams}
+use Rattle.hsp_dispatch.specs.declared.answer.FrontSums.{FrontSums}
 use Rattle.hsp_dispatch.specs.declared.answer.LogSums.{LogSums}
-use Rattle.hsp_runs.specs.Dispatch.{IsDispatched}
-use Rattle.hsp_runs.specs.Headline.{Defines, ShowsLogOf}
+use Rattle.hsp_runs.specs.Dispatch.{IsDispatched, IsDispatchedAt}
+use Rattle.hsp_runs.specs.Headline.{Defines}
 use Rattle.hsp_runs.specs.Instance.{IsInstanceOf}
+use Rattle.hsp_runs.specs.Logs.{ShowsFrontsOf, ShowsLogOf}
 use Rattle.hsp_runs.specs.declared.accepted.Accepted.{Accepted}
 use Rattle.hsp_runs.specs.declared.fault.Fault.{Fault}
 use Rattle.hsp_runs.specs.declared.inputs.Inputs.{Inputs}
 
--- Where inputs and a certificate are accepted, each entry is answered by the server that is responsible for its handle by the hash option
--- of the site, among the servers of the site's record: by the certificate's plan, and by any front's share of it.
+-- Where inputs and a certificate are accepted, each entry is answered by the server that is responsible for
+-- its handle by the hash option of the site: by the certificate's plan, and by any front's share of it.
 pub record AnswersByHash (accepted : Accepted) (claim : Best) : Type 0 where
-  pub plan : (earlier : List Entry) (entry : Entry) → IsByHash accepted.instance entry (answer_to accepted.instance (table claim.uses) earlier entry)
+  pub plan : (earlier : List Entry) (entry : Entry)
+      → IsByHash accepted.instance entry (answer_to accepted.instance (table claim.uses) earlier entry)
   pub share : (fronts front : ℕ) (earlier : List Entry) (entry : Entry)
-      → IsByHash accepted.instance entry (answer_to accepted.instance (share_of fronts front (table claim.uses)) earlier entry)
+      → IsByHash accepted.instance entry
+      (answer_to accepted.instance (share_of fronts front (table claim.uses)) earlier entry)
 
 abbrev pub LogsGoByHash : Type 0
 LogsGoByHash =
-    (inputs : Inputs) (octets : List ℕ) (accepted : Accepted) (claim : Best) → IsAcceptedOf inputs octets (Ok accepted) → accepted.certificate ≡ best claim
+    (inputs : Inputs) (octets : List ℕ) (accepted : Accepted) (claim : Best)
+    → IsAcceptedOf inputs octets (Ok accepted) → accepted.certificate ≡ best claim
     → AnswersByHash accepted claim
 
 -- ---- the page
@@ -41,8 +46,17 @@ AcceptsTheDefined = (inputs : Inputs) (it : Instance) → Defines inputs it → 
 
 -- and they give nothing else: no fault stands beside it, and no other instance
 abbrev pub GivesNothingElse : Type 0
-GivesNothingElse = (inputs : Inputs) (it : Instance) (answer : Result Instance Fault) → Defines inputs it → IsInstanceOf inputs answer → answer ≡ Ok it
+GivesNothingElse =
+    (inputs : Inputs) (it : Instance) (answer : Result Instance Fault)
+    → Defines inputs it → IsInstanceOf inputs answer → answer ≡ Ok it
 
--- a log that was answered to its end, with its sums, shows what the page says of it
+-- what a dispatcher answers, and fronts, to the end of a log or up to a fault, shows what the page says of it
 abbrev pub DispatchedLogsShow : Type 0
-DispatchedLogsShow = (inputs : Inputs) (octets : List ℕ) (run : Streams) (sums : LogSums) → IsDispatched inputs octets run (Ok sums) → ShowsLogOf inputs octets run sums
+DispatchedLogsShow =
+    (inputs : Inputs) (octets : List ℕ) (run : Streams) (answer : Result LogSums Fault)
+    → IsDispatched inputs octets run answer → ShowsLogOf inputs octets run answer
+
+abbrev pub FrontsLogsShow : Type 0
+FrontsLogsShow =
+    (word : List ℕ) (inputs : Inputs) (octets : List ℕ) (run : Streams) (answer : Result FrontSums Fault)
+    → IsDispatchedAt word inputs octets run answer → ShowsFrontsOf word inputs octets run answer

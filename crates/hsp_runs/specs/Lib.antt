@@ -1,4 +1,5 @@
 pub mod FaultText
+pub mod Tells
 pub mod Input
 pub mod Locate
 pub mod SiteText
@@ -7,6 +8,7 @@ pub mod Instance
 pub mod Shown
 pub mod Told
 pub mod Headline
+pub mod Logs
 pub mod Check
 pub mod Accepted
 pub mod VerdictText

@@ -1,5 +1,6 @@
--- What the text of a certificate shows of an instance, and what an answered log shows of a plan.
-use Rattle.std.specs.Prelude.{◌≡◌, ◌≤◌, ◌+◌, ℕ, List}
+-- What the text of a certificate shows of an instance: a transportation problem with limits of hosts (Network
+-- Flows, sections 1.2 and 9.1).
+use Rattle.std.specs.Prelude.{◌≡◌, ◌+◌, ℕ, List}
 use Rattle.hsp_instance.specs.Instance.{Instance}
 use Rattle.hsp_cert.specs.Certificate as certificates
 use Rattle.hsp_cert.specs.Certificate.{Claim}
@@ -7,46 +8,39 @@ use Rattle.hsp_cert.specs.Certificate.Claim.{best, short}
 use Rattle.hsp_cert.specs.Text.{text_of}
 use Rattle.hsp_check.specs.Instance.{network_of}
 use Rattle.hsp_check.specs.Network.{Network}
-use Rattle.hsp_check.specs.Plan.{Best, Feasible, Plan, total}
-use Rattle.hsp_check.specs.Short.{IsShort}
+use Rattle.hsp_check.specs.Plan.{Best, Feasible, Plan}
 use Rattle.hsp_check.specs.Sums.{times}
 use Rattle.hsp_check.specs.Uses.{table}
-use Rattle.hsp_check.specs.Verdict.{is_one_of}
-use Rattle.hsp_dispatch.specs.Desks.{by_plan}
-use Rattle.hsp_dispatch.specs.Dispatch.{Entry, all_of, answer_to, assigned_in}
-use Rattle.hsp_dispatch.specs.Laws.{IsByHash}
-use Rattle.hsp_dispatch.specs.Runs.{EndsWhole, Streams}
-use Rattle.hsp_dispatch.specs.declared.answer.LogSums.{LogSums}
+use Rattle.hsp_check.specs.Valid.{IsValidPlan, IsValidSet}
 
--- the plan is best, its total is the cost, and what the rows pay is the cost and what servers and hosts take
+-- The plan is feasible at the cost that is told, no arc's reduced cost is negative, an arc in use has reduced
+-- cost 0, and servers and hosts with room left have price 0 (complementary slackness, section 9.3). So the
+-- plan is best, and what its rows pay is the cost and what servers and hosts earn (section 9.4).
 pub record HoldsBest (n : Network) (c : certificates.Best) : Type 0 where
+  pub valid : IsValidPlan n c
   pub best : Best n (table c.uses)
-  pub cost : c.cost ≡ total n (table c.uses)
-  pub prices : times n.demands c.row_prices ≡ c.cost + times n.capacities c.server_prices + times n.limits c.host_prices
+  pub dual : times n.demands c.row_prices
+      ≡ c.cost + times n.capacities c.server_prices + times n.limits c.host_prices
 
--- the rows ask for more than all that they can reach, and no plan is feasible
+-- The rows ask for the demand that is told, all servers that they can reach take the capacity that is told,
+-- and that is less (a cut, section 6.7). So no plan is feasible.
 pub record HoldsShort (n : Network) (c : certificates.Short) : Type 0 where
-  pub is_short : IsShort n (is_one_of c.rows)
+  pub valid : IsValidSet n c
   pub none : (x : Plan) → Feasible n x → ⊥
 
 abbrev pub Holds : Network → Claim → Type 0
 Holds n (best c) = HoldsBest n c
 Holds n (short c) = HoldsShort n c
 
--- the octets spell a certificate that holds
+-- the octets spell the claim, as a certificate that holds
+pub record Spells (octets : List ℕ) (it : Instance) (claim : Claim) : Type 0 where
+  pub is : certificates.IsCertificate claim
+  pub text : octets ≡ text_of claim
+  pub holds : Holds (network_of it) claim
+
 abbrev pub Shows : List ℕ → Instance → Type 0
-Shows octets instance = (claim : Claim) × certificates.IsCertificate claim × (octets ≡ text_of claim) × Holds (network_of instance) claim
+Shows octets it = (claim : Claim) × Spells octets it claim
 
--- The log was answered by the plan to its end, and the sums count the answers. No entries of a row beyond what the plan sends to a site are
--- assigned there, and each goes to the server that is responsible for its handle by the hash option of the site.
-pub record IsLogOf (it : Instance) (x : Plan) (run : Streams) (sums : LogSums) : Type 0 where
-  pub left : Plan
-  pub answered : EndsWhole (by_plan it x left) run (all_of sums)
-  pub within : (entries : List Entry) (row site : ℕ) → assigned_in it x entries row site ≤ x row site
-  pub by_hash : (earlier : List Entry) (entry : Entry) → IsByHash it entry (answer_to it x earlier entry)
-
--- the octets spell a certificate of a plan that holds, and the log was answered by the plan
-abbrev pub ShowsLog : List ℕ → Instance → Streams → LogSums → Type 0
-ShowsLog octets instance run sums =
-    (plan : certificates.Best) × certificates.IsCertificate (best plan) × (octets ≡ text_of (best plan)) × HoldsBest (network_of instance) plan
-    × IsLogOf instance (table plan.uses) run sums
+-- the octets spell a certificate of a plan that holds, and by the plan it is so
+abbrev pub ShowsPlan : List ℕ → Instance → (Plan → Type 0) → Type 0
+ShowsPlan octets it Is = (plan : certificates.Best) × Spells octets it (best plan) × Is (table plan.uses)

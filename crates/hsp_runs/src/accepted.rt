@@ -1,12 +1,13 @@
 // Certificates that are accepted for the instance of inputs.
 
 ghost use Rattle.std.specs.Prelude.{IfOk};
-ghost use Rattle.hsp_text.specs.Answers.{Gives, Stands};
+ghost use Rattle.hsp_text.specs.Answers.{Gives};
 ghost use Rattle.hsp_check.specs.Instance.{network_of};
 ghost use Rattle.hsp_check.specs.Valid.{IsValid};
 ghost use Rattle.hsp_runs.specs.Accepted.{IsAccepted, IsAcceptedOf, plan_in, shortage_in};
 ghost use Rattle.hsp_runs.specs.Headline.{Defines};
 ghost use Rattle.hsp_runs.specs.Shown.{Holds};
+ghost use Rattle.hsp_runs.specs.Tells.{Tells};
 
 use crate::checking::{certificate_in, judged};
 use crate::fault::Fault;
@@ -48,9 +49,11 @@ impl Accepted {
 
 // The instance with the certificate, where that is valid for it.
 fn accepting(alloc: Global, instance: Instance, certificate: Certificate) -> Result<Accepted, Fault>
-    ensures accepted { Stands Fault.OutOfMemory (λ accepted. accepted) (IsAccepted instance certificate) result }
-    ensures valid { IfOk result (λ accepted. IsValid (network_of accepted.instance) accepted.certificate) }
-    ensures holds { IfOk result (λ accepted. Holds (network_of accepted.instance) accepted.certificate) }
+    ensures accepted { Tells (IsAccepted instance certificate) result }
+    ensures valid { IfOk result (λ accepted.
+        IsValid (network_of accepted.instance) accepted.certificate) }
+    ensures holds { IfOk result (λ accepted.
+        Holds (network_of accepted.instance) accepted.certificate) }
 {
     match judged(alloc, &instance, &certificate)? {
         Verdict::Yes => Ok(Accepted {
@@ -64,10 +67,12 @@ fn accepting(alloc: Global, instance: Instance, certificate: Certificate) -> Res
 /// The instance of the inputs, and the certificate that the octets spell, which is valid for it. Faults in this order:
 /// `Settings`, `Values`, `Demand`, `Costs`, `Capacity`, `Build`, `Cert`, `Refused` with the first reason.
 pub(crate) fn accepted_in(alloc: Global, inputs: &Inputs, octets: &[u8]) -> Result<Accepted, Fault>
-    ensures accepted { Stands Fault.OutOfMemory (λ accepted. accepted) (IsAcceptedOf inputs.now octets.now) result }
-    ensures valid { IfOk result (λ accepted. IsValid (network_of accepted.instance) accepted.certificate) }
+    ensures accepted { Tells (IsAcceptedOf inputs.now octets.now) result }
+    ensures valid { IfOk result (λ accepted.
+        IsValid (network_of accepted.instance) accepted.certificate) }
     // The plan is best, or there is no feasible plan.
-    ensures holds { IfOk result (λ accepted. Holds (network_of accepted.instance) accepted.certificate) }
+    ensures holds { IfOk result (λ accepted.
+        Holds (network_of accepted.instance) accepted.certificate) }
     // The inputs define the instance.
     ensures defines { IfOk result (λ accepted. Defines inputs.now accepted.instance) }
 {

@@ -6,7 +6,7 @@ ghost use Rattle.hsp_check.specs.declared.verdict.Verdict.TheVariants.{Yes};
 ghost use Rattle.hsp_runs.specs.Check.{IsCertificate, IsChecked, IsVerdict, IsVerdictOn};
 ghost use Rattle.hsp_runs.specs.Headline.{ShowsOf};
 ghost use Rattle.hsp_runs.specs.Shown.{Holds, Shows};
-ghost use Rattle.hsp_text.specs.Answers.{Stands};
+ghost use Rattle.hsp_runs.specs.Tells.{Tells};
 
 use crate::fault::Fault;
 use crate::inputs::Inputs;
@@ -18,7 +18,7 @@ use std::alloc::Global;
 
 /// The certificate that octets spell.
 pub(crate) fn certificate_in(alloc: Global, octets: &[u8]) -> Result<Certificate, Fault>
-    ensures { Stands Fault.OutOfMemory (λ certificate. certificate) (IsCertificate octets.now) result }
+    ensures { Tells (IsCertificate octets.now) result }
 {
     match read_cert(alloc, octets) {
         Ok(certificate) => Ok(certificate),
@@ -33,15 +33,16 @@ pub(crate) fn judged(
     instance: &Instance,
     certificate: &Certificate,
 ) -> Result<Verdict, Fault>
-    ensures verdict { Stands Fault.OutOfMemory (λ verdict. verdict) (IsVerdict instance.now certificate.now) result }
-    ensures holds { IfOk result (λ verdict. verdict ≡ Yes → Holds (network_of instance.now) certificate.now) }
+    ensures verdict { Tells (IsVerdict instance.now certificate.now) result }
+    ensures holds { IfOk result (λ verdict. verdict ≡ Yes
+        → Holds (network_of instance.now) certificate.now) }
 {
     Ok(check(alloc, instance, certificate)?)
 }
 
 // The verdict on the certificate that octets spell.
 fn judged_text(alloc: Global, instance: &Instance, octets: &[u8]) -> Result<Verdict, Fault>
-    ensures verdict { Stands Fault.OutOfMemory (λ verdict. verdict) (IsVerdictOn octets.now instance.now) result }
+    ensures verdict { Tells (IsVerdictOn octets.now instance.now) result }
     ensures shows { IfOk result (λ verdict. verdict ≡ Yes → Shows octets.now instance.now) }
 {
     let certificate = certificate_in(alloc, octets)?;
@@ -51,7 +52,7 @@ fn judged_text(alloc: Global, instance: &Instance, octets: &[u8]) -> Result<Verd
 /// Whether the text is that of a certificate which is valid for the instance of the inputs, and the first reason why it isn't.
 /// Faults in this order: `Settings`, `Values`, `Demand`, `Costs`, `Capacity`, `Build`, `Cert`.
 pub fn check_run(alloc: Global, inputs: &Inputs, cert: &[u8]) -> Result<Verdict, Fault>
-    ensures verdict { Stands Fault.OutOfMemory (λ verdict. verdict) (IsChecked inputs.now cert.now) result }
+    ensures verdict { Tells (IsChecked inputs.now cert.now) result }
     // Yes says that the certificate's plan is best, or that there is no feasible plan.
     ensures shows { IfOk result (λ verdict. verdict ≡ Yes → ShowsOf inputs.now cert.now) }
 {

@@ -1,10 +1,9 @@
 // Logs, answered by the plans of certificates.
 
-ghost use Rattle.std.specs.Prelude.{IfOk};
 ghost use Rattle.hsp_check.specs.Instance.{network_of};
 ghost use Rattle.hsp_check.specs.Valid.{IsValid};
 ghost use Rattle.hsp_runs.specs.Dispatch.{AnswersBy, IsDispatched, a_dispatcher, over};
-ghost use Rattle.hsp_runs.specs.Headline.{ShowsLogOf};
+ghost use Rattle.hsp_runs.specs.Logs.{ShowsLogOf};
 
 use crate::accepted::{Accepted, accepted_in};
 use crate::fault::Fault;
@@ -42,9 +41,9 @@ pub fn dispatch_run<R: Read + Drop, W: Write>(
 ) -> Result<LogSums, Fault>
     ensures answers { IsDispatched inputs.now certificate.now
         (over (R.remaining reader) (W.contents writer.old) (W.contents writer.new)) result }
-    // The answers are those of a best plan, none beyond it, and each by the hash of its handle.
-    ensures shows { IfOk result (λ sums. ShowsLogOf inputs.now certificate.now
-        (over (R.remaining reader) (W.contents writer.old) (W.contents writer.new)) sums) }
+    // The answers, also those before a fault, are of a best plan, none beyond it, each by the hash of its handle.
+    ensures shows { ShowsLogOf inputs.now certificate.now
+        (over (R.remaining reader) (W.contents writer.old) (W.contents writer.new)) result }
 {
     let accepted = accepted_in(alloc, inputs, certificate)?;
     dispatched(alloc, &accepted, reader, writer)

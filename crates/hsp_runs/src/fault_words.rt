@@ -69,7 +69,8 @@ fn put_host(out: &mut Vec<u8>, word: &[u8], host: u32) -> Result<(), AllocError>
 }
 
 fn put_bad_handle(out: &mut Vec<u8>, row: u32, fault: &HandleFault) -> Result<(), AllocError>
-    ensures { OnOk result (out.new.items ≡ out.old.items ++ table_words (table_fault.BadHandle row fault.now)) }
+    ensures { OnOk result (out.new.items ≡ out.old.items
+        ++ table_words (table_fault.BadHandle row fault.now)) }
 {
     put_row(out, b"BadHandle", row)?;
     out.extend_from_slice(b" ")?;
@@ -111,7 +112,8 @@ fn table_name(table: Table) -> &'static [u8]
 }
 
 fn put_bad_record(out: &mut Vec<u8>, site: u32, fault: &RecordFault) -> Result<(), AllocError>
-    ensures { OnOk result (out.new.items ≡ out.old.items ++ build_words (build_fault.BadRecord site fault.now)) }
+    ensures { OnOk result (out.new.items ≡ out.old.items
+        ++ build_words (build_fault.BadRecord site fault.now)) }
 {
     put_site(out, b"BadRecord", site)?;
     out.extend_from_slice(b" ")?;
@@ -119,14 +121,16 @@ fn put_bad_record(out: &mut Vec<u8>, site: u32, fault: &RecordFault) -> Result<(
 }
 
 fn put_unknown_site(out: &mut Vec<u8>, table: Table, row: u32) -> Result<(), AllocError>
-    ensures { OnOk result (out.new.items ≡ out.old.items ++ build_words (build_fault.UnknownSite table row)) }
+    ensures { OnOk result (out.new.items ≡ out.old.items
+        ++ build_words (build_fault.UnknownSite table row)) }
 {
     out.extend_from_slice(b"UnknownSite table ")?;
     put_row(out, table_name(table), row)
 }
 
 fn put_no_capacity(out: &mut Vec<u8>, site: u32, server_id: u32) -> Result<(), AllocError>
-    ensures { OnOk result (out.new.items ≡ out.old.items ++ build_words (build_fault.NoCapacity site server_id)) }
+    ensures { OnOk result (out.new.items ≡ out.old.items
+        ++ build_words (build_fault.NoCapacity site server_id)) }
 {
     put_site(out, b"NoCapacity", site)?;
     put_with(out, b" server_id ", u64::from(server_id))

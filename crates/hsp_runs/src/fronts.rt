@@ -6,6 +6,7 @@ ghost use Rattle.hsp_text.specs.declared.limits.TheConstants.{MOST_FRONTS};
 ghost use Rattle.hsp_check.specs.Instance.{network_of};
 ghost use Rattle.hsp_check.specs.Valid.{IsValid};
 ghost use Rattle.hsp_runs.specs.Dispatch.{AnswersBy, IsDispatchedAt, fronts_at, over, so_many};
+ghost use Rattle.hsp_runs.specs.Logs.{ShowsFrontsOf};
 
 use crate::accepted::{Accepted, accepted_in};
 use crate::counts::count_at;
@@ -55,7 +56,10 @@ pub fn fronts_run<R: Read + Drop, W: Write>(
     reader: R,
     writer: &mut W,
 ) -> Result<FrontSums, Fault>
-    ensures { IsDispatchedAt fronts.now inputs.now certificate.now
+    ensures answers { IsDispatchedAt fronts.now inputs.now certificate.now
+        (over (R.remaining reader) (W.contents writer.old) (W.contents writer.new)) result }
+    // Each front answers by its share of a best plan, and all together keep within the plan.
+    ensures shows { ShowsFrontsOf fronts.now inputs.now certificate.now
         (over (R.remaining reader) (W.contents writer.old) (W.contents writer.new)) result }
 {
     let fronts = fronts_at(fronts)?;

@@ -9,8 +9,10 @@ use std::io::Read;
 
 /// Every octet of the reader; None where a read failed, or where there are more than 67,108,864.
 pub fn read_file<R: Read + Drop>(alloc: Global, reader: R) -> Result<Option<Vec<u8>>, AllocError>
-    ensures octets { IfOk result (λ found. IfSome found (λ whole. IfSome (R.remaining reader) (λ text. whole.items ≡ text))) }
-    ensures limit { IfOk result (λ found. IfSome found (λ whole. length whole.items ≤ LARGEST_FILE)) }
+    ensures octets { IfOk result (λ found. IfSome found (λ whole.
+        IfSome (R.remaining reader) (λ text. whole.items ≡ text))) }
+    ensures limit { IfOk result (λ found. IfSome found (λ whole.
+        length whole.items ≤ LARGEST_FILE)) }
 {
     let mut reader = reader;
     let mut whole = Vec::new(alloc);
@@ -32,8 +34,10 @@ pub fn read_file<R: Read + Drop>(alloc: Global, reader: R) -> Result<Option<Vec<
 /// The octets of the reader before its first LF or, without one, before its end; None where a read failed, or where they are
 /// more than 65,536.
 pub fn first_line<R: Read + Drop>(alloc: Global, reader: R) -> Result<Option<Vec<u8>>, AllocError>
-    ensures line { IfOk result (λ found. IfSome found (λ line. IfSome (R.remaining reader) (λ text. line.items ≡ first_line_of text))) }
-    ensures limit { IfOk result (λ found. IfSome found (λ line. length line.items ≤ LONGEST_FIRST_LINE)) }
+    ensures line { IfOk result (λ found. IfSome found (λ line.
+        IfSome (R.remaining reader) (λ text. line.items ≡ first_line_of text))) }
+    ensures limit { IfOk result (λ found. IfSome found (λ line.
+        length line.items ≤ LONGEST_FIRST_LINE)) }
 {
     let mut reader = reader;
     let mut line = Vec::new(alloc);

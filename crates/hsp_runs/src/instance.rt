@@ -3,7 +3,7 @@
 ghost use Rattle.std.specs.Prelude.{IfOk, option_map};
 ghost use Rattle.hsp_runs.specs.Headline.{Defines};
 ghost use Rattle.hsp_runs.specs.Instance.{AreCapacities, AreCosts, IsBuilt, IsDemand, IsInstanceOf, IsWithCosts, IsWithDemand, IsWithSettings, IsWithValues};
-ghost use Rattle.hsp_text.specs.Answers.{Stands};
+ghost use Rattle.hsp_runs.specs.Tells.{Tells};
 
 use crate::fault::Fault;
 use crate::inputs::Inputs;
@@ -17,7 +17,7 @@ use hsp_tables::{
 use std::alloc::Global;
 
 fn demand_in(alloc: Global, octets: &[u8]) -> Result<Demand, Fault>
-    ensures { Stands Fault.OutOfMemory (λ demand. demand) (IsDemand octets.now) result }
+    ensures { Tells (IsDemand octets.now) result }
 {
     match read_demand(alloc, octets) {
         Ok(demand) => Ok(demand),
@@ -27,7 +27,7 @@ fn demand_in(alloc: Global, octets: &[u8]) -> Result<Demand, Fault>
 }
 
 fn costs_in(alloc: Global, octets: &[u8]) -> Result<Costs, Fault>
-    ensures { Stands Fault.OutOfMemory (λ costs. costs) (AreCosts octets.now) result }
+    ensures { Tells (AreCosts octets.now) result }
 {
     match read_costs(alloc, octets) {
         Ok(costs) => Ok(costs),
@@ -37,7 +37,7 @@ fn costs_in(alloc: Global, octets: &[u8]) -> Result<Costs, Fault>
 }
 
 fn capacities_in(alloc: Global, octets: &[u8]) -> Result<Capacities, Fault>
-    ensures { Stands Fault.OutOfMemory (λ capacities. capacities) (AreCapacities octets.now) result }
+    ensures { Tells (AreCapacities octets.now) result }
 {
     match read_capacity(alloc, octets) {
         Ok(capacities) => Ok(capacities),
@@ -55,7 +55,13 @@ fn built(
     costs: &Costs,
     capacity: &Capacities,
 ) -> Result<Instance, Fault>
-    ensures { Stands Fault.OutOfMemory (λ instance. instance) (IsBuilt (record { settings = settings.now; values = option_map (λ v. v.now) values.entry; demand = demand.now; costs = costs.now; capacities = capacity.now })) result }
+    ensures { Tells (IsBuilt (record {
+      settings = settings.now;
+      values = option_map (λ v. v.now) values.entry;
+      demand = demand.now;
+      costs = costs.now;
+      capacities = capacity.now;
+    })) result }
 {
     match build(alloc, settings, values, demand, costs, capacity) {
         Ok(instance) => Ok(instance),
@@ -73,7 +79,8 @@ fn with_costs(
     demand: &Demand,
     costs: &Costs,
 ) -> Result<Instance, Fault>
-    ensures { Stands Fault.OutOfMemory (λ instance. instance) (IsWithCosts inputs.now settings.now (option_map (λ v. v.now) values.entry) demand.now costs.now) result }
+    ensures { Tells (IsWithCosts inputs.now settings.now
+        (option_map (λ v. v.now) values.entry) demand.now costs.now) result }
 {
     let capacity = capacities_in(alloc, &inputs.capacity)?;
     built(alloc, settings, values, demand, costs, &capacity)
@@ -87,7 +94,8 @@ fn with_demand(
     values: Option<&ValueList<'_>>,
     demand: &Demand,
 ) -> Result<Instance, Fault>
-    ensures { Stands Fault.OutOfMemory (λ instance. instance) (IsWithDemand inputs.now settings.now (option_map (λ v. v.now) values.entry) demand.now) result }
+    ensures { Tells (IsWithDemand inputs.now settings.now
+        (option_map (λ v. v.now) values.entry) demand.now) result }
 {
     let costs = costs_in(alloc, &inputs.costs)?;
     with_costs(alloc, inputs, settings, values, demand, &costs)
@@ -100,7 +108,8 @@ fn with_values(
     settings: &Settings,
     values: Option<&ValueList<'_>>,
 ) -> Result<Instance, Fault>
-    ensures { Stands Fault.OutOfMemory (λ instance. instance) (IsWithValues inputs.now settings.now (option_map (λ v. v.now) values.entry)) result }
+    ensures { Tells (IsWithValues inputs.now settings.now
+        (option_map (λ v. v.now) values.entry)) result }
 {
     let demand = demand_in(alloc, &inputs.demand)?;
     with_demand(alloc, inputs, settings, values, &demand)
@@ -108,7 +117,7 @@ fn with_values(
 
 // The instance, after the settings were read.
 fn with_settings(alloc: Global, inputs: &Inputs, settings: &Settings) -> Result<Instance, Fault>
-    ensures { Stands Fault.OutOfMemory (λ instance. instance) (IsWithSettings inputs.now settings.now) result }
+    ensures { Tells (IsWithSettings inputs.now settings.now) result }
 {
     let values = values_in(alloc, inputs.values.as_deref())?;
     with_values(alloc, inputs, settings, values.as_ref())
@@ -116,7 +125,7 @@ fn with_settings(alloc: Global, inputs: &Inputs, settings: &Settings) -> Result<
 
 /// The instance that the inputs define. Faults in this order: `Settings`, `Values`, `Demand`, `Costs`, `Capacity`, `Build`.
 pub(crate) fn instance_in(alloc: Global, inputs: &Inputs) -> Result<Instance, Fault>
-    ensures instance { Stands Fault.OutOfMemory (λ instance. instance) (IsInstanceOf inputs.now) result }
+    ensures instance { Tells (IsInstanceOf inputs.now) result }
     // The inputs define it, by the page of the headline.
     ensures defines { IfOk result (λ instance. Defines inputs.now instance) }
 {

@@ -1,6 +1,6 @@
 // What holds of all inputs, and of all runs over logs.
 
-ghost use Rattle.hsp_runs.specs.Laws.{AcceptsTheDefined, DispatchedLogsShow, GivesNothingElse, GivesTheDefined, LogsGoByHash};
+ghost use Rattle.hsp_runs.specs.Laws.{AcceptsTheDefined, DispatchedLogsShow, FrontsLogsShow, GivesNothingElse, GivesTheDefined, LogsGoByHash};
 
 use hsp_names::laws::readings_are_handles;
 use hsp_record::laws::one_spelling;
@@ -22,10 +22,11 @@ pub fn instances_are_defined()
     one_spelling();
 }
 
-/// A log that was answered to its end, by the plan of a certificate, was answered by a best plan of the instance that the inputs define, none
-/// beyond what the plan sends, and each entry by the hash of its handle.
+/// A log is answered, to its end or up to a fault, by a best plan of the instance that the inputs define, none beyond what the plan
+/// sends, and each entry by the hash of its handle; fronts answer each by its share of such a plan. Any other run writes nothing.
 pub fn dispatched_logs_show()
-    ensures { DispatchedLogsShow }
+    ensures logs { DispatchedLogsShow }
+    ensures fronts { FrontsLogsShow }
 {
     readings_are_handles();
 }

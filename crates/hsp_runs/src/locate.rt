@@ -73,7 +73,8 @@ fn number_line(alloc: Global, number: u32) -> Result<Vec<u8>, AllocError>
 
 // The place of the handle's server.
 fn place_run(alloc: Global, option: &[u8], servers: &[u8], handle: &[u8]) -> Result<Vec<u8>, Fault>
-    ensures { GivesUnless Fault.OutOfMemory (λ text. text.items) result (placed option.now servers.now handle.now) }
+    ensures { GivesUnless Fault.OutOfMemory (λ text. text.items) result
+        (placed option.now servers.now handle.now) }
 {
     let option = option_at(option)?;
     let servers = servers_at(servers)?;
@@ -88,7 +89,8 @@ fn sites_run(
     values: Option<&[u8]>,
     handle: &[u8],
 ) -> Result<Vec<u8>, Fault>
-    ensures { Stands Fault.OutOfMemory (λ text. text.items) (AreLocated settings.now (option_map (λ v. v.now) values.entry) handle.now) result }
+    ensures { Stands Fault.OutOfMemory (λ text. text.items)
+        (AreLocated settings.now (option_map (λ v. v.now) values.entry) handle.now) result }
 {
     let handle = handle_at(handle)?;
     let sites = sites_in(alloc, settings, values)?;
@@ -99,7 +101,8 @@ fn sites_run(
 /// place and the identifier of the handle's server there. Faults in this order: `BadOption`, `BadServers`, `Handle`;
 /// for sites: `Handle`, `Settings`, `Values`, `Build`.
 pub fn locate_run(alloc: Global, locate: &Locate, handle: &[u8]) -> Result<Vec<u8>, Fault>
-    ensures { Stands Fault.OutOfMemory (λ text. text.items) (IsLocated locate.now handle.now) result }
+    ensures { Stands Fault.OutOfMemory (λ text. text.items)
+        (IsLocated locate.now handle.now) result }
 {
     match locate {
         Locate::Place { option, servers } => place_run(alloc, option, servers, handle),

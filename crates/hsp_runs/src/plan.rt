@@ -5,7 +5,7 @@ ghost use Rattle.hsp_cert.specs.Certificate.{IsCertificate};
 ghost use Rattle.hsp_runs.specs.Headline.{ShowsOf};
 ghost use Rattle.hsp_runs.specs.Shown.{Shows};
 ghost use Rattle.hsp_runs.specs.Plan.{IsPlanText, IsPlanned, printed};
-ghost use Rattle.hsp_text.specs.Answers.{Stands};
+ghost use Rattle.hsp_runs.specs.Tells.{Tells};
 
 use crate::fault::Fault;
 use crate::inputs::Inputs;
@@ -69,7 +69,7 @@ fn text_of(alloc: Global, certificate: &Certificate) -> Result<PlanText, AllocEr
 
 // The text of a valid certificate for the instance.
 fn planned(alloc: Global, instance: &Instance) -> Result<PlanText, Fault>
-    ensures text { Stands Fault.OutOfMemory (λ text. text) (IsPlanText instance.now) result }
+    ensures text { Tells (IsPlanText instance.now) result }
     ensures shows { IfOk result (λ text. Shows text.octets instance.now) }
 {
     // Every instance is within its limits.
@@ -82,7 +82,7 @@ fn planned(alloc: Global, instance: &Instance) -> Result<PlanText, Fault>
 /// rows that asks for more than all that it can reach takes. Faults in this order: `Settings`, `Values`, `Demand`, `Costs`,
 /// `Capacity`, `Build`.
 pub fn plan_run(alloc: Global, inputs: &Inputs) -> Result<PlanText, Fault>
-    ensures text { Stands Fault.OutOfMemory (λ text. text) (IsPlanned inputs.now) result }
+    ensures text { Tells (IsPlanned inputs.now) result }
     // The plan is best, or there is no feasible plan.
     ensures shows { IfOk result (λ text. ShowsOf inputs.now text.octets) }
 {

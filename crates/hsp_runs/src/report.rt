@@ -53,7 +53,8 @@ pub fn report_run(
     certificate: &[u8],
     kind: ReportKind,
 ) -> Result<Vec<u8>, Fault>
-    ensures { Stands Fault.OutOfMemory (λ text. text.items) (IsReported inputs.now certificate.now kind) result }
+    ensures { Stands Fault.OutOfMemory (λ text. text.items)
+        (IsReported inputs.now certificate.now kind) result }
 {
     let accepted = accepted_in(alloc, inputs, certificate)?;
     reported(alloc, &accepted, kind)

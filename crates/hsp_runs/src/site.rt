@@ -32,7 +32,8 @@ fn put_count(out: &mut Vec<u8>, word: &[u8], count: usize) -> Result<(), AllocEr
 }
 
 fn put_filter(out: &mut Vec<u8>, filter: &[u8]) -> Result<(), AllocError>
-    ensures { OnOk result (out.new.items ≡ out.old.items ++ numbered (codes "filter") (length filter.now ∷ [])) }
+    ensures { OnOk result (out.new.items ≡ out.old.items
+        ++ numbered (codes "filter") (length filter.now ∷ [])) }
 {
     put_count(out, b"filter", filter.len())
 }

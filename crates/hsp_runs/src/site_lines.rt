@@ -20,7 +20,9 @@ fn put_site(
 ) -> Result<(), AllocError>
     requires site { number < length sites.now }
     requires within { AreSites sites.now }
-    ensures { OnOk result (option_map (λ site. out.old.items ++ site_line (octets_of handle.entry) site) (slice_get sites.now number) ≡ Some out.new.items) }
+    ensures { OnOk result (option_map (λ site.
+        out.old.items ++ site_line (octets_of handle.entry) site) (slice_get sites.now number)
+        ≡ Some out.new.items) }
 {
     let place = server_number(sites.option(number), handle, sites.server_count(number));
     let id = sites.server_id(number, place);

@@ -140,53 +140,64 @@ fn servers_at_sites_are_printed(rt: HostRuntime) {
     );
 }
 
-#[test]
-fn sites_are_refused_in_the_order_of_the_inputs(rt: HostRuntime) {
-    let by_index: &[u8] = b"[[site]]\nname = \"E\"\nindex = 2\n";
-    let no_server: &[u8] =
-        b"[[site]]\nname = \"E\"\nrecord = \"0001020000010001000000000000000000000000\"\n";
-    let cases: [(&[u8], Option<&[u8]>, &[u8], Fault); 6] = [
-        (b"x", Some(b""), b"10", Fault::Handle(HandleFault::NoSlash)),
-        (
-            b"x",
-            Some(b""),
-            b"10/3",
-            Fault::Settings(TableFault::NotToml),
-        ),
-        (
-            by_index,
-            Some(b""),
-            b"10/3",
-            Fault::Values(RecordFault::Truncated { at: 0 }),
-        ),
-        (
-            by_index,
-            Some(b"\0\0\0\0"),
-            b"10/3",
-            Fault::Build(BuildFault::NoValue { site: 0 }),
-        ),
-        (
-            by_index,
-            None,
-            b"10/3",
-            Fault::Build(BuildFault::NoValue { site: 0 }),
-        ),
-        (
-            no_server,
-            None,
-            b"10/3",
-            Fault::Build(BuildFault::NoServer { site: 0 }),
-        ),
-    ];
+// Sites are refused, each with the fault beside it.
+fn refuses(rt: &impl Abort, alloc: Global, cases: [(&[u8], Option<&[u8]>, &[u8], Fault); 3]) {
     for (settings, values, handle, wanted) in cases {
         locates(
-            &rt,
-            rt.alloc(),
+            rt,
+            alloc,
             Asked::Sites(settings, values),
             handle,
             &Err(wanted),
         );
     }
+}
+
+#[test]
+fn sites_are_refused_in_the_order_of_the_inputs(rt: HostRuntime) {
+    let by_index: &[u8] = b"[[site]]\nname = \"E\"\nindex = 2\n";
+    refuses(
+        &rt,
+        rt.alloc(),
+        [
+            (b"x", Some(b""), b"10", Fault::Handle(HandleFault::NoSlash)),
+            (
+                b"x",
+                Some(b""),
+                b"10/3",
+                Fault::Settings(TableFault::NotToml),
+            ),
+            (
+                by_index,
+                Some(b""),
+                b"10/3",
+                Fault::Values(RecordFault::Truncated { at: 0 }),
+            ),
+        ],
+    );
+}
+
+#[test]
+fn sites_without_a_value_or_a_server_are_refused(rt: HostRuntime) {
+    let by_index: &[u8] = b"[[site]]\nname = \"E\"\nindex = 2\n";
+    let no_server: &[u8] =
+        b"[[site]]\nname = \"E\"\nrecord = \"0001020000010001000000000000000000000000\"\n";
+    let no_value = Fault::Build(BuildFault::NoValue { site: 0 });
+    let none = Fault::Build(BuildFault::NoServer { site: 0 });
+    refuses(
+        &rt,
+        rt.alloc(),
+        [
+            (by_index, Some(b"\0\0\0\0"), b"10/3", no_value),
+            (
+                by_index,
+                None,
+                b"10/3",
+                Fault::Build(BuildFault::NoValue { site: 0 }),
+            ),
+            (no_server, None, b"10/3", none),
+        ],
+    );
 }
 
 #[test]

@@ -1,5 +1,10 @@
-use Rattle.hsp_runs.proofs.ShownLog.{shown_where}
+use Rattle.std.proofs.Common.{inl, refl}
+use Rattle.hsp_runs.proofs.ShownLog.{shown_nothing, shown_where}
 use Rattle.hsp_runs.proofs.dispatch.dispatch_run.Goals as goal
+
+pub returns-in_err-accepted-clause-shows : goal.returns-in_err-accepted-clause-shows
+returns-in_err-accepted-clause-shows g c =
+    inl (shown_nothing c.args.inputs.now c.args.certificate.now _ c.in_err-accepted.field-0.0 _ refl c.from_residual.ensures.1 c.in_err-accepted.ensures.accepted)
 
 pub returns-clause-shows : goal.returns-clause-shows
 returns-clause-shows g c =

@@ -7,4 +7,5 @@ pub returns-clause-shows : goal.returns-clause-shows
 returns-clause-shows c =
     let claim = c.in_ok-certificate.certificate in
     let holds = valid_holds c.args.instance.now claim c.rows.ensures.within c.in_ok-certificate.ensures.valid in
-    (claim, c.in_ok-text_of.ensures.ranges, ap (λ (t : Printed). t.octets) c.in_ok-text_of.ensures.text, holds)
+    let text = ap (λ (t : Printed). t.octets) c.in_ok-text_of.ensures.text in
+    (claim, record { is = c.in_ok-text_of.ensures.ranges; text = text; holds = holds })

@@ -1,0 +1,75 @@
+-- Faults before a log is read are not the log's.
+use Rattle.std.proofs.Common.{◌≡◌, ◌≢◌, ℕ, List, Option, Some, None, Result, Ok, Err}
+use Rattle.hsp_text.specs.Answers.{Then, told_as}
+use Rattle.hsp_record.specs.Values.{HandleValue}
+use Rattle.hsp_instance.specs.Instance.{Instance}
+use Rattle.hsp_cert.specs.Certificate.{Claim}
+use Rattle.hsp_dispatch.specs.declared.fault.LogFault.{LogFault}
+use Rattle.hsp_runs.specs.Accepted.{IsAccepted, IsAcceptedOf}
+use Rattle.hsp_runs.specs.Check.{IsCertificate}
+use Rattle.hsp_runs.specs.Instance.{IsBuilt, IsInstanceOf, IsWithCosts, IsWithDemand, IsWithSettings, IsWithValues}
+use Rattle.hsp_runs.specs.Readings.{AreListed, AreValues, some_list}
+use Rattle.hsp_runs.specs.declared.fault.Fault.{Fault}
+use Rattle.hsp_runs.specs.declared.fault.Fault.TheVariants.{BadFronts, BadIndex, BadOption, BadServers, Build, Capacity, Cert, Costs, Demand, Handle, Log, NoValue, NotSiteValue, OutOfMemory, Refused, Settings, Site, Values, WrongKind}
+use Rattle.hsp_runs.specs.declared.inputs.Inputs.{Inputs}
+
+-- no fault that the relation has is the log's
+abbrev pub HasNoLog : {A : Type 0} → (Result A Fault → Type 0) → Type 0
+HasNoLog Is = (fault : Fault) (of : LogFault) → Is (Err fault) → fault ≡ Log of → ⊥
+
+then_none : {A B : Type 0} (First : Result A Fault → Type 0) (Next : A → Result B Fault → Type 0) → HasNoLog First → ((a : A) → HasNoLog (Next a))
+    → HasNoLog (Then First Next)
+then_none First Next first next fault of (Ok a, is, after) e = next a fault of after e
+then_none First Next first next fault of (Err own, is, same) e = let own_is : own ≡ Log of = cc (same, e) in first own of is own_is
+
+told_none : {A E : Type 0} (part : E → Fault) → ((own : E) (of : LogFault) → part own ≢ Log of) → (reading : Result A E) (fault : Fault) (of : LogFault)
+    → ◌≡◌ {A = Result A Fault} (Err fault) (told_as part reading) → fault ≡ Log of → ⊥
+told_none part apart (Ok x) fault of same e = cc (same)
+told_none part apart (Err own) fault of same e = let own_is : part own ≡ Log of = cc (same, e) in apart own of own_is
+
+listed_none : (octets : List ℕ) → HasNoLog (AreListed octets)
+listed_none octets fault of is e = told_none Values (λ own from same. cc (same)) is.0 fault of is.3 e
+
+values_none : (octets : Option (List ℕ)) → HasNoLog (AreValues octets)
+values_none None fault of is e = cc (is)
+values_none (Some octets) fault of is e = by is.0 is.1 is.2
+  where
+    by : (reading : Result (List HandleValue) Fault) → AreListed octets reading → ◌≡◌ {A = Result (Option (List HandleValue)) Fault} (Err fault) (some_list reading) → ⊥
+    by (Ok values) listed same = cc (same)
+    by (Err own) listed same = let own_is : own ≡ Log of = cc (same, e) in listed_none octets own of listed own_is
+
+instance_none : (inputs : Inputs) → HasNoLog (IsInstanceOf inputs)
+instance_none inputs =
+    then_none _ (IsWithSettings inputs) (λ fault of is e. told_none Settings (λ own from same. cc (same)) _ fault of is e) (λ settings.
+    then_none _ (IsWithValues inputs settings) (values_none _) (λ values.
+    then_none _ (IsWithDemand inputs settings values) (λ fault of is e. told_none Demand (λ own from same. cc (same)) _ fault of is e) (λ demand.
+    then_none _ (IsWithCosts inputs settings values demand) (λ fault of is e. told_none Costs (λ own from same. cc (same)) _ fault of is e) (λ costs.
+    then_none _ (λ capacities. IsBuilt (record { settings = settings; values = values; demand = demand; costs = costs; capacities = capacities }))
+    (λ fault of is e. told_none Capacity (λ own from same. cc (same)) _ fault of is e)
+    (λ capacities fault of is e. told_none Build (λ own from same. cc (same)) is.0 fault of is.2 e)))))
+
+accepted_none : (it : Instance) (claim : Claim) → HasNoLog (IsAccepted it claim)
+accepted_none it claim (Refused reason) of is e = cc (e)
+accepted_none it claim BadOption of is e = is
+accepted_none it claim BadServers of is e = is
+accepted_none it claim BadIndex of is e = is
+accepted_none it claim (Handle fault) of is e = is
+accepted_none it claim (Site fault) of is e = is
+accepted_none it claim (Settings fault) of is e = is
+accepted_none it claim (Values fault) of is e = is
+accepted_none it claim NoValue of is e = is
+accepted_none it claim NotSiteValue of is e = is
+accepted_none it claim (Demand fault) of is e = is
+accepted_none it claim (Costs fault) of is e = is
+accepted_none it claim (Capacity fault) of is e = is
+accepted_none it claim (Build fault) of is e = is
+accepted_none it claim (Cert fault) of is e = is
+accepted_none it claim WrongKind of is e = is
+accepted_none it claim (Log fault) of is e = is
+accepted_none it claim BadFronts of is e = is
+accepted_none it claim OutOfMemory of is e = is
+
+pub no_log : (inputs : Inputs) (octets : List ℕ) → HasNoLog (IsAcceptedOf inputs octets)
+no_log inputs octets =
+    then_none (IsInstanceOf inputs) (λ instance. Then (IsCertificate octets) (IsAccepted instance)) (instance_none inputs) (λ it.
+    then_none (IsCertificate octets) (IsAccepted it) (λ fault of is e. told_none Cert (λ own from same. cc (same)) is.0 fault of is.3 e) (accepted_none it))
