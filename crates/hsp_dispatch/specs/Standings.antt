@@ -4,7 +4,7 @@ use Rattle.std.specs.List.{AllByRecursion}
 use Rattle.hsp_text.specs.declared.limits.TheConstants.{GREATEST_COUNT}
 use Rattle.hsp_dispatch.specs.Fronts.{share}
 use Rattle.hsp_dispatch.specs.declared.counts.Widths.{Widths}
-use Rattle.hsp_dispatch.specs.declared.counts.Widths.TheVariants.{Short, Long}
+use Rattle.hsp_dispatch.specs.declared.counts.Widths.TheVariants.{One, Two, Four}
 use Rattle.hsp_dispatch.specs.declared.front_share.Standing.{Standing}
 use Rattle.hsp_dispatch.specs.declared.share.Cell.{Cell}
 
@@ -71,7 +71,8 @@ IsSole server [] = ⊥
 IsSole server (cell ∷ []) = cell.server ≡ server
 IsSole server (cell ∷ second ∷ more) = ⊥
 
--- the counts of either width
+-- the counts, however wide they are
 abbrev pub numbers_in : Widths → List ℕ
-numbers_in (Short counts) = counts.items
-numbers_in (Long counts) = counts.items
+numbers_in (One counts) = counts.items
+numbers_in (Two counts) = counts.items
+numbers_in (Four counts) = counts.items

@@ -1,18 +1,20 @@
 // Counts that are lowered one by one.
 
 ghost use Rattle.std.specs.Prelude.{◌≡◌, ◌<◌, ◌-◌, IfOk, IfSome, Some, length, set, slice_get};
+ghost use Rattle.hsp_dispatch.specs.Standings.{numbers_in};
 
 use std::alloc::{AllocError, Global};
 use std::marker::Model;
 
-// Counts of two octets each, or of four where one of them needs more than two.
+// Counts of so many octets each.
 #[derive(Debug, Drop)]
 pub(crate) enum Widths {
-    Short(Vec<u16>),
-    Long(Vec<u32>),
+    One(Vec<u8>),
+    Two(Vec<u16>),
+    Four(Vec<u32>),
 }
 
-/// A list of counts, which takes two octets for each where all of them are below 65,536.
+/// A list of counts, in one octet each where all of them are below 256, and in two where all are below 65,536.
 #[derive(Debug, Drop)]
 pub(crate) struct Counts {
     widths: Widths,
@@ -27,18 +29,45 @@ impl Model for Counts {
     ghost view = { λ counts. numbers_in counts.widths };
 }
 
-// The counts in two octets each, None where one of them needs more.
-fn shortened(alloc: Global, counts: &[u32]) -> Result<Option<Vec<u16>>, AllocError>
-    ensures { IfOk result (λ short. IfSome short (λ own. own.items ≡ counts.now)) }
+// The counts in one octet each, None where one of them needs more.
+fn in_one(alloc: Global, counts: &[u32]) -> Result<Option<Vec<u8>>, AllocError>
+    ensures { IfOk result (λ ones. IfSome ones (λ own. own.items ≡ counts.now)) }
 {
-    let mut short = Vec::with_capacity(alloc, counts.len())?;
+    let mut ones = Vec::with_capacity(alloc, counts.len())?;
+    for count in counts {
+        if *count > 255 {
+            return Ok(None);
+        }
+        ones.push(*count as u8)?;
+    }
+    Ok(Some(ones))
+}
+
+// The counts in two octets each, None where one of them needs more.
+fn in_two(alloc: Global, counts: &[u32]) -> Result<Option<Vec<u16>>, AllocError>
+    ensures { IfOk result (λ twos. IfSome twos (λ own. own.items ≡ counts.now)) }
+{
+    let mut twos = Vec::with_capacity(alloc, counts.len())?;
     for count in counts {
         if *count > 65_535 {
             return Ok(None);
         }
-        short.push(*count as u16)?;
+        twos.push(*count as u16)?;
     }
-    Ok(Some(short))
+    Ok(Some(twos))
+}
+
+// The counts in as few octets each as serve.
+fn narrowed(alloc: Global, counts: Vec<u32>) -> Result<Widths, AllocError>
+    ensures { IfOk result (λ widths. numbers_in widths ≡ counts.items) }
+{
+    if let Some(ones) = in_one(alloc, &counts)? {
+        return Ok(Widths::One(ones));
+    }
+    if let Some(twos) = in_two(alloc, &counts)? {
+        return Ok(Widths::Two(twos));
+    }
+    Ok(Widths::Four(counts))
 }
 
 impl Counts {
@@ -46,10 +75,7 @@ impl Counts {
     pub(crate) fn of(alloc: Global, counts: Vec<u32>) -> Result<Counts, AllocError>
         ensures { IfOk result (λ own. own ≡ counts.items) }
     {
-        let widths = match shortened(alloc, &counts)? {
-            Some(short) => Widths::Short(short),
-            None => Widths::Long(counts),
-        };
+        let widths = narrowed(alloc, counts)?;
         Ok(Counts { widths })
     }
 
@@ -59,8 +85,9 @@ impl Counts {
         ensures { slice_get self.now place ≡ Some result }
     {
         match &self.widths {
-            Widths::Short(counts) => u32::from(counts[place]),
-            Widths::Long(counts) => counts[place],
+            Widths::One(counts) => u32::from(counts[place]),
+            Widths::Two(counts) => u32::from(counts[place]),
+            Widths::Four(counts) => counts[place],
         }
     }
 
@@ -71,12 +98,17 @@ impl Counts {
         ensures rest { self.new ≡ set self.old place (result - 1) }
     {
         match &mut self.widths {
-            Widths::Short(counts) => {
+            Widths::One(counts) => {
                 let count = counts[place];
                 counts[place] = count.saturating_sub(1);
                 u32::from(count)
             }
-            Widths::Long(counts) => {
+            Widths::Two(counts) => {
+                let count = counts[place];
+                counts[place] = count.saturating_sub(1);
+                u32::from(count)
+            }
+            Widths::Four(counts) => {
                 let count = counts[place];
                 counts[place] = count.saturating_sub(1);
                 count
