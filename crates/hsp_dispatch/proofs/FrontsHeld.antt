@@ -1,20 +1,21 @@
 -- What the fronts hold.
-use Rattle.std.proofs.Common.{◌≡◌, ◌≢◌, ◌<◌, ◌≤◌, ◌+◌, ◌∙◌, ◌++◌, ℕ, zero, suc, List, [], ◌∷◌, length, map, option_map, set, take, Option, None, Some, Ok, arith, refl, sym, ap}
+use Rattle.std.proofs.Common.{◌≡◌, ◌≢◌, ◌<◌, ◌≤◌, ◌+◌, ◌-◌, ◌*◌, ◌∙◌, ℕ, zero, suc, List, [], ◌∷◌, length, map, option_map, set, Option, None, Some, Ok, arith, refl, sym, ap}
 use Rattle.std.proofs.Common.{inl, inr}
+use Rattle.std.specs.Prelude.{IfSome}
 use Rattle.std.specs.List.{AllByRecursion, slice_get}
-use Rattle.std.proofs.lemmas.Bool.{cases_eq, le-ltb, lt-ltb}
-use Rattle.std.proofs.lemmas.List.{length-map, length-set, map-set, map_push, set-get_or, take_all}
-use Rattle.std.proofs.lemmas.Option.{get_or_from_slice_get, slice_get-map, slice_get_within}
+use Rattle.std.proofs.lemmas.Bool.{cases_eq, lt-ltb}
+use Rattle.std.proofs.lemmas.List.{length-map, length-set, map-set, set-get_or}
+use Rattle.std.proofs.lemmas.Option.{get_or_from_slice_get, slice_get-map, slice_get_past}
 use Rattle.hsp_text.specs.declared.limits.TheConstants.{MOST_SITES}
 use Rattle.hsp_names.specs.Handle.{handle_in}
 use Rattle.hsp_instance.specs.Instance.{Instance}
-use Rattle.hsp_instance.proofs.Lists.{all_at, all_push, map_take_next}
+use Rattle.hsp_instance.proofs.Lists.{all_at}
 use Rattle.hsp_check.specs.Plan.{Plan}
 use Rattle.hsp_dispatch.specs.Dispatch.{Entry, IsSame, row_of}
 use Rattle.hsp_dispatch.specs.Lines.{answer_of, given_of}
-use Rattle.hsp_dispatch.specs.Shares.{AreCellsOf, Held, IsCellOf, IsHeld, cells_in, first_answer, holding, left_at, left_of, taken_answer, without_first}
-use Rattle.hsp_dispatch.specs.Fronts.{AreFrontsOf, AreHeld, IsTakenAt, IsTakenOf, Tables, answer_among, cells_at, held_at, share, share_of}
-use Rattle.hsp_dispatch.specs.Standings.{AreShared, shares_in}
+use Rattle.hsp_dispatch.specs.Shares.{AreCellsOf, Held, IsCellOf, IsHeld, cells_in, first_answer, first_of, holding, left_at, left_of, taken_answer, without_first}
+use Rattle.hsp_dispatch.specs.Fronts.{AreFrontsOf, AreHeld, IsTakenAt, IsTakenOf, Tables, answer_among, cells_at, held_at, left_at_front, share, share_of}
+use Rattle.hsp_dispatch.specs.Standings.{all_sums, left_among, lefts_from, lefts_of, shares_in}
 use Rattle.hsp_dispatch.specs.Steps.{TakesAt}
 use Rattle.hsp_dispatch.specs.declared.answer.FrontAnswer.TheVariants.{Answered}
 use Rattle.hsp_dispatch.specs.declared.answering.Given.{Given}
@@ -23,8 +24,8 @@ use Rattle.hsp_dispatch.proofs.FrontShares.{share_none}
 use Rattle.hsp_dispatch.proofs.Resting.{rest_unknown}
 use Rattle.hsp_dispatch.proofs.SharedOut.{set_here, set_other}
 use Rattle.hsp_dispatch.proofs.Shares.{Within, all_so}
-use Rattle.hsp_dispatch.proofs.Standings.{few_cells, share_left, shares_of_row}
-use Rattle.hsp_dispatch.proofs.Taking.{held_after, rest_after}
+use Rattle.hsp_dispatch.proofs.Standings.{cells_of_front, few_cells, first_cells, first_long, first_row, left_taken, lefts_change, own_lefts, row_of_lefts, rows_long, share_left, shares_of_row}
+use Rattle.hsp_dispatch.proofs.Taking.{held_after, rest_after, taken_by, taken_there}
 
 -- ---- fronts that hold their shares
 
@@ -36,21 +37,17 @@ pub record AreRowsOf (fronts : ℕ) (shares : List (List Cell)) (lefts : List (L
   pub many : AllByRecursion (HasFronts fronts) lefts
   pub each : (front : ℕ) → front < fronts → map (cells_at front) lefts ≡ map (shares_in fronts front) shares
 
-pub rows_none : (fronts : ℕ) → AreRowsOf fronts [] []
-rows_none fronts = record { many = tt; each = λ front inside. refl }
-
--- one row more
-pub rows_more : (fronts k : ℕ) (shares : List (List Cell)) (cells : List Cell) (lefts : List (List (List Cell))) (last : List (List Cell))
-    → slice_get shares k ≡ Some cells → AreRowsOf fronts (take k shares) lefts → AreShared fronts cells last
-    → AreRowsOf fronts (take (k + 1) shares) (lefts ++ last ∷ [])
-rows_more fronts k shares cells lefts last e are shared = record {
-  many = all_push (HasFronts fronts) lefts last are.many shared.many;
-  each = λ front inside.
-      map_push (cells_at front) lefts last
-      ∙ ap (λ (own : List Cell). map (cells_at front) lefts ++ own ∷ []) (shared.each front inside)
-      ∙ ap (λ (rows : List (List Cell)). rows ++ shares_in fronts front cells ∷ []) (are.each front inside)
-      ∙ sym (map_take_next (shares_in fronts front) shares k cells e);
-}
+-- so they do where each has all of its shares
+pub rows_first : (fronts : ℕ) (shares : List (List Cell)) → AreRowsOf fronts shares (lefts_of fronts shares (all_sums fronts shares))
+rows_first fronts [] = record { many = tt; each = λ front inside. refl }
+rows_first fronts (cells ∷ shares) =
+    let later = rows_first fronts shares in
+    rw (first_row fronts cells shares) (record {
+      many = (first_long fronts cells, later.many);
+      each = λ front inside.
+          ap (λ (own : List Cell). own ∷ map (cells_at front) (lefts_of fronts shares (all_sums fronts shares))) (first_cells fronts front cells inside)
+          ∙ ap (λ (rows : List (List Cell)). shares_in fronts front cells ∷ rows) (later.each front inside);
+    })
 
 of_row : (it : Instance) (fronts front row : ℕ) (own : Option (List Cell)) (cells : List Cell) → ((c : List Cell) → own ≡ Some c → AreCellsOf it row c)
     → option_map (shares_in fronts front) own ≡ Some cells → AreCellsOf it row cells
@@ -177,6 +174,91 @@ none_taken tables front entry none = record {
   own = λ inside row site. rest_unknown tables.instance (left_of (held_at tables front)) entry none row site;
   others = λ other apart row site. refl;
 }
+
+-- ---- one number a front and a row
+
+-- what is held by the cells of rows and the numbers of fronts
+abbrev pub tables_by : Instance → ℕ → List (List Cell) → List ℕ → Tables
+tables_by it fronts rows lefts = tables_of it fronts (lefts_of fronts rows lefts)
+
+-- the cells of all fronts in a row
+abbrev own_by : ℕ → ℕ → List Cell → List ℕ → List (List Cell)
+own_by fronts row cells lefts = lefts_from fronts 0 cells (own_lefts fronts row lefts)
+
+pub row_within : (it : Instance) (fronts front row : ℕ) (rows : List (List Cell)) (lefts : List ℕ) → AreHeld (tables_by it fronts rows lefts) → front < fronts
+    → row < length it.rows → row < length rows
+row_within it fronts front row rows lefts are inside there =
+    omega (arith, there, (are.each front inside).one_a_row, length-map (lefts_of fronts rows lefts) (cells_at front), rows_long fronts rows lefts)
+
+-- the cells of a front in a row
+own_at : (it : Instance) (fronts front row left : ℕ) (rows : List (List Cell)) (lefts : List ℕ) (cells : List Cell) → front < fronts
+    → slice_get rows row ≡ Some cells → slice_get lefts (row * fronts + front) ≡ Some left
+    → slice_get (held_at (tables_by it fronts rows lefts) front).shares row ≡ Some (left_among fronts front left cells)
+own_at it fronts front row left rows lefts cells inside e at =
+    own_row (tables_by it fronts rows lefts) front row (own_by fronts row cells lefts) (row_of_lefts fronts rows lefts row cells e)
+    ∙ ap Some (cells_of_front fronts front row cells lefts left inside at)
+
+pub number_answers : (it : Instance) (fronts front row left : ℕ) (rows : List (List Cell)) (lefts : List ℕ) (cells : List Cell)
+    → AreHeld (tables_by it fronts rows lefts) → front < fronts → slice_get rows row ≡ Some cells → slice_get lefts (row * fronts + front) ≡ Some left
+    → taken_answer it (option_map (λ (cell : Cell). cell.server) (first_of (left_among fronts front left cells)))
+    ≡ first_answer (held_at (tables_by it fronts rows lefts) front) row
+number_answers it fronts front row left rows lefts cells are inside e at =
+    taken_by (held_at (tables_by it fronts rows lefts) front) row (left_among fronts front left cells) (are.each front inside)
+    (own_at it fronts front row left rows lefts cells inside e at)
+
+pub number_there : (it : Instance) (fronts front row left : ℕ) (rows : List (List Cell)) (lefts : List ℕ) (cells : List Cell)
+    → AreHeld (tables_by it fronts rows lefts) → front < fronts → slice_get rows row ≡ Some cells → slice_get lefts (row * fronts + front) ≡ Some left
+    → IfSome (option_map (λ (cell : Cell). cell.server) (first_of (left_among fronts front left cells))) (λ server. server < length it.servers)
+number_there it fronts front row left rows lefts cells are inside e at =
+    taken_there (held_at (tables_by it fronts rows lefts) front) row (left_among fronts front left cells) (are.each front inside)
+    (own_at it fronts front row left rows lefts cells inside e at)
+
+-- the row of a front that has one less
+own_less : (fronts front row left : ℕ) (cells : List Cell) (lefts : List ℕ) → front < fronts → slice_get lefts (row * fronts + front) ≡ Some left
+    → set (own_by fronts row cells lefts) front (left_among fronts front (left - 1) cells)
+    ≡ set (own_by fronts row cells lefts) front (without_first (cells_at front (own_by fronts row cells lefts)))
+own_less fronts front row left cells lefts inside at =
+    ap (λ (own : List Cell). set (own_by fronts row cells lefts) front own)
+    (sym (ap without_first (cells_of_front fronts front row cells lefts left inside at) ∙ left_taken fronts front left cells))
+
+pub number_taken : (it : Instance) (fronts front row left : ℕ) (rows : List (List Cell)) (lefts new : List ℕ) (cells : List Cell)
+    → AreHeld (tables_by it fronts rows lefts) → front < fronts → slice_get rows row ≡ Some cells → slice_get lefts (row * fronts + front) ≡ Some left
+    → new ≡ set lefts (row * fronts + front) (left - 1) → IsTakenOf front row (tables_by it fronts rows lefts) (tables_by it fronts rows new)
+number_taken it fronts front row left rows lefts new cells are inside e at is =
+    rw (is, lefts_change fronts front rows lefts row (left - 1) cells e inside)
+    (row_taken (tables_by it fronts rows lefts) front row (own_by fronts row cells lefts) (set (own_by fronts row cells lefts) front (left_among fronts front (left - 1) cells))
+    are inside (row_of_lefts fronts rows lefts row cells e) (own_less fronts front row left cells lefts inside at))
+
+pub number_held : (it : Instance) (fronts front row left : ℕ) (rows : List (List Cell)) (lefts new : List ℕ) (cells : List Cell)
+    → AreHeld (tables_by it fronts rows lefts) → front < fronts → slice_get rows row ≡ Some cells → slice_get lefts (row * fronts + front) ≡ Some left
+    → new ≡ set lefts (row * fronts + front) (left - 1) → AreHeld (tables_by it fronts rows new)
+number_held it fronts front row left rows lefts new cells are inside e at is =
+    rw (is, lefts_change fronts front rows lefts row (left - 1) cells e inside)
+    (row_held (tables_by it fronts rows lefts) front row (own_by fronts row cells lefts) (set (own_by fronts row cells lefts) front (left_among fronts front (left - 1) cells))
+    are inside (row_of_lefts fronts rows lefts row cells e) (own_less fronts front row left cells lefts inside at))
+
+-- what a front has left at a site
+pub number_left : (it : Instance) (fronts front row left site : ℕ) (rows : List (List Cell)) (lefts : List ℕ) (cells : List Cell) → front < fronts
+    → slice_get rows row ≡ Some cells → slice_get lefts (row * fronts + front) ≡ Some left
+    → left_at (left_among fronts front left cells) site ≡ left_at_front (tables_by it fronts rows lefts) front row site
+number_left it fronts front row left site rows lefts cells inside e at =
+    sym (ap (λ (own : Option (List Cell)). left_at (cells_in own) site) (own_at it fronts front row left rows lefts cells inside e at))
+
+-- nothing where there is no such row or no such front
+pub no_row_left : (it : Instance) (fronts front row site : ℕ) (rows : List (List Cell)) (lefts : List ℕ) → length rows ≤ row
+    → 0 ≡ left_at_front (tables_by it fronts rows lefts) front row site
+no_row_left it fronts front row site rows lefts past =
+    let long : length (map (cells_at front) (lefts_of fronts rows lefts)) ≤ row =
+    omega (arith, past, length-map (lefts_of fronts rows lefts) (cells_at front), rows_long fronts rows lefts) in
+    sym (ap (λ (own : Option (List Cell)). left_at (cells_in own) site) (slice_get_past (map (cells_at front) (lefts_of fronts rows lefts)) row long))
+
+pub no_front_left : (tables : Tables) (front row site : ℕ) → AreHeld tables → tables.fronts ≤ front → 0 ≡ left_at_front tables front row site
+no_front_left tables front row site are past =
+    sym (ap (λ (own : Option (List Cell)). left_at (cells_in own) site) (slice_get-map (cells_at front) tables.lefts row) ∙ by_row (slice_get tables.lefts row) refl)
+  where
+    by_row : (own : Option (List (List Cell))) → slice_get tables.lefts row ≡ own → left_at (cells_in (option_map (cells_at front) own)) site ≡ 0
+    by_row None e = refl
+    by_row (Some own) e = rw (slice_get_past own front (omega (arith, past, own_many tables row own are e))) refl
 
 -- ---- answers by what is taken
 

@@ -21,6 +21,7 @@ use Rattle.hsp_check.specs.Network.{is_allowed}
 use Rattle.hsp_check.specs.Uses.{table}
 use Rattle.hsp_dispatch.specs.Dispatch.{IsSame, arc_to}
 use Rattle.hsp_dispatch.specs.Shares.{AreCells, AreSharesOf, AreUsesOf, IsCellOf, IsHeld, cell_of, cells_of, left_at, left_of, number_of}
+use Rattle.hsp_dispatch.specs.Standings.{AreBounded}
 use Rattle.hsp_dispatch.specs.declared.share.Cell.{Cell}
 use Rattle.hsp_dispatch.proofs.Shares.{none_at}
 
@@ -354,3 +355,22 @@ table_held it uses shares is are shared row site =
           let none : left_at (cells_of it row uses) site ≡ 0 = rw (no_cells it row uses before) refl in
           rw (slice_get_past shares row (omega (arith, shared.one_a_row))) (sym none ∙ left_is it row site uses given.order)
     ]
+
+-- ---- each cell has no more than a row's count may be
+
+bounded_row : (it : Instance) (row : ℕ) (uses : List UseLine) → list_all is_use uses ≡ true → AreBounded (cells_of it row uses)
+bounded_row it row [] all = tt
+bounded_row it row (one ∷ uses) all =
+    let parts = and_parts (is_use one) (list_all is_use uses) all in
+    elim (cases_eq one.row row) [
+      | inl here ↦ rw (eq-eqb one.row row here) (use_within one parts.0, bounded_row it row uses parts.1)
+      | inr other ↦ rw (ne_eqb one.row row other) (bounded_row it row uses parts.1)
+    ]
+
+pub all_bounded : (it : Instance) (uses : List UseLine) (shares : List (List Cell)) → AreUsesOf it uses → AreSharesOf it uses shares
+    → AllByRecursion AreBounded shares
+all_bounded it uses shares are shared =
+    all_from AreBounded shares (λ row cells e.
+    let inside : row < length it.rows = omega (arith, slice_get_within shares row cells e, shared.one_a_row) in
+    let same : cells ≡ cells_of it row uses = same_Some cells (cells_of it row uses) (sym e ∙ shared.each row inside) in
+    rw same (bounded_row it row uses are.ranges))

@@ -1,19 +1,20 @@
 -- Where fronts stand among the cells of a row, and what they take of them.
-use Rattle.std.proofs.Common.{◌≡◌, ◌≢◌, ◌<◌, ◌≤◌, ◌+◌, ◌-◌, ◌*◌, ◌/◌, ◌%◌, ◌∙◌, ◌++◌, ℕ, zero, suc, List, [], ◌∷◌, drop, length, set, Option, Some, None, option_map, arith, refl, sym, ap, eq-eqb, add-one, zero-add}
+use Rattle.std.proofs.Common.{◌≡◌, ◌≢◌, ◌<◌, ◌≤◌, ◌+◌, ◌-◌, ◌*◌, ◌∙◌, ◌++◌, ℕ, zero, suc, List, [], ◌∷◌, drop, length, set, take, Some, None, option_map, arith, refl, sym, ap, drop-drop, eq-eqb, zero-add}
 use Rattle.std.proofs.Common.{inl, inr}
 use Rattle.std.specs.List.{AllByRecursion, slice_get}
-use Rattle.std.proofs.lemmas.Bool.{cases_eq, ne_eqb}
-use Rattle.std.proofs.lemmas.List.{length-set, set-get_or}
-use Rattle.std.proofs.lemmas.Option.{get_or_from_slice_get, slice_get_past, slice_get_within}
-use Rattle.std.proofs.Math.Nat.{suc-add}
+use Rattle.std.proofs.lemmas.Bool.{cases_eq, cases_lt, le-ltb, lt-ltb, ne_eqb}
+use Rattle.std.proofs.lemmas.List.{append-nil, append_assoc, drop-set-add, drop-set-lt, length-append, take-set-le}
+use Rattle.std.proofs.Math.Nat.{mul-le-mul_right, suc-mul}
+use Rattle.std.proofs.Math.Seq.{drop-append_seam, take-append_seam, take-set-lt}
+use Rattle.hsp_text.specs.declared.limits.TheConstants.{MOST_SITES}
 use Rattle.hsp_instance.specs.Instance.{Instance}
-use Rattle.hsp_instance.proofs.Lists.{drop_at, pushed_at, there}
+use Rattle.hsp_instance.proofs.Lists.{back_at, drop_at, front_at}
 use Rattle.hsp_dispatch.specs.Fronts.{cells_at, share}
 use Rattle.hsp_dispatch.specs.Shares.{AreCells, AreCellsOf, IsCellOf, cells_in, first_of, left_at, without_first}
-use Rattle.hsp_dispatch.specs.Standings.{AreShared, cells_left, left_from, lefts_from, shares_in}
+use Rattle.hsp_dispatch.specs.Standings.{AreBounded, IsSole, all_sums, cells_left, left_among, lefts_from, lefts_of, shares_in, shares_sum, sums_of}
 use Rattle.hsp_dispatch.specs.declared.front_share.Standing.{Standing}
 use Rattle.hsp_dispatch.specs.declared.share.Cell.{Cell}
-use Rattle.hsp_dispatch.proofs.FrontShares.{share_none}
+use Rattle.hsp_dispatch.proofs.FrontShares.{share_le, share_none}
 use Rattle.hsp_dispatch.proofs.Shares.{Within, none_at}
 
 -- ---- what holds of cells holds of the shares in them
@@ -76,38 +77,84 @@ few_cells (suc most) s (cell ∷ cells) are within =
     later [] behind inside = tt
     later (c ∷ cells) behind inside = ((omega (arith, behind.0, within.0.0), omega (arith, inside.0.1)), later cells behind.1 inside.1)
 
--- ---- the shares from a cell on
+-- ---- what is left in all
 
-pub shares_from : (fronts front k : ℕ) (cells : List Cell) (cell : Cell) → slice_get cells k ≡ Some cell → share fronts front cell.left ≡ 0
-    → shares_in fronts front (drop (k + 1) cells) ≡ shares_in fronts front (drop k cells)
-shares_from fronts front k cells cell e none = sym (ap (shares_in fronts front) (drop_at cells k cell e) ∙ rw (eq-eqb (share fronts front cell.left) 0 none) refl)
+-- no front has more in cells than they have
+sum_within : (fronts front : ℕ) (cells : List Cell) → 0 < fronts → AreBounded cells → shares_sum fronts front cells ≤ length cells * 1000000
+sum_within fronts front [] some bounded = omega arith
+sum_within fronts front (cell ∷ cells) some bounded =
+    omega (arith, share_le fronts front cell.left some, bounded.0, sum_within fronts front cells some bounded.1, suc-mul (length cells) 1000000)
 
--- a front stands at a cell of which it has a share
-pub stands_at : (fronts front k : ℕ) (cells : List Cell) (cell : Cell) (standing : Standing) → slice_get cells k ≡ Some cell → 0 < share fronts front cell.left
-    → standing.cell ≡ k → standing.left ≡ share fronts front cell.left → cells_left fronts front cells standing ≡ shares_in fronts front (drop k cells)
-stands_at fronts front k cells cell standing e some at left =
-    let own : share fronts front cell.left ≢ 0 = λ none. absurd (omega (arith, some, none)) in
-    rw (at, left, ne_eqb (share fronts front cell.left) 0 own, drop_at cells k cell e) (rw (ne_eqb (share fronts front cell.left) 0 own) refl)
+pub sum_fits : (fronts front : ℕ) (cells : List Cell) → 0 < fronts → AreBounded cells → length cells ≤ MOST_SITES → shares_sum fronts front cells ≤ 4294967295
+sum_fits fronts front cells some bounded few = omega (arith, sum_within fronts front cells some bounded, few)
 
--- ---- what is taken
+pub sum_from : (fronts front k : ℕ) (cells : List Cell) (cell : Cell) → slice_get cells k ≡ Some cell
+    → shares_sum fronts front (drop k cells) ≡ share fronts front cell.left + shares_sum fronts front (drop (k + 1) cells)
+sum_from fronts front k cells cell e = ap (shares_sum fronts front) (drop_at cells k cell e)
 
--- one of what is left, and more is
-pub one_taken : (fronts front : ℕ) (cells : List Cell) (old new : Standing) → 1 < old.left → new.cell ≡ old.cell → new.left ≡ old.left - 1
-    → cells_left fronts front cells new ≡ without_first (cells_left fronts front cells old)
-one_taken fronts front cells old new more same less =
-    let some : old.left ≢ 0 = λ none. absurd (omega (arith, more, none)) in
-    let left : old.left - 1 ≢ 0 = λ none. absurd (omega (arith, more, none)) in
-    rw (same, less, ne_eqb old.left 0 some, ne_eqb (old.left - 1) 0 left) (by_cells (drop old.cell cells))
-  where
-    by_cells : (own : List Cell) → left_from fronts front (old.left - 1) own ≡ without_first (left_from fronts front old.left own)
-    by_cells [] = refl
-    by_cells (cell ∷ later) = rw (ne_eqb old.left 1 (λ one. absurd (omega (arith, more, one)))) refl
+-- who has nothing left, and who has all
+left_none : (fronts front : ℕ) (cells : List Cell) → left_among fronts front 0 cells ≡ []
+left_none fronts front [] = refl
+left_none fronts front (cell ∷ cells) = rw (le-ltb (shares_sum fronts front cells) 0 (omega arith)) (left_none fronts front cells)
 
--- the last of what is left at a cell
-pub last_taken : (fronts front : ℕ) (cells : List Cell) (cell : Cell) (old new : Standing) → old.left ≡ 1 → slice_get cells old.cell ≡ Some cell
-    → cells_left fronts front cells new ≡ shares_in fronts front (drop (old.cell + 1) cells)
-    → cells_left fronts front cells new ≡ without_first (cells_left fronts front cells old)
-last_taken fronts front cells cell old new last e stands = stands ∙ rw (last, drop_at cells old.cell cell e) refl
+left_whole : (fronts front left : ℕ) (cells : List Cell) → left ≡ shares_sum fronts front cells → left_among fronts front left cells ≡ shares_in fronts front cells
+left_whole fronts front left [] whole = refl
+left_whole fronts front left (cell ∷ cells) whole = elim (cases_eq (share fronts front cell.left) 0) [
+  | inl none ↦
+      let sum : left ≡ share fronts front cell.left + shares_sum fronts front cells = whole in
+      let same : left ≡ shares_sum fronts front cells = omega (arith, none, sum) in
+      rw (le-ltb (shares_sum fronts front cells) left (omega (arith, same)), eq-eqb (share fronts front cell.left) 0 none) (left_whole fronts front left cells same)
+  | inr some ↦
+      let sum : left ≡ share fronts front cell.left + shares_sum fronts front cells = whole in
+      let own : left - shares_sum fronts front cells ≡ share fronts front cell.left = omega (arith, sum) in
+      rw (lt-ltb (shares_sum fronts front cells) left (omega (arith, some, sum)), ne_eqb (share fronts front cell.left) 0 some, own) refl
+]
+
+-- who takes one has one less in all
+pub left_taken : (fronts front left : ℕ) (cells : List Cell) → without_first (left_among fronts front left cells) ≡ left_among fronts front (left - 1) cells
+left_taken fronts front left [] = refl
+left_taken fronts front left (cell ∷ cells) = elim (cases_lt (shares_sum fronts front cells) left) [
+  | inl more ↦ elim (cases_eq (left - shares_sum fronts front cells) 1) [
+    | inl last ↦
+        let later = shares_sum fronts front cells in
+        let all : left - 1 ≡ later = omega (arith, more, last) in
+        rw (lt-ltb later left more, le-ltb later (left - 1) (omega (arith, all)))
+        (rw (eq-eqb (left - later) 1 last) (sym (left_whole fronts front (left - 1) cells all)))
+    | inr some ↦
+        let later = shares_sum fronts front cells in
+        let less : left - later - 1 ≡ left - 1 - later = omega (arith, more) in
+        rw (lt-ltb later left more, lt-ltb later (left - 1) (omega (arith, more, some))) (rw (ne_eqb (left - later) 1 some, less) refl)
+  ]
+  | inr few ↦
+      let later = shares_sum fronts front cells in
+      rw (le-ltb later left few, le-ltb later (left - 1) (omega (arith, few))) (left_taken fronts front left cells)
+]
+
+-- who has something left of one cell alone goes to its server
+pub first_sole : (fronts front left server : ℕ) (cells : List Cell) → IsSole server cells → left ≢ 0
+    → option_map (λ (cell : Cell). cell.server) (first_of (left_among fronts front left cells)) ≡ Some server
+first_sole fronts front left server [] sole some = absurd sole
+first_sole fronts front left server (cell ∷ []) sole some = rw (lt-ltb 0 left (omega (arith, some))) (ap Some sole)
+first_sole fronts front left server (cell ∷ second ∷ more) sole some = absurd sole
+
+pub none_left : (fronts front left : ℕ) (cells : List Cell) → left ≡ 0 → left_among fronts front left cells ≡ []
+none_left fronts front left cells none = rw none (left_none fronts front cells)
+
+-- ---- where a front stands
+
+-- it stands at a cell, or at a later one
+pub stands_at : (fronts front left k : ℕ) (cells : List Cell) (cell : Cell) (standing : Standing) → slice_get cells k ≡ Some cell
+    → shares_sum fronts front (drop (k + 1) cells) < left → standing.cell ≡ k → standing.left ≡ left - shares_sum fronts front (drop (k + 1) cells)
+    → cells_left fronts front cells standing ≡ left_among fronts front left (drop k cells)
+stands_at fronts front left k cells cell standing e more at own =
+    let some : left - shares_sum fronts front (drop (k + 1) cells) ≢ 0 = λ none. absurd (omega (arith, more, none)) in
+    rw (at, own, ne_eqb (left - shares_sum fronts front (drop (k + 1) cells)) 0 some, drop_at cells k cell e)
+    (rw (lt-ltb (shares_sum fronts front (drop (k + 1) cells)) left more) refl)
+
+pub stands_later : (fronts front left k : ℕ) (cells : List Cell) (cell : Cell) → slice_get cells k ≡ Some cell
+    → left ≤ shares_sum fronts front (drop (k + 1) cells) → left_among fronts front left (drop (k + 1) cells) ≡ left_among fronts front left (drop k cells)
+stands_later fronts front left k cells cell e few =
+    sym (ap (left_among fronts front left) (drop_at cells k cell e) ∙ rw (le-ltb (shares_sum fronts front (drop (k + 1) cells)) left few) refl)
 
 -- the first of what is left
 pub first_left : (fronts front : ℕ) (cells : List Cell) (cell : Cell) (standing : Standing) → standing.left ≢ 0 → slice_get cells standing.cell ≡ Some cell
@@ -142,78 +189,156 @@ left_later fronts front site cells cell standing some e away =
 
 -- ---- all fronts
 
-pub lefts_get : (fronts front : ℕ) (cells : List Cell) (standings : List Standing) (i : ℕ)
-    → slice_get (lefts_from fronts front cells standings) i ≡ option_map (cells_left fronts (front + i) cells) (slice_get standings i)
+pub lefts_get : (fronts front : ℕ) (cells : List Cell) (lefts : List ℕ) (i : ℕ)
+    → slice_get (lefts_from fronts front cells lefts) i ≡ option_map (λ (left : ℕ). left_among fronts (front + i) left cells) (slice_get lefts i)
 lefts_get fronts front cells [] i = refl
-lefts_get fronts front cells (standing ∷ standings) zero = let same : front + 0 ≡ front = omega arith in rw same refl
-lefts_get fronts front cells (standing ∷ standings) (suc i) =
+lefts_get fronts front cells (left ∷ lefts) zero = let same : front + 0 ≡ front = omega arith in rw same refl
+lefts_get fronts front cells (left ∷ lefts) (suc i) =
     let same : front + 1 + i ≡ front + suc i = omega arith in
-    lefts_get fronts (front + 1) cells standings i ∙ ap (λ (n : ℕ). option_map (cells_left fronts n cells) (slice_get standings i)) same
+    lefts_get fronts (front + 1) cells lefts i ∙ ap (λ (n : ℕ). option_map (λ (own : ℕ). left_among fronts n own cells) (slice_get lefts i)) same
 
-pub lefts_set : (fronts front : ℕ) (cells : List Cell) (standings : List Standing) (i : ℕ) (standing : Standing)
-    → lefts_from fronts front cells (set standings i standing) ≡ set (lefts_from fronts front cells standings) i (cells_left fronts (front + i) cells standing)
-lefts_set fronts front cells [] i standing = refl
-lefts_set fronts front cells (first ∷ standings) zero standing =
+lefts_set : (fronts front : ℕ) (cells : List Cell) (lefts : List ℕ) (i left : ℕ)
+    → lefts_from fronts front cells (set lefts i left) ≡ set (lefts_from fronts front cells lefts) i (left_among fronts (front + i) left cells)
+lefts_set fronts front cells [] i left = refl
+lefts_set fronts front cells (first ∷ lefts) zero left =
     let same : front + 0 ≡ front = omega arith in
     rw same refl
-lefts_set fronts front cells (first ∷ standings) (suc i) standing =
+lefts_set fronts front cells (first ∷ lefts) (suc i) left =
     let same : front + 1 + i ≡ front + suc i = omega arith in
-    ap (λ (lefts : List (List Cell)). cells_left fronts front cells first ∷ lefts) (
-    lefts_set fronts (front + 1) cells standings i standing
-    ∙ ap (λ (n : ℕ). set (lefts_from fronts (front + 1) cells standings) i (cells_left fronts n cells standing)) same)
+    ap (λ (own : List (List Cell)). left_among fronts front first cells ∷ own) (
+    lefts_set fronts (front + 1) cells lefts i left
+    ∙ ap (λ (n : ℕ). set (lefts_from fronts (front + 1) cells lefts) i (left_among fronts n left cells)) same)
 
-pub lefts_long : (fronts front : ℕ) (cells : List Cell) (standings : List Standing) → length (lefts_from fronts front cells standings) ≡ length standings
+lefts_long : (fronts front : ℕ) (cells : List Cell) (lefts : List ℕ) → length (lefts_from fronts front cells lefts) ≡ length lefts
 lefts_long fronts front cells [] = refl
-lefts_long fronts front cells (standing ∷ standings) = ap suc (lefts_long fronts (front + 1) cells standings)
+lefts_long fronts front cells (left ∷ lefts) = ap suc (lefts_long fronts (front + 1) cells lefts)
 
 -- the cells that the front of a number has left
-pub own_cells : (fronts : ℕ) (cells : List Cell) (standings : List Standing) (i : ℕ) (standing : Standing) → slice_get standings i ≡ Some standing
-    → cells_at i (lefts_from fronts 0 cells standings) ≡ cells_left fronts i cells standing
-own_cells fronts cells standings i standing e =
-    ap cells_in (lefts_get fronts 0 cells standings i) ∙ rw (e, zero-add i) refl
+own_cells : (fronts : ℕ) (cells : List Cell) (lefts : List ℕ) (i left : ℕ) → slice_get lefts i ≡ Some left
+    → cells_at i (lefts_from fronts 0 cells lefts) ≡ left_among fronts i left cells
+own_cells fronts cells lefts i left e = ap cells_in (lefts_get fronts 0 cells lefts i) ∙ rw (e, zero-add i) refl
 
--- where nothing is taken, all is as it was
-pub none_taken : (lefts : List (List Cell)) (i : ℕ) → i < length lefts → cells_at i lefts ≡ [] → set lefts i (without_first (cells_at i lefts)) ≡ lefts
-none_taken lefts i inside none =
-    let own = there lefts i inside in
-    let is : cells_at i lefts ≡ own.0 = ap cells_in own.1 in
-    let empty : own.0 ≡ [] = sym is ∙ none in
-    ap (λ (cells : List Cell). set lefts i (without_first cells)) none
-    ∙ ap (λ (cells : List Cell). set lefts i cells) (sym empty ∙ sym (get_or_from_slice_get lefts i own.0 [] own.1)) ∙ set-get_or lefts i []
+-- ---- all rows
 
--- ---- fronts that stand at the first of their shares
+-- the numbers of a row's fronts
+abbrev pub own_lefts : ℕ → ℕ → List ℕ → List ℕ
+own_lefts fronts row lefts = take fronts (drop (row * fronts) lefts)
 
--- the first fronts do
-pub record AreFirst (fronts many : ℕ) (cells : List Cell) (standings : List Standing) : Type 0 where
-  pub count : length standings ≡ many
-  pub each : (front : ℕ) (standing : Standing) → slice_get standings front ≡ Some standing → cells_left fronts front cells standing ≡ shares_in fronts front cells
+next_row : (fronts row : ℕ) (lefts : List ℕ) → drop (row * fronts) (drop fronts lefts) ≡ drop (suc row * fronts) lefts
+next_row fronts row lefts =
+    let place : fronts + row * fronts ≡ suc row * fronts = omega (arith, suc-mul row fronts) in
+    drop-drop (row * fronts) fronts lefts ∙ ap (λ (n : ℕ). drop n lefts) place
 
-pub first_none : (fronts : ℕ) (cells : List Cell) → AreFirst fronts 0 cells []
-first_none fronts cells = record { count = refl; each = λ front standing e. absurd (not_there front standing e) }
+pub row_of_lefts : (fronts : ℕ) (rows : List (List Cell)) (lefts : List ℕ) (row : ℕ) (cells : List Cell) → slice_get rows row ≡ Some cells
+    → slice_get (lefts_of fronts rows lefts) row ≡ Some (lefts_from fronts 0 cells (own_lefts fronts row lefts))
+row_of_lefts fronts [] lefts row cells e = absurd (cc)
+row_of_lefts fronts (first ∷ rows) lefts zero cells e =
+    let same : first ≡ cells = cc in
+    let none : 0 * fronts ≡ 0 = omega arith in
+    rw (same, none) refl
+row_of_lefts fronts (first ∷ rows) lefts (suc row) cells e =
+    row_of_lefts fronts rows (drop fronts lefts) row cells e
+    ∙ ap (λ (own : List ℕ). Some (lefts_from fronts 0 cells (take fronts own))) (next_row fronts row lefts)
+
+pub rows_long : (fronts : ℕ) (rows : List (List Cell)) (lefts : List ℕ) → length (lefts_of fronts rows lefts) ≡ length rows
+rows_long fronts [] lefts = refl
+rows_long fronts (cells ∷ rows) lefts = ap suc (rows_long fronts rows (drop fronts lefts))
+
+-- the place of a front's number is there
+pub place_within : (fronts front row many : ℕ) → front < fronts → row < many → row * fronts + front < many * fronts
+place_within fronts front row many own inside =
+    let next : suc row * fronts ≤ many * fronts = mul-le-mul_right fronts inside in
+    omega (arith, own, next, suc-mul row fronts)
+
+-- a front has left what its number says
+pub cells_of_front : (fronts front row : ℕ) (cells : List Cell) (lefts : List ℕ) (left : ℕ) → front < fronts
+    → slice_get lefts (row * fronts + front) ≡ Some left
+    → cells_at front (lefts_from fronts 0 cells (own_lefts fronts row lefts)) ≡ left_among fronts front left cells
+cells_of_front fronts front row cells lefts left inside e =
+    own_cells fronts cells (own_lefts fronts row lefts) front left (own_left (drop (row * fronts) lefts) front fronts inside (behind lefts (row * fronts) e))
   where
-    not_there : (front : ℕ) (standing : Standing) → slice_get [] front ≡ Some standing → ⊥
-    not_there front standing e = cc e
+    own_left : (xs : List ℕ) (i n : ℕ) → i < n → slice_get xs i ≡ Some left → slice_get (take n xs) i ≡ Some left
+    own_left [] i n l e = absurd (cc)
+    own_left (x ∷ xs) i zero l e = absurd (omega arith)
+    own_left (x ∷ xs) zero (suc n) l e = e
+    own_left (x ∷ xs) (suc i) (suc n) l e = own_left xs i n (omega (arith, l)) e
 
-more_long : (standings : List Standing) (last : Standing) → length (standings ++ last ∷ []) ≡ length standings + 1
-more_long [] last = refl
-more_long (first ∷ standings) last = omega (arith, more_long standings last)
+    behind : (xs : List ℕ) (n : ℕ) → slice_get xs (n + front) ≡ Some left → slice_get (drop n xs) front ≡ Some left
+    behind xs zero e = let same : 0 + front ≡ front = omega arith in rw same at e
+    behind [] (suc n) e = absurd (cc)
+    behind (x ∷ xs) (suc n) e =
+        let same : suc n + front ≡ suc (n + front) = omega arith in
+        behind xs n (rw same at e)
 
-pub first_more : (fronts many : ℕ) (cells : List Cell) (standings : List Standing) (last : Standing) → AreFirst fronts many cells standings
-    → cells_left fronts many cells last ≡ shares_in fronts many cells → AreFirst fronts (many + 1) cells (standings ++ last ∷ [])
-first_more fronts many cells standings last are stands = record {
-  count = more_long standings last ∙ ap (λ (n : ℕ). n + 1) are.count;
-  each = λ front standing e. elim (pushed_at standings last front standing e) [
-    | inl earlier ↦ are.each front standing earlier
-    | inr new ↦ rw (new.1, new.0 ∙ are.count) stands
-  ];
-}
+-- one number is changed
+pub lefts_change : (fronts front : ℕ) (rows : List (List Cell)) (lefts : List ℕ) (row left : ℕ) (cells : List Cell) → slice_get rows row ≡ Some cells
+    → front < fronts → lefts_of fronts rows (set lefts (row * fronts + front) left)
+    ≡ set (lefts_of fronts rows lefts) row (set (lefts_from fronts 0 cells (own_lefts fronts row lefts)) front (left_among fronts front left cells))
+lefts_change fronts front [] lefts row left cells e inside = absurd (cc)
+lefts_change fronts front (first ∷ rows) lefts zero left cells e inside =
+    let same : first ≡ cells = cc in
+    let place : 0 * fronts + front ≡ front = omega arith in
+    let none : 0 * fronts ≡ 0 = omega arith in
+    rw (place, none, take-set-lt fronts lefts front left inside, drop-set-lt fronts lefts front left inside, lefts_set fronts 0 first (take fronts lefts) front left, same, zero-add front) refl
+lefts_change fronts front (first ∷ rows) lefts (suc row) left cells e inside =
+    let place : suc row * fronts + front ≡ fronts + (row * fronts + front) = omega (arith, suc-mul row fronts) in
+    rw (place, take-set-le fronts lefts (fronts + (row * fronts + front)) left (omega arith), drop-set-add fronts lefts (row * fronts + front) left)
+    (ap (λ (own : List (List (List Cell))). lefts_from fronts 0 first (take fronts lefts) ∷ own)
+    (lefts_change fronts front rows (drop fronts lefts) row left cells e inside
+    ∙ ap (λ (own : List ℕ). set (lefts_of fronts rows (drop fronts lefts)) row (set (lefts_from fronts 0 cells (take fronts own)) front (left_among fronts front left cells)))
+    (next_row fronts row lefts)))
 
-pub all_first : (fronts : ℕ) (cells : List Cell) (standings : List Standing) → AreFirst fronts fronts cells standings
-    → AreShared fronts cells (lefts_from (length standings) 0 cells standings)
-all_first fronts cells standings are = record {
-  many = lefts_long (length standings) 0 cells standings ∙ are.count;
-  each = λ front inside.
-      let own = there standings front (omega (arith, are.count, inside)) in
-      own_cells (length standings) cells standings front own.0 own.1
-      ∙ ap (λ (n : ℕ). cells_left n front cells own.0) are.count ∙ are.each front own.0 own.1;
-}
+-- ---- what fronts have at first
+
+sums_long : (fronts many : ℕ) (cells : List Cell) → length (sums_of fronts many cells) ≡ many
+sums_long fronts zero cells = refl
+sums_long fronts (suc many) cells =
+    length-append (sums_of fronts many cells) (shares_sum fronts many cells ∷ []) ∙ omega (arith, sums_long fronts many cells)
+
+sums_get : (fronts many front : ℕ) (cells : List Cell) → front < many → slice_get (sums_of fronts many cells) front ≡ Some (shares_sum fronts front cells)
+sums_get fronts zero front cells inside = absurd (omega (arith, inside))
+sums_get fronts (suc many) front cells inside = elim (cases_lt front many) [
+  | inl before ↦ front_at (sums_of fronts many cells) (shares_sum fronts many cells ∷ []) front (shares_sum fronts front cells) (sums_get fronts many front cells before)
+  | inr last ↦
+      let same : front ≡ many = omega (arith, inside, last) in
+      let place : length (sums_of fronts many cells) + 0 ≡ many = omega (arith, sums_long fronts many cells) in
+      let at : slice_get (sums_of fronts many cells ++ shares_sum fronts many cells ∷ []) (length (sums_of fronts many cells) + 0) ≡ Some (shares_sum fronts many cells) =
+      back_at (sums_of fronts many cells) (shares_sum fronts many cells ∷ []) 0 in
+      rw same (rw place at at)
+]
+
+pub first_cells : (fronts front : ℕ) (cells : List Cell) → front < fronts
+    → cells_at front (lefts_from fronts 0 cells (sums_of fronts fronts cells)) ≡ shares_in fronts front cells
+first_cells fronts front cells inside =
+    own_cells fronts cells (sums_of fronts fronts cells) front (shares_sum fronts front cells) (sums_get fronts fronts front cells inside)
+    ∙ left_whole fronts front (shares_sum fronts front cells) cells refl
+
+pub first_long : (fronts : ℕ) (cells : List Cell) → length (lefts_from fronts 0 cells (sums_of fronts fronts cells)) ≡ fronts
+first_long fronts cells = lefts_long fronts 0 cells (sums_of fronts fronts cells) ∙ sums_long fronts fronts cells
+
+-- the numbers of the first row, and those of the others
+pub first_row : (fronts : ℕ) (cells : List Cell) (rows : List (List Cell))
+    → lefts_of fronts (cells ∷ rows) (all_sums fronts (cells ∷ rows)) ≡ lefts_from fronts 0 cells (sums_of fronts fronts cells) ∷ lefts_of fronts rows (all_sums fronts rows)
+first_row fronts cells rows =
+    let own = sums_of fronts fronts cells in
+    let long : length own ≡ fronts = sums_long fronts fronts cells in
+    let first : take fronts (own ++ all_sums fronts rows) ≡ own = ap (λ (n : ℕ). take n (own ++ all_sums fronts rows)) (sym long) ∙ take-append_seam own (all_sums fronts rows) in
+    let others : drop fronts (own ++ all_sums fronts rows) ≡ all_sums fronts rows = ap (λ (n : ℕ). drop n (own ++ all_sums fronts rows)) (sym long) ∙ drop-append_seam own (all_sums fronts rows) in
+    rw (first, others) refl
+
+pub all_long : (fronts : ℕ) (rows : List (List Cell)) → length (all_sums fronts rows) ≡ length rows * fronts
+all_long fronts [] = omega arith
+all_long fronts (cells ∷ rows) =
+    length-append (sums_of fronts fronts cells) (all_sums fronts rows)
+    ∙ omega (arith, sums_long fronts fronts cells, all_long fronts rows, suc-mul (length rows) fronts)
+
+pub all_next : (fronts : ℕ) (rows : List (List Cell)) (k : ℕ) (cells : List Cell) → slice_get rows k ≡ Some cells
+    → all_sums fronts (take (k + 1) rows) ≡ all_sums fronts (take k rows) ++ sums_of fronts fronts cells
+all_next fronts [] k cells e = absurd (cc)
+all_next fronts (first ∷ rows) zero cells e =
+    let same : first ≡ cells = cc in
+    rw same (append-nil (sums_of fronts fronts cells))
+all_next fronts (first ∷ rows) (suc k) cells e =
+    let own = sums_of fronts fronts first in
+    let place : suc k + 1 ≡ suc (k + 1) = omega arith in
+    rw place (ap (λ (others : List ℕ). own ++ others) (all_next fronts rows k cells e) ∙ sym (append_assoc own (all_sums fronts (take k rows)) (sums_of fronts fronts cells)))

@@ -1,6 +1,10 @@
 -- Where fronts stand among the cells of a row.
-use Rattle.std.specs.Prelude.{◌≡◌, ◌<◌, ◌+◌, ◌==◌, ℕ, List, [], ◌∷◌, drop, length, if◌then◌else◌}
-use Rattle.hsp_dispatch.specs.Fronts.{cells_at, share}
+use Rattle.std.specs.Prelude.{◌≡◌, ◌≤◌, ◌+◌, ◌-◌, ◌==◌, nat_lt, ℕ, zero, suc, List, [], ◌∷◌, ◌++◌, drop, take, if◌then◌else◌}
+use Rattle.std.specs.List.{AllByRecursion}
+use Rattle.hsp_text.specs.declared.limits.TheConstants.{GREATEST_COUNT}
+use Rattle.hsp_dispatch.specs.Fronts.{share}
+use Rattle.hsp_dispatch.specs.declared.counts.Widths.{Widths}
+use Rattle.hsp_dispatch.specs.declared.counts.Widths.TheVariants.{One, Two, Four}
 use Rattle.hsp_dispatch.specs.declared.front_share.Standing.{Standing}
 use Rattle.hsp_dispatch.specs.declared.share.Cell.{Cell}
 
@@ -11,6 +15,19 @@ shares_in fronts front (cell ∷ cells) =
     if share fronts front cell.left == 0 then shares_in fronts front cells
     else record cell { left = share fronts front cell.left } ∷ shares_in fronts front cells
 
+-- the shares together
+abbrev pub shares_sum : ℕ → ℕ → List Cell → ℕ
+shares_sum fronts front [] = 0
+shares_sum fronts front (cell ∷ cells) = share fronts front cell.left + shares_sum fronts front cells
+
+-- the cells that a front has left that has so many left in all: what it has taken was of the first ones
+abbrev pub left_among : ℕ → ℕ → ℕ → List Cell → List Cell
+left_among fronts front left [] = []
+left_among fronts front left (cell ∷ later) =
+    if nat_lt (shares_sum fronts front later) left
+    then record cell { left = left - shares_sum fronts front later } ∷ shares_in fronts front later
+    else left_among fronts front left later
+
 -- so much is left of the first cell, and the shares in the later ones
 abbrev pub left_from : ℕ → ℕ → ℕ → List Cell → List Cell
 left_from fronts front left [] = []
@@ -20,12 +37,42 @@ left_from fronts front left (cell ∷ later) = record cell { left = left } ∷ s
 abbrev pub cells_left : ℕ → ℕ → List Cell → Standing → List Cell
 cells_left fronts front cells standing = if standing.left == 0 then [] else left_from fronts front standing.left (drop standing.cell cells)
 
--- the same of each front, from a number on
-abbrev pub lefts_from : ℕ → ℕ → List Cell → List Standing → List (List Cell)
-lefts_from fronts front cells [] = []
-lefts_from fronts front cells (standing ∷ standings) = cells_left fronts front cells standing ∷ lefts_from fronts (front + 1) cells standings
+-- ---- all fronts and rows
 
--- the fronts stand at the first of their shares
-pub record AreShared (fronts : ℕ) (cells : List Cell) (lefts : List (List Cell)) : Type 0 where
-  pub many : length lefts ≡ fronts
-  pub each : (front : ℕ) → front < fronts → cells_at front lefts ≡ shares_in fronts front cells
+-- the cells that each front has left of a row, from a front on, by how many it has left in all
+abbrev pub lefts_from : ℕ → ℕ → List Cell → List ℕ → List (List Cell)
+lefts_from fronts front cells [] = []
+lefts_from fronts front cells (left ∷ lefts) = left_among fronts front left cells ∷ lefts_from fronts (front + 1) cells lefts
+
+-- the same of each row; the numbers of a row stand behind those of the rows before it
+abbrev pub lefts_of : ℕ → List (List Cell) → List ℕ → List (List (List Cell))
+lefts_of fronts [] lefts = []
+lefts_of fronts (cells ∷ rows) lefts = lefts_from fronts 0 cells (take fronts lefts) ∷ lefts_of fronts rows (drop fronts lefts)
+
+-- how many each of the first fronts has of a row
+abbrev pub sums_of : ℕ → ℕ → List Cell → List ℕ
+sums_of fronts zero cells = []
+sums_of fronts (suc many) cells = sums_of fronts many cells ++ shares_sum fronts many cells ∷ []
+
+-- how many each front has of each row
+abbrev pub all_sums : ℕ → List (List Cell) → List ℕ
+all_sums fronts [] = []
+all_sums fronts (cells ∷ rows) = sums_of fronts fronts cells ++ all_sums fronts rows
+
+-- ---- how they are kept
+
+-- each cell has no more than a row's count may be
+abbrev pub AreBounded : List Cell → Type 0
+AreBounded cells = AllByRecursion (λ (cell : Cell). cell.left ≤ GREATEST_COUNT) cells
+
+-- there is one cell alone, and it is of the server
+abbrev pub IsSole : ℕ → List Cell → Type 0
+IsSole server [] = ⊥
+IsSole server (cell ∷ []) = cell.server ≡ server
+IsSole server (cell ∷ second ∷ more) = ⊥
+
+-- the counts, however wide they are
+abbrev pub numbers_in : Widths → List ℕ
+numbers_in (One counts) = counts.items
+numbers_in (Two counts) = counts.items
+numbers_in (Four counts) = counts.items

@@ -90,3 +90,55 @@ impl Write for FakeWriter {
         Ok(())
     }
 }
+
+/// Gives a head, and then one row so many times.
+#[derive(Drop)]
+pub struct Rows {
+    pub head: &'static [u8],
+    pub row: &'static [u8],
+    pub times: u32,
+}
+
+impl Read for Rows {
+    fn read(&mut self, buf: &mut [u8]) -> io::Result<usize> {
+        let room = buf.len();
+        for (given, place) in buf.iter_mut().enumerate() {
+            if self.head.is_empty() {
+                if self.times == 0 {
+                    return Ok(given);
+                }
+                self.times -= 1;
+                self.head = self.row;
+            }
+            let [octet, rest @ ..] = self.head else {
+                return Ok(given);
+            };
+            *place = *octet;
+            self.head = rest;
+        }
+        Ok(room)
+    }
+}
+
+/// Counts lines that are all the wanted one, and the octets of the last other one.
+#[derive(Drop)]
+pub struct Lines {
+    pub wanted: &'static [u8],
+    pub many: u32,
+    pub others: usize,
+}
+
+impl Write for Lines {
+    fn write(&mut self, buf: &[u8]) -> io::Result<usize> {
+        if buf == self.wanted && self.many < u32::MAX {
+            self.many += 1;
+        } else {
+            self.others = buf.len();
+        }
+        Ok(buf.len())
+    }
+
+    fn flush(&mut self) -> io::Result<()> {
+        Ok(())
+    }
+}

@@ -1,12 +1,7 @@
 use super::*;
-use crate::fakes::{FakeReader, FakeWriter};
-use crate::worked::{certificate, instance, two_fronts};
-use hsp_cert::Certificate;
-use hsp_check::{Verdict, check};
-use hsp_instance::Instance;
+use crate::fakes::{FakeReader, FakeWriter, Lines, Rows};
+use crate::worked::{certificate, fronts, instance};
 use std::alloc::Global;
-use std::io;
-use std::io::{Read, Write};
 use std::process::Abort;
 use std::test::Fail;
 
@@ -93,7 +88,7 @@ fn plain(
 fn run(rt: &impl Abort, alloc: Global, case: Case) -> Option<Result<FrontSums, LogFault>> {
     let instance = instance(alloc)?;
     let certificate = certificate(alloc)?;
-    let mut fronts = two_fronts(alloc, &instance, &certificate)?;
+    let mut fronts = fronts(alloc, &instance, &certificate, 2)?;
     let mut writer = FakeWriter::whole(alloc).ok()?;
     writer.piece = case.written.piece;
     writer.good = case.written.good;
@@ -304,19 +299,6 @@ fn a_front_is_answered_alike_in_every_merge(rt: HostRuntime) {
     }
 }
 
-// As many fronts as there may be, by the certificate, which is valid.
-fn all_fronts<'a>(
-    alloc: Global,
-    instance: &'a Instance,
-    certificate: &Certificate,
-) -> Option<Fronts<'a>> {
-    let verdict = check(alloc, instance, certificate).ok()?;
-    if verdict != Verdict::Yes || certificate.as_best().is_none() {
-        return None;
-    }
-    Fronts::new(alloc, instance, certificate, 64).ok()
-}
-
 const EACH_ONCE: &[u8] =
     b"front,region,handle\n0,r1,10/1\n4,r1,10/1\n5,r1,10/1\n63,r1,10/1\n64,r1,10/1\n4,r1,10/1\n";
 
@@ -324,7 +306,7 @@ const EACH_ONCE: &[u8] =
 fn run_all(rt: &impl Abort, alloc: Global) -> Option<Result<FrontSums, LogFault>> {
     let instance = instance(alloc)?;
     let certificate = certificate(alloc)?;
-    let mut fronts = all_fronts(alloc, &instance, &certificate)?;
+    let mut fronts = fronts(alloc, &instance, &certificate, 64)?;
     let mut writer = FakeWriter::whole(alloc).ok()?;
     for (front, share) in [(0, 1), (4, 1), (5, 0), (63, 0), (64, 0)] {
         assert_eq!(rt; fronts.left(front, 0, 0), share);
@@ -357,57 +339,6 @@ fn five_queries_go_to_the_first_five_of_64_fronts(rt: HostRuntime) {
     assert_eq!(rt; ends, Some(Ok(sums)));
 }
 
-// Gives a header, and then one event again and again.
-#[derive(Drop)]
-struct Events {
-    head: &'static [u8],
-    event: &'static [u8],
-    times: u32,
-}
-
-impl Read for Events {
-    fn read(&mut self, buf: &mut [u8]) -> io::Result<usize> {
-        let room = buf.len();
-        for (given, place) in buf.iter_mut().enumerate() {
-            if self.head.is_empty() {
-                if self.times == 0 {
-                    return Ok(given);
-                }
-                self.times -= 1;
-                self.head = self.event;
-            }
-            let [octet, rest @ ..] = self.head else {
-                return Ok(given);
-            };
-            *place = *octet;
-            self.head = rest;
-        }
-        Ok(room)
-    }
-}
-
-// Counts lines `unknown`, and the octets of another one.
-#[derive(Drop)]
-struct Unknown {
-    many: u32,
-    others: usize,
-}
-
-impl Write for Unknown {
-    fn write(&mut self, buf: &[u8]) -> io::Result<usize> {
-        if buf == b"unknown\n".as_slice() && self.many < u32::MAX {
-            self.many += 1;
-        } else {
-            self.others = buf.len();
-        }
-        Ok(buf.len())
-    }
-
-    fn flush(&mut self) -> io::Result<()> {
-        Ok(())
-    }
-}
-
 // Want of memory ends this test at once, since each of its runs is long.
 #[test]
 fn a_log_has_ten_million_events_at_most(rt: HostRuntime) -> Result<(), Fail> {
@@ -417,15 +348,19 @@ fn a_log_has_ten_million_events_at_most(rt: HostRuntime) -> Result<(), Fail> {
     let Some(certificate) = certificate(rt.alloc()) else {
         return Ok(());
     };
-    let Some(mut fronts) = two_fronts(rt.alloc(), &instance, &certificate) else {
+    let Some(mut fronts) = fronts(rt.alloc(), &instance, &certificate, 2) else {
         return Ok(());
     };
-    let events = Events {
+    let events = Rows {
         head: b"front,region,handle\n",
-        event: b"0,a,b/\n",
+        row: b"0,a,b/\n",
         times: 10_000_001,
     };
-    let mut lines = Unknown { many: 0, others: 0 };
+    let mut lines = Lines {
+        wanted: b"unknown\n",
+        many: 0,
+        others: 0,
+    };
     let ends = run_fronts(rt.alloc(), events, &mut lines, &mut fronts);
     if ends != Err(LogFault::OutOfMemory) {
         assert_eq!(rt; ends, Err(LogFault::LogTooLong));

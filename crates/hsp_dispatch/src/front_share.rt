@@ -1,10 +1,10 @@
 // The share of a front in what a plan gives a row.
 
-ghost use Rattle.std.specs.Prelude.{◌≡◌, ◌<◌, ◌≤◌, drop, length};
+ghost use Rattle.std.specs.Prelude.{◌≡◌, ◌<◌, ◌≤◌, length};
 ghost use Rattle.hsp_text.specs.declared.limits.TheConstants.{MOST_SITES};
 ghost use Rattle.hsp_dispatch.specs.Fronts.{share};
-ghost use Rattle.hsp_dispatch.specs.Shares.{left_at, without_first};
-ghost use Rattle.hsp_dispatch.specs.Standings.{cells_left, shares_in};
+ghost use Rattle.hsp_dispatch.specs.Shares.{left_at};
+ghost use Rattle.hsp_dispatch.specs.Standings.{cells_left, left_among, shares_in, shares_sum};
 
 use crate::share::Cell;
 
@@ -15,8 +15,8 @@ pub(crate) struct Front {
     pub(crate) number: u32,
 }
 
-/// The number of the cell of a row at which a front stands, and what it has left there. Where that is nothing, it has had its
-/// shares in all cells.
+/// The number of the cell of a row at which a front stands, and what it has left there. Where that is nothing, it has nothing left
+/// of the row.
 #[derive(Clone, Copy, Debug, PartialEq, Eq)]
 pub(crate) struct Standing {
     pub(crate) cell: u32,
@@ -35,36 +35,37 @@ fn share(number: u32, front: Front) -> u32
     }
 }
 
-/// Where a front stands once it has had all before the cell of a number: at the first cell from there on of which it has a share.
-pub(crate) fn stand_from(cells: &[Cell], from: usize, front: Front) -> Standing
+/// The shares of a front in cells together.
+pub(crate) fn sum_in(cells: &[Cell], front: Front) -> u32
     requires some { 0 < front.fronts }
-    requires few { length cells.now ≤ MOST_SITES }
-    ensures { cells_left front.fronts front.number cells.now result ≡ shares_in front.fronts front.number (drop from cells.now) }
+    requires fits { shares_sum front.fronts front.number cells.now ≤ 4294967295 }
+    ensures { result ≡ shares_sum front.fronts front.number cells.now }
 {
-    for number in from..cells.len() {
-        let left = share(cells[number].left, front);
-        if left > 0 {
+    let mut sum = 0;
+    for cell in cells {
+        sum += share(cell.left, front);
+    }
+    sum
+}
+
+/// Where a front stands that has so many left: at the first cell behind which its shares are fewer.
+pub(crate) fn stand_with(cells: &[Cell], left: u32, front: Front) -> Standing
+    requires some { 0 < front.fronts }
+    requires fits { shares_sum front.fronts front.number cells.now ≤ 4294967295 }
+    requires few { length cells.now ≤ MOST_SITES }
+    ensures { cells_left front.fronts front.number cells.now result ≡
+        left_among front.fronts front.number left cells.now }
+{
+    let mut later = sum_in(cells, front);
+    for number in 0..cells.len() {
+        later -= share(cells[number].left, front);
+        if later < left {
             let cell = number as u32;
+            let left = left - later;
             return Standing { cell, left };
         }
     }
     Standing { cell: 0, left: 0 }
-}
-
-/// Where a front stands after it took one of what it has left.
-pub(crate) fn stand_after(cells: &[Cell], standing: Standing, front: Front) -> Standing
-    requires some { 0 < front.fronts }
-    requires few { length cells.now ≤ MOST_SITES }
-    requires left { 0 < standing.left }
-    requires there { standing.cell < length cells.now }
-    ensures { cells_left front.fronts front.number cells.now result ≡
-        without_first (cells_left front.fronts front.number cells.now standing) }
-{
-    if standing.left > 1 {
-        let left = standing.left - 1;
-        return Standing { left, ..standing };
-    }
-    stand_from(cells, standing.cell as usize + 1, front)
 }
 
 /// The share of a front in the cell of a site, 0 where no cell is of the site.

@@ -1,6 +1,6 @@
 // Fronts: dispatchers that share one plan, each with a fixed share of it.
 
-ghost use Rattle.std.specs.Prelude.{◌≡◌, ◌≢◌, ◌<◌, ◌≤◌, IfErr, IfOk, IfSome, Ok, OnErr, length};
+ghost use Rattle.std.specs.Prelude.{◌≡◌, ◌≢◌, ◌+◌, ◌*◌, ◌++◌, ◌<◌, ◌≤◌, IfErr, IfOk, IfSome, Ok, OnErr, OnOk, length};
 ghost use Rattle.hsp_text.specs.declared.limits.TheConstants.{MOST_FRONTS};
 ghost use Rattle.hsp_names.specs.Handle.{handle_in};
 ghost use Rattle.hsp_instance.specs.Instance.{IsInstance};
@@ -8,14 +8,17 @@ ghost use Rattle.hsp_check.specs.Uses.{table};
 ghost use Rattle.hsp_dispatch.specs.Fronts.{AreFrontsOf, IsTakenAt, IsTakenOf, answer_among, fronts_of, held_at, left_at_front};
 ghost use Rattle.hsp_dispatch.specs.Lines.{IsAmong};
 ghost use Rattle.hsp_dispatch.specs.Shares.{AreUsesOf, IsPlanFor, first_answer, plan_of, query, taken_answer};
+ghost use Rattle.hsp_dispatch.specs.Standings.{all_sums, sums_of};
 ghost use Rattle.hsp_dispatch.specs.Steps.{TakesAt, entry_of};
 ghost use Rattle.hsp_dispatch.specs.declared.fault.LogFault.TheVariants.{BadHandle};
 
 use crate::answer::{Answer, FrontAnswer};
 use crate::answering::{Given, given_by, row_in, served};
+use crate::counts::Counts;
 use crate::fault::LogFault;
+use crate::front_share::Front;
 use crate::reading::LentEntry;
-use crate::row_fronts::RowFronts;
+use crate::row_cells::RowCells;
 use crate::sharing::share_out;
 use hsp_cert::{Certificate, UseLine};
 use hsp_instance::Instance;
@@ -25,21 +28,60 @@ use std::marker::Model;
 
 /// For each front what is left of its share of a plan. The share of front `f` of `F` in a number `x` is the quotient of `x` by `F`,
 /// and 1 more where `f` is below the remainder.
+///
+/// The rows' cells stand once for all fronts. A front has one number a row, how many it has left in all cells of the row together,
+/// which are used in their order; the numbers of a row's fronts stand side by side.
 #[derive(Drop)]
 pub struct Fronts<'a> {
     instance: &'a Instance,
     fronts: u32,
-    rows: Vec<RowFronts>,
+    rows: Vec<RowCells>,
+    lefts: Counts,
 }
 
 impl<'a> Model for Fronts<'a> {
+    ghost use Rattle.std.specs.Prelude.{◌≡◌, ◌*◌, length};
     ghost use Rattle.hsp_dispatch.specs.Fronts.{AreHeld, Tables};
+    ghost use Rattle.hsp_dispatch.specs.Standings.{lefts_of};
 
     ghost Value = { Tables };
 
-    ghost view = { λ f. record { instance = f.instance.now; fronts = f.fronts; lefts = f.rows.items } };
+    ghost view = { λ f. record {
+      instance = f.instance.now;
+      fronts = f.fronts;
+      lefts = lefts_of f.fronts f.rows.items f.lefts;
+    } };
 
-    ghost invariant = { λ f. AreHeld (record { instance = f.instance.now; fronts = f.fronts; lefts = f.rows.items }) };
+    ghost invariant = { λ f. AreHeld (record {
+      instance = f.instance.now;
+      fronts = f.fronts;
+      lefts = lefts_of f.fronts f.rows.items f.lefts;
+    })
+        × (length f.lefts ≡ length f.rows.items * f.fronts) };
+}
+
+// Appends how much each front has of a row at first.
+fn push_sums(sums: &mut Vec<u32>, row: &RowCells, fronts: u32) -> Result<(), AllocError>
+    requires { 0 < fronts }
+    ensures { OnOk result (sums.new.items ≡ sums.old.items ++ sums_of fronts fronts row.now) }
+{
+    for number in 0..fronts {
+        sums.push(row.all(Front { fronts, number }))?;
+    }
+    Ok(())
+}
+
+// How much each front has of each row at first.
+fn sums_in(alloc: Global, rows: &[RowCells], fronts: u32) -> Result<Vec<u32>, AllocError>
+    requires { 0 < fronts }
+    ensures { IfOk result (λ sums. sums.items ≡ all_sums fronts rows.now) }
+{
+    let room = rows.len().saturating_mul(fronts as usize);
+    let mut sums = Vec::with_capacity(alloc, room)?;
+    for row in rows {
+        push_sums(&mut sums, row, fronts)?;
+    }
+    Ok(sums)
 }
 
 impl<'a> Fronts<'a> {
@@ -74,14 +116,17 @@ impl<'a> Fronts<'a> {
         requires some { 0 < fronts }
         ensures { IfOk result (AreFrontsOf instance.now (table uses.now) fronts) }
     {
-        let mut rows = Vec::new(alloc);
-        for share in &share_out(alloc, instance, uses)? {
-            rows.push(RowFronts::new(alloc, share.cells(alloc)?, fronts)?)?;
+        let shares = share_out(alloc, instance, uses)?;
+        let mut rows = Vec::with_capacity(alloc, shares.len())?;
+        for share in &shares {
+            rows.push(RowCells::new(share.cells(alloc)?))?;
         }
+        let lefts = Counts::of(alloc, sums_in(alloc, &rows, fronts)?)?;
         Ok(Fronts {
             instance,
             fronts,
             rows,
+            lefts,
         })
     }
 
@@ -135,6 +180,13 @@ impl<'a> Fronts<'a> {
         Ok(given_by(self.take(front, row)))
     }
 
+    // The place of the number that a front has left of a row.
+    fn place(&self, front: u32, row: u32) -> usize
+        ensures { result ≡ row * fronts_of self.now + front }
+    {
+        row as usize * self.fronts as usize + front as usize
+    }
+
     // Takes one of what a front has left of a row. The number of the server to which it goes, None where nothing is left.
     fn take(&mut self, front: u32, row: u32) -> Option<u32>
         requires front { front < fronts_of self.old }
@@ -143,16 +195,26 @@ impl<'a> Fronts<'a> {
         ensures there { IfSome result (λ server. server < length self.old.instance.servers) }
         ensures rest { IsTakenOf front row self.old self.new }
     {
-        self.rows[row as usize].take(front)
+        let place = self.place(front, row);
+        let left = self.lefts.take(place);
+        let fronts = self.fronts;
+        let number = front;
+        self.rows[row as usize].server(left, Front { fronts, number })
     }
 
     /// How many queries of a row a front has left for a site, 0 where the front, the row or the site is not there.
     pub fn left(&self, front: u32, row: u32, site: u32) -> u64
         ensures { result ≡ left_at_front self.now front row site }
     {
-        match self.rows.get(row as usize) {
-            Some(own) => u64::from(own.left(front, site)),
-            None => 0,
+        if front >= self.fronts {
+            return 0;
         }
+        let Some(own) = self.rows.get(row as usize) else {
+            return 0;
+        };
+        let left = self.lefts.get(self.place(front, row));
+        let fronts = self.fronts;
+        let number = front;
+        u64::from(own.left(left, site, Front { fronts, number }))
     }
 }

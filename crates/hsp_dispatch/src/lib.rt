@@ -5,6 +5,7 @@
 mod answer;
 mod answering;
 mod body;
+mod counts;
 mod desk;
 mod dispatcher;
 mod entries;
@@ -16,7 +17,7 @@ mod fronts;
 pub mod laws;
 mod lines;
 mod reading;
-mod row_fronts;
+mod row_cells;
 mod run;
 mod share;
 mod sharing;

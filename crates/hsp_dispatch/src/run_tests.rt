@@ -1,9 +1,7 @@
 use super::*;
-use crate::fakes::{FakeReader, FakeWriter};
+use crate::fakes::{FakeReader, FakeWriter, Lines, Rows};
 use crate::worked::{certificate, dispatcher, instance};
 use std::alloc::Global;
-use std::io;
-use std::io::{Read, Write};
 use std::process::Abort;
 use std::test::Fail;
 
@@ -299,58 +297,6 @@ fn failing_reads_and_writes_are_told(rt: HostRuntime) {
     };
     for case in [cut_line, unflushed, cut_log, no_log] {
         comes(&rt, rt.alloc(), case);
-    }
-}
-
-// Gives a header, and then one row again and again.
-#[derive(Drop)]
-struct Rows {
-    head: &'static [u8],
-    row: &'static [u8],
-    times: u32,
-}
-
-impl Read for Rows {
-    fn read(&mut self, buf: &mut [u8]) -> io::Result<usize> {
-        let room = buf.len();
-        for (given, place) in buf.iter_mut().enumerate() {
-            if self.head.is_empty() {
-                if self.times == 0 {
-                    return Ok(given);
-                }
-                self.times -= 1;
-                self.head = self.row;
-            }
-            let [octet, rest @ ..] = self.head else {
-                return Ok(given);
-            };
-            *place = *octet;
-            self.head = rest;
-        }
-        Ok(room)
-    }
-}
-
-// Counts lines that are all the wanted one, and the octets of others.
-#[derive(Drop)]
-struct Lines {
-    wanted: &'static [u8],
-    many: u32,
-    others: usize,
-}
-
-impl Write for Lines {
-    fn write(&mut self, buf: &[u8]) -> io::Result<usize> {
-        if buf == self.wanted && self.many < u32::MAX {
-            self.many += 1;
-        } else {
-            self.others = buf.len();
-        }
-        Ok(buf.len())
-    }
-
-    fn flush(&mut self) -> io::Result<()> {
-        Ok(())
     }
 }
 

@@ -3,7 +3,9 @@
 ghost use Rattle.std.specs.Prelude.{◌≡◌, ◌<◌, ◌≤◌, [], length, replicate, slice_get, IfOk};
 ghost use Rattle.hsp_text.specs.declared.limits.TheConstants.{GREATEST_COUNT};
 ghost use Rattle.hsp_dispatch.specs.Dispatch.{arc_to};
+ghost use Rattle.std.specs.List.{AllByRecursion};
 ghost use Rattle.hsp_dispatch.specs.Shares.{AreUsesOf, HoldsTable, IsHeld, cell_of, holding, number_of};
+ghost use Rattle.hsp_dispatch.specs.Standings.{AreBounded};
 
 use crate::share::{Cell, RowShare};
 use hsp_cert::UseLine;
@@ -56,6 +58,7 @@ pub(crate) fn share_out(
     requires { AreUsesOf instance.now uses.now }
     ensures held { IfOk result (λ shares. IsHeld (holding instance.now shares.items)) }
     ensures table { IfOk result (λ shares. HoldsTable uses.now (holding instance.now shares.items)) }
+    ensures bounded { IfOk result (λ shares. AllByRecursion AreBounded shares.items) }
 {
     let mut shares = empty_shares(alloc, instance.rows())?;
     for one in uses {

@@ -3,7 +3,7 @@ use Rattle.std.specs.List.{slice_get}
 use Rattle.std.proofs.lemmas.List.{take_all}
 use Rattle.std.proofs.lemmas.Option.{get_or_from_slice_get, slice_get-get_or}
 use Rattle.hsp_dispatch.specs.Shares.{cell_of, cells_of}
-use Rattle.hsp_dispatch.proofs.SharedOut.{are_held, cells_stay, count_within, shared_more, table_held, use_there}
+use Rattle.hsp_dispatch.proofs.SharedOut.{all_bounded, are_held, cells_stay, count_within, shared_more, table_held, use_there}
 use Rattle.hsp_dispatch.proofs.sharing.share_out.Goals as goal
 
 pub cell_for-cell-requires : goal.cell_for-cell-requires
@@ -54,3 +54,8 @@ pub returns-clause-table : goal.returns-clause-table
 returns-clause-table c =
     let all : take c.loop-one.one-index c.args.uses.now ≡ c.args.uses.now = take_all c.loop-one.one-index c.args.uses.now (omega arith) in
     table_held c.args.instance.now c.args.uses.now c.loop-one.shares.items c.rows.ensures.within c.requires (rw all at c.loop-one.invariant)
+
+pub returns-clause-bounded : goal.returns-clause-bounded
+returns-clause-bounded c =
+    let all : take c.loop-one.one-index c.args.uses.now ≡ c.args.uses.now = take_all c.loop-one.one-index c.args.uses.now (omega arith) in
+    all_bounded c.args.instance.now c.args.uses.now c.loop-one.shares.items c.requires (rw all at c.loop-one.invariant)

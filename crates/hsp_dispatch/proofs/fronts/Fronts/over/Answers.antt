@@ -1,37 +1,39 @@
-use Rattle.std.proofs.Common.{◌≡◌, arith, length, take, Some, refl}
+use Rattle.std.proofs.Common.{◌≡◌, ◌∙◌, arith, length, take, Some, refl}
 use Rattle.std.specs.List.{slice_get}
 use Rattle.std.proofs.lemmas.Option.{slice_get_read}
 use Rattle.std.proofs.lemmas.List.{take_all}
 use Rattle.hsp_check.specs.Uses.{table}
-use Rattle.hsp_dispatch.proofs.FrontsHeld.{all_hold, all_share, few_held, rows_more}
+use Rattle.hsp_dispatch.specs.Standings.{all_sums, lefts_of}
+use Rattle.hsp_dispatch.proofs.FrontsHeld.{all_hold, all_share, few_held, rows_first}
+use Rattle.hsp_dispatch.proofs.Standings.{all_long}
 use Rattle.hsp_dispatch.proofs.fronts.Fronts.over.Goals as goal
-
-pub loop-share-preserved : goal.loop-share-preserved
-loop-share-preserved c =
-    let shares = c.in_ok-share_out.field-0.items in
-    let at : slice_get shares c.loop-share.share-index ≡ Some c.share-item.result =
-    slice_get_read shares (length shares) c.loop-share.share-index c.share-item.result refl (omega arith) (rw c.deref-share-items.ensures.value at c.share-item.is) in
-    rw (c.in_ok-push.ensures.items, c.deref-share-items.ensures.value)
-    (rows_more c.args.fronts c.loop-share.share-index shares c.share-item.result c.loop-share.rows.items c.in_ok-new.field-0 at
-    (rw c.deref-share-items.ensures.value at c.loop-share.invariant) (rw c.in_ok-cells.ensures at c.in_ok-new.ensures))
 
 pub new-requires-clause-few : goal.new-requires-clause-few
 new-requires-clause-few c =
-    let shares = c.in_ok-share_out.field-0.items in
+    let shares = c.in_ok-shares.shares.items in
     let at : slice_get shares c.loop-share.share-index ≡ Some c.share-item.result =
     slice_get_read shares (length shares) c.loop-share.share-index c.share-item.result refl (omega arith) (rw c.deref-share-items.ensures.value at c.share-item.is) in
-    rw c.in_ok-cells.ensures (few_held c.args.instance.now shares c.loop-share.share-index c.share-item.result c.in_ok-share_out.ensures.held at)
+    rw c.in_ok-cells.ensures (few_held c.args.instance.now shares c.loop-share.share-index c.share-item.result c.in_ok-shares.ensures.held at)
 
 pub invariant_of-result : goal.invariant_of-result
 invariant_of-result c =
-    let shares = c.in_ok-share_out.field-0.items in
-    let all : take c.loop-share.share-index shares ≡ shares = take_all c.loop-share.share-index shares (omega (arith, c.deref-share-items.ensures.value)) in
-    all_hold c.args.instance.now c.args.fronts shares c.loop-share.rows.items c.in_ok-share_out.ensures.held
-    (rw all at (rw c.deref-share-items.ensures.value at c.loop-share.invariant))
+    let it = c.args.instance.now in
+    let shares = c.in_ok-shares.shares.items in
+    let whole : take c.loop-share.share-index shares ≡ shares = take_all c.loop-share.share-index shares (omega arith) in
+    let rows : c.loop-share.rows.items ≡ shares = rw (c.deref-share-items.ensures.value, whole) at c.loop-share.invariant in
+    let lefts : c.in_ok-lefts.lefts ≡ all_sums c.args.fronts shares = rw (c.deref.ensures.value, rows) at (c.in_ok-lefts.ensures ∙ c.in_ok-sums_in.ensures) in
+    rw (lefts, rows) (
+      all_hold it c.args.fronts shares (lefts_of c.args.fronts shares (all_sums c.args.fronts shares)) c.in_ok-shares.ensures.held (rows_first c.args.fronts shares),
+      all_long c.args.fronts shares,
+    )
 
 pub returns : goal.returns
 returns c =
-    let shares = c.in_ok-share_out.field-0.items in
-    let all : take c.loop-share.share-index shares ≡ shares = take_all c.loop-share.share-index shares (omega (arith, c.deref-share-items.ensures.value)) in
-    all_share c.args.instance.now (table c.args.uses.now) c.args.fronts shares c.loop-share.rows.items c.in_ok-share_out.ensures.held c.in_ok-share_out.ensures.table
-    (rw all at (rw c.deref-share-items.ensures.value at c.loop-share.invariant))
+    let it = c.args.instance.now in
+    let shares = c.in_ok-shares.shares.items in
+    let whole : take c.loop-share.share-index shares ≡ shares = take_all c.loop-share.share-index shares (omega arith) in
+    let rows : c.loop-share.rows.items ≡ shares = rw (c.deref-share-items.ensures.value, whole) at c.loop-share.invariant in
+    let lefts : c.in_ok-lefts.lefts ≡ all_sums c.args.fronts shares = rw (c.deref.ensures.value, rows) at (c.in_ok-lefts.ensures ∙ c.in_ok-sums_in.ensures) in
+    rw (lefts, rows)
+    (all_share it (table c.args.uses.now) c.args.fronts shares (lefts_of c.args.fronts shares (all_sums c.args.fronts shares)) c.in_ok-shares.ensures.held
+    c.in_ok-shares.ensures.table (rows_first c.args.fronts shares))

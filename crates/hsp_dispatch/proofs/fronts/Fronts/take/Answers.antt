@@ -1,57 +1,88 @@
-use Rattle.std.proofs.Common.{◌≡◌, ◌<◌, length, Some, refl, arith}
+use Rattle.std.proofs.Common.{◌≡◌, ◌<◌, ◌+◌, ◌-◌, ◌*◌, ◌∙◌, length, Some, refl, arith}
 use Rattle.std.specs.List.{slice_get}
 use Rattle.std.proofs.lemmas.Option.{slice_get_read}
-use Rattle.std.proofs.lemmas.List.{length-map}
-use Rattle.hsp_dispatch.specs.Fronts.{Tables, cells_at, held_at}
-use Rattle.hsp_dispatch.proofs.FrontsHeld.{own_row, row_held, row_taken}
-use Rattle.hsp_dispatch.proofs.Taking.{taken_by, taken_there}
+use Rattle.std.proofs.lemmas.List.{length-set}
+use Rattle.hsp_dispatch.proofs.FrontsHeld.{number_answers, number_held, number_taken, number_there, row_within}
+use Rattle.hsp_dispatch.proofs.Standings.{place_within}
 use Rattle.hsp_dispatch.proofs.fronts.Fronts.take.Goals as goal
 
-pub index_mut-requires : goal.index_mut-requires
-index_mut-requires c =
-    let tables : Tables = record { instance = c.self.inside.instance.now; fronts = c.self.inside.fronts; lefts = c.self.inside.rows.items } in
-    let front : c.args.front < tables.fronts = rw (← c.self.view_is) at c.requires.front in
-    let row : c.args.row < length tables.instance.rows = rw (← c.self.view_is) at c.requires.row in
-    omega (arith, row, (c.self.invariant.each c.args.front front).one_a_row, length-map tables.lefts (cells_at c.args.front))
+pub take-left-requires : goal.take-left-requires
+take-left-requires c =
+    let it = c.self.inside.instance.now in
+    let fronts = c.self.inside.fronts in
+    let rows = c.self.inside.rows.items in
+    let lefts = c.self.inside.lefts in
+    let front : c.args.front < fronts = rw (← c.self.view_is) at c.requires.front in
+    let row : c.args.row < length it.rows = rw (← c.self.view_is) at c.requires.row in
+    let inside : c.args.row < length rows = row_within it fronts c.args.front c.args.row rows lefts c.self.invariant.0 front row in
+    let place : c.place-place.result ≡ c.args.row * fronts + c.args.front = rw (← c.self.view_is) at c.place-place.ensures in
+    omega (arith, place, place_within fronts c.args.front c.args.row (length rows) front inside, c.self.invariant.1)
 
-pub returns-clause-taken : goal.returns-clause-taken
-returns-clause-taken c =
-    let tables : Tables = record { instance = c.self.inside.instance.now; fronts = c.self.inside.fronts; lefts = c.self.inside.rows.items } in
-    let front : c.args.front < tables.fronts = rw (← c.self.view_is) at c.requires.front in
-    let row : c.args.row < length tables.instance.rows = rw (← c.self.view_is) at c.requires.row in
-    let inside : c.args.row < length tables.lefts = omega (arith, row, (c.self.invariant.each c.args.front front).one_a_row, length-map tables.lefts (cells_at c.args.front)) in
-    let own : slice_get tables.lefts c.args.row ≡ Some c.index_mut.result.now =
-    slice_get_read tables.lefts (length tables.lefts) c.args.row c.index_mut.result.now refl inside c.index_mut.ensures.value in
-    rw (← c.self.view_is, c.take.ensures.taken) (taken_by (held_at tables c.args.front) c.args.row (cells_at c.args.front c.index_mut.result.now) (c.self.invariant.each c.args.front front)
-    (own_row tables c.args.front c.args.row c.index_mut.result.now own))
-
-pub returns-clause-there : goal.returns-clause-there
-returns-clause-there c =
-    let tables : Tables = record { instance = c.self.inside.instance.now; fronts = c.self.inside.fronts; lefts = c.self.inside.rows.items } in
-    let front : c.args.front < tables.fronts = rw (← c.self.view_is) at c.requires.front in
-    let row : c.args.row < length tables.instance.rows = rw (← c.self.view_is) at c.requires.row in
-    let inside : c.args.row < length tables.lefts = omega (arith, row, (c.self.invariant.each c.args.front front).one_a_row, length-map tables.lefts (cells_at c.args.front)) in
-    let own : slice_get tables.lefts c.args.row ≡ Some c.index_mut.result.now =
-    slice_get_read tables.lefts (length tables.lefts) c.args.row c.index_mut.result.now refl inside c.index_mut.ensures.value in
-    rw (← c.self.view_is, c.take.ensures.taken) (taken_there (held_at tables c.args.front) c.args.row (cells_at c.args.front c.index_mut.result.now) (c.self.invariant.each c.args.front front)
-    (own_row tables c.args.front c.args.row c.index_mut.result.now own))
-
-pub returns-clause-rest : goal.returns-clause-rest
-returns-clause-rest c =
-    let tables : Tables = record { instance = c.self.inside.instance.now; fronts = c.self.inside.fronts; lefts = c.self.inside.rows.items } in
-    let front : c.args.front < tables.fronts = rw (← c.self.view_is) at c.requires.front in
-    let row : c.args.row < length tables.instance.rows = rw (← c.self.view_is) at c.requires.row in
-    let inside : c.args.row < length tables.lefts = omega (arith, row, (c.self.invariant.each c.args.front front).one_a_row, length-map tables.lefts (cells_at c.args.front)) in
-    let own : slice_get tables.lefts c.args.row ≡ Some c.index_mut.result.now =
-    slice_get_read tables.lefts (length tables.lefts) c.args.row c.index_mut.result.now refl inside c.index_mut.ensures.value in
-    rw (← c.self.view_is) (row_taken tables c.args.front c.args.row c.index_mut.result.now c.take.new.self c.self.invariant front own c.take.ensures.rest)
+pub index-requires : goal.index-requires
+index-requires c =
+    let it = c.self.inside.instance.now in
+    let fronts = c.self.inside.fronts in
+    let rows = c.self.inside.rows.items in
+    let lefts = c.self.inside.lefts in
+    let front : c.args.front < fronts = rw (← c.self.view_is) at c.requires.front in
+    let row : c.args.row < length it.rows = rw (← c.self.view_is) at c.requires.row in
+    let inside : c.args.row < length rows = row_within it fronts c.args.front c.args.row rows lefts c.self.invariant.0 front row in
+    omega (arith, inside, c.self.inside.rows.ok)
 
 pub invariant_of-self : goal.invariant_of-self
 invariant_of-self c =
-    let tables : Tables = record { instance = c.self.inside.instance.now; fronts = c.self.inside.fronts; lefts = c.self.inside.rows.items } in
-    let front : c.args.front < tables.fronts = rw (← c.self.view_is) at c.requires.front in
-    let row : c.args.row < length tables.instance.rows = rw (← c.self.view_is) at c.requires.row in
-    let inside : c.args.row < length tables.lefts = omega (arith, row, (c.self.invariant.each c.args.front front).one_a_row, length-map tables.lefts (cells_at c.args.front)) in
-    let own : slice_get tables.lefts c.args.row ≡ Some c.index_mut.result.now =
-    slice_get_read tables.lefts (length tables.lefts) c.args.row c.index_mut.result.now refl inside c.index_mut.ensures.value in
-    row_held tables c.args.front c.args.row c.index_mut.result.now c.take.new.self c.self.invariant front own c.take.ensures.rest
+    let it = c.self.inside.instance.now in
+    let fronts = c.self.inside.fronts in
+    let rows = c.self.inside.rows.items in
+    let lefts = c.self.inside.lefts in
+    let front : c.args.front < fronts = rw (← c.self.view_is) at c.requires.front in
+    let row : c.args.row < length it.rows = rw (← c.self.view_is) at c.requires.row in
+    let inside : c.args.row < length rows = row_within it fronts c.args.front c.args.row rows lefts c.self.invariant.0 front row in
+    let place : c.place-place.result ≡ c.args.row * fronts + c.args.front = rw (← c.self.view_is) at c.place-place.ensures in
+    let own : slice_get rows c.args.row ≡ Some c.index.result.now = slice_get_read rows (length rows) c.args.row c.index.result.now refl inside c.index.ensures in
+    let left : slice_get lefts (c.args.row * fronts + c.args.front) ≡ Some c.take-left.result = rw place at c.take-left.ensures.count in (
+      number_held it fronts c.args.front c.args.row c.take-left.result rows lefts c.take-left.new.self c.index.result.now c.self.invariant.0 front own left (rw place at c.take-left.ensures.rest),
+      rw c.take-left.ensures.rest (length-set lefts c.place-place.result (c.take-left.result - 1) ∙ c.self.invariant.1),
+    )
+
+pub returns-clause-taken : goal.returns-clause-taken
+returns-clause-taken c =
+    let it = c.self.inside.instance.now in
+    let fronts = c.self.inside.fronts in
+    let rows = c.self.inside.rows.items in
+    let lefts = c.self.inside.lefts in
+    let front : c.args.front < fronts = rw (← c.self.view_is) at c.requires.front in
+    let row : c.args.row < length it.rows = rw (← c.self.view_is) at c.requires.row in
+    let inside : c.args.row < length rows = row_within it fronts c.args.front c.args.row rows lefts c.self.invariant.0 front row in
+    let place : c.place-place.result ≡ c.args.row * fronts + c.args.front = rw (← c.self.view_is) at c.place-place.ensures in
+    let own : slice_get rows c.args.row ≡ Some c.index.result.now = slice_get_read rows (length rows) c.args.row c.index.result.now refl inside c.index.ensures in
+    let left : slice_get lefts (c.args.row * fronts + c.args.front) ≡ Some c.take-left.result = rw place at c.take-left.ensures.count in
+    rw (← c.self.view_is, c.server.ensures) (number_answers it fronts c.args.front c.args.row c.take-left.result rows lefts c.index.result.now c.self.invariant.0 front own left)
+
+pub returns-clause-there : goal.returns-clause-there
+returns-clause-there c =
+    let it = c.self.inside.instance.now in
+    let fronts = c.self.inside.fronts in
+    let rows = c.self.inside.rows.items in
+    let lefts = c.self.inside.lefts in
+    let front : c.args.front < fronts = rw (← c.self.view_is) at c.requires.front in
+    let row : c.args.row < length it.rows = rw (← c.self.view_is) at c.requires.row in
+    let inside : c.args.row < length rows = row_within it fronts c.args.front c.args.row rows lefts c.self.invariant.0 front row in
+    let place : c.place-place.result ≡ c.args.row * fronts + c.args.front = rw (← c.self.view_is) at c.place-place.ensures in
+    let own : slice_get rows c.args.row ≡ Some c.index.result.now = slice_get_read rows (length rows) c.args.row c.index.result.now refl inside c.index.ensures in
+    let left : slice_get lefts (c.args.row * fronts + c.args.front) ≡ Some c.take-left.result = rw place at c.take-left.ensures.count in
+    rw (← c.self.view_is, c.server.ensures) (number_there it fronts c.args.front c.args.row c.take-left.result rows lefts c.index.result.now c.self.invariant.0 front own left)
+
+pub returns-clause-rest : goal.returns-clause-rest
+returns-clause-rest c =
+    let it = c.self.inside.instance.now in
+    let fronts = c.self.inside.fronts in
+    let rows = c.self.inside.rows.items in
+    let lefts = c.self.inside.lefts in
+    let front : c.args.front < fronts = rw (← c.self.view_is) at c.requires.front in
+    let row : c.args.row < length it.rows = rw (← c.self.view_is) at c.requires.row in
+    let inside : c.args.row < length rows = row_within it fronts c.args.front c.args.row rows lefts c.self.invariant.0 front row in
+    let place : c.place-place.result ≡ c.args.row * fronts + c.args.front = rw (← c.self.view_is) at c.place-place.ensures in
+    let own : slice_get rows c.args.row ≡ Some c.index.result.now = slice_get_read rows (length rows) c.args.row c.index.result.now refl inside c.index.ensures in
+    let left : slice_get lefts (c.args.row * fronts + c.args.front) ≡ Some c.take-left.result = rw place at c.take-left.ensures.count in
+    rw (← c.self.view_is) (number_taken it fronts c.args.front c.args.row c.take-left.result rows lefts c.take-left.new.self c.index.result.now c.self.invariant.0 front own left (rw place at c.take-left.ensures.rest))

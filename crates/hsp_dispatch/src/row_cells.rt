@@ -1,0 +1,97 @@
+// The cells that a plan gives a row, of which each front has a share.
+
+ghost use Rattle.std.specs.Prelude.{◌≡◌, ◌<◌, ◌≤◌, length, option_map};
+ghost use Rattle.hsp_text.specs.declared.limits.TheConstants.{MOST_SITES};
+ghost use Rattle.hsp_dispatch.specs.Shares.{first_of, left_at};
+ghost use Rattle.hsp_dispatch.specs.Standings.{AreBounded, left_among, shares_sum};
+ghost use Rattle.hsp_dispatch.specs.declared.share.Cell.{Cell};
+
+use crate::front_share::{Front, share_at, stand_with, sum_in};
+use crate::share::Cell;
+use std::marker::Model;
+
+/// The cells that a plan gives a row. Where there is one alone, the number of its server stands in place, so that most queries read
+/// no cell.
+#[derive(Debug, Drop)]
+pub(crate) struct RowCells {
+    cells: Vec<Cell>,
+    sole: Option<u32>,
+}
+
+impl Model for RowCells {
+    ghost use Rattle.std.specs.Prelude.{◌≤◌, IfSome, List, length};
+    ghost use Rattle.hsp_text.specs.declared.limits.TheConstants.{MOST_SITES};
+    ghost use Rattle.hsp_dispatch.specs.Standings.{AreBounded, IsSole};
+    ghost use Rattle.hsp_dispatch.specs.declared.share.Cell.{Cell};
+
+    ghost Value = { List Cell };
+
+    ghost view = { λ r. r.cells.items };
+
+    ghost invariant = { λ r. (length r.cells.items ≤ MOST_SITES) × AreBounded r.cells.items
+        × IfSome r.sole (λ server. IsSole server r.cells.items) };
+}
+
+impl RowCells {
+    /// The cells of a row.
+    pub(crate) fn new(cells: Vec<Cell>) -> RowCells
+        requires few { length cells.items ≤ MOST_SITES }
+        requires bounded { AreBounded cells.items }
+        ensures { result ≡ cells.items }
+    {
+        let sole = if cells.len() == 1 {
+            Some(cells[0].server)
+        } else {
+            None
+        };
+        RowCells { cells, sole }
+    }
+
+    /// The shares of a front in all cells together.
+    pub(crate) fn all(&self, front: Front) -> u32
+        requires { 0 < front.fronts }
+        ensures { result ≡ shares_sum front.fronts front.number self.now }
+    {
+        sum_in(&self.cells, front)
+    }
+
+    /// The number of the server to which a front's next query goes where it has so many left of the row, at the first site where
+    /// it has something left; None where nothing is left.
+    pub(crate) fn server(&self, left: u32, front: Front) -> Option<u32>
+        requires { 0 < front.fronts }
+        ensures { result ≡ option_map (λ (cell : Cell). cell.server)
+            (first_of (left_among front.fronts front.number left self.now)) }
+    {
+        if left == 0 {
+            return None;
+        }
+        if self.sole.is_some() {
+            return self.sole;
+        }
+        let standing = stand_with(&self.cells, left, front);
+        if standing.left == 0 {
+            return None;
+        }
+        let cell = self.cells.get(standing.cell as usize)?;
+        Some(cell.server)
+    }
+
+    /// What a front has left at a site where it has so many left of the row.
+    pub(crate) fn left(&self, left: u32, site: u32, front: Front) -> u32
+        requires { 0 < front.fronts }
+        ensures { result ≡ left_at (left_among front.fronts front.number left self.now) site }
+    {
+        let standing = stand_with(&self.cells, left, front);
+        if standing.left == 0 {
+            return 0;
+        }
+        let at = standing.cell as usize;
+        let Some(cell) = self.cells.get(at) else {
+            return 0;
+        };
+        if cell.site == site {
+            return standing.left;
+        }
+        share_at(&self.cells[at + 1..], site, front)
+    }
+}
