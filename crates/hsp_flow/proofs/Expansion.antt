@@ -2,7 +2,7 @@
 use Rattle.std.proofs.Common.{◌≡◌, ◌≢◌, ℕ, ◌+◌, ◌<◌, ◌≤◌, ◌⊎◌, inl, inr, Bool, true, List, length, slice_index, set, Option, Some, None, is_none, refl, ap, sym, ◌∙◌, arith, lt-ltb, ltb-true, get_or-set_same, get_or-set_other}
 use Rattle.std.proofs.lemmas.Bool.{cases_eq, cases_lt, cases_Bool, and_parts, and_from}
 use Rattle.hsp_flow.specs.Residual.{Graph, from, to, width, gives, takes}
-use Rattle.hsp_flow.specs.Search.{Settled, Offered, Expanding, Among, settled_test, settled_count}
+use Rattle.hsp_flow.specs.Search.{Settled, Offered, Expanding, settled_test, settled_count}
 use Rattle.hsp_flow.proofs.Sums.{sum_below_le}
 use Rattle.hsp_flow.proofs.Directions.{to_in}
 use Rattle.hsp_flow.proofs.Searching.{fewer, kept, lowered, still, cases_option}
@@ -38,13 +38,6 @@ declined held key via amount depth link from to offer much more = record {
   kept = λ _. (refl, refl, refl, refl, refl);
   took = λ less. absurd (omega arith);
 }
-
--- one place more of a list
-pub among_next : (list : List ℕ) (p : ℕ) (j : ℕ) → Among list (p + 1) j → (j ≡ slice_index list p) ⊎ Among list p j
-among_next list p j a = elim (cases_eq a.place p) [
-  | inl e ↦ inl (sym a.at ∙ ap (λ n. slice_index list n) e)
-  | inr ne ↦ inr (record { place = a.place; early = omega (arith, a.early); at = a.at })
-]
 
 module _ (root top nodes : ℕ) (tails heads costs flows room : List ℕ) (price : ℕ → ℕ) (unmet : ℕ)
     (held : ℕ → Option ℕ) (key via amount depth : List ℕ) (near node : ℕ) (seen : ℕ → Bool → Type 0) (many turn far : ℕ)

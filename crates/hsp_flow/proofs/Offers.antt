@@ -73,11 +73,10 @@ module _ (root top nodes : ℕ) (tails heads costs capacities supplies flows roo
         (omega (arith, e.search.some node e.node_in e.settled.reached)) (omega arith) (omega arith)
 
     pub in_spread : (held' : ℕ → Option ℕ) (key' via' amount' depth' : List ℕ) (sent : ℕ) → slice_index costs k ≤ dearest →
-        Priced root top nodes price key0 up down → Priced root top nodes price key up (down + dearest) →
+        near + price root ≤ price node + up → price node ≤ near + price root + down → Priced root top nodes price key up (down + dearest) →
         Offered held held' key key' via via' amount amount' depth depth' k node (slice_index tails k)
         (near + (price (slice_index tails k) - (slice_index costs k + price node))) sent →
         Priced root top nodes price key' up (down + dearest)
-    in_spread held' key' via' amount' depth' sent dear p0 p o =
+    in_spread held' key' via' amount' depth' sent dear low high p o =
         in_priced root top nodes tails heads costs price held held' key key' via via' amount amount' depth depth' near node k dearest _ sent up down
-        (omega (arith, p0.low node e.node_in (omega arith))) (omega (arith, p0.high node e.node_in (omega arith)))
-        dear (omega (arith, e.search.key_many, graph.tails_in k link)) (omega (arith, in_pays)) p o
+        low high dear (omega (arith, e.search.key_many, graph.tails_in k link)) (omega (arith, in_pays)) p o

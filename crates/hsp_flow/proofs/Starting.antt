@@ -5,7 +5,6 @@ use Rattle.std.proofs.lemmas.List.{get_or_append_left, get_or-append-add}
 use Rattle.hsp_simplex.specs.Sums.{only}
 use Rattle.hsp_flow.specs.Sums.{through}
 use Rattle.hsp_instance.specs.Runs.{AreRuns}
-use Rattle.hsp_flow.specs.Index.{ByHead, Carries}
 use Rattle.hsp_flow.specs.Opening.{FirstPrices, LeastCost}
 use Rattle.hsp_flow.specs.Residual.{Graph, Scale, Sound, width, gives, takes}
 use Rattle.hsp_flow.proofs.Sums.{only_here, only_there}
@@ -81,14 +80,3 @@ module _ (first nodes : ℕ) (tails heads costs capacities supplies starts price
             let inside : it.0 < length tails = omega (arith, it.2, by.within v l) in
             omega (arith, it.3, scale.dear it.0 inside, scale.limit_is, one)
       ]
-
-pub carries_start : (nodes : ℕ) (heads flows order places slots ends : List ℕ) → ByHead nodes heads order places slots → length ends ≡ nodes →
-    ((k : ℕ) → k < length heads → slice_index flows k ≡ 0) → ((v : ℕ) → v < nodes → slice_index ends v ≡ slice_index places v) →
-    ((k : ℕ) → k < length heads → slice_index heads k < nodes) → Carries nodes heads flows places slots ends
-carries_start nodes heads flows order places slots ends by many zero at inside = record {
-  ends_many = many;
-  low = λ v l. omega (arith, at v l);
-  high = λ v l. omega (arith, at v l, by.rising v l);
-  carried = λ k l some. absurd (omega (arith, zero k l));
-  empty = λ k l none. omega (arith, at (slice_index heads k) (inside k l), by.from k l);
-}

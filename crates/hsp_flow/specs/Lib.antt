@@ -5,7 +5,6 @@ pub mod Problem
 pub mod Residual
 pub mod Search
 pub mod Shapes
-pub mod Descent
 pub mod Sums
 pub mod Opening
 pub mod Planning

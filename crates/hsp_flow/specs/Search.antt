@@ -98,16 +98,6 @@ pub record Running (root top nodes : ℕ) (tails heads costs flows room : List �
   pub counted : Counted held key depth nodes top turn turn (now + step)
   pub early : now ≤ turn * step
 
--- in the middle of the arcs of a node at the distance `near`: another node v is as near, no node is deeper than `deep`
-pub record Level (root top nodes : ℕ) (tails heads costs flows room : List ℕ) (price : ℕ → ℕ) (unmet : ℕ)
-    (held : ℕ → Option ℕ) (key via amount depth : List ℕ) (near v deep : ℕ) : Type 0 where
-  pub search : Search root top nodes tails heads costs flows room price unmet held key via amount depth near
-      (λ k d. slice_index key (from tails heads k d) < near)
-  pub at : slice_index key v ≤ near
-  pub here : v < nodes
-  pub near_low : near < top
-  pub depth_low : (w : ℕ) → w < nodes → slice_index key w < top → slice_index depth w ≤ deep
-
 -- the search came to the sink: no residual arc undercuts the key of a node that is nearer
 pub record Found (root top nodes : ℕ) (tails heads costs flows room : List ℕ) (price : ℕ → ℕ) (unmet : ℕ) (key via amount depth : List ℕ) : Type 0 where
   pub held : ℕ → Option ℕ
@@ -128,14 +118,3 @@ pub record Spread (root top nodes : ℕ) (price : ℕ → ℕ) (key : List ℕ) 
   pub down : ℕ
   pub within : up + down ≤ turn * most
   pub priced : Priced root top nodes price key up down
-
--- the number stands in the list below the place
-pub record Among (list : List ℕ) (upto k : ℕ) : Type 0 where
-  pub place : ℕ
-  pub early : place < upto
-  pub at : slice_index list place ≡ k
-
--- each node that has a key stands in the list
-pub record Noted (top : ℕ) (key touched : List ℕ) : Type 0 where
-  pub inside : (i : ℕ) → i < length touched → slice_index touched i < length key
-  pub all : (v : ℕ) → v < length key → slice_index key v ≢ top → Among touched (length touched) v

@@ -1,5 +1,5 @@
 ghost use Rattle.std.specs.Prelude.{◌≡◌, ◌≢◌, ℕ, ◌+◌, ◌<◌, ◌≤◌, ◌^◌, length, slice_index, OnOk};
-ghost use Rattle.hsp_flow.specs.Shapes.{IsOffered, IsNoted};
+ghost use Rattle.hsp_flow.specs.Shapes.{IsOffered};
 
 use crate::frontier::Frontier;
 use crate::links::{Offer, SearchTree};
@@ -19,16 +19,13 @@ pub fn take_way<F: Frontier>(
     requires from_in { offer.from < length tree.old.key.now }
     requires count { length tree.old.key.now ≤ F.node_count frontier.old }
     requires room { slice_index tree.old.depth.now offer.from + 1 < 2 ^ 64 }
-    requires noted { IsNoted tree.old }
     requires free { slice_index tree.old.key.now offer.to ≡ u64.MAX → F.held frontier.old offer.to ≡ None }
     requires waits { offer.key < slice_index tree.old.key.now offer.to → slice_index tree.old.key.now offer.to < u64.MAX → F.held frontier.old offer.to ≡ Some (slice_index tree.old.key.now offer.to) }
     ensures ok { OnOk result (IsOffered (F.held frontier.old) (F.held frontier.new) tree.old tree.new offer) }
-    ensures noted { OnOk result (IsNoted tree.new) }
     ensures count { F.node_count frontier.new ≡ F.node_count frontier.old }
 {
     let to = offer.to as usize;
     if tree.key[to] == u64::MAX {
-        tree.touched.push(offer.to)?;
         frontier.put(offer.to, offer.key)?;
     } else {
         frontier.lower(offer.to, offer.key)?;
@@ -53,11 +50,9 @@ pub fn relax<F: Frontier>(
     requires from_in { offer.from < length tree.old.key.now }
     requires count { length tree.old.key.now ≤ F.node_count frontier.old }
     requires room { slice_index tree.old.depth.now offer.from + 1 < 2 ^ 64 }
-    requires noted { IsNoted tree.old }
     requires free { slice_index tree.old.key.now offer.to ≡ u64.MAX → F.held frontier.old offer.to ≡ None }
     requires waits { offer.key < slice_index tree.old.key.now offer.to → slice_index tree.old.key.now offer.to < u64.MAX → F.held frontier.old offer.to ≡ Some (slice_index tree.old.key.now offer.to) }
     ensures ok { OnOk result (IsOffered (F.held frontier.old) (F.held frontier.new) tree.old tree.new offer) }
-    ensures noted { OnOk result (IsNoted tree.new) }
     ensures count { F.node_count frontier.new ≡ F.node_count frontier.old }
 {
     if offer.key < tree.key[offer.to as usize] {

@@ -10,9 +10,8 @@ send_along-requires-clause-fits c =
 pub loop-at-preserved-then-links-link : goal.loop-at-preserved-then-links-link
 loop-at-preserved-then-links-link c = (
   stepped _ _ _ _ _ _ _ _ _ _ _ _ _ _ _ _ _ c.args.links.now.graph _ c.requires.tree _ _ c.loop-at.invariant.0 c.loop-at-test.true true (eq-eqb _ _ c.if-links-link.true) _ _ c.send_along.ensures.shifted,
-  c.send_along.ensures.indexed,
-  c.send_along.ensures.price ∙ c.loop-at.invariant.2,
-  c.send_along.ensures.unmet ∙ c.loop-at.invariant.3,
+  c.send_along.ensures.price ∙ c.loop-at.invariant.1,
+  c.send_along.ensures.unmet ∙ c.loop-at.invariant.2,
 )
 
 pub take_back-requires-clause-fits : goal.take_back-requires-clause-fits
@@ -23,7 +22,6 @@ take_back-requires-clause-fits c =
 pub loop-at-preserved : goal.loop-at-preserved
 loop-at-preserved c = (
   stepped _ _ _ _ _ _ _ _ _ _ _ _ _ _ _ _ _ c.args.links.now.graph _ c.requires.tree _ _ c.loop-at.invariant.0 c.loop-at-test.true false (ne_eqb _ _ c.if-links-link.false) _ _ c.take_back.ensures.shifted,
-  c.take_back.ensures.indexed,
-  c.take_back.ensures.price ∙ c.loop-at.invariant.2,
-  c.take_back.ensures.unmet ∙ c.loop-at.invariant.3,
+  c.take_back.ensures.price ∙ c.loop-at.invariant.1,
+  c.take_back.ensures.unmet ∙ c.loop-at.invariant.2,
 )

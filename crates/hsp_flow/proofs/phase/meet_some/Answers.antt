@@ -37,5 +37,4 @@ returns-clause-ready g c =
       sound = sound_same _ _ _ _ _ _ _ _ _ _ _ c.args.links.now.graph (c.in_ok-search.ensures.found c.if-not-branch.false).sink_in c.augment.ensures.sound by;
       price_many = many;
       low = λ v l. omega (arith, by v l, priced_by _ _ _ _ _ _ _ _ _ _ _ _ _ _ _ _ _ c.args.links.now.graph c.requires.ready.sound (c.in_ok-search.ensures.found c.if-not-branch.false) c.args.links.now.limit spread.up spread.down spread.priced within c.requires.ready.low v l);
-      indexed = record { by_head = c.augment.ensures.indexed.by_head; carries = c.augment.ensures.indexed.carries };
     }

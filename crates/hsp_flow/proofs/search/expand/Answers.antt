@@ -1,14 +1,7 @@
 use Rattle.std.proofs.Common.{inl, inr, arith}
 use Rattle.std.proofs.lemmas.Bool.{cases_lt}
-use Rattle.hsp_flow.proofs.Arrival.{spread_on, priced_more}
+use Rattle.hsp_flow.proofs.Arrival.{spread_on}
 use Rattle.hsp_flow.proofs.search.expand.Goals as goal
-
-pub returns-then-branch-clause-spread : goal.returns-then-branch-clause-spread
-returns-then-branch-clause-spread g c = λ spread.
-    let scale = c.args.links.now.scale in
-    spread_on _ _ _ _ _ _ _ _ _ c.args.links.now.most 0 (omega arith) spread
-    (λ up down. c.in_ok-expand_out.ensures.priced c.args.links.now.most up down (λ k l here. scale.dear k l))
-    (λ up down p. priced_more _ _ _ _ _ _ _ _ _ p (omega arith) (omega arith))
 
 pub returns-clause-spread : goal.returns-clause-spread
 returns-clause-spread g c = λ spread.

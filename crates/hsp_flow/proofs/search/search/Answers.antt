@@ -10,7 +10,6 @@ loop-turn-init g c =
       begun _ _ _ _ _ _ _ _ _ _ _ _ c.args.links.now.graph _ _ _ _ _ _ covers.key_many covers.via_many covers.amount_many covers.depth_many c.requires.root_in c.requires.away c.requires.unmet (omega arith) c.in_ok-begin.ensures.ok,
       c.begin.ensures.count,
       spread_begun _ _ _ _ _ _ _ _ _ _ c.in_ok-begin.ensures.ok covers.key_many,
-      c.in_ok-begin.ensures.noted,
     )
 
 pub returns-in_default-clause-none : goal.returns-in_default-clause-none
@@ -37,21 +36,12 @@ pub loop-turn-preserved : goal.loop-turn-preserved
 loop-turn-preserved g c =
     let r = c.loop-turn.invariant.0 in
     let near = next_near _ _ _ _ _ _ _ _ _ _ _ _ c.args.links.now.graph _ _ _ _ _ _ _ r _ _ c.in-Some.ensures.least in (
-      went _ _ _ _ _ _ _ _ _ _ _ _ c.args.links.now.graph _ _ _ _ _ _ _ _ _ _ near r.early (c.in_ok-expand.ensures.ok c.if-branch.false),
+      went _ _ _ _ _ _ _ _ _ _ _ _ c.args.links.now.graph _ _ _ _ _ _ _ _ _ _ near r.early c.in_ok-expand.ensures.ok,
       c.expand.ensures.count ∙ c.take_least.ensures.nodes ∙ c.loop-turn.invariant.1,
       c.in_ok-expand.ensures.spread c.loop-turn.invariant.2,
-      c.in_ok-expand.ensures.noted,
     )
 
 pub returns-clause-none : goal.returns-clause-none
 returns-clause-none g c = λ _.
     closed _ _ _ _ _ _ _ _ _ _ _ _ _ _ _ _ c.loop-turn.invariant.0.search
     (all_done _ _ _ _ _ _ _ _ _ _ _ _ c.args.links.now.graph _ _ _ _ _ _ _ c.loop-turn.invariant.0 (omega arith))
-
-pub returns-then-branch-clause-covers : goal.returns-then-branch-clause-covers
-returns-then-branch-clause-covers g c =
-    let s = (c.in_ok-expand.ensures.found c.if-branch.true).search in
-    record { key_many = s.key_many; via_many = s.via_many; amount_many = s.amount_many; depth_many = s.depth_many }
-
-pub returns-then-branch-clause-spread : goal.returns-then-branch-clause-spread
-returns-then-branch-clause-spread g c = λ _. spread_later _ _ _ _ _ _ _ _ (c.in_ok-expand.ensures.spread c.loop-turn.invariant.2) (omega arith)

@@ -1,6 +1,6 @@
 use Rattle.std.proofs.Common.{◌≡◌, slice_index}
 use Rattle.hsp_flow.specs.Search.{Running}
-use Rattle.hsp_flow.specs.Shapes.{top, nodes, IsNoted, IsSpread}
+use Rattle.hsp_flow.specs.Shapes.{top, nodes, IsSpread}
 use Rattle.hsp_flow.proofs.search.search.Given as goal
 
 abbrev pub invariant-loop-turn : goal.invariant-loop-turn
@@ -10,4 +10,3 @@ invariant-loop-turn g l =
     l.tree.key.now l.tree.via.now l.tree.amount.now l.tree.depth.now l.turn l.links.step
     × (g.F.Frontier.node_count l.frontier ≡ g.F.Frontier.node_count l.fn.frontier)
     × IsSpread l.links l.flow l.tree l.root l.turn
-    × IsNoted l.tree

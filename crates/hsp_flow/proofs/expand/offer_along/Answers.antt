@@ -1,10 +1,9 @@
-use Rattle.std.proofs.Common.{◌+◌, ◌<◌, true, length, slice_index, arith, eqb-true}
+use Rattle.std.proofs.Common.{◌+◌, ◌<◌, true, slice_index, arith}
 use Rattle.std.proofs.Math.Facts.{Fits-below}
 use Rattle.hsp_flow.proofs.Listing.{next_left}
 use Rattle.hsp_flow.proofs.Expansion.{unheld, waits}
-use Rattle.hsp_flow.proofs.Descending.{offered_near}
 use Rattle.hsp_flow.proofs.Offers.{out_step, out_offered, out_spread}
-use Rattle.hsp_flow.proofs.expand.offer_out.Goals as goal
+use Rattle.hsp_flow.proofs.expand.offer_along.Goals as goal
 
 pub overflow_sub-key : goal.overflow_sub-key
 overflow_sub-key g c = rw c.requires.leaves at (c.requires.ready.sound.paid c.args.link true c.requires.link_in c.requires.wide)
@@ -29,15 +28,8 @@ returns-clause-ok g c =
     c.requires.leaves c.requires.wide steps _ (λ j e m q seen. next_left _ j e seen) _ _ _ _ _ (rw c.min-much.ensures at c.in_ok-relax.ensures.ok)
 
 pub returns-clause-priced : goal.returns-clause-priced
-returns-clause-priced g c = λ cost dear up down low high p.
+returns-clause-priced g c = λ more up down dear low high p.
     let links = c.args.links.now in
     let steps = out_step _ _ _ _ _ _ _ _ _ _ _ links.graph links.scale c.requires.ready.low c.args.link c.requires.link_in in
-    out_spread _ _ _ _ _ _ _ _ _ _ _ _ _ links.graph c.requires.ready.sound _ _ _ _ _ _ _ _ _ _ _ _ c.requires.expanding c.requires.link_in c.requires.far c.args.tree.now.key.now c.requires.expanding.at cost up down
+    out_spread _ _ _ _ _ _ _ _ _ _ _ _ _ links.graph c.requires.ready.sound _ _ _ _ _ _ _ _ _ _ _ _ c.requires.expanding c.requires.link_in c.requires.far c.args.tree.now.key.now c.requires.expanding.at more up down
     c.requires.leaves c.requires.wide steps _ _ _ _ _ _ dear low high p c.in_ok-relax.ensures.ok
-
-pub returns-clause-near : goal.returns-clause-near
-returns-clause-near g c = λ yes.
-    let links = c.args.links.now in
-    let head : slice_index c.args.links.now.heads.now c.args.link < length c.args.tree.now.key.now =
-    omega (arith, c.requires.expanding.search.key_many, links.graph.down c.args.link c.requires.link_in, links.graph.tails_in c.args.link c.requires.link_in) in
-    offered_near _ _ _ _ _ _ _ _ _ _ _ _ _ _ _ _ head c.in_ok-relax.ensures.ok (eqb-true _ _ yes)
