@@ -1,5 +1,6 @@
 ghost use Rattle.std.specs.Prelude.{◌≡◌, ◌≢◌, ℕ, ◌+◌, ◌<◌, ◌≤◌, ◌^◌, Bool, true, false, length, slice_index, OnOk};
-ghost use Rattle.hsp_flow.specs.Shapes.{Adds, Takes, Ready, IsExpanding, WidensAlong, WidensAgainst, nodes};
+ghost use Rattle.hsp_flow.specs.Residual.{nodes};
+ghost use Rattle.hsp_flow.specs.Search.{Expanding, Ready, WidensBack, WidensIn, WidensOut, WidensOver};
 
 use crate::frontier::Frontier;
 use crate::links::{Flow, Links, Offer, SearchTree, Visit};
@@ -19,12 +20,12 @@ fn offer_along<F: Frontier>(
     requires link_in { link < length links.now.tails.now }
     requires leaves { slice_index links.now.tails.now link ≡ at.node }
     requires wide { 0 < slice_index flow.now.room.now link }
-    requires expanding { IsExpanding links.now flow.now (F.held frontier.old) tree.old at (λ k d. (d ≡ true) × (k < link)) }
+    requires expanding { Expanding links.now flow.now tree.old (F.held frontier.old) at (λ k d. (d ≡ true) × (k < link)) }
     requires far { at.near + links.now.step < u64.MAX }
     requires turns { at.turn + 1 < u64.MAX }
     requires count { nodes links.now ≤ F.node_count frontier.old }
-    ensures ok { OnOk result (IsExpanding links.now flow.now (F.held frontier.new) tree.new at (λ k d. (d ≡ true) × (k < link + 1))) }
-    ensures priced { OnOk result (Adds links.now flow.now tree.old tree.new at (slice_index links.now.costs.now link)) }
+    ensures ok { OnOk result (Expanding links.now flow.now tree.new (F.held frontier.new) at (λ k d. (d ≡ true) × (k < link + 1))) }
+    ensures priced { OnOk result (WidensOver links.now flow.now tree.old tree.new at link) }
     ensures count { F.node_count frontier.new ≡ F.node_count frontier.old }
 {
     let node = at.node as usize;
@@ -58,12 +59,12 @@ fn offer_back<F: Frontier>(
     requires link_in { link < length links.now.tails.now }
     requires enters { slice_index links.now.heads.now link ≡ at.node }
     requires wide { 0 < slice_index flow.now.flows.now link }
-    requires expanding { IsExpanding links.now flow.now (F.held frontier.old) tree.old at (λ k d. d ≡ false → link + 1 ≤ k) }
+    requires expanding { Expanding links.now flow.now tree.old (F.held frontier.old) at (λ k d. d ≡ false → link + 1 ≤ k) }
     requires far { at.near + links.now.step < u64.MAX }
     requires turns { at.turn + 1 < u64.MAX }
     requires count { nodes links.now ≤ F.node_count frontier.old }
-    ensures ok { OnOk result (IsExpanding links.now flow.now (F.held frontier.new) tree.new at (λ k d. d ≡ false → link ≤ k)) }
-    ensures priced { OnOk result (Takes links.now flow.now tree.old tree.new at (slice_index links.now.costs.now link)) }
+    ensures ok { OnOk result (Expanding links.now flow.now tree.new (F.held frontier.new) at (λ k d. d ≡ false → link ≤ k)) }
+    ensures priced { OnOk result (WidensBack links.now flow.now tree.old tree.new at link) }
     ensures count { F.node_count frontier.new ≡ F.node_count frontier.old }
 {
     let node = at.node as usize;
@@ -93,12 +94,12 @@ pub fn expand_out<F: Frontier>(
     at: Visit,
 ) -> Result<(), AllocError>
     requires ready { Ready links.now flow.now }
-    requires expanding { IsExpanding links.now flow.now (F.held frontier.old) tree.old at (λ _ _. ⊥) }
+    requires expanding { Expanding links.now flow.now tree.old (F.held frontier.old) at (λ _ _. ⊥) }
     requires far { at.near + links.now.step < u64.MAX }
     requires turns { at.turn + 1 < u64.MAX }
     requires count { nodes links.now ≤ F.node_count frontier.old }
-    ensures ok { OnOk result (IsExpanding links.now flow.now (F.held frontier.new) tree.new at (λ _ d. d ≡ true)) }
-    ensures priced { OnOk result (WidensAlong links.now flow.now tree.old tree.new at) }
+    ensures ok { OnOk result (Expanding links.now flow.now tree.new (F.held frontier.new) at (λ _ d. d ≡ true)) }
+    ensures priced { OnOk result (WidensOut links.now flow.now tree.old tree.new at) }
     ensures count { F.node_count frontier.new ≡ F.node_count frontier.old }
 {
     let node = at.node as usize;
@@ -119,12 +120,12 @@ pub fn expand_in<F: Frontier>(
     at: Visit,
 ) -> Result<(), AllocError>
     requires ready { Ready links.now flow.now }
-    requires expanding { IsExpanding links.now flow.now (F.held frontier.old) tree.old at (λ _ d. d ≡ true) }
+    requires expanding { Expanding links.now flow.now tree.old (F.held frontier.old) at (λ _ d. d ≡ true) }
     requires far { at.near + links.now.step < u64.MAX }
     requires turns { at.turn + 1 < u64.MAX }
     requires count { nodes links.now ≤ F.node_count frontier.old }
-    ensures ok { OnOk result (IsExpanding links.now flow.now (F.held frontier.new) tree.new at (λ _ _. Unit {0})) }
-    ensures priced { OnOk result (WidensAgainst links.now flow.now tree.old tree.new at) }
+    ensures ok { OnOk result (Expanding links.now flow.now tree.new (F.held frontier.new) at (λ _ _. Unit {0})) }
+    ensures priced { OnOk result (WidensIn links.now flow.now tree.old tree.new at) }
     ensures count { F.node_count frontier.new ≡ F.node_count frontier.old }
 {
     let mut last = links.lasts[at.node as usize];

@@ -1,7 +1,7 @@
 ghost use Rattle.std.specs.Prelude.{length};
 ghost use Rattle.hsp_instance.specs.Runs.{AreRuns};
 ghost use Rattle.hsp_flow.specs.Index.{ByHead};
-ghost use Rattle.hsp_flow.specs.Residual.{Graph, Scale};
+ghost use Rattle.hsp_flow.specs.Graph.{Graph, Scale};
 
 /// The nodes and links that a flow runs on: each link leads from a node to a lower one, in the order of their tails,
 /// and node 0 is the sink. The nodes from `first` on are the sources.
@@ -51,13 +51,19 @@ pub struct Effort {
 }
 
 /// What a search knows of each node: its distance, the link by which the search came to it, what can be sent to it that
-/// way, and over how many links; and the work of all searches so far.
+/// way, and over how many links.
 #[derive(Drop)]
 pub struct SearchTree<'a> {
     pub key: &'a mut [u64],
     pub via: &'a mut [usize],
     pub amount: &'a mut [u64],
     pub depth: &'a mut [usize],
+}
+
+/// The tree of the search that is on or was last, and the work of all searches so far.
+#[derive(Drop)]
+pub struct Progress<'a> {
+    pub tree: SearchTree<'a>,
     pub effort: Effort,
 }
 

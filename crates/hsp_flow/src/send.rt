@@ -1,5 +1,5 @@
 ghost use Rattle.std.specs.Prelude.{◌≡◌, ℕ, ◌+◌, ◌<◌, ◌≤◌, true, false, length, slice_index};
-ghost use Rattle.hsp_flow.specs.Shapes.{Sends};
+ghost use Rattle.hsp_flow.specs.Residual.{Sends};
 
 use crate::links::{Flow, Links};
 

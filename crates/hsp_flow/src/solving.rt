@@ -4,12 +4,13 @@ ghost use Rattle.hsp_flow.specs.Layout.{IsSmall, LinksOf};
 ghost use Rattle.hsp_flow.specs.Nodes.{MayHaveUpTo, nodes_of};
 ghost use Rattle.hsp_simplex.specs.Problem.{problem_of};
 ghost use Rattle.hsp_flow.specs.Problem.{IsLeastBound, IsLinksOf};
-ghost use Rattle.hsp_flow.specs.Shapes.{Ready, nodes};
+ghost use Rattle.hsp_flow.specs.Residual.{nodes};
+ghost use Rattle.hsp_flow.specs.Search.{Ready};
 
 use crate::answer::{priced_flow, short_set};
 use crate::frontier::Frontier;
 use crate::index::chain_links;
-use crate::links::{Effort, Flow, Links, SearchTree};
+use crate::links::{Effort, Flow, Links, Progress, SearchTree};
 use crate::opening::first_prices;
 use crate::phase::meet_all;
 use crate::tables::{link_capacities, link_costs, link_heads, link_tails, node_supplies};
@@ -38,19 +39,29 @@ fn solve_from<F: Frontier>(
     let mut via = vec![in alloc; 0; nodes]?;
     let mut amount = vec![in alloc; 0; nodes]?;
     let mut depth = vec![in alloc; 0; nodes]?;
-    let mut tree = SearchTree {
+    let tree = SearchTree {
         key: &mut key,
         via: &mut via,
         amount: &mut amount,
         depth: &mut depth,
+    };
+    let mut progress = Progress {
+        tree,
         effort: *effort,
     };
     let mut frontier = F::with_nodes(alloc, nodes as u32)?;
-    let unmet = meet_all(&mut frontier, links, flow, &mut tree)?;
-    *effort = tree.effort;
+    let unmet = meet_all(&mut frontier, links, flow, &mut progress)?;
+    *effort = progress.effort;
     match unmet {
         None => Ok(Outcome::Met(priced_flow(alloc, network, links, flow)?)),
-        Some(root) => Ok(Outcome::Short(short_set(alloc, network, links, flow, &tree, root)?)),
+        Some(root) => Ok(Outcome::Short(short_set(
+            alloc,
+            network,
+            links,
+            flow,
+            &progress.tree,
+            root,
+        )?)),
     }
 }
 

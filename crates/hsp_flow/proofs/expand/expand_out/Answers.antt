@@ -7,16 +7,16 @@ use Rattle.hsp_flow.proofs.expand.expand_out.Goals.{then-flow-link-gt0+in_ok-off
 
 pub loop-link-init : goal.loop-link-init
 loop-link-init g c = (
-  reseen _ _ _ _ _ _ _ _ _ _ _ _ _ _ _ _ _ _ _ _ _ c.requires.expanding _
-      (λ k d l wide here seen. none_left _ _ _ _ c.args.links.now.by_tail _ c.requires.expanding.node_in k d l here seen),
+  reseen _ _ _ _ _ _ c.requires.expanding _
+      (λ k d l wide here seen. none_left c.args.links.now _ c.requires.expanding.node_in k d l here seen),
   refl,
-  λ cost up down dear p. priced_more _ _ _ _ _ _ _ _ _ p (omega arith) (omega arith),
+  λ cost up down dear p. priced_more _ _ _ _ _ _ _ _ p (omega arith) (omega arith),
 )
 
 pub returns-clause-ok : goal.returns-clause-ok
 returns-clause-ok g c =
-    reseen _ _ _ _ _ _ _ _ _ _ _ _ _ _ _ _ _ _ _ _ _ c.loop-link.invariant.0 _
-    (λ k d l wide here is. let s = all_left _ _ _ _ c.args.links.now.by_tail _ c.requires.expanding.node_in k d l here is in (s.0, omega (arith, s.1)))
+    reseen _ _ _ _ _ _ c.loop-link.invariant.0 _
+    (λ k d l wide here is. let s = all_left c.args.links.now _ c.requires.expanding.node_in k d l here is in (s.0, omega (arith, s.1)))
 
 pub loop-link-preserved : goal.loop-link-preserved
 loop-link-preserved g c =
@@ -32,11 +32,11 @@ loop-link-preserved g c =
                 let low = p.low c.args.at.node c.requires.expanding.node_in c.requires.expanding.settled.reached in
                 let high = p.high c.args.at.node c.requires.expanding.node_in c.requires.expanding.settled.reached in
                 w.in_ok-offer_along.ensures.priced cost up down (dear c.loop-link.link l here)
-                (omega (arith, low, c.requires.expanding.at)) (omega (arith, high, c.requires.expanding.at)) (c.loop-link.invariant.2 cost up down dear p),
+                (omega (arith, low, c.requires.expanding.here)) (omega (arith, high, c.requires.expanding.here)) (c.loop-link.invariant.2 cost up down dear p),
           )
       | else-flow-link-gt0 w ↦
           rw (w.frontier-is, w.tree-is) (
-            passed _ _ _ _ _ _ _ _ _ _ _ _ links.graph _ _ _ _ _ _ _ c.loop-link.link true _ _ (λ j e m q seen. next_left _ j e seen) _ _ _ c.loop-link.invariant.0 (omega (arith, w.if-flow-link-gt0.false)),
+            passed _ _ _ _ _ _ c.loop-link.invariant.0 c.loop-link.link true _ (λ j e m q seen. next_left _ j e seen) (omega (arith, w.if-flow-link-gt0.false)),
             c.loop-link.invariant.1,
             c.loop-link.invariant.2,
           )

@@ -14,10 +14,10 @@ solve_from-requires-clause-ready g c =
     rw c.deref_mut-3.ensures.value c.in_ok-price.ensures in
     let some : 0 < length c.args.links.now.supplies.now = omega (arith, c.requires.links_of.supplies.many) in
     record {
-      sound = sound_start _ _ _ _ _ _ c.deref_mut.result.now c.deref_mut-2.result.now c.deref_mut-3.result.now c.deref_mut-4.result.now graph flows.0
+      sound = sound_start _ _ flows.0
           (ap (λ xs. length xs) room ∙ graph.capacities_many) (ap (λ xs. length xs) unmet) flows.1 (λ k l. ap (λ xs. slice_index xs k) room)
-          (first_low _ _ _ _ _ _ _ _ _ _ _ _ graph c.args.links.now.by_tail c.args.links.now.scale prices) (first_sink _ _ _ _ _ _ _ _ _ _ _ _ graph c.args.links.now.by_tail c.args.links.now.scale prices some)
+          (first_low c.args.links.now _ prices) (first_sink c.args.links.now _ prices some)
           (λ v l. ap (λ xs. slice_index xs v) unmet);
       price_many = prices.many;
-      low = first_limit _ _ _ _ _ _ _ _ _ _ _ _ graph c.args.links.now.by_tail c.args.links.now.scale prices;
+      low = first_limit c.args.links.now _ prices;
     }
