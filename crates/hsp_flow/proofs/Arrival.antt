@@ -1,115 +1,83 @@
 -- After a search that came to the sink: its tree is tight under the raised prices, and the prices stay within bounds.
-use Rattle.std.proofs.Common.{◌≡◌, ◌≢◌, ℕ, ◌+◌, ◌-◌, ◌<◌, ◌≤◌, ◌==◌, inl, inr, Bool, List, length, slice_index, set, Option, ap, arith, get_or-set_same, get_or-set_other, add-mul, mul-le-mul_right}
+use Rattle.std.proofs.Common.{◌≡◌, ◌≢◌, ℕ, ◌+◌, ◌<◌, ◌≤◌, inl, inr, length, slice_index, Option, ap, arith, get_or-set_same, get_or-set_other, add-mul, mul-le-mul_right}
 use Rattle.std.proofs.lemmas.Bool.{cases_eq, cases_lt}
-use Rattle.hsp_flow.specs.Residual.{Graph, Sound, Tree, from, to, width, raised}
-use Rattle.hsp_flow.specs.Search.{Found, Offered, Priced, Spread, Begun}
+use Rattle.hsp_flow.specs.Residual.{IsTree, Sound, distance, nodes, predecessor, prices, raised, to, way, width}
+use Rattle.hsp_flow.specs.Search.{Begun, Found, Offered, Priced, Spread, TakesWay, top}
+use Rattle.hsp_flow.specs.declared.links.Links.{Links}
+use Rattle.hsp_flow.specs.declared.links.Flow.{Flow}
+use Rattle.hsp_flow.specs.declared.links.SearchTree.{SearchTree}
+use Rattle.hsp_flow.specs.declared.links.Offer.{Offer}
 use Rattle.hsp_flow.proofs.Directions.{gives_raised, takes_raised}
 
-module _ (root top nodes : ℕ) (tails heads costs capacities supplies flows room : List ℕ) (price : ℕ → ℕ) (unmet : List ℕ) (much : ℕ)
-    (key via amount depth : List ℕ)
-    (graph : Graph nodes tails heads costs capacities supplies)
-    (sound : Sound nodes tails heads costs capacities supplies flows room price unmet)
-    (found : Found root top nodes tails heads costs flows room price much key via amount depth) where
-  pub sink_some : 0 < slice_index amount 0
+module _ (n : Links) (f : Flow) (t : SearchTree) (root : ℕ) (sound : Sound n f (λ v. slice_index f.price.now v)) (found : Found n f t root) where
+  pub sink_some : 0 < slice_index t.amount.now 0
   sink_some = found.search.some 0 found.sink_in found.sink_near
 
-  pub sink_low : slice_index amount 0 ≤ much
+  pub sink_low : slice_index t.amount.now 0 ≤ slice_index f.unmet.now root
   sink_low = found.search.no_more 0 found.sink_in found.sink_near
 
-  pub tree_by : Tree root (slice_index key 0) nodes tails heads costs flows room (raised price key (slice_index key 0)) key via amount depth
+  pub tree_by : IsTree n f t root (raised f t)
   tree_by = record {
-    via_many = found.search.via_many;
+    via_many = found.search.covers.via_many;
     arc = λ v l nr q.
-        let near : slice_index key v < top = omega (arith, found.sink_near) in
+        let near : distance t v < top = omega (arith, found.sink_near) in
         let it = found.search.reached v l nr near in
-        let d : Bool = slice_index heads (slice_index via v) == v in
-        let wide : 0 < width flows room (slice_index via v) (slice_index heads (slice_index via v) == v) = omega (arith, found.search.some v l near, it.fits) in
-        let paid = sound.paid (slice_index via v) (slice_index heads (slice_index via v) == v) it.link wide in
-        let end-key : slice_index key (to tails heads (slice_index via v) (slice_index heads (slice_index via v) == v)) ≡ slice_index key v = ap (λ n. slice_index key n) it.end in
-        let sooner : slice_index key (from tails heads (slice_index via v) (slice_index heads (slice_index via v) == v)) ≤ slice_index key v = omega (arith, it.exact) in
+        let wide : 0 < width f (slice_index t.via.now v) (way n t v) = omega (arith, found.search.some v l near, it.path.fits) in
+        let paid = sound.paid (slice_index t.via.now v) (way n t v) it.path.link wide in
+        let end-key : distance t (to n (slice_index t.via.now v) (way n t v)) ≡ distance t v = ap (λ m. slice_index t.key.now m) it.path.end in
+        let sooner : distance t (predecessor n t v (way n t v)) ≤ distance t v = omega (arith, it.exact) in
         record {
-          link = it.link;
-          end = it.end;
+          path = it.path;
           sooner = sooner;
-          nearer = it.nearer;
-          carried = it.carried;
-          fits = it.fits;
           tight = omega (
             arith,
             it.exact,
-            gives_raised tails heads costs price key (slice_index key 0) (slice_index via v) (slice_index heads (slice_index via v) == v),
-            takes_raised tails heads costs price key (slice_index key 0) (slice_index via v) (slice_index heads (slice_index via v) == v),
+            gives_raised n f t (slice_index t.via.now v) (way n t v),
+            takes_raised n f t (slice_index t.via.now v) (way n t v),
           );
         };
   }
 
   -- no raised price is above what the search may add and take
-  pub priced_by : (limit up down : ℕ) → Priced root top nodes price key up down → up + down ≤ limit →
-      ((v : ℕ) → v < nodes → price v ≤ limit) →
-      (v : ℕ) → v < nodes → price v + (slice_index key 0 - slice_index key v) ≤ limit
-  priced_by limit up down p few old v l = elim (cases_lt (slice_index key v) (slice_index key 0)) [
+  pub priced_by : (limit up down : ℕ) → Priced n f t root up down → up + down ≤ limit →
+      ((v : ℕ) → v < nodes n → prices f v ≤ limit) → (v : ℕ) → v < nodes n → raised f t v ≤ limit
+  priced_by limit up down p few old v l = elim (cases_lt (distance t v) (distance t 0)) [
     | inl less ↦
         omega (arith, sound.sink_free, p.low 0 found.sink_in found.sink_near, p.high v l (omega (arith, found.sink_near)))
     | inr more ↦ omega (arith, old v l)
   ]
 
-module _ (root top nodes : ℕ) (price : ℕ → ℕ) (key : List ℕ) (to offer : ℕ) (to-in : to < length key) where
-  priced_set : (up down : ℕ) → Priced root top nodes price key up down →
-      offer + price root ≤ price to + up → price to ≤ offer + price root + down →
-      Priced root top nodes price (set key to offer) up down
-  priced_set up down p low high =
-      let same : (v : ℕ) → v ≢ to → slice_index (set key to offer) v ≡ slice_index key v = λ v ne. get_or-set_other key to v offer 0 ne in
-      let here : slice_index (set key to offer) to ≡ offer = get_or-set_same key to offer 0 to-in in
-      record {
-        low = λ v l q. elim (cases_eq v to) [
-          | inl e ↦ rw e (omega (arith, here))
-          | inr ne ↦ omega (arith, same v ne, p.low v l (omega (arith, same v ne)))
-        ];
-        high = λ v l q. elim (cases_eq v to) [
-          | inl e ↦ rw e (omega (arith, here))
-          | inr ne ↦ omega (arith, same v ne, p.high v l (omega (arith, same v ne)))
-        ];
-      }
+pub priced_more : (n : Links) (f : Flow) (t : SearchTree) (root up down up' down' : ℕ) → Priced n f t root up down → up ≤ up' → down ≤ down' →
+    Priced n f t root up' down'
+priced_more n f t root up down up' down' p a b = record { low = λ v l q. omega (arith, p.low v l q); high = λ v l q. omega (arith, p.high v l q) }
 
-pub priced_more : (root top nodes : ℕ) (price : ℕ → ℕ) (key : List ℕ) (up down up' down' : ℕ) → Priced root top nodes price key up down → up ≤ up' → down ≤ down' →
-    Priced root top nodes price key up' down'
-priced_more root top nodes price key up down up' down' p a b = record { low = λ v l q. omega (arith, p.low v l q); high = λ v l q. omega (arith, p.high v l q) }
+-- an offer within the bounds keeps them
+pub priced_offered : (n : Links) (f : Flow) (t t' : SearchTree) (held held' : ℕ → Option ℕ) (o : Offer) (root up down : ℕ) →
+    o.to < length t.key.now → Offered held held' t t' o → Priced n f t root up down →
+    o.key + prices f root ≤ prices f o.to + up → prices f o.to ≤ o.key + prices f root + down → Priced n f t' root up down
+priced_offered n f t t' held held' o root up down in' it p low high = elim (cases_lt o.key (distance t o.to)) [
+  | inl less ↦ taken (it.took less)
+  | inr more ↦ rw (it.kept more).1 p
+]
+  where
+    taken : TakesWay held held' t t' o → Priced n f t' root up down
+    taken w =
+        let same : (v : ℕ) → v ≢ o.to → distance t' v ≡ distance t v = λ v ne. rw w.key (get_or-set_other t.key.now o.to v _ 0 ne) in
+        let here : distance t' o.to ≡ o.key = rw w.key (get_or-set_same t.key.now o.to _ 0 in') in
+        record {
+          low = λ v l q. elim (cases_eq v o.to) [
+            | inl e ↦ rw e (omega (arith, here))
+            | inr ne ↦ omega (arith, same v ne, p.low v l (omega (arith, same v ne)))
+          ];
+          high = λ v l q. elim (cases_eq v o.to) [
+            | inl e ↦ rw e (omega (arith, here))
+            | inr ne ↦ omega (arith, same v ne, p.high v l (omega (arith, same v ne)))
+          ];
+        }
 
-pub priced_offered : (root top nodes : ℕ) (price : ℕ → ℕ) (held held' : ℕ → Option ℕ) (key key' via via' amount amount' depth depth' : List ℕ) (arc from to offer much up down : ℕ) →
-    to < length key → Offered held held' key key' via via' amount amount' depth depth' arc from to offer much →
-    Priced root top nodes price key up down →
-    offer + price root ≤ price to + up → price to ≤ offer + price root + down →
-    Priced root top nodes price key' up down
-priced_offered root top nodes price held held' key key' via via' amount amount' depth depth' arc from to offer much up down in' o p low high =
-    elim (cases_lt offer (slice_index key to)) [
-      | inl less ↦ let w = o.took less in rw w.1 (priced_set root top nodes price key to offer in' up down p low high)
-      | inr more ↦ let w = o.kept more in rw w.1 p
-    ]
-
--- an offer along a link of the node may add its cost to what lies between, one against a link takes it
-module _ (root top nodes : ℕ) (tails heads costs : List ℕ) (price : ℕ → ℕ) (held held' : ℕ → Option ℕ)
-    (key key' via via' amount amount' depth depth' : List ℕ) (near node k cost offer much up down : ℕ)
-    (node-low : near + price root ≤ price node + up) (node-high : price node ≤ near + price root + down)
-    (dear : slice_index costs k ≤ cost) where
-  pub out_priced : slice_index heads k < length key → offer + price node ≡ near + (slice_index costs k + price (slice_index heads k)) →
-      Priced root top nodes price key (up + cost) down →
-      Offered held held' key key' via via' amount amount' depth depth' k node (slice_index heads k) offer much →
-      Priced root top nodes price key' (up + cost) down
-  out_priced in' exact p o =
-      priced_offered root top nodes price held held' key key' via via' amount amount' depth depth' k node (slice_index heads k) offer much (up + cost) down
-      in' o p (omega (arith, node-low)) (omega (arith, node-high))
-
-  pub in_priced : slice_index tails k < length key → offer + (slice_index costs k + price node) ≡ near + price (slice_index tails k) →
-      Priced root top nodes price key up (down + cost) →
-      Offered held held' key key' via via' amount amount' depth depth' k node (slice_index tails k) offer much →
-      Priced root top nodes price key' up (down + cost)
-  in_priced in' exact p o =
-      priced_offered root top nodes price held held' key key' via via' amount amount' depth depth' k node (slice_index tails k) offer much up (down + cost)
-      in' o p (omega (arith, node-low)) (omega (arith, node-high))
-
-pub spread_begun : (held : ℕ → Option ℕ) (key amount depth : List ℕ) (price : ℕ → ℕ) (root top much nodes most : ℕ) → Begun held key amount depth top root much →
-    length key ≡ nodes → Spread root top nodes price key most 0
-spread_begun held key amount depth price root top much nodes most b many =
+pub spread_begun : (n : Links) (f : Flow) (t : SearchTree) (held : ℕ → Option ℕ) (root much : ℕ) → Begun t held root much →
+    length t.key.now ≡ nodes n → Spread n f t root 0
+spread_begun n f t held root much b many =
     record {
       up = 0;
       down = 0;
@@ -120,18 +88,15 @@ spread_begun held key amount depth price root top much nodes most b many =
       };
     }
   where
-    root-only : (v : ℕ) → v < nodes → slice_index key v < top → v ≡ root
+    root-only : (v : ℕ) → v < nodes n → distance t v < top → v ≡ root
     root-only v l near = elim (cases_eq v root) [ inl e ↦ e | inr ne ↦ absurd (omega (arith, b.key_rest v (omega arith) ne)) ]
 
-pub spread_later : (root top nodes : ℕ) (price : ℕ → ℕ) (key : List ℕ) (most turn later : ℕ) → Spread root top nodes price key most turn → turn ≤ later →
-    Spread root top nodes price key most later
-spread_later root top nodes price key most turn later s l =
-    record { up = s.up; down = s.down; within = omega (arith, s.within, mul-le-mul_right most l); priced = s.priced }
+pub spread_later : (n : Links) (f : Flow) (t : SearchTree) (root turn later : ℕ) → Spread n f t root turn → turn ≤ later → Spread n f t root later
+spread_later n f t root turn later s l = record { up = s.up; down = s.down; within = omega (arith, s.within, mul-le-mul_right n.most l); priced = s.priced }
 
 -- a node adds the greatest cost on one side or on the other
-pub spread_on : (root top nodes : ℕ) (price : ℕ → ℕ) (key key1 key2 : List ℕ) (most turn a b : ℕ) → a + b ≤ most → Spread root top nodes price key most turn →
-    ((up down : ℕ) → Priced root top nodes price key up down → Priced root top nodes price key1 (up + a) down) →
-    ((up down : ℕ) → Priced root top nodes price key1 up down → Priced root top nodes price key2 up (down + b)) →
-    Spread root top nodes price key2 most (turn + 1)
-spread_on root top nodes price key key1 key2 most turn a b few s out back =
-    record { up = s.up + a; down = s.down + b; within = omega (arith, s.within, add-mul turn 1 most); priced = back (s.up + a) s.down (out s.up s.down s.priced) }
+pub spread_on : (n : Links) (f : Flow) (t t1 t2 : SearchTree) (root turn a b : ℕ) → a + b ≤ n.most → Spread n f t root turn →
+    ((up down : ℕ) → Priced n f t root up down → Priced n f t1 root (up + a) down) →
+    ((up down : ℕ) → Priced n f t1 root up down → Priced n f t2 root up (down + b)) → Spread n f t2 root (turn + 1)
+spread_on n f t t1 t2 root turn a b few s out back =
+    record { up = s.up + a; down = s.down + b; within = omega (arith, s.within, add-mul turn 1 n.most); priced = back (s.up + a) s.down (out s.up s.down s.priced) }

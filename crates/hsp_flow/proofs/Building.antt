@@ -4,7 +4,7 @@ use Rattle.std.proofs.lemmas.Bool.{cases_lt}
 use Rattle.hsp_simplex.specs.Network.{Transport, IsNetwork, host_of}
 use Rattle.hsp_instance.specs.Runs.{Ascends}
 use Rattle.hsp_flow.specs.Layout.{LinksOf, IsSmall, base_of, first_of, hosts_of, servers_of, host_node}
-use Rattle.hsp_flow.specs.Residual.{Graph, Scale}
+use Rattle.hsp_flow.specs.Graph.{Graph, Scale}
 use Rattle.hsp_flow.proofs.Modelling.{node_low}
 
 -- a link is a host's, a server's or an arc

@@ -1,41 +1,42 @@
 -- The two directions of a link.
-use Rattle.std.proofs.Common.{◌≡◌, ℕ, ◌+◌, ◌-◌, ◌<◌, ◌==◌, Bool, true, false, List, length, slice_index, refl, arith, eq-eqb, ne_eqb}
-use Rattle.hsp_flow.specs.Residual.{Graph, from, to, gives, takes, raised}
+use Rattle.std.proofs.Common.{◌≡◌, ℕ, ◌+◌, ◌-◌, ◌<◌, ◌==◌, Bool, true, false, length, slice_index, refl, arith, eq-eqb, ne_eqb}
+use Rattle.hsp_flow.specs.Residual.{distance, from, gives, nodes, prices, raised, takes, to}
+use Rattle.hsp_flow.specs.declared.links.Links.{Links}
+use Rattle.hsp_flow.specs.declared.links.Flow.{Flow}
+use Rattle.hsp_flow.specs.declared.links.SearchTree.{SearchTree}
 
-module _ (nodes : ℕ) (tails heads costs capacities supplies : List ℕ) (graph : Graph nodes tails heads costs capacities supplies) where
-  -- both ends are nodes
-  pub from_in : (k : ℕ) (d : Bool) → k < length tails → from tails heads k d < nodes
-  from_in k true l = graph.tails_in k l
-  from_in k false l = omega (arith, graph.tails_in k l, graph.down k l)
+-- both ends are nodes
+pub from_in : (n : Links) (k : ℕ) (d : Bool) → k < length n.tails.now → from n k d < nodes n
+from_in n k true l = n.graph.tails_in k l
+from_in n k false l = omega (arith, n.graph.tails_in k l, n.graph.down k l)
 
-  pub to_in : (k : ℕ) (d : Bool) → k < length tails → to tails heads k d < nodes
-  to_in k true l = omega (arith, graph.tails_in k l, graph.down k l)
-  to_in k false l = graph.tails_in k l
+pub to_in : (n : Links) (k : ℕ) (d : Bool) → k < length n.tails.now → to n k d < nodes n
+to_in n k true l = omega (arith, n.graph.tails_in k l, n.graph.down k l)
+to_in n k false l = n.graph.tails_in k l
 
-  -- the end tells the direction
-  pub direction : (k : ℕ) (d : Bool) (v : ℕ) → k < length tails → to tails heads k d ≡ v → (slice_index heads k == v) ≡ d
-  direction k true v l e = eq-eqb (slice_index heads k) v e
-  direction k false v l e = ne_eqb (slice_index heads k) v (λ q. omega (arith, graph.down k l))
+-- the end tells the direction
+pub direction : (n : Links) (k : ℕ) (d : Bool) (v : ℕ) → k < length n.tails.now → to n k d ≡ v → (slice_index n.heads.now k == v) ≡ d
+direction n k true v l e = eq-eqb (slice_index n.heads.now k) v e
+direction n k false v l e = ne_eqb (slice_index n.heads.now k) v (λ q. omega (arith, n.graph.down k l))
 
 -- what raised prices do to a reduced cost
-module _ (tails heads costs : List ℕ) (price : ℕ → ℕ) (key : List ℕ) (reach : ℕ) where
-  pub gives_raised : (k : ℕ) (d : Bool) →
-      gives tails heads costs (raised price key reach) k d ≡ gives tails heads costs price k d + (reach - slice_index key (from tails heads k d))
-  gives_raised k true = refl
-  gives_raised k false = omega arith
+pub gives_raised : (n : Links) (f : Flow) (t : SearchTree) (k : ℕ) (d : Bool) →
+    gives n (raised f t) k d ≡ gives n (prices f) k d + (distance t 0 - distance t (from n k d))
+gives_raised n f t k true = refl
+gives_raised n f t k false = omega arith
 
-  pub takes_raised : (k : ℕ) (d : Bool) →
-      takes tails heads costs (raised price key reach) k d ≡ takes tails heads costs price k d + (reach - slice_index key (to tails heads k d))
-  takes_raised k true = omega arith
-  takes_raised k false = refl
+pub takes_raised : (n : Links) (f : Flow) (t : SearchTree) (k : ℕ) (d : Bool) →
+    takes n (raised f t) k d ≡ takes n (prices f) k d + (distance t 0 - distance t (to n k d))
+takes_raised n f t k true = omega arith
+takes_raised n f t k false = refl
 
 -- reduced costs of prices that are alike
-module _ (tails heads costs : List ℕ) (price price' : ℕ → ℕ) (k : ℕ) (tail : price' (slice_index tails k) ≡ price (slice_index tails k))
-    (head : price' (slice_index heads k) ≡ price (slice_index heads k)) where
-  pub gives_same : (d : Bool) → gives tails heads costs price' k d ≡ gives tails heads costs price k d
+module _ (n : Links) (price price' : ℕ → ℕ) (k : ℕ) (tail : price' (slice_index n.tails.now k) ≡ price (slice_index n.tails.now k))
+    (head : price' (slice_index n.heads.now k) ≡ price (slice_index n.heads.now k)) where
+  pub gives_same : (d : Bool) → gives n price' k d ≡ gives n price k d
   gives_same true = tail
   gives_same false = omega (arith, head)
 
-  pub takes_same : (d : Bool) → takes tails heads costs price' k d ≡ takes tails heads costs price k d
+  pub takes_same : (d : Bool) → takes n price' k d ≡ takes n price k d
   takes_same true = omega (arith, head)
   takes_same false = tail

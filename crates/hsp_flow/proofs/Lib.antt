@@ -1,15 +1,11 @@
 pub mod Appending
 pub mod Arrival
 pub mod Building
-pub mod Carrying
-pub mod Descending
 pub mod Directions
 pub mod Expansion
-pub mod Filling
 pub mod Layering
 pub mod Listing
 pub mod Modelling
-pub mod Noting
 pub mod Offers
 pub mod Pairing
 pub mod Raising

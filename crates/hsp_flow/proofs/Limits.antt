@@ -1,12 +1,12 @@
 -- The limits of an instance, for its network.
-use Rattle.std.proofs.Common.{◌≡◌, ℕ, ◌+◌, ◌*◌, ◌<◌, ◌≤◌, ◌∙◌, List, [], ◌∷◌, length, map, sum_by, slice_index, slice_index_or, sym, subst, inl, inr, arith}
+use Rattle.std.proofs.Common.{◌≡◌, ℕ, ◌+◌, ◌*◌, ◌<◌, ◌≤◌, ◌∙◌, Bool, List, [], ◌∷◌, length, map, sum_by, slice_index, slice_index_or, sym, subst, inl, inr, arith}
 use Rattle.std.specs.Prelude.{Some, None}
 use Rattle.std.specs.List.{AllByRecursion}
 use Rattle.std.proofs.Math.Nat.{le_trans, mul-le-mul_right}
 use Rattle.std.proofs.lemmas.List.{length-map, get_or-map, get_or_past}
 use Rattle.std.proofs.lemmas.List.Elements.{All-from_get_or}
 use Rattle.std.proofs.lemmas.Option.{slice_get_within}
-use Rattle.std.proofs.lemmas.Bool.{cases_lt}
+use Rattle.std.proofs.lemmas.Bool.{cases_lt, cases_Bool}
 use Rattle.hsp_simplex.specs.Sums.{sum_below}
 use Rattle.hsp_instance.specs.declared.arc.Arc.{Arc}
 use Rattle.hsp_instance.specs.Instance.{Instance, Row, Server, Host, IsInstance, IsArc, AreArcs, IsCounted, IsServer, IsLimited, IsHostOf}
@@ -16,7 +16,7 @@ use Rattle.hsp_check.specs.Plan.{Plan, Feasible, planned, served, total}
 use Rattle.hsp_instance.proofs.Lists.{all_at}
 use Rattle.hsp_check.proofs.Summing.{sum_by_le_all, by_key}
 use Rattle.hsp_flow.specs.Layout.{IsSmall}
-use Rattle.hsp_simplex.specs.Network.{IsNetwork, host_of}
+use Rattle.hsp_simplex.specs.Network.{IsNetwork, demand_of, host_of}
 use Rattle.hsp_flow.specs.Planning.{transport_of, row_of, server_of, cost_of}
 use Rattle.hsp_flow.proofs.Ordering.{no_arc, each_weaker, each_append, each_at, rows_between, rows_ordered, arcs_many}
 use Rattle.hsp_flow.proofs.Bridging.{arc}
@@ -97,6 +97,14 @@ module _ (it : Instance) (is : IsInstance it) where
       let inside : k < length (arcs_from 0 it.arcs) = omega (arith, l, length-map (arcs_from 0 it.arcs) cost_of) in
       let at : slice_index (transport_of it).costs k ≡ (arc (arcs_from 0 it.arcs) k).cost = get_or-map cost_of (arcs_from 0 it.arcs) k no_arc 0 inside in
       omega (arith, at, (fits_at k inside).cost)
+
+  -- what a set of rows demands is within it, too
+  pub demand_low : (set : ℕ → Bool) → demand_of (transport_of it) set ≤ 8192000000
+  demand_low set =
+      let many : length (transport_of it).demands ≡ length it.rows = length-map it.rows (λ (r : Row). r.count) in
+      let low : demand_of (transport_of it) set ≤ length (transport_of it).demands * 1000000 =
+      sum_below_low (length (transport_of it).demands) _ 1000000 (λ i l. elim (cases_Bool (set i)) [ inl t ↦ rw t (counts_low i l) | inr f ↦ rw f (omega arith) ]) in
+      omega (arith, many, is.rows.few)
 
   -- what a feasible plan costs is within the range of a certificate
   pub total_low : (x : Plan) → Feasible (network_of it) x → total (network_of it) x ≤ 8192000000000000

@@ -1,25 +1,24 @@
--- The arcs of a node that a loop over the index has seen.
-use Rattle.std.proofs.Common.{◌≡◌, ℕ, ◌+◌, ◌<◌, ◌≤◌, ◌⊎◌, inl, inr, Bool, true, false, List, length, slice_index, refl, ap, sym, ◌∙◌, arith}
-use Rattle.std.proofs.lemmas.Bool.{cases_eq}
-use Rattle.hsp_instance.specs.Runs.{AreRuns}
-use Rattle.hsp_flow.specs.Index.{ByHead, Carries}
-use Rattle.hsp_flow.specs.Residual.{from, width}
+-- The arcs of a node that a loop over its links has seen.
+use Rattle.std.proofs.Common.{◌≡◌, ℕ, ◌+◌, ◌-◌, ◌<◌, ◌≤◌, ◌⊎◌, inl, inr, Bool, true, false, length, slice_index, refl, ap, sym, ◌∙◌, arith}
+use Rattle.std.proofs.lemmas.Bool.{cases_eq, cases_lt}
+use Rattle.hsp_flow.specs.Residual.{from, nodes}
+use Rattle.hsp_flow.specs.declared.links.Links.{Links}
 
 pub not_both : {A : Type 0} → true ≡ false → A
 not_both q = absurd cc
 
 -- the links that leave the node v
-module _ (nodes : ℕ) (tails heads starts : List ℕ) (by : AreRuns nodes tails starts) (v : ℕ) (v-in : v < nodes) where
-  pub none_left : (k : ℕ) (d : Bool) → k < length tails → from tails heads k d ≡ v → (d ≡ true) × (k < slice_index starts v) → ⊥
+module _ (n : Links) (v : ℕ) (v-in : v < nodes n) where
+  pub none_left : (k : ℕ) (d : Bool) → k < length n.tails.now → from n k d ≡ v → (d ≡ true) × (k < slice_index n.starts.now v) → ⊥
   none_left k true l here seen =
-      let s : slice_index starts (slice_index tails k) ≡ slice_index starts v = ap (λ n. slice_index starts n) here in
-      omega (arith, by.from k l, seen.1)
+      let s : slice_index n.starts.now (slice_index n.tails.now k) ≡ slice_index n.starts.now v = ap (λ m. slice_index n.starts.now m) here in
+      omega (arith, n.by_tail.from k l, seen.1)
   none_left k false l here seen = not_both (sym seen.0)
 
-  pub all_left : (k : ℕ) (d : Bool) → k < length tails → from tails heads k d ≡ v → d ≡ true → (d ≡ true) × (k < slice_index starts (v + 1))
+  pub all_left : (k : ℕ) (d : Bool) → k < length n.tails.now → from n k d ≡ v → d ≡ true → (d ≡ true) × (k < slice_index n.starts.now (v + 1))
   all_left k true l here is =
-      let s : slice_index starts (slice_index tails k + 1) ≡ slice_index starts (v + 1) = ap (λ n. slice_index starts (n + 1)) here in
-      (refl, omega (arith, by.upto k l))
+      let s : slice_index n.starts.now (slice_index n.tails.now k + 1) ≡ slice_index n.starts.now (v + 1) = ap (λ m. slice_index n.starts.now (m + 1)) here in
+      (refl, omega (arith, n.by_tail.upto k l))
   all_left k false l here is = not_both (sym is)
 
 pub next_left : (link j : ℕ) (e : Bool) → (e ≡ true) × (j < link + 1) → ((j ≡ link) × (e ≡ true)) ⊎ ((e ≡ true) × (j < link))
@@ -28,39 +27,34 @@ next_left link j e seen = elim (cases_eq j link) [
   | inr ne ↦ inr (seen.0, omega (arith, seen.1))
 ]
 
--- the links that enter the node v
-module _ (nodes : ℕ) (tails heads flows order places slots ends : List ℕ) (same : length heads ≡ length tails)
-    (by : ByHead nodes heads order places slots) (carries : Carries nodes heads flows places slots ends) (v : ℕ) (v-in : v < nodes) where
-  pub none_entered : (k : ℕ) (d : Bool) → k < length tails → from tails heads k d ≡ v → (d ≡ false → slice_index slots k < slice_index places v) → d ≡ true
+-- one link more
+pub next_entered : (link j : ℕ) (e : Bool) → (e ≡ false → link ≤ j) → ((j ≡ link) × (e ≡ false)) ⊎ (e ≡ false → link + 1 ≤ j)
+next_entered link j true seen = inr (λ q. not_both q)
+next_entered link j false seen = elim (cases_eq j link) [
+  | inl is ↦ inl (is, refl)
+  | inr ne ↦ inr (λ q. omega (arith, seen refl))
+]
+
+-- the links that enter the node v, from the last one back
+module _ (n : Links) (v : ℕ) (v-in : v < nodes n) where
+  pub none_entered : (k : ℕ) (d : Bool) → k < length n.tails.now → from n k d ≡ v → (d ≡ false → slice_index n.lasts.now v ≤ k) → d ≡ true
   none_entered k true l here seen = refl
-  none_entered k false l here seen =
-      let s : slice_index places (slice_index heads k) ≡ slice_index places v = ap (λ n. slice_index places n) here in
-      absurd (omega (arith, by.from k (omega arith), seen refl))
+  none_entered k false l here seen = absurd ((n.by_head.last v v-in).none_after k (seen refl) (omega (arith, n.graph.heads_many)) here)
 
-  pub all_entered : (room : List ℕ) (k : ℕ) (d : Bool) → k < length tails → 0 < width flows room k d → from tails heads k d ≡ v → d ≡ false → slice_index slots k < slice_index ends v
-  all_entered room k true l wide here is = not_both is
-  all_entered room k false l wide here is =
-      let s : slice_index ends (slice_index heads k) ≡ slice_index ends v = ap (λ n. slice_index ends n) here in
-      omega (arith, carries.carried k (omega arith) wide)
-
-  pub next_entered : (place j : ℕ) (e : Bool) → j < length tails → (e ≡ false → slice_index slots j < place + 1) →
-      ((j ≡ slice_index order place) × (e ≡ false)) ⊎ (e ≡ false → slice_index slots j < place)
-  next_entered place j true l seen = inr (λ q. not_both q)
-  next_entered place j false l seen = elim (cases_eq (slice_index slots j) place) [
-    | inl is ↦ inl (sym (by.at j (omega arith)) ∙ ap (λ n. slice_index order n) is, refl)
-    | inr ne ↦ inr (λ q. omega (arith, seen refl))
+  -- between a link and the one before it no other enters the node
+  pub earlier_entered : (link : ℕ) → link < length n.heads.now → slice_index n.heads.now link ≡ v →
+      (k : ℕ) (d : Bool) → from n k d ≡ v → (d ≡ false → slice_index n.before.now link ≤ k) → d ≡ false → link ≤ k
+  earlier_entered link l at k true here seen is = not_both is
+  earlier_entered link l at k false here seen is = elim (cases_lt k link) [
+    | inl less ↦ absurd ((n.by_head.earlier link l).none_after k (seen refl) less (here ∙ sym at))
+    | inr more ↦ more
   ]
 
-  -- an entry up to ends[v] has flow
-  pub entered : (place : ℕ) → slice_index places v ≤ place → place < slice_index ends v →
-      (slice_index order place < length tails) × (slice_index heads (slice_index order place) ≡ v) × (0 < slice_index flows (slice_index order place))
-  entered place low high =
-      let it = by.entry v place v-in low (omega (arith, carries.high v v-in)) in
-      let s : slice_index ends (slice_index heads (slice_index order place)) ≡ slice_index ends v = ap (λ n. slice_index ends n) it.head in (
-        omega (arith, it.link),
-        it.head,
-        elim (cases_eq (slice_index flows (slice_index order place)) 0) [
-          | inl z ↦ absurd (omega (arith, carries.empty (slice_index order place) it.link z, it.slot))
-          | inr some ↦ omega arith
-        ],
-      )
+  -- the last link left was looked at
+  pub entered_next : (last : ℕ) → 0 < last → last - 1 < length n.heads.now → slice_index n.heads.now (last - 1) ≡ v →
+      (k : ℕ) (d : Bool) → from n k d ≡ v → (d ≡ false → slice_index n.before.now (last - 1) ≤ k) →
+      ((k ≡ last - 1) × (d ≡ false)) ⊎ (d ≡ false → last ≤ k)
+  entered_next last some l at k d here seen = elim (next_entered (last - 1) k d (earlier_entered (last - 1) l at k d here seen)) [
+    | inl is ↦ inl is
+    | inr old ↦ inr (λ is. omega (arith, old is))
+  ]

@@ -1,83 +1,80 @@
 -- The ways that a node offers, along its links and against them.
-use Rattle.std.proofs.Common.{◌≡◌, ℕ, ◌+◌, ◌-◌, ◌<◌, ◌≤◌, ◌⊎◌, Bool, true, false, List, length, slice_index, Option, min, ap, arith}
-use Rattle.hsp_flow.specs.Residual.{Graph, Scale, Sound, from}
-use Rattle.hsp_flow.specs.Search.{Expanding, Offered, Priced}
-use Rattle.hsp_flow.proofs.Expansion.{offered}
-use Rattle.hsp_flow.proofs.Arrival.{out_priced, in_priced}
+use Rattle.std.proofs.Common.{◌≡◌, ℕ, ◌+◌, ◌-◌, ◌<◌, ◌≤◌, ◌⊎◌, Bool, true, false, length, slice_index, Option, min, ap, arith}
+use Rattle.hsp_flow.specs.Residual.{from, gives, nodes, prices, takes, to, width}
+use Rattle.hsp_flow.specs.Search.{Expanding, MayBeOffered, Offered, Ready, WidensBack, WidensOver, top}
+use Rattle.hsp_flow.specs.declared.links.Links.{Links}
+use Rattle.hsp_flow.specs.declared.links.Flow.{Flow}
+use Rattle.hsp_flow.specs.declared.links.SearchTree.{SearchTree}
+use Rattle.hsp_flow.specs.declared.links.Visit.{Visit}
+use Rattle.hsp_flow.specs.declared.links.Offer.{Offer}
+use Rattle.hsp_flow.proofs.Directions.{to_in}
+use Rattle.hsp_flow.proofs.Expansion.{may_be_offered, offered}
+use Rattle.hsp_flow.proofs.Arrival.{priced_offered}
 
 -- no residual arc is longer than a step
-module _ (first nodes : ℕ) (tails heads costs capacities supplies : List ℕ) (most limit step : ℕ) (price : ℕ → ℕ)
-    (graph : Graph nodes tails heads costs capacities supplies) (scale : Scale first nodes tails heads costs capacities most limit step)
-    (low : (v : ℕ) → v < nodes → price v ≤ limit) (k : ℕ) (link : k < length tails) where
-  pub out_step : slice_index costs k + price (slice_index heads k) ≤ step
-  out_step = omega (arith, scale.dear k link, low (slice_index heads k) (omega (arith, graph.down k link, graph.tails_in k link)), scale.step_is)
+pub arc_step : (n : Links) (f : Flow) (k : ℕ) (d : Bool) → ((v : ℕ) → v < nodes n → slice_index f.price.now v ≤ n.limit) → k < length n.tails.now →
+    takes n (prices f) k d ≤ n.step
+arc_step n f k true low l =
+    omega (arith, n.scale.dear k l, low (slice_index n.heads.now k) (omega (arith, n.graph.down k l, n.graph.tails_in k l)), n.scale.step_is)
+arc_step n f k false low l = omega (arith, low (slice_index n.tails.now k) (n.graph.tails_in k l), n.scale.step_is)
 
-  pub in_step : price (slice_index tails k) ≤ step
-  in_step = omega (arith, low (slice_index tails k) (graph.tails_in k link), scale.step_is)
+-- the distance that a node offers over a link, and back over one
+pub key_along : (n : Links) (f : Flow) (k node near : ℕ) → Ready n f → k < length n.tails.now → 0 < width f k true → slice_index n.tails.now k ≡ node →
+    near + (slice_index n.costs.now k + prices f (slice_index n.heads.now k) - prices f node) + gives n (prices f) k true ≡ near + takes n (prices f) k true
+key_along n f k node near ready l wide here =
+    let p : prices f (slice_index n.tails.now k) ≡ prices f node = ap (λ v. slice_index f.price.now v) here in
+    omega (arith, ready.sound.paid k true l wide)
 
-module _ (root top nodes : ℕ) (tails heads costs capacities supplies flows room : List ℕ) (price : ℕ → ℕ) (unmet : List ℕ) (much : ℕ)
-    (graph : Graph nodes tails heads costs capacities supplies)
-    (sound : Sound nodes tails heads costs capacities supplies flows room price unmet)
-    (held : ℕ → Option ℕ) (key via amount depth : List ℕ) (near node k : ℕ) (seen : ℕ → Bool → Type 0) (many turn step : ℕ)
-    (e : Expanding root top nodes tails heads costs flows room price much held key via amount depth near node seen many turn (near + step))
-    (link : k < length tails) (far-low : near + step < top)
-    (key0 : List ℕ) (at0 : slice_index key0 node ≡ near) (dearest up down : ℕ) where
-  near-low : near < top
-  near-low = omega arith
+pub key_back : (n : Links) (f : Flow) (k node near : ℕ) → Ready n f → k < length n.tails.now → 0 < width f k false → slice_index n.heads.now k ≡ node →
+    near + (prices f (slice_index n.tails.now k) - (slice_index n.costs.now k + prices f node)) + gives n (prices f) k false ≡ near + takes n (prices f) k false
+key_back n f k node near ready l wide here =
+    let p : prices f (slice_index n.heads.now k) ≡ prices f node = ap (λ v. slice_index f.price.now v) here in
+    omega (arith, ready.sound.paid k false l wide)
 
-  module _ (here : slice_index tails k ≡ node) (wide : 0 < slice_index room k) (steps : slice_index costs k + price (slice_index heads k) ≤ step) where
-    pub out_pays : price node ≤ slice_index costs k + price (slice_index heads k)
-    out_pays = rw here at (sound.paid k true link wide)
+-- the offer of a way over a residual arc that leaves the node that is settled
+module _ (n : Links) (f : Flow) (t : SearchTree) (held : ℕ → Option ℕ) (at : Visit) (seen : ℕ → Bool → Type 0) (e : Expanding n f t held at seen)
+    (ready : Ready n f) (k : ℕ) (d : Bool) (link : k < length n.tails.now) (leaves : from n k d ≡ at.node) (wide : 0 < width f k d)
+    (o : Offer) (over : o.link ≡ k) (is : o.from ≡ at.node) (enters : o.to ≡ to n k d)
+    (exact : o.key + gives n (prices f) k d ≡ at.near + takes n (prices f) k d)
+    (far : at.near + n.step < top) where
+  pays : gives n (prices f) k d ≤ takes n (prices f) k d
+  pays = ready.sound.paid k d link wide
 
-    pub out_exact : near + (slice_index costs k + price (slice_index heads k) - price node) + price (slice_index tails k)
-        ≡ near + (slice_index costs k + price (slice_index heads k))
-    out_exact = let p : price (slice_index tails k) ≡ price node = ap price here in omega (arith, out_pays)
+  pub may_offer : at.turn + 1 < top → MayBeOffered held t o
+  may_offer turns = may_be_offered n f t held at seen e o k d link is leaves enters (omega (arith, pays, exact)) turns
 
-    pub out_offered : (seen' : ℕ → Bool → Type 0) (next : (j : ℕ) (d : Bool) → j < length tails → from tails heads j d ≡ node → seen' j d → ((j ≡ k) × (d ≡ true)) ⊎ seen j d)
-        (held' : ℕ → Option ℕ) (key' via' amount' depth' : List ℕ) →
-        Offered held held' key key' via via' amount amount' depth depth' k node (slice_index heads k)
-        (near + (slice_index costs k + price (slice_index heads k) - price node)) (min (slice_index amount node) (slice_index room k)) →
-        Expanding root top nodes tails heads costs flows room price much held' key' via' amount' depth' near node seen' many turn (near + step)
-    out_offered seen' next =
-        offered root top nodes tails heads costs capacities supplies flows room price much graph held key via amount depth near node k true seen seen' next many turn (near + step) e
-        (near + (slice_index costs k + price (slice_index heads k) - price node)) (min (slice_index amount node) (slice_index room k))
-        link here out_exact (omega arith) (omega (arith, steps)) far-low
-        (omega (arith, e.search.some node e.node_in e.settled.reached)) (omega arith) (omega arith)
+  module _ (t' : SearchTree) (held' : ℕ → Option ℕ) (it : Offered held held' t t' o) where
+    pub way_offered : o.much ≡ min (slice_index t.amount.now at.node) (width f k d) → (seen' : ℕ → Bool → Type 0) →
+        ((j : ℕ) (c : Bool) → j < length n.tails.now → from n j c ≡ at.node → seen' j c → ((j ≡ k) × (c ≡ d)) ⊎ seen j c) →
+        Expanding n f t' held' at seen'
+    way_offered much seen' next =
+        offered n f t held at seen e k d seen' next o over is leaves enters link exact
+        (omega (arith, pays, exact)) (omega (arith, exact, arc_step n f k d ready.low link)) far
+        (omega (arith, much, wide, e.search.some at.node e.node_in e.settled.reached)) (omega (arith, much)) (omega (arith, much)) t' held' it
 
-    pub out_spread : (held' : ℕ → Option ℕ) (key' via' amount' depth' : List ℕ) (sent : ℕ) → slice_index costs k ≤ dearest →
-        near + price root ≤ price node + up → price node ≤ near + price root + down → Priced root top nodes price key (up + dearest) down →
-        Offered held held' key key' via via' amount amount' depth depth' k node (slice_index heads k)
-        (near + (slice_index costs k + price (slice_index heads k) - price node)) sent →
-        Priced root top nodes price key' (up + dearest) down
-    out_spread held' key' via' amount' depth' sent dear low high p o =
-        out_priced root top nodes tails heads costs price held held' key key' via via' amount amount' depth depth' near node k dearest _ sent up down
-        low high dear (omega (arith, e.search.key_many, graph.down k link, graph.tails_in k link)) (omega (arith, out_pays)) p o
+    to-in : o.to < length t.key.now
+    to-in = rw enters (omega (arith, e.search.covers.key_many, to_in n k d link))
 
-  module _ (here : slice_index heads k ≡ node) (wide : 0 < slice_index flows k) (steps : price (slice_index tails k) ≤ step) where
-    pub in_pays : slice_index costs k + price node ≤ price (slice_index tails k)
-    in_pays = rw here at (sound.paid k false link wide)
+    end-price : prices f o.to ≡ prices f (to n k d)
+    end-price = ap (λ v. slice_index f.price.now v) enters
 
-    pub in_exact : near + (price (slice_index tails k) - (slice_index costs k + price node)) + (slice_index costs k + price (slice_index heads k))
-        ≡ near + price (slice_index tails k)
-    in_exact = let p : price (slice_index heads k) ≡ price node = ap price here in omega (arith, in_pays)
+    start-price : prices f (from n k d) ≡ prices f at.node
+    start-price = ap (λ v. slice_index f.price.now v) leaves
 
-    pub in_offered : (seen' : ℕ → Bool → Type 0) (next : (j : ℕ) (d : Bool) → j < length tails → from tails heads j d ≡ node → seen' j d → ((j ≡ k) × (d ≡ false)) ⊎ seen j d)
-        (held' : ℕ → Option ℕ) (key' via' amount' depth' : List ℕ) →
-        Offered held held' key key' via via' amount amount' depth depth' k node (slice_index tails k)
-        (near + (price (slice_index tails k) - (slice_index costs k + price node))) (min (slice_index amount node) (slice_index flows k)) →
-        Expanding root top nodes tails heads costs flows room price much held' key' via' amount' depth' near node seen' many turn (near + step)
-    in_offered seen' next =
-        offered root top nodes tails heads costs capacities supplies flows room price much graph held key via amount depth near node k false seen seen' next many turn (near + step) e
-        (near + (price (slice_index tails k) - (slice_index costs k + price node))) (min (slice_index amount node) (slice_index flows k))
-        link here in_exact (omega arith) (omega (arith, steps)) far-low
-        (omega (arith, e.search.some node e.node_in e.settled.reached)) (omega arith) (omega arith)
+  pub widens_over : (along : d ≡ true) (t' : SearchTree) (held' : ℕ → Option ℕ) → Offered held held' t t' o → WidensOver n f t t' at k
+  widens_over along t' held' it more up down dear low high p =
+      let end = end-price t' held' it in
+      let start = start-price t' held' it in
+      let end' : prices f o.to ≡ prices f (slice_index n.heads.now k) = rw along at end in
+      let start' : prices f (slice_index n.tails.now k) ≡ prices f at.node = rw along at start in
+      let sum : o.key + prices f (slice_index n.tails.now k) ≡ at.near + (slice_index n.costs.now k + prices f (slice_index n.heads.now k)) = rw along at exact in
+      priced_offered n f t t' held held' o at.root (up + more) down (to-in t' held' it) it p (omega arith) (omega arith)
 
-    pub in_spread : (held' : ℕ → Option ℕ) (key' via' amount' depth' : List ℕ) (sent : ℕ) → slice_index costs k ≤ dearest →
-        Priced root top nodes price key0 up down → Priced root top nodes price key up (down + dearest) →
-        Offered held held' key key' via via' amount amount' depth depth' k node (slice_index tails k)
-        (near + (price (slice_index tails k) - (slice_index costs k + price node))) sent →
-        Priced root top nodes price key' up (down + dearest)
-    in_spread held' key' via' amount' depth' sent dear p0 p o =
-        in_priced root top nodes tails heads costs price held held' key key' via via' amount amount' depth depth' near node k dearest _ sent up down
-        (omega (arith, p0.low node e.node_in (omega arith))) (omega (arith, p0.high node e.node_in (omega arith)))
-        dear (omega (arith, e.search.key_many, graph.tails_in k link)) (omega (arith, in_pays)) p o
+  pub widens_back : (against : d ≡ false) (t' : SearchTree) (held' : ℕ → Option ℕ) → Offered held held' t t' o → WidensBack n f t t' at k
+  widens_back against t' held' it more up down dear low high p =
+      let end = end-price t' held' it in
+      let start = start-price t' held' it in
+      let end' : prices f o.to ≡ prices f (slice_index n.tails.now k) = rw against at end in
+      let start' : prices f (slice_index n.heads.now k) ≡ prices f at.node = rw against at start in
+      let sum : o.key + (slice_index n.costs.now k + prices f (slice_index n.heads.now k)) ≡ at.near + prices f (slice_index n.tails.now k) = rw against at exact in
+      priced_offered n f t t' held held' o at.root up (down + more) (to-in t' held' it) it p (omega arith) (omega arith)

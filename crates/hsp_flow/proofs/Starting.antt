@@ -1,43 +1,43 @@
 -- No flow, with the least cost of a node's links as its price.
-use Rattle.std.proofs.Common.{◌≡◌, ℕ, ◌+◌, ◌*◌, ◌++◌, ◌∷◌, [], ap, length-append, ◌<◌, ◌≤◌, mul-le-mul_right, inl, inr, Bool, true, false, List, length, slice_index, ◌∙◌, arith}
+use Rattle.std.proofs.Common.{◌≡◌, ℕ, ◌+◌, ◌*◌, ◌++◌, ◌∷◌, [], ap, length-append, ◌<◌, ◌≤◌, mul-le-mul_right, inl, inr, true, false, List, length, slice_index, ◌∙◌, arith}
 use Rattle.std.proofs.lemmas.Bool.{cases_eq, cases_lt}
 use Rattle.std.proofs.lemmas.List.{get_or_append_left, get_or-append-add}
 use Rattle.hsp_simplex.specs.Sums.{only}
 use Rattle.hsp_flow.specs.Sums.{through}
-use Rattle.hsp_instance.specs.Runs.{AreRuns}
-use Rattle.hsp_flow.specs.Index.{ByHead, Carries}
 use Rattle.hsp_flow.specs.Opening.{FirstPrices, LeastCost}
-use Rattle.hsp_flow.specs.Residual.{Graph, Scale, Sound, width, gives, takes}
+use Rattle.hsp_flow.specs.Residual.{AreOptimal, Sound, nodes}
+use Rattle.hsp_flow.specs.declared.links.Links.{Links}
+use Rattle.hsp_flow.specs.declared.links.Flow.{Flow}
 use Rattle.hsp_flow.proofs.Sums.{only_here, only_there}
 use Rattle.hsp_flow.proofs.Totals.{sum_below_zero, through_is}
 
 nothing : (w v n : ℕ) → n ≡ 0 → only w v n ≡ 0
 nothing w v n z = elim (cases_eq w v) [ inl e ↦ only_here w v n e ∙ z | inr ne ↦ only_there w v n ne ]
 
-module _ (nodes : ℕ) (tails heads costs capacities supplies flows room price unmet : List ℕ) (graph : Graph nodes tails heads costs capacities supplies)
-    (fm : length flows ≡ length tails) (rm : length room ≡ length tails) (um : length unmet ≡ nodes)
-    (flows-zero : (k : ℕ) → k < length tails → slice_index flows k ≡ 0)
-    (room-all : (k : ℕ) → k < length tails → slice_index room k ≡ slice_index capacities k)
-    (price-low : (k : ℕ) → k < length tails → slice_index price (slice_index tails k) ≤ slice_index costs k) (price-sink : slice_index price 0 ≡ 0)
-    (unmet-all : (v : ℕ) → v < nodes → slice_index unmet v ≡ slice_index supplies v) where
-  through_none : (ends : List ℕ) (v : ℕ) → through ends flows v ≡ 0
-  through_none ends v = through_is ends flows v ∙ sum_below_zero (length flows) (λ k. only (slice_index ends k) v (slice_index flows k))
-      (λ k l. nothing (slice_index ends k) v (slice_index flows k) (flows-zero k (omega arith)))
+module _ (n : Links) (f : Flow)
+    (fm : length f.flows.now ≡ length n.tails.now) (rm : length f.room.now ≡ length n.tails.now) (um : length f.unmet.now ≡ nodes n)
+    (flows-zero : (k : ℕ) → k < length n.tails.now → slice_index f.flows.now k ≡ 0)
+    (room-all : (k : ℕ) → k < length n.tails.now → slice_index f.room.now k ≡ slice_index n.capacities.now k)
+    (price-low : (k : ℕ) → k < length n.tails.now → slice_index f.price.now (slice_index n.tails.now k) ≤ slice_index n.costs.now k)
+    (price-sink : slice_index f.price.now 0 ≡ 0)
+    (unmet-all : (v : ℕ) → v < nodes n → slice_index f.unmet.now v ≡ slice_index n.supplies.now v) where
+  through_none : (ends : List ℕ) (v : ℕ) → through ends f.flows.now v ≡ 0
+  through_none ends v = through_is ends f.flows.now v ∙ sum_below_zero (length f.flows.now) (λ k. only (slice_index ends k) v (slice_index f.flows.now k))
+      (λ k l. nothing (slice_index ends k) v (slice_index f.flows.now k) (flows-zero k (omega arith)))
 
-  pub sound_start : Sound nodes tails heads costs capacities supplies flows room (λ v. slice_index price v) unmet
+  pub sound_start : Sound n f (λ v. slice_index f.price.now v)
   sound_start = record {
     flows_many = fm;
     room_many = rm;
     unmet_many = um;
     balanced = λ k l. omega (arith, flows-zero k l, room-all k l);
-    conserved = λ v l nz. omega (arith, through_none tails v, through_none heads v, unmet-all v l);
+    conserved = λ v l nz. omega (arith, through_none n.tails.now v, through_none n.heads.now v, unmet-all v l);
     within = λ v l. omega (arith, unmet-all v l);
     paid = pays;
     sink_free = price-sink;
   }
     where
-      pays : (k : ℕ) (d : Bool) → k < length tails → 0 < width flows room k d →
-          gives tails heads costs (λ v. slice_index price v) k d ≤ takes tails heads costs (λ v. slice_index price v) k d
+      pays : AreOptimal n f (λ v. slice_index f.price.now v)
       pays k true l wide = omega (arith, price-low k l)
       pays k false l wide = absurd (omega (arith, flows-zero k l))
 
@@ -58,37 +58,24 @@ first_more n costs starts price least prices it = record {
   ];
 }
 
-module _ (first nodes : ℕ) (tails heads costs capacities supplies starts price : List ℕ) (most limit step : ℕ)
-    (graph : Graph nodes tails heads costs capacities supplies) (by : AreRuns nodes tails starts)
-    (scale : Scale first nodes tails heads costs capacities most limit step) (prices : FirstPrices nodes costs starts price) where
-  pub first_low : (k : ℕ) → k < length tails → slice_index price (slice_index tails k) ≤ slice_index costs k
-  first_low k l = (prices.each (slice_index tails k) (graph.tails_in k l)).below k (by.from k l) (by.upto k l)
+module _ (n : Links) (price : List ℕ) (prices : FirstPrices (nodes n) n.costs.now n.starts.now price) where
+  pub first_low : (k : ℕ) → k < length n.tails.now → slice_index price (slice_index n.tails.now k) ≤ slice_index n.costs.now k
+  first_low k l = (prices.each (slice_index n.tails.now k) (n.graph.tails_in k l)).below k (n.by_tail.from k l) (n.by_tail.upto k l)
 
-  pub first_sink : 0 < nodes → slice_index price 0 ≡ 0
+  pub first_sink : 0 < nodes n → slice_index price 0 ≡ 0
   first_sink some = elim (prices.each 0 some).attained [
     | inl none ↦ none.1
     | inr it ↦
-        let l : it.0 < length tails = omega (arith, it.2, by.within 0 some) in
-        absurd (omega (arith, by.own 0 it.0 some it.1 it.2, graph.down it.0 l))
+        let l : it.0 < length n.tails.now = omega (arith, it.2, n.by_tail.within 0 some) in
+        absurd (omega (arith, n.by_tail.own 0 it.0 some it.1 it.2, n.graph.down it.0 l))
   ]
 
-  pub first_limit : (v : ℕ) → v < nodes → slice_index price v ≤ limit
+  pub first_limit : (v : ℕ) → v < nodes n → slice_index price v ≤ n.limit
   first_limit v l =
-      let one : 1 * most ≤ nodes * most = let h : 1 ≤ nodes = omega arith in mul-le-mul_right most h in
+      let one : 1 * n.most ≤ nodes n * n.most = let h : 1 ≤ nodes n = omega arith in mul-le-mul_right n.most h in
       elim (prices.each v l).attained [
         | inl none ↦ omega (arith, none.1)
         | inr it ↦
-            let inside : it.0 < length tails = omega (arith, it.2, by.within v l) in
-            omega (arith, it.3, scale.dear it.0 inside, scale.limit_is, one)
+            let inside : it.0 < length n.tails.now = omega (arith, it.2, n.by_tail.within v l) in
+            omega (arith, it.3, n.scale.dear it.0 inside, n.scale.limit_is, one)
       ]
-
-pub carries_start : (nodes : ℕ) (heads flows order places slots ends : List ℕ) → ByHead nodes heads order places slots → length ends ≡ nodes →
-    ((k : ℕ) → k < length heads → slice_index flows k ≡ 0) → ((v : ℕ) → v < nodes → slice_index ends v ≡ slice_index places v) →
-    ((k : ℕ) → k < length heads → slice_index heads k < nodes) → Carries nodes heads flows places slots ends
-carries_start nodes heads flows order places slots ends by many zero at inside = record {
-  ends_many = many;
-  low = λ v l. omega (arith, at v l);
-  high = λ v l. omega (arith, at v l, by.rising v l);
-  carried = λ k l some. absurd (omega (arith, zero k l));
-  empty = λ k l none. omega (arith, at (slice_index heads k) (inside k l), by.from k l);
-}

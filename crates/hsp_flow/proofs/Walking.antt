@@ -1,153 +1,162 @@
 -- A path is augmented arc by arc, from the sink back to the root.
-use Rattle.std.proofs.Common.{◌≡◌, ◌≢◌, ℕ, ◌+◌, ◌-◌, ◌<◌, ◌≤◌, ◌==◌, ◌⊎◌, inl, inr, Bool, true, false, List, length, slice_index, set, refl, ap, sym, ◌∙◌, arith, length-set, get_or-set_same, get_or-set_other, ne_eqb}
+use Rattle.std.proofs.Common.{◌≡◌, ◌≢◌, ℕ, ◌+◌, ◌-◌, ◌<◌, ◌≤◌, ◌⊎◌, inl, inr, Bool, true, false, length, slice_index, set, refl, ap, sym, ◌∙◌, arith, length-set, get_or-set_same, get_or-set_other, ne_eqb}
 use Rattle.std.proofs.lemmas.Bool.{cases_eq}
 use Rattle.hsp_simplex.specs.Sums.{only}
-use Rattle.hsp_flow.specs.Residual.{Graph, Sound, Tree, TreeArc, Walk, Shifted, from, to, width, gives, takes}
+use Rattle.hsp_flow.specs.Sums.{through}
+use Rattle.hsp_flow.specs.Residual.{IsTree, Sends, Sound, TreeArc, Walk, gives, nodes, predecessor, takes, to, way, width}
+use Rattle.hsp_flow.specs.declared.links.Links.{Links}
+use Rattle.hsp_flow.specs.declared.links.Flow.{Flow}
+use Rattle.hsp_flow.specs.declared.links.SearchTree.{SearchTree}
 use Rattle.hsp_flow.proofs.Sums.{through_more, through_less}
 use Rattle.hsp_flow.proofs.Directions.{from_in}
 
-module _ (tails heads flows room : List ℕ) (k much : ℕ) (lf : k < length flows) (lr : k < length room) where
+module _ (n : Links) (f f' : Flow) (k much : ℕ) (lf : k < length f.flows.now) (lr : k < length f.room.now)
+    (price : f'.price.now ≡ f.price.now) (unmet : f'.unmet.now ≡ f.unmet.now) where
   -- along the link
-  pub shifted_forth : much ≤ slice_index room k →
-      Shifted tails heads flows room (set flows k (slice_index flows k + much)) (set room k (slice_index room k - much)) k true much
-  shifted_forth fits =
-      let f = get_or-set_same flows k (slice_index flows k + much) 0 lf in
-      let r = get_or-set_same room k (slice_index room k - much) 0 lr in
+  pub sent_along : much ≤ slice_index f.room.now k → f'.flows.now ≡ set f.flows.now k (slice_index f.flows.now k + much) →
+      f'.room.now ≡ set f.room.now k (slice_index f.room.now k - much) → Sends n f f' k true much
+  sent_along fits flows room =
+      let a : slice_index f'.flows.now k ≡ slice_index f.flows.now k + much = rw flows (get_or-set_same f.flows.now k _ 0 lf) in
+      let b : slice_index f'.room.now k ≡ slice_index f.room.now k - much = rw room (get_or-set_same f.room.now k _ 0 lr) in
+      let t : (v : ℕ) → through n.tails.now f'.flows.now v ≡ through n.tails.now f.flows.now v + only (slice_index n.tails.now k) v much =
+      λ v. rw flows (through_more n.tails.now f.flows.now k much v lf) in
+      let h : (v : ℕ) → through n.heads.now f'.flows.now v ≡ through n.heads.now f.flows.now v + only (slice_index n.heads.now k) v much =
+      λ v. rw flows (through_more n.heads.now f.flows.now k much v lf) in
       record {
-        flows_many = length-set flows k _;
-        room_many = length-set room k _;
-        sum = omega (arith, f, r);
-        less = omega (arith, r);
-        flows_same = λ j ne. get_or-set_other flows k j _ 0 ne;
-        room_same = λ j ne. get_or-set_other room k j _ 0 ne;
-        moved = λ v. omega (arith, through_more tails flows k much v lf, through_more heads flows k much v lf);
+        flows_many = rw flows (length-set f.flows.now k _);
+        room_many = rw room (length-set f.room.now k _);
+        sum = omega arith;
+        less = omega arith;
+        flows_same = λ j ne. rw flows (get_or-set_other f.flows.now k j _ 0 ne);
+        room_same = λ j ne. rw room (get_or-set_other f.room.now k j _ 0 ne);
+        moved = λ v. omega (arith, t v, h v);
+        price = price;
+        unmet = unmet;
       }
 
   -- against it
-  pub shifted_back : much ≤ slice_index flows k →
-      Shifted tails heads flows room (set flows k (slice_index flows k - much)) (set room k (slice_index room k + much)) k false much
-  shifted_back fits =
-      let f = get_or-set_same flows k (slice_index flows k - much) 0 lf in
-      let r = get_or-set_same room k (slice_index room k + much) 0 lr in
+  pub sent_back : much ≤ slice_index f.flows.now k → f'.flows.now ≡ set f.flows.now k (slice_index f.flows.now k - much) →
+      f'.room.now ≡ set f.room.now k (slice_index f.room.now k + much) → Sends n f f' k false much
+  sent_back fits flows room =
+      let a : slice_index f'.flows.now k ≡ slice_index f.flows.now k - much = rw flows (get_or-set_same f.flows.now k _ 0 lf) in
+      let b : slice_index f'.room.now k ≡ slice_index f.room.now k + much = rw room (get_or-set_same f.room.now k _ 0 lr) in
+      let t : (v : ℕ) → through n.tails.now f'.flows.now v + only (slice_index n.tails.now k) v much ≡ through n.tails.now f.flows.now v =
+      λ v. rw flows (through_less n.tails.now f.flows.now k much v lf fits) in
+      let h : (v : ℕ) → through n.heads.now f'.flows.now v + only (slice_index n.heads.now k) v much ≡ through n.heads.now f.flows.now v =
+      λ v. rw flows (through_less n.heads.now f.flows.now k much v lf fits) in
       record {
-        flows_many = length-set flows k _;
-        room_many = length-set room k _;
-        sum = omega (arith, f, r);
-        less = omega (arith, f);
-        flows_same = λ j ne. get_or-set_other flows k j _ 0 ne;
-        room_same = λ j ne. get_or-set_other room k j _ 0 ne;
-        moved = λ v. omega (arith, through_less tails flows k much v lf fits, through_less heads flows k much v lf fits);
+        flows_many = rw flows (length-set f.flows.now k _);
+        room_many = rw room (length-set f.room.now k _);
+        sum = omega arith;
+        less = omega arith;
+        flows_same = λ j ne. rw flows (get_or-set_other f.flows.now k j _ 0 ne);
+        room_same = λ j ne. rw room (get_or-set_other f.room.now k j _ 0 ne);
+        moved = λ v. omega (arith, t v, h v);
+        price = price;
+        unmet = unmet;
       }
 
 -- the widths of a link's two arcs
-module _ (tails heads flows room flows' room' : List ℕ) (k : ℕ) (d : Bool) (much : ℕ) (s : Shifted tails heads flows room flows' room' k d much) where
-  width_same : (j : ℕ) (e : Bool) → j ≢ k → width flows' room' j e ≡ width flows room j e
+module _ (n : Links) (f f' : Flow) (k : ℕ) (d : Bool) (much : ℕ) (s : Sends n f f' k d much) where
+  width_same : (j : ℕ) (e : Bool) → j ≢ k → width f' j e ≡ width f j e
   width_same j true ne = s.room_same j ne
   width_same j false ne = s.flows_same j ne
 
   -- an arc is as wide as before, or it is the one that was used, or the tree's arc against it
-  widths : (e : Bool) → (e ≡ d) ⊎ (width flows room k e ≤ width flows' room' k e)
+  widths : (e : Bool) → (e ≡ d) ⊎ (width f k e ≤ width f' k e)
   widths e = at d e s.sum s.less
     where
-      at : (d e : Bool) → slice_index flows' k + slice_index room' k ≡ slice_index flows k + slice_index room k →
-          width flows' room' k d + much ≡ width flows room k d → (e ≡ d) ⊎ (width flows room k e ≤ width flows' room' k e)
+      at : (d e : Bool) → slice_index f'.flows.now k + slice_index f'.room.now k ≡ slice_index f.flows.now k + slice_index f.room.now k →
+          width f' k d + much ≡ width f k d → (e ≡ d) ⊎ (width f k e ≤ width f' k e)
       at true true sum less = inl refl
       at false false sum less = inl refl
       at true false sum less = inr (omega arith)
       at false true sum less = inr (omega arith)
 
-  -- what is narrower was wide before
-  narrower : width flows' room' k d ≤ width flows room k d
-  narrower = omega (arith, s.less)
+-- an arc of reduced cost 0 and its reverse
+both_ways : (n : Links) (price : ℕ → ℕ) (k : ℕ) (d e : Bool) → gives n price k d ≡ takes n price k d → gives n price k e ≤ takes n price k e
+both_ways n price k true true tight = omega arith
+both_ways n price k true false tight = omega arith
+both_ways n price k false true tight = omega arith
+both_ways n price k false false tight = omega arith
 
-module _ (tails heads costs : List ℕ) (price : ℕ → ℕ) (k : ℕ) where
-  -- an arc of reduced cost 0 and its reverse
-  both_ways : (d e : Bool) → gives tails heads costs price k d ≡ takes tails heads costs price k d →
-      gives tails heads costs price k e ≤ takes tails heads costs price k e
-  both_ways true true tight = omega arith
-  both_ways true false tight = omega arith
-  both_ways false true tight = omega arith
-  both_ways false false tight = omega arith
-
-module _ (root reach much nodes : ℕ) (tails heads costs capacities supplies flows room : List ℕ) (price : ℕ → ℕ) (unmet : List ℕ)
-    (key via amount depth : List ℕ) (graph : Graph nodes tails heads costs capacities supplies) where
-  pub walk_begun : (unmet' : List ℕ) → Sound nodes tails heads costs capacities supplies flows room price unmet →
-      Tree root reach nodes tails heads costs flows room price key via amount depth →
-      0 < nodes → slice_index key 0 ≤ reach → much ≤ slice_index amount 0 →
-      ((v : ℕ) → slice_index unmet' v + only root v much ≡ slice_index unmet v) →
-      Walk root reach much nodes tails heads costs capacities supplies flows room price unmet' key via amount depth 0
-  walk_begun unmet' sound tree some near ready spent = record {
-    flows_many = sound.flows_many;
-    room_many = sound.room_many;
+module _ (n : Links) (f : Flow) (t : SearchTree) (price : ℕ → ℕ) (root much : ℕ) where
+  -- `f0` before the source's lack was lowered
+  pub walk_begun : (f0 : Flow) → Sound n f0 price → IsTree n f0 t root price → 0 < nodes n → much ≤ slice_index t.amount.now 0 →
+      f.flows.now ≡ f0.flows.now → f.room.now ≡ f0.room.now →
+      ((v : ℕ) → slice_index f.unmet.now v + only root v much ≡ slice_index f0.unmet.now v) → Walk n f t price root much 0
+  walk_begun f0 sound tree some ready flows room spent = record {
+    flows_many = ap (λ xs. length xs) flows ∙ sound.flows_many;
+    room_many = ap (λ xs. length xs) room ∙ sound.room_many;
     at_in = some;
-    near = near;
+    near = omega arith;
     ready = ready;
-    balanced = sound.balanced;
-    pending = λ v l nz. omega (arith, sound.conserved v l nz, spent v, only_there v nz);
-    paid = sound.paid;
-    fits = λ v l nr q deep. (tree.arc v l nr q).fits;
+    balanced = λ k l. rw (flows, room) (sound.balanced k l);
+    pending = λ v l nz. rw flows (omega (arith, sound.conserved v l nz, spent v, only_there v nz));
+    paid = λ k d l wide. sound.paid k d l (omega (arith, same k d));
+    fits = λ v l nr q deep. omega (arith, (tree.arc v l nr q).path.fits, same (slice_index t.via.now v) (way n t v));
   }
     where
       only_there : (v : ℕ) → v ≢ 0 → only 0 v much ≡ 0
       only_there v nz = rw (ne_eqb 0 v (λ e. nz (sym e))) refl
 
-  module _ (at : ℕ) (tree : Tree root reach nodes tails heads costs flows room price key via amount depth)
-      (flows1 room1 : List ℕ) (walk : Walk root reach much nodes tails heads costs capacities supplies flows1 room1 price unmet key via amount depth at)
-      (away : at ≢ root) (d : Bool) (is : (slice_index heads (slice_index via at) == at) ≡ d) where
-    arc : TreeArc tails heads costs flows room price key via amount depth at d
+      same : (k : ℕ) (d : Bool) → width f k d ≡ width f0 k d
+      same k true = ap (λ xs. slice_index xs k) room
+      same k false = ap (λ xs. slice_index xs k) flows
+
+  -- `f0` is the flow that the tree was found in
+  module _ (at : ℕ) (f0 : Flow) (tree : IsTree n f0 t root price) (walk : Walk n f t price root much at)
+      (away : at ≢ root) (d : Bool) (is : way n t at ≡ d) where
+    arc : TreeArc n f0 t price at d
     arc = rw is at (tree.arc at walk.at_in away walk.near)
 
-    pub step_link : slice_index via at < length tails
-    step_link = arc.link
+    pub step_link : slice_index t.via.now at < length n.tails.now
+    step_link = arc.path.link
 
-    pub step_fits : much ≤ width flows1 room1 (slice_index via at) d
-    step_fits = let f = rw is at (walk.fits at walk.at_in away walk.near (omega arith)) in omega (arith, walk.ready)
+    pub step_fits : much ≤ width f (slice_index t.via.now at) d
+    step_fits = let w = rw is at (walk.fits at walk.at_in away walk.near (omega arith)) in omega (arith, walk.ready)
 
-    pub step_nearer : slice_index depth (from tails heads (slice_index via at) d) < slice_index depth at
-    step_nearer = arc.nearer
+    pub step_nearer : slice_index t.depth.now (predecessor n t at d) < slice_index t.depth.now at
+    step_nearer = arc.path.nearer
 
-    pub stepped : (flows2 room2 : List ℕ) → Shifted tails heads flows1 room1 flows2 room2 (slice_index via at) d much →
-        Walk root reach much nodes tails heads costs capacities supplies flows2 room2 price unmet key via amount depth (from tails heads (slice_index via at) d)
-    stepped flows2 room2 s =
-        let k : ℕ = slice_index via at in
-        record {
-          flows_many = s.flows_many ∙ walk.flows_many;
-          room_many = s.room_many ∙ walk.room_many;
-          at_in = from_in nodes tails heads costs capacities supplies graph (slice_index via at) d arc.link;
-          near = omega (arith, arc.sooner, walk.near);
-          ready = omega (arith, arc.carried, walk.ready);
-          balanced = λ j l. elim (cases_eq j (slice_index via at)) [
-            | inl e ↦ rw e (s.sum ∙ rw e at (walk.balanced j l))
-            | inr ne ↦ omega (arith, walk.balanced j l, s.flows_same j ne, s.room_same j ne)
+    pub stepped : (f' : Flow) → Sends n f f' (slice_index t.via.now at) d much → Walk n f' t price root much (predecessor n t at d)
+    stepped f' s = record {
+      flows_many = s.flows_many ∙ walk.flows_many;
+      room_many = s.room_many ∙ walk.room_many;
+      at_in = from_in n (slice_index t.via.now at) d arc.path.link;
+      near = omega (arith, arc.sooner, walk.near);
+      ready = omega (arith, arc.path.carried, walk.ready);
+      balanced = λ j l. elim (cases_eq j (slice_index t.via.now at)) [
+        | inl e ↦ rw e (s.sum ∙ rw e at (walk.balanced j l))
+        | inr ne ↦ omega (arith, walk.balanced j l, s.flows_same j ne, s.room_same j ne)
+      ];
+      pending = λ v l nz.
+          let here : only (to n (slice_index t.via.now at) d) v much ≡ only at v much = ap (λ m. only m v much) arc.path.end in
+          let lack : slice_index f'.unmet.now v ≡ slice_index f.unmet.now v = ap (λ xs. slice_index xs v) s.unmet in
+          omega (arith, walk.pending v l nz, s.moved v);
+      paid = λ j e l wide. elim (cases_eq j (slice_index t.via.now at)) [
+        | inl q ↦ rw q (both_ways n price (slice_index t.via.now at) d e arc.tight)
+        | inr ne ↦ walk.paid j e l (omega (arith, width_same n f f' (slice_index t.via.now at) d much s j e ne))
+      ];
+      fits = λ v l nr q deep.
+          let it = (tree.arc v l nr q).path in
+          let old = walk.fits v l nr q (omega (arith, arc.path.nearer)) in
+          elim (cases_eq (slice_index t.via.now v) (slice_index t.via.now at)) [
+            | inl e ↦ elim (widths n f f' (slice_index t.via.now at) d much s (way n t v)) [
+              | inl same ↦
+                  let end : to n (slice_index t.via.now at) d ≡ v = rw (same, e) at it.end in
+                  let v-at : v ≡ at = sym end ∙ arc.path.end in
+                  let deeper : slice_index t.depth.now v ≡ slice_index t.depth.now at = ap (λ m. slice_index t.depth.now m) v-at in
+                  absurd (omega (arith, arc.path.nearer))
+              | inr wider ↦ rw e (let b = rw e at old in let w = rw e at wider in omega arith)
+            ]
+            | inr ne ↦ omega (arith, width_same n f f' (slice_index t.via.now at) d much s (slice_index t.via.now v) (way n t v) ne)
           ];
-          pending = λ v l nz.
-              let here : only (to tails heads (slice_index via at) d) v much ≡ only at v much = ap (λ n. only n v much) arc.end in
-              omega (arith, walk.pending v l nz, s.moved v);
-          paid = λ j e l wide. elim (cases_eq j (slice_index via at)) [
-            | inl is ↦ rw is (both_ways tails heads costs price (slice_index via at) d e arc.tight)
-            | inr ne ↦ walk.paid j e l (omega (arith, width_same tails heads flows1 room1 flows2 room2 (slice_index via at) d much s j e ne))
-          ];
-          fits = λ v l nr q deep.
-              let it = tree.arc v l nr q in
-              let before = walk.fits v l nr q (omega (arith, arc.nearer)) in
-              elim (cases_eq (slice_index via v) (slice_index via at)) [
-                | inl e ↦ elim (widths tails heads flows1 room1 flows2 room2 (slice_index via at) d much s (slice_index heads (slice_index via v) == v)) [
-                  | inl same ↦
-                      let end : to tails heads (slice_index via at) d ≡ v = rw (same, e) at it.end in
-                      let v-at : v ≡ at = sym end ∙ arc.end in
-                      let deeper : slice_index depth v ≡ slice_index depth at = ap (λ n. slice_index depth n) v-at in
-                      absurd (omega (arith, arc.nearer))
-                  | inr wider ↦ rw e (let b = rw e at before in let w = rw e at wider in omega arith)
-                ]
-                | inr ne ↦ omega (arith, width_same tails heads flows1 room1 flows2 room2 (slice_index via at) d much s (slice_index via v) (slice_index heads (slice_index via v) == v) ne)
-              ];
-        }
+    }
 
-  pub walk_done : (unmet0 : List ℕ) (flows0 room0 : List ℕ) → Sound nodes tails heads costs capacities supplies flows0 room0 price unmet0 →
-      Walk root reach much nodes tails heads costs capacities supplies flows room price unmet key via amount depth root →
-      length unmet ≡ length unmet0 → ((v : ℕ) → slice_index unmet v + only root v much ≡ slice_index unmet0 v) →
-      Sound nodes tails heads costs capacities supplies flows room price unmet
-  walk_done unmet0 flows0 room0 sound walk many spent = record {
+  pub walk_done : (f0 : Flow) → Sound n f0 price → Walk n f t price root much root → length f.unmet.now ≡ length f0.unmet.now →
+      ((v : ℕ) → slice_index f.unmet.now v + only root v much ≡ slice_index f0.unmet.now v) → Sound n f price
+  walk_done f0 sound walk many spent = record {
     flows_many = walk.flows_many;
     room_many = walk.room_many;
     unmet_many = many ∙ sound.unmet_many;

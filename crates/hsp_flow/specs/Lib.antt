@@ -4,8 +4,7 @@ pub mod Layout
 pub mod Problem
 pub mod Residual
 pub mod Search
-pub mod Shapes
-pub mod Descent
+pub mod Graph
 pub mod Sums
 pub mod Opening
 pub mod Planning

@@ -1,117 +1,126 @@
 -- The residual network of a flow (Network Flows, section 2.4), its potentials (section 9.3), and a shortest path tree in it.
 -- Link k leads from the node `tails[k]` to the node `heads[k]`; node 0 is the sink. A residual arc is a link with a direction:
 -- `true` along the link, over what room it has left, `false` against it, over what flows on it.
-use Rattle.std.specs.Prelude.{◌≡◌, ◌≢◌, ℕ, ◌+◌, ◌-◌, ◌*◌, ◌<◌, ◌≤◌, ◌==◌, Bool, true, false, List, length, slice_index}
+use Rattle.std.specs.Prelude.{◌≡◌, ◌≢◌, ℕ, ◌+◌, ◌-◌, ◌<◌, ◌≤◌, ◌==◌, Bool, true, false, length, slice_index}
 use Rattle.hsp_simplex.specs.Sums.{only}
 use Rattle.hsp_flow.specs.Sums.{through}
+use Rattle.hsp_flow.specs.declared.links.Links.{Links}
+use Rattle.hsp_flow.specs.declared.links.Flow.{Flow}
+use Rattle.hsp_flow.specs.declared.links.SearchTree.{SearchTree}
+
+-- the number of nodes
+abbrev pub nodes : Links → ℕ
+nodes n = length n.supplies.now
+
+-- the price of a node, which stands for its potential
+abbrev pub prices : Flow → ℕ → ℕ
+prices f v = slice_index f.price.now v
+
+-- the distance of a node from the root of a search
+abbrev pub distance : SearchTree → ℕ → ℕ
+distance t v = slice_index t.key.now v
 
 -- the node that a residual arc leaves
-abbrev pub from : List ℕ → List ℕ → ℕ → Bool → ℕ
-from tails heads k true = slice_index tails k
-from tails heads k false = slice_index heads k
+abbrev pub from : Links → ℕ → Bool → ℕ
+from n k true = slice_index n.tails.now k
+from n k false = slice_index n.heads.now k
 
 -- the node that it enters
-abbrev pub to : List ℕ → List ℕ → ℕ → Bool → ℕ
-to tails heads k true = slice_index heads k
-to tails heads k false = slice_index tails k
+abbrev pub to : Links → ℕ → Bool → ℕ
+to n k true = slice_index n.heads.now k
+to n k false = slice_index n.tails.now k
 
 -- the residual capacity of an arc
-abbrev pub width : List ℕ → List ℕ → ℕ → Bool → ℕ
-width flows room k true = slice_index room k
-width flows room k false = slice_index flows k
+abbrev pub width : Flow → ℕ → Bool → ℕ
+width f k true = slice_index f.room.now k
+width f k false = slice_index f.flows.now k
 
 -- an arc's reduced cost is `takes` less `gives`
-abbrev pub gives : List ℕ → List ℕ → List ℕ → (ℕ → ℕ) → ℕ → Bool → ℕ
-gives tails heads costs price k true = price (slice_index tails k)
-gives tails heads costs price k false = slice_index costs k + price (slice_index heads k)
+abbrev pub gives : Links → (ℕ → ℕ) → ℕ → Bool → ℕ
+gives n price k true = price (slice_index n.tails.now k)
+gives n price k false = slice_index n.costs.now k + price (slice_index n.heads.now k)
 
-abbrev pub takes : List ℕ → List ℕ → List ℕ → (ℕ → ℕ) → ℕ → Bool → ℕ
-takes tails heads costs price k true = slice_index costs k + price (slice_index heads k)
-takes tails heads costs price k false = price (slice_index tails k)
+abbrev pub takes : Links → (ℕ → ℕ) → ℕ → Bool → ℕ
+takes n price k true = slice_index n.costs.now k + price (slice_index n.heads.now k)
+takes n price k false = price (slice_index n.tails.now k)
 
--- links lead down to the sink
-pub record Graph (nodes : ℕ) (tails heads costs capacities supplies : List ℕ) : Type 0 where
-  pub heads_many : length heads ≡ length tails
-  pub costs_many : length costs ≡ length tails
-  pub capacities_many : length capacities ≡ length tails
-  pub supplies_many : length supplies ≡ nodes
-  pub tails_in : (k : ℕ) → k < length tails → slice_index tails k < nodes
-  pub down : (k : ℕ) → k < length tails → slice_index heads k < slice_index tails k
+-- no residual arc has a negative reduced cost
+abbrev pub AreOptimal : Links → Flow → (ℕ → ℕ) → Type 0
+AreOptimal n f price = (k : ℕ) (d : Bool) → k < length n.tails.now → 0 < width f k d → gives n price k d ≤ takes n price k d
 
 -- a flow within the capacities that is conserved at each node but the sink, with prices at which no residual arc has a
 -- negative reduced cost
-pub record Sound (nodes : ℕ) (tails heads costs capacities supplies flows room : List ℕ) (price : ℕ → ℕ) (unmet : List ℕ) : Type 0 where
-  pub flows_many : length flows ≡ length tails
-  pub room_many : length room ≡ length tails
-  pub unmet_many : length unmet ≡ nodes
-  pub balanced : (k : ℕ) → k < length tails → slice_index flows k + slice_index room k ≡ slice_index capacities k
-  pub conserved : (v : ℕ) → v < nodes → v ≢ 0 → through tails flows v + slice_index unmet v ≡ through heads flows v + slice_index supplies v
-  pub within : (v : ℕ) → v < nodes → slice_index unmet v ≤ slice_index supplies v
-  pub paid : (k : ℕ) (d : Bool) → k < length tails → 0 < width flows room k d →
-      gives tails heads costs price k d ≤ takes tails heads costs price k d
+pub record Sound (n : Links) (f : Flow) (price : ℕ → ℕ) : Type 0 where
+  pub flows_many : length f.flows.now ≡ length n.tails.now
+  pub room_many : length f.room.now ≡ length n.tails.now
+  pub unmet_many : length f.unmet.now ≡ nodes n
+  pub balanced : (k : ℕ) → k < length n.tails.now → slice_index f.flows.now k + slice_index f.room.now k ≡ slice_index n.capacities.now k
+  pub conserved : (v : ℕ) → v < nodes n → v ≢ 0 →
+      through n.tails.now f.flows.now v + slice_index f.unmet.now v ≡ through n.heads.now f.flows.now v + slice_index n.supplies.now v
+  pub within : (v : ℕ) → v < nodes n → slice_index f.unmet.now v ≤ slice_index n.supplies.now v
+  pub paid : AreOptimal n f price
   pub sink_free : price 0 ≡ 0
 
--- keys that no residual arc undercuts, below `reach`, the sink's key
-pub record Relaxed (reach : ℕ) (tails heads costs flows room : List ℕ) (price : ℕ → ℕ) (key : List ℕ) : Type 0 where
-  pub arrived : slice_index key 0 ≡ reach
-  pub relaxed : (k : ℕ) (d : Bool) → k < length tails → 0 < width flows room k d → slice_index key (from tails heads k d) < reach →
-      slice_index key (to tails heads k d) + gives tails heads costs price k d
-      ≤ slice_index key (from tails heads k d) + takes tails heads costs price k d
+-- distances that no residual arc undercuts, below the sink's
+abbrev pub AreRelaxed : Links → Flow → SearchTree → Type 0
+AreRelaxed n f t = (k : ℕ) (d : Bool) → k < length n.tails.now → 0 < width f k d → distance t (from n k d) < distance t 0 →
+    distance t (to n k d) + gives n (prices f) k d ≤ distance t (from n k d) + takes n (prices f) k d
 
--- a price raised by what the node's key lacks to `reach`
-abbrev pub raised : (ℕ → ℕ) → List ℕ → ℕ → ℕ → ℕ
-raised price key reach v = price v + (reach - slice_index key v)
+-- the prices after a search: each raised by what the node's distance lacks to the sink's
+abbrev pub raised : Flow → SearchTree → ℕ → ℕ
+raised f t v = prices f v + (distance t 0 - distance t v)
 
--- the tree's arc to the node v: its reduced cost is 0, and it and the way to it carry what v can be sent
-pub record TreeArc (tails heads costs flows room : List ℕ) (price : ℕ → ℕ) (key via amount depth : List ℕ) (v : ℕ) (d : Bool) : Type 0 where
-  pub link : slice_index via v < length tails
-  pub end : to tails heads (slice_index via v) d ≡ v
-  pub sooner : slice_index key (from tails heads (slice_index via v) d) ≤ slice_index key v
-  pub nearer : slice_index depth (from tails heads (slice_index via v) d) < slice_index depth v
-  pub carried : slice_index amount v ≤ slice_index amount (from tails heads (slice_index via v) d)
-  pub fits : slice_index amount v ≤ width flows room (slice_index via v) d
-  pub tight : gives tails heads costs price (slice_index via v) d ≡ takes tails heads costs price (slice_index via v) d
+-- the direction of the tree's arc to the node v
+abbrev pub way : Links → SearchTree → ℕ → Bool
+way n t v = slice_index n.heads.now (slice_index t.via.now v) == v
 
--- a tree from the root to all nodes with keys up to `reach`
-pub record Tree (root reach nodes : ℕ) (tails heads costs flows room : List ℕ) (price : ℕ → ℕ) (key via amount depth : List ℕ) : Type 0 where
-  pub via_many : length via ≡ nodes
-  pub arc : (v : ℕ) → v < nodes → v ≢ root → slice_index key v ≤ reach →
-      TreeArc tails heads costs flows room price key via amount depth v (slice_index heads (slice_index via v) == v)
+-- the node before v on its path from the root
+abbrev pub predecessor : Links → SearchTree → ℕ → Bool → ℕ
+predecessor n t v d = from n (slice_index t.via.now v) d
+
+-- an arc by which the node v can be sent what the node before it can
+pub record IsOnPath (n : Links) (f : Flow) (t : SearchTree) (v : ℕ) (d : Bool) : Type 0 where
+  pub link : slice_index t.via.now v < length n.tails.now
+  pub end : to n (slice_index t.via.now v) d ≡ v
+  pub nearer : slice_index t.depth.now (predecessor n t v d) < slice_index t.depth.now v
+  pub carried : slice_index t.amount.now v ≤ slice_index t.amount.now (predecessor n t v d)
+  pub fits : slice_index t.amount.now v ≤ width f (slice_index t.via.now v) d
+
+-- the tree's arc to the node v has the reduced cost 0
+pub record TreeArc (n : Links) (f : Flow) (t : SearchTree) (price : ℕ → ℕ) (v : ℕ) (d : Bool) : Type 0 where
+  pub path : IsOnPath n f t v d
+  pub sooner : distance t (predecessor n t v d) ≤ distance t v
+  pub tight : gives n price (slice_index t.via.now v) d ≡ takes n price (slice_index t.via.now v) d
+
+-- a tree from the root to all nodes that are no farther than the sink
+pub record IsTree (n : Links) (f : Flow) (t : SearchTree) (root : ℕ) (price : ℕ → ℕ) : Type 0 where
+  pub via_many : length t.via.now ≡ nodes n
+  pub arc : (v : ℕ) → v < nodes n → v ≢ root → distance t v ≤ distance t 0 → TreeArc n f t price v (way n t v)
 
 -- on the way back from the sink: `much` flows from the node `at` on, and not yet from the root to it
-pub record Walk (root reach much nodes : ℕ) (tails heads costs capacities supplies flows room : List ℕ) (price : ℕ → ℕ) (unmet : List ℕ)
-    (key via amount depth : List ℕ) (at : ℕ) : Type 0 where
-  pub flows_many : length flows ≡ length tails
-  pub room_many : length room ≡ length tails
-  pub at_in : at < nodes
-  pub near : slice_index key at ≤ reach
-  pub ready : much ≤ slice_index amount at
-  pub balanced : (k : ℕ) → k < length tails → slice_index flows k + slice_index room k ≡ slice_index capacities k
-  pub pending : (v : ℕ) → v < nodes → v ≢ 0 →
-      through tails flows v + slice_index unmet v + only root v much ≡ through heads flows v + slice_index supplies v + only at v much
-  pub paid : (k : ℕ) (d : Bool) → k < length tails → 0 < width flows room k d →
-      gives tails heads costs price k d ≤ takes tails heads costs price k d
-  pub fits : (v : ℕ) → v < nodes → v ≢ root → slice_index key v ≤ reach → slice_index depth v ≤ slice_index depth at →
-      slice_index amount v ≤ width flows room (slice_index via v) (slice_index heads (slice_index via v) == v)
+pub record Walk (n : Links) (f : Flow) (t : SearchTree) (price : ℕ → ℕ) (root much at : ℕ) : Type 0 where
+  pub flows_many : length f.flows.now ≡ length n.tails.now
+  pub room_many : length f.room.now ≡ length n.tails.now
+  pub at_in : at < nodes n
+  pub near : distance t at ≤ distance t 0
+  pub ready : much ≤ slice_index t.amount.now at
+  pub balanced : (k : ℕ) → k < length n.tails.now → slice_index f.flows.now k + slice_index f.room.now k ≡ slice_index n.capacities.now k
+  pub pending : (v : ℕ) → v < nodes n → v ≢ 0 →
+      through n.tails.now f.flows.now v + slice_index f.unmet.now v + only root v much
+      ≡ through n.heads.now f.flows.now v + slice_index n.supplies.now v + only at v much
+  pub paid : AreOptimal n f price
+  pub fits : (v : ℕ) → v < nodes n → v ≢ root → distance t v ≤ distance t 0 → slice_index t.depth.now v ≤ slice_index t.depth.now at →
+      slice_index t.amount.now v ≤ width f (slice_index t.via.now v) (way n t v)
 
--- `much` was sent over the residual arc of the link k
-pub record Shifted (tails heads flows room flows' room' : List ℕ) (k : ℕ) (d : Bool) (much : ℕ) : Type 0 where
-  pub flows_many : length flows' ≡ length flows
-  pub room_many : length room' ≡ length room
-  pub sum : slice_index flows' k + slice_index room' k ≡ slice_index flows k + slice_index room k
-  pub less : width flows' room' k d + much ≡ width flows room k d
-  pub flows_same : (j : ℕ) → j ≢ k → slice_index flows' j ≡ slice_index flows j
-  pub room_same : (j : ℕ) → j ≢ k → slice_index room' j ≡ slice_index room j
-  pub moved : (v : ℕ) → through tails flows' v + through heads flows v + only (to tails heads k d) v much
-      ≡ through tails flows v + through heads flows' v + only (from tails heads k d) v much
-
--- the links that leave sources cost `most` at the most and others nothing; with no more prices than `limit` every number fits
-pub record Scale (first nodes : ℕ) (tails heads costs capacities : List ℕ) (most limit step : ℕ) : Type 0 where
-  pub dear : (k : ℕ) → k < length tails → slice_index costs k ≤ most
-  pub free : (k : ℕ) → k < length tails → slice_index tails k < first → slice_index costs k ≡ 0
-  pub low : (k : ℕ) → k < length tails → slice_index heads k < first
-  pub limit_is : limit ≡ nodes * most
-  pub step_is : step ≡ limit + most
-  pub small : (nodes + 1) * step < 18446744073709551615
-  pub few : nodes < 4294967296
-  pub bounded : (k : ℕ) → k < length tails → slice_index capacities k ≤ 18446744073709551615
+-- `much` was sent over the residual arc of the link k, and nothing else is changed
+pub record Sends (n : Links) (f f' : Flow) (k : ℕ) (d : Bool) (much : ℕ) : Type 0 where
+  pub flows_many : length f'.flows.now ≡ length f.flows.now
+  pub room_many : length f'.room.now ≡ length f.room.now
+  pub sum : slice_index f'.flows.now k + slice_index f'.room.now k ≡ slice_index f.flows.now k + slice_index f.room.now k
+  pub less : width f' k d + much ≡ width f k d
+  pub flows_same : (j : ℕ) → j ≢ k → slice_index f'.flows.now j ≡ slice_index f.flows.now j
+  pub room_same : (j : ℕ) → j ≢ k → slice_index f'.room.now j ≡ slice_index f.room.now j
+  pub moved : (v : ℕ) → through n.tails.now f'.flows.now v + through n.heads.now f.flows.now v + only (to n k d) v much
+      ≡ through n.tails.now f.flows.now v + through n.heads.now f'.flows.now v + only (from n k d) v much
+  pub price : f'.price.now ≡ f.price.now
+  pub unmet : f'.unmet.now ≡ f.unmet.now

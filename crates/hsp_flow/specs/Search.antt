@@ -1,141 +1,177 @@
 -- A search for the sink by Dijkstra's algorithm over reduced costs (Network Flows, sections 4.5 and 9.7), in the middle of its work.
-use Rattle.std.specs.Prelude.{◌≡◌, ◌≢◌, ℕ, ◌+◌, ◌*◌, ◌<◌, ◌≤◌, ◌==◌, ◌&&◌, Bool, List, length, slice_index, slice_set, Option, Some, None, is_none, nat_lt, if◌then◌else◌}
-use Rattle.hsp_flow.specs.Frontier.{Changes}
+use Rattle.std.specs.Prelude.{◌≡◌, ◌≢◌, ℕ, ◌+◌, ◌*◌, ◌<◌, ◌≤◌, ◌&&◌, Bool, length, slice_index, slice_set, Option, Some, None, is_none, nat_lt, if◌then◌else◌}
 use Rattle.hsp_simplex.specs.Sums.{sum_below}
-use Rattle.hsp_flow.specs.Residual.{Relaxed, from, to, width, gives, takes}
+use Rattle.hsp_flow.specs.Frontier.{Changes}
+use Rattle.hsp_flow.specs.Residual.{AreRelaxed, IsOnPath, Sound, distance, from, gives, nodes, predecessor, prices, takes, to, way, width}
+use Rattle.hsp_flow.specs.declared.links.Links.{Links}
+use Rattle.hsp_flow.specs.declared.links.Flow.{Flow}
+use Rattle.hsp_flow.specs.declared.links.SearchTree.{SearchTree}
+use Rattle.hsp_flow.specs.declared.links.Visit.{Visit}
+use Rattle.hsp_flow.specs.declared.links.Offer.{Offer}
 
--- the node has a key below `top`, and doesn't wait any more
-pub record Settled (held : ℕ → Option ℕ) (key : List ℕ) (top v : ℕ) : Type 0 where
+-- the distance of a node that was not reached
+abbrev pub top : ℕ
+top = 18446744073709551615
+
+-- sound, and no price above the limit
+pub record Ready (n : Links) (f : Flow) : Type 0 where
+  pub sound : Sound n f (λ v. slice_index f.price.now v)
+  pub price_many : length f.price.now ≡ nodes n
+  pub low : (v : ℕ) → v < nodes n → slice_index f.price.now v ≤ n.limit
+
+-- an entry for each node
+pub record Covers (n : Links) (t : SearchTree) : Type 0 where
+  pub key_many : length t.key.now ≡ nodes n
+  pub via_many : length t.via.now ≡ nodes n
+  pub amount_many : length t.amount.now ≡ nodes n
+  pub depth_many : length t.depth.now ≡ nodes n
+
+-- no node was reached
+pub record Blank (n : Links) (t : SearchTree) : Type 0 where
+  pub covers : Covers n t
+  pub none : (v : ℕ) → v < length t.key.now → distance t v ≡ top
+
+-- the node was reached, and doesn't wait any more
+pub record Settled (held : ℕ → Option ℕ) (t : SearchTree) (v : ℕ) : Type 0 where
   pub not_held : held v ≡ None
-  pub reached : slice_index key v < top
+  pub reached : distance t v < top
 
--- the residual arc by which the search came to the node v, from a node whose key can't fall any more
-pub record Reached (tails heads costs flows room : List ℕ) (price : ℕ → ℕ) (key via amount depth : List ℕ) (now v : ℕ) (d : Bool) : Type 0 where
-  pub link : slice_index via v < length tails
-  pub end : to tails heads (slice_index via v) d ≡ v
-  pub soon : slice_index key (from tails heads (slice_index via v) d) ≤ now
-  pub exact : slice_index key v + gives tails heads costs price (slice_index via v) d
-      ≡ slice_index key (from tails heads (slice_index via v) d) + takes tails heads costs price (slice_index via v) d
-  pub nearer : slice_index depth (from tails heads (slice_index via v) d) < slice_index depth v
-  pub carried : slice_index amount v ≤ slice_index amount (from tails heads (slice_index via v) d)
-  pub fits : slice_index amount v ≤ width flows room (slice_index via v) d
+-- the residual arc by which the search came to the node v, from a node whose distance can't fall any more
+pub record Reached (n : Links) (f : Flow) (t : SearchTree) (now v : ℕ) (d : Bool) : Type 0 where
+  pub path : IsOnPath n f t v d
+  pub soon : distance t (predecessor n t v d) ≤ now
+  pub exact : distance t v + gives n (prices f) (slice_index t.via.now v) d
+      ≡ distance t (predecessor n t v d) + takes n (prices f) (slice_index t.via.now v) d
 
--- the residual arcs of settled nodes are relaxed where they were `looked` at; `now` is the key of the node that was settled last
-pub record Search (root top nodes : ℕ) (tails heads costs flows room : List ℕ) (price : ℕ → ℕ) (unmet : ℕ)
-    (held : ℕ → Option ℕ) (key via amount depth : List ℕ) (now : ℕ) (looked : ℕ → Bool → Type 0) : Type 0 where
-  pub key_many : length key ≡ nodes
-  pub via_many : length via ≡ nodes
-  pub amount_many : length amount ≡ nodes
-  pub depth_many : length depth ≡ nodes
-  pub held_in : (v d : ℕ) → held v ≡ Some d → v < nodes
-  pub held_key : (v d : ℕ) → held v ≡ Some d → slice_index key v ≡ d
+-- the end of a residual arc was reached, and is no farther than by the arc
+pub record IsRelaxed (n : Links) (f : Flow) (t : SearchTree) (k : ℕ) (d : Bool) : Type 0 where
+  pub no_farther : distance t (to n k d) + gives n (prices f) k d ≤ distance t (from n k d) + takes n (prices f) k d
+  pub reached : distance t (to n k d) < top
+
+-- the residual arcs of settled nodes are relaxed where they were `looked` at; `now` is the distance of the node that was settled last
+pub record Search (n : Links) (f : Flow) (t : SearchTree) (held : ℕ → Option ℕ) (root now : ℕ) (looked : ℕ → Bool → Type 0) : Type 0 where
+  pub covers : Covers n t
+  pub held_in : (v d : ℕ) → held v ≡ Some d → v < nodes n
+  pub held_key : (v d : ℕ) → held v ≡ Some d → distance t v ≡ d
   pub held_late : (v d : ℕ) → held v ≡ Some d → now ≤ d
   pub held_low : (v d : ℕ) → held v ≡ Some d → d < top
-  pub settled_early : (v : ℕ) → Settled held key top v → slice_index key v ≤ now
-  pub sink_waits : Settled held key top 0 → ⊥
-  pub relaxed : (k : ℕ) (d : Bool) → k < length tails → 0 < width flows room k d → Settled held key top (from tails heads k d) → looked k d →
-      (slice_index key (to tails heads k d) + gives tails heads costs price k d
-      ≤ slice_index key (from tails heads k d) + takes tails heads costs price k d)
-      × (slice_index key (to tails heads k d) < top)
-  pub reached : (v : ℕ) → v < nodes → v ≢ root → slice_index key v < top →
-      Reached tails heads costs flows room price key via amount depth now v (slice_index heads (slice_index via v) == v)
-  pub root_near : slice_index key root < top
-  pub some : (v : ℕ) → v < nodes → slice_index key v < top → 0 < slice_index amount v
-  pub no_more : (v : ℕ) → v < nodes → slice_index key v < top → slice_index amount v ≤ unmet
+  pub settled_early : (v : ℕ) → Settled held t v → distance t v ≤ now
+  pub sink_waits : Settled held t 0 → ⊥
+  pub relaxed : (k : ℕ) (d : Bool) → k < length n.tails.now → 0 < width f k d → Settled held t (from n k d) → looked k d → IsRelaxed n f t k d
+  pub reached : (v : ℕ) → v < nodes n → v ≢ root → distance t v < top → Reached n f t now v (way n t v)
+  pub root_near : distance t root < top
+  pub some : (v : ℕ) → v < nodes n → distance t v < top → 0 < slice_index t.amount.now v
+  pub no_more : (v : ℕ) → v < nodes n → distance t v < top → slice_index t.amount.now v ≤ slice_index f.unmet.now root
 
 -- the search is over: no residual arc leads out of what it reached, and the sink is not among it
-pub record Closed (root top : ℕ) (tails heads flows room key : List ℕ) : Type 0 where
-  pub root_in : slice_index key root < top
-  pub sink_out : top ≤ slice_index key 0
-  pub out : (k : ℕ) (d : Bool) → k < length tails → 0 < width flows room k d → slice_index key (from tails heads k d) < top →
-      slice_index key (to tails heads k d) < top
+pub record Closed (n : Links) (f : Flow) (t : SearchTree) (root : ℕ) : Type 0 where
+  pub root_in : distance t root < top
+  pub sink_out : top ≤ distance t 0
+  pub out : (k : ℕ) (d : Bool) → k < length n.tails.now → 0 < width f k d → distance t (from n k d) < top → distance t (to n k d) < top
 
--- a node was offered a shorter way, and took it or not
-pub record Offered (held held' : ℕ → Option ℕ) (key key' via via' amount amount' depth depth' : List ℕ) (link from to offer much : ℕ) : Type 0 where
-  pub kept : slice_index key to ≤ offer → (held' ≡ held) × (key' ≡ key) × (via' ≡ via) × (amount' ≡ amount) × (depth' ≡ depth)
-  pub took : offer < slice_index key to →
-      Changes held held' to (Some offer) × (key' ≡ slice_set key to offer) × (via' ≡ slice_set via to link)
-      × (amount' ≡ slice_set amount to much) × (depth' ≡ slice_set depth to (slice_index depth from + 1))
+-- what a search knows of the node that is offered a way lets it take it: it waits, unless it was not reached or is no farther
+pub record MayBeOffered (held : ℕ → Option ℕ) (t : SearchTree) (o : Offer) : Type 0 where
+  pub from_in : o.from < length t.key.now
+  pub to_in : o.to < length t.key.now
+  pub via_many : length t.via.now ≡ length t.key.now
+  pub amount_many : length t.amount.now ≡ length t.key.now
+  pub depth_many : length t.depth.now ≡ length t.key.now
+  pub shallow : slice_index t.depth.now o.from + 1 < 18446744073709551616
+  pub free : distance t o.to ≡ top → held o.to ≡ None
+  pub waits : o.key < distance t o.to → distance t o.to < top → held o.to ≡ Some (distance t o.to)
+
+-- the node takes the way that it was offered
+pub record TakesWay (held held' : ℕ → Option ℕ) (t t' : SearchTree) (o : Offer) : Type 0 where
+  pub frontier : Changes held held' o.to (Some o.key)
+  pub key : t'.key.now ≡ slice_set t.key.now o.to o.key
+  pub via : t'.via.now ≡ slice_set t.via.now o.to o.link
+  pub amount : t'.amount.now ≡ slice_set t.amount.now o.to o.much
+  pub depth : t'.depth.now ≡ slice_set t.depth.now o.to (slice_index t.depth.now o.from + 1)
+
+-- a node was offered a way, and took it where it is shorter
+pub record Offered (held held' : ℕ → Option ℕ) (t t' : SearchTree) (o : Offer) : Type 0 where
+  pub kept : distance t o.to ≤ o.key → (held' ≡ held) × (t' ≡ t)
+  pub took : o.key < distance t o.to → TakesWay held held' t t' o
 
 -- whether the node is settled
-abbrev pub settled_test : (ℕ → Option ℕ) → List ℕ → ℕ → ℕ → Bool
-settled_test held key top v = is_none (held v) && nat_lt (slice_index key v) top
+abbrev pub settled_test : (ℕ → Option ℕ) → SearchTree → ℕ → Bool
+settled_test held t v = is_none (held v) && nat_lt (slice_index t.key.now v) top
 
-abbrev pub settled_count : (ℕ → Option ℕ) → List ℕ → ℕ → ℕ → ℕ
-settled_count held key top nodes = sum_below nodes (λ v. if settled_test held key top v then 1 else 0)
+-- how many nodes are settled
+abbrev pub settled_count : Links → (ℕ → Option ℕ) → SearchTree → ℕ
+settled_count n held t = sum_below (nodes n) (λ v. if settled_test held t v then 1 else 0)
 
--- at least `many` nodes are settled, no reached node is deeper than `turn` or farther than `far`
-pub record Counted (held : ℕ → Option ℕ) (key depth : List ℕ) (nodes top many turn far : ℕ) : Type 0 where
-  pub settled : many ≤ settled_count held key top nodes
-  pub depth_low : (v : ℕ) → v < nodes → slice_index key v < top → slice_index depth v ≤ turn
-  pub key_low : (v : ℕ) → v < nodes → slice_index key v < top → slice_index key v ≤ far
+-- at least `turn` nodes are settled, no reached node is deeper than that, or farther than `far`
+pub record Counted (n : Links) (t : SearchTree) (held : ℕ → Option ℕ) (turn far : ℕ) : Type 0 where
+  pub settled : turn ≤ settled_count n held t
+  pub depth_low : (v : ℕ) → v < nodes n → distance t v < top → slice_index t.depth.now v ≤ turn
+  pub key_low : (v : ℕ) → v < nodes n → distance t v < top → distance t v ≤ far
 
--- the residual arcs of the node that were `seen` are relaxed
-pub record Expanding (root top nodes : ℕ) (tails heads costs flows room : List ℕ) (price : ℕ → ℕ) (unmet : ℕ)
-    (held : ℕ → Option ℕ) (key via amount depth : List ℕ) (near node : ℕ) (seen : ℕ → Bool → Type 0) (many turn far : ℕ) : Type 0 where
-  pub search : Search root top nodes tails heads costs flows room price unmet held key via amount depth near
-      (λ k d. from tails heads k d ≡ node → seen k d)
-  pub settled : Settled held key top node
-  pub at : slice_index key node ≡ near
-  pub node_in : node < nodes
-  pub shallow : slice_index depth node < turn
-  pub counted : Counted held key depth nodes top many turn far
+-- the residual arcs of the node that is settled which were `seen` are relaxed
+pub record Expanding (n : Links) (f : Flow) (t : SearchTree) (held : ℕ → Option ℕ) (at : Visit) (seen : ℕ → Bool → Type 0) : Type 0 where
+  pub search : Search n f t held at.root at.near (λ k d. from n k d ≡ at.node → seen k d)
+  pub settled : Settled held t at.node
+  pub here : distance t at.node ≡ at.near
+  pub node_in : at.node < nodes n
+  pub shallow : slice_index t.depth.now at.node < at.turn + 1
+  pub counted : Counted n t held (at.turn + 1) (at.near + n.step)
 
 -- the root alone is held
-pub record Begun (held : ℕ → Option ℕ) (key amount depth : List ℕ) (top root much : ℕ) : Type 0 where
+pub record Begun (t : SearchTree) (held : ℕ → Option ℕ) (root much : ℕ) : Type 0 where
   pub held_root : held root ≡ Some 0
   pub held_rest : (v : ℕ) → v ≢ root → held v ≡ None
-  pub key_root : slice_index key root ≡ 0
-  pub key_rest : (v : ℕ) → v < length key → v ≢ root → slice_index key v ≡ top
-  pub amount_root : slice_index amount root ≡ much
-  pub depth_root : slice_index depth root ≡ 0
+  pub key_root : distance t root ≡ 0
+  pub key_rest : (v : ℕ) → v < length t.key.now → v ≢ root → distance t v ≡ top
+  pub amount_root : slice_index t.amount.now root ≡ much
+  pub depth_root : slice_index t.depth.now root ≡ 0
 
 -- between two turns of the search
-pub record Running (root top nodes : ℕ) (tails heads costs flows room : List ℕ) (price : ℕ → ℕ) (unmet : ℕ)
-    (held : ℕ → Option ℕ) (key via amount depth : List ℕ) (turn step : ℕ) : Type 0 where
+pub record Running (n : Links) (f : Flow) (t : SearchTree) (held : ℕ → Option ℕ) (root turn : ℕ) : Type 0 where
   pub now : ℕ
-  pub search : Search root top nodes tails heads costs flows room price unmet held key via amount depth now (λ _ _. Unit {0})
-  pub counted : Counted held key depth nodes top turn turn (now + step)
-  pub early : now ≤ turn * step
+  pub search : Search n f t held root now (λ _ _. Unit {0})
+  pub counted : Counted n t held turn (now + n.step)
+  pub early : now ≤ turn * n.step
 
--- in the middle of the arcs of a node at the distance `near`: another node v is as near, no node is deeper than `deep`
-pub record Level (root top nodes : ℕ) (tails heads costs flows room : List ℕ) (price : ℕ → ℕ) (unmet : ℕ)
-    (held : ℕ → Option ℕ) (key via amount depth : List ℕ) (near v deep : ℕ) : Type 0 where
-  pub search : Search root top nodes tails heads costs flows room price unmet held key via amount depth near
-      (λ k d. slice_index key (from tails heads k d) < near)
-  pub at : slice_index key v ≤ near
-  pub here : v < nodes
-  pub near_low : near < top
-  pub depth_low : (w : ℕ) → w < nodes → slice_index key w < top → slice_index depth w ≤ deep
-
--- the search came to the sink: no residual arc undercuts the key of a node that is nearer
-pub record Found (root top nodes : ℕ) (tails heads costs flows room : List ℕ) (price : ℕ → ℕ) (unmet : ℕ) (key via amount depth : List ℕ) : Type 0 where
+-- the search came to the sink: no residual arc undercuts the distance of a node that is nearer
+pub record Found (n : Links) (f : Flow) (t : SearchTree) (root : ℕ) : Type 0 where
   pub held : ℕ → Option ℕ
   pub now : ℕ
-  pub search : Search root top nodes tails heads costs flows room price unmet held key via amount depth now (λ _ _. ⊥)
-  pub sink_in : 0 < nodes
-  pub sink_near : slice_index key 0 < top
-  pub relaxed : Relaxed (slice_index key 0) tails heads costs flows room price key
+  pub search : Search n f t held root now (λ _ _. ⊥)
+  pub sink_in : 0 < nodes n
+  pub sink_near : distance t 0 < top
+  pub relaxed : AreRelaxed n f t
 
--- how far prices and keys can lie apart: by `up` the one way, by `down` the other
-pub record Priced (root top nodes : ℕ) (price : ℕ → ℕ) (key : List ℕ) (up down : ℕ) : Type 0 where
-  pub low : (v : ℕ) → v < nodes → slice_index key v < top → slice_index key v + price root ≤ price v + up
-  pub high : (v : ℕ) → v < nodes → slice_index key v < top → price v ≤ slice_index key v + price root + down
+-- how far prices and distances can lie apart: by `up` the one way, by `down` the other
+pub record Priced (n : Links) (f : Flow) (t : SearchTree) (root up down : ℕ) : Type 0 where
+  pub low : (v : ℕ) → v < nodes n → distance t v < top → distance t v + prices f root ≤ prices f v + up
+  pub high : (v : ℕ) → v < nodes n → distance t v < top → prices f v ≤ distance t v + prices f root + down
 
 -- the same, with no more in all than the greatest cost for each turn
-pub record Spread (root top nodes : ℕ) (price : ℕ → ℕ) (key : List ℕ) (most turn : ℕ) : Type 0 where
+pub record Spread (n : Links) (f : Flow) (t : SearchTree) (root turn : ℕ) : Type 0 where
   pub up : ℕ
   pub down : ℕ
-  pub within : up + down ≤ turn * most
-  pub priced : Priced root top nodes price key up down
+  pub within : up + down ≤ turn * n.most
+  pub priced : Priced n f t root up down
 
--- the number stands in the list below the place
-pub record Among (list : List ℕ) (upto k : ℕ) : Type 0 where
-  pub place : ℕ
-  pub early : place < upto
-  pub at : slice_index list place ≡ k
+-- a way over a link from the node that is settled lets prices and distances lie farther apart by its cost the one way, a way
+-- back over one the other way
+abbrev pub WidensOver : Links → Flow → SearchTree → SearchTree → Visit → ℕ → Type 0
+WidensOver n f t t' at link = (more up down : ℕ) → slice_index n.costs.now link ≤ more →
+    at.near + prices f at.root ≤ prices f at.node + up → prices f at.node ≤ at.near + prices f at.root + down →
+    Priced n f t at.root (up + more) down → Priced n f t' at.root (up + more) down
 
--- each node that has a key stands in the list
-pub record Noted (top : ℕ) (key touched : List ℕ) : Type 0 where
-  pub inside : (i : ℕ) → i < length touched → slice_index touched i < length key
-  pub all : (v : ℕ) → v < length key → slice_index key v ≢ top → Among touched (length touched) v
+abbrev pub WidensBack : Links → Flow → SearchTree → SearchTree → Visit → ℕ → Type 0
+WidensBack n f t t' at link = (more up down : ℕ) → slice_index n.costs.now link ≤ more →
+    at.near + prices f at.root ≤ prices f at.node + up → prices f at.node ≤ at.near + prices f at.root + down →
+    Priced n f t at.root up (down + more) → Priced n f t' at.root up (down + more)
+
+-- the same of all links that leave the node that is settled, and of all that enter it
+abbrev pub WidensOut : Links → Flow → SearchTree → SearchTree → Visit → Type 0
+WidensOut n f t t' at = (cost up down : ℕ) →
+    ((k : ℕ) → k < length n.tails.now → slice_index n.tails.now k ≡ at.node → slice_index n.costs.now k ≤ cost) →
+    Priced n f t at.root up down → Priced n f t' at.root (up + cost) down
+
+abbrev pub WidensIn : Links → Flow → SearchTree → SearchTree → Visit → Type 0
+WidensIn n f t t' at = (cost up down : ℕ) →
+    ((k : ℕ) → k < length n.tails.now → slice_index n.heads.now k ≡ at.node → slice_index n.costs.now k ≤ cost) →
+    Priced n f t at.root up down → Priced n f t' at.root up (down + cost)

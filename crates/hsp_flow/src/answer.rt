@@ -3,7 +3,8 @@ ghost use Rattle.hsp_simplex.specs.Answer.{IsMet, IsShortSet};
 ghost use Rattle.hsp_flow.specs.Layout.{IsSmall};
 ghost use Rattle.hsp_simplex.specs.Problem.{problem_of};
 ghost use Rattle.hsp_flow.specs.Problem.{IsLeastBound, IsLinksOf};
-ghost use Rattle.hsp_flow.specs.Shapes.{IsClosed, Ready, nodes};
+ghost use Rattle.hsp_flow.specs.Residual.{nodes, prices};
+ghost use Rattle.hsp_flow.specs.Search.{Closed, Ready};
 
 use crate::links::{Flow, Links, SearchTree};
 use hsp_simplex::{Network, PricedFlow};
@@ -85,7 +86,7 @@ pub fn short_set(
     requires small { IsSmall (problem_of network.now) }
     requires ready { Ready links.now flow.now }
     requires first { links.now.first ≡ 1 + length network.now.limits.now + length network.now.capacities.now }
-    requires closed { IsClosed links.now flow.now tree.now root }
+    requires closed { Closed links.now flow.now tree.now root }
     requires many { length tree.now.key.now ≡ nodes links.now }
     requires from { links.now.first ≤ root }
     requires root_in { root < nodes links.now }

@@ -8,7 +8,6 @@ mod answer;
 mod arcs;
 mod augment;
 mod certify;
-mod descend;
 mod expand;
 mod frontier;
 mod group_lists;

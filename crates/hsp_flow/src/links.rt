@@ -1,6 +1,7 @@
 ghost use Rattle.std.specs.Prelude.{length};
 ghost use Rattle.hsp_instance.specs.Runs.{AreRuns};
-ghost use Rattle.hsp_flow.specs.Residual.{Graph, Scale};
+ghost use Rattle.hsp_flow.specs.Index.{ByHead};
+ghost use Rattle.hsp_flow.specs.Graph.{Graph, Scale};
 
 /// The nodes and links that a flow runs on: each link leads from a node to a lower one, in the order of their tails,
 /// and node 0 is the sink. The nodes from `first` on are the sources.
@@ -15,28 +16,27 @@ pub struct Links<'a> {
     pub supplies: &'a [u64],
     /// Where the links that leave each node begin, and behind the last where they end.
     pub starts: &'a [usize],
-    /// Where the links that enter a node begin in a flow's order of them.
-    pub places: &'a [usize],
+    /// The last link that enters each node, counted from 1; 0 where none does.
+    pub lasts: &'a [usize],
+    /// The last link before each link that enters its head, counted from 1; 0 where none does.
+    pub before: &'a [usize],
     pub most: u64,
     pub limit: u64,
     pub step: u64,
     pub ghost graph: { Graph (length supplies.now) tails.now heads.now costs.now capacities.now supplies.now },
     pub ghost by_tail: { AreRuns (length supplies.now) tails.now starts.now },
+    pub ghost by_head: { ByHead (length supplies.now) heads.now lasts.now before.now },
     pub ghost scale: { Scale first (length supplies.now) tails.now heads.now costs.now capacities.now most limit step },
 }
 
 /// A flow with its prices: what flows on each link and what room is left, the price of each node, and what of its supply
-/// is not met. Of the links that enter a node those with flow come first in `order`, up to `ends`; a link stands there
-/// at its slot.
+/// is not met.
 #[derive(Drop)]
 pub struct Flow<'a> {
     pub flows: &'a mut [u64],
     pub room: &'a mut [u64],
     pub price: &'a mut [u64],
     pub unmet: &'a mut [u64],
-    pub order: &'a mut [usize],
-    pub slots: &'a mut [usize],
-    pub ends: &'a mut [usize],
 }
 
 /// How much work a solver's run took: the searches that were begun, the nodes that they settled, and the paths along which
@@ -51,14 +51,19 @@ pub struct Effort {
 }
 
 /// What a search knows of each node: its distance, the link by which the search came to it, what can be sent to it that
-/// way, and over how many links; the nodes that have a distance; and the work of all searches so far.
+/// way, and over how many links.
 #[derive(Drop)]
 pub struct SearchTree<'a> {
     pub key: &'a mut [u64],
     pub via: &'a mut [usize],
     pub amount: &'a mut [u64],
     pub depth: &'a mut [usize],
-    pub touched: Vec<u32>,
+}
+
+/// The tree of the search that is on or was last, and the work of all searches so far.
+#[derive(Drop)]
+pub struct Progress<'a> {
+    pub tree: SearchTree<'a>,
     pub effort: Effort,
 }
 

@@ -2,7 +2,7 @@
 
 ghost use Rattle.std.specs.Prelude.{◌≡◌, ◌≤◌, IfOk, length};
 ghost use Rattle.hsp_flow.specs.Opening.{FirstPrices, LeastCost};
-ghost use Rattle.hsp_flow.specs.Shapes.{nodes};
+ghost use Rattle.hsp_flow.specs.Residual.{nodes};
 
 use crate::links::Links;
 use std::alloc::{AllocError, Global};

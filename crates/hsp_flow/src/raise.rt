@@ -1,25 +1,15 @@
-ghost use Rattle.std.specs.Prelude.{◌≡◌, ℕ, ◌+◌, ◌-◌, ◌<◌, ◌≤◌, ◌^◌, [], length, slice_index};
-ghost use Rattle.hsp_flow.specs.Shapes.{IsNoted, top};
-
-use crate::links::SearchTree;
+ghost use Rattle.std.specs.Prelude.{◌≡◌, ℕ, ◌+◌, ◌-◌, ◌<◌, ◌^◌, length, slice_index};
+ghost use Rattle.hsp_flow.specs.Search.{top};
 
 /// Raises each price by what the node's distance lacks to `reach`, and forgets the distances.
-pub fn raise(price: &mut [u64], tree: &mut SearchTree, reach: u64)
-    requires many { length tree.old.key.now ≡ length price.old }
-    requires noted { IsNoted tree.old }
-    requires fits { (v : ℕ) → v < length price.old → slice_index price.old v + (reach - slice_index tree.old.key.now v) < 2 ^ 64 }
-    ensures by { (v : ℕ) → v < length price.new → slice_index price.new v ≡ slice_index price.old v + (reach - slice_index tree.old.key.now v) }
-    ensures none { (v : ℕ) → v < length tree.new.key.now → slice_index tree.new.key.now v ≡ top }
-    ensures untouched { tree.new.touched.items ≡ [] }
-    ensures key_many { length tree.new.key.now ≡ length tree.old.key.now }
-    ensures via { tree.new.via.now ≡ tree.old.via.now }
-    ensures amount { tree.new.amount.now ≡ tree.old.amount.now }
-    ensures depth { tree.new.depth.now ≡ tree.old.depth.now }
+pub fn raise(price: &mut [u64], key: &mut [u64], reach: u64)
+    requires many { length key.old ≡ length price.old }
+    requires fits { (v : ℕ) → v < length price.old → slice_index price.old v + (reach - slice_index key.old v) < 2 ^ 64 }
+    ensures by { (v : ℕ) → v < length price.new → slice_index price.new v ≡ slice_index price.old v + (reach - slice_index key.old v) }
+    ensures none { (v : ℕ) → v < length key.new → slice_index key.new v ≡ top }
 {
-    for place in 0..tree.touched.len() {
-        let node = tree.touched[place] as usize;
-        price[node] += reach.saturating_sub(tree.key[node]);
-        tree.key[node] = u64::MAX;
+    for node in 0..price.len() {
+        price[node] += reach.saturating_sub(key[node]);
+        key[node] = u64::MAX;
     }
-    tree.touched.clear();
 }

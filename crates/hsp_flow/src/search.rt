@@ -1,10 +1,10 @@
 ghost use Rattle.std.specs.Prelude.{◌≡◌, ◌≢◌, ℕ, ◌+◌, ◌*◌, ◌<◌, ◌≤◌, ◌^◌, Bool, true, false, length, slice_index, OnOk, IfOk, IsTrue};
-ghost use Rattle.hsp_flow.specs.Search.{Begun};
-ghost use Rattle.hsp_flow.specs.Shapes.{Blank, Covers, Ready, IsClosed, IsExpanding, IsFound, IsNoted, IsPriced, IsSpread, nodes};
+ghost use Rattle.hsp_flow.specs.Residual.{nodes};
+ghost use Rattle.hsp_flow.specs.Search.{Begun, Blank, Closed, Covers, Expanding, Found, Ready, Spread};
 
 use crate::expand::{expand_in, expand_out};
 use crate::frontier::Frontier;
-use crate::links::{Flow, Links, SearchTree, Visit};
+use crate::links::{Flow, Links, Progress, SearchTree, Visit};
 use std::alloc::AllocError;
 
 /// Starts a search at the node `root`, for up to `much`.
@@ -19,46 +19,38 @@ pub fn begin<F: Frontier>(
     requires blank { Blank links.now tree.old }
     requires count { nodes links.now ≤ F.node_count frontier.old }
     ensures covers { OnOk result (Covers links.now tree.new) }
-    ensures noted { OnOk result (IsNoted tree.new) }
-    ensures ok { OnOk result (Begun (F.held frontier.new) tree.new.key.now tree.new.amount.now tree.new.depth.now u64.MAX root much) }
+    ensures ok { OnOk result (Begun tree.new (F.held frontier.new) root much) }
     ensures count { F.node_count frontier.new ≡ F.node_count frontier.old }
 {
     frontier.clear();
-    tree.touched.push(root)?;
     frontier.put(root, 0)?;
     let node = root as usize;
     tree.key[node] = 0;
     tree.amount[node] = much;
     tree.depth[node] = 0;
-    tree.effort.searches = tree.effort.searches.saturating_add(1);
     Ok(())
 }
 
-/// Offers all ways on from a node that is settled, until one leads to the sink at the node's own distance: whether one does.
+/// Offers all ways on from a node that is settled.
 pub fn expand<F: Frontier>(
     frontier: &mut F,
     links: &Links,
     flow: &Flow,
     tree: &mut SearchTree,
     at: Visit,
-) -> Result<bool, AllocError>
+) -> Result<(), AllocError>
     requires ready { Ready links.now flow.now }
-    requires expanding { IsExpanding links.now flow.now (F.held frontier.old) tree.old at (λ _ _. ⊥) }
+    requires expanding { Expanding links.now flow.now tree.old (F.held frontier.old) at (λ _ _. ⊥) }
     requires far { at.near + links.now.step < u64.MAX }
-    requires turns { at.turn + 3 < u64.MAX }
+    requires turns { at.turn + 1 < u64.MAX }
     requires count { nodes links.now ≤ F.node_count frontier.old }
-    requires noted { IsNoted tree.old }
-    ensures ok { IfOk result (λ yes. yes ≡ false → IsExpanding links.now flow.now (F.held frontier.new) tree.new at (λ _ _. Unit {0})) }
-    ensures found { IfOk result (λ yes. IsTrue yes → IsFound links.now flow.now tree.new at.root) }
-    ensures noted { OnOk result (IsNoted tree.new) }
-    ensures spread { OnOk result (IsSpread links.now flow.now tree.old at.root at.turn → IsSpread links.now flow.now tree.new at.root (at.turn + 1)) }
+    ensures ok { OnOk result (Expanding links.now flow.now tree.new (F.held frontier.new) at (λ _ _. Unit {0})) }
+    ensures spread { OnOk result (Spread links.now flow.now tree.old at.root at.turn → Spread links.now flow.now tree.new at.root (at.turn + 1)) }
     ensures count { F.node_count frontier.new ≡ F.node_count frontier.old }
 {
-    if expand_out(frontier, links, flow, tree, at)? {
-        return Ok(true);
-    }
+    expand_out(frontier, links, flow, tree, at)?;
     expand_in(frontier, links, flow, tree, at)?;
-    Ok(false)
+    Ok(())
 }
 
 /// Whether the sink can be reached from the node `root`. Where it can, the tree has a shortest path to it.
@@ -66,23 +58,24 @@ pub fn search<F: Frontier>(
     frontier: &mut F,
     links: &Links,
     flow: &Flow,
-    tree: &mut SearchTree,
+    progress: &mut Progress,
     root: u32,
 ) -> Result<bool, AllocError>
     requires ready { Ready links.now flow.now }
-    requires blank { Blank links.now tree.old }
+    requires blank { Blank links.now progress.old.tree }
     requires root_in { root < nodes links.now }
     requires away { root ≢ 0 }
     requires unmet { 0 < slice_index flow.now.unmet.now root }
     requires count { nodes links.now ≤ F.node_count frontier.old }
-    ensures covers { OnOk result (Covers links.now tree.new) }
-    ensures noted { OnOk result (IsNoted tree.new) }
-    ensures found { IfOk result (λ yes. IsTrue yes → IsFound links.now flow.now tree.new root) }
-    ensures spread { IfOk result (λ yes. IsTrue yes → IsSpread links.now flow.now tree.new root (nodes links.now)) }
-    ensures none { IfOk result (λ yes. yes ≡ false → IsClosed links.now flow.now tree.new root) }
+    ensures covers { OnOk result (Covers links.now progress.new.tree) }
+    ensures found { IfOk result (λ yes. IsTrue yes → Found links.now flow.now progress.new.tree root) }
+    ensures spread { IfOk result (λ yes. IsTrue yes → Spread links.now flow.now progress.new.tree root (nodes links.now)) }
+    ensures none { IfOk result (λ yes. yes ≡ false → Closed links.now flow.now progress.new.tree root) }
     ensures count { F.node_count frontier.new ≡ F.node_count frontier.old }
 {
-    begin(frontier, links, tree, root, flow.unmet[root as usize])?;
+    let much = flow.unmet[root as usize];
+    begin(frontier, links, &mut progress.tree, root, much)?;
+    progress.effort.searches = progress.effort.searches.saturating_add(1);
     for turn in 0..links.supplies.len() {
         let Some((node, near)) = frontier.take_least() else {
             return Ok(false);
@@ -90,16 +83,14 @@ pub fn search<F: Frontier>(
         if node == 0 {
             return Ok(true);
         }
-        tree.effort.settled = tree.effort.settled.saturating_add(1);
+        progress.effort.settled = progress.effort.settled.saturating_add(1);
         let at = Visit {
             root,
             node,
             near,
             turn,
         };
-        if expand(frontier, links, flow, tree, at)? {
-            return Ok(true);
-        }
+        expand(frontier, links, flow, &mut progress.tree, at)?;
     }
     Ok(false)
 }

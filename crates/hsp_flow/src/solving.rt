@@ -1,16 +1,16 @@
 ghost use Rattle.std.specs.Prelude.{◌≡◌, ℕ, ◌+◌, ◌<◌, IfOk, length, slice_index};
 ghost use Rattle.hsp_simplex.specs.Answer.{Answers};
-ghost use Rattle.hsp_flow.specs.Index.{ByHead, Places};
 ghost use Rattle.hsp_flow.specs.Layout.{IsSmall, LinksOf};
 ghost use Rattle.hsp_flow.specs.Nodes.{MayHaveUpTo, nodes_of};
 ghost use Rattle.hsp_simplex.specs.Problem.{problem_of};
 ghost use Rattle.hsp_flow.specs.Problem.{IsLeastBound, IsLinksOf};
-ghost use Rattle.hsp_flow.specs.Shapes.{Ready, nodes};
+ghost use Rattle.hsp_flow.specs.Residual.{nodes};
+ghost use Rattle.hsp_flow.specs.Search.{Ready};
 
 use crate::answer::{priced_flow, short_set};
 use crate::frontier::Frontier;
-use crate::index::{count_heads, fill_order, head_places};
-use crate::links::{Effort, Flow, Links, SearchTree};
+use crate::index::chain_links;
+use crate::links::{Effort, Flow, Links, Progress, SearchTree};
 use crate::opening::first_prices;
 use crate::phase::meet_all;
 use crate::tables::{link_capacities, link_costs, link_heads, link_tails, node_supplies};
@@ -39,91 +39,57 @@ fn solve_from<F: Frontier>(
     let mut via = vec![in alloc; 0; nodes]?;
     let mut amount = vec![in alloc; 0; nodes]?;
     let mut depth = vec![in alloc; 0; nodes]?;
-    let mut tree = SearchTree {
+    let tree = SearchTree {
         key: &mut key,
         via: &mut via,
         amount: &mut amount,
         depth: &mut depth,
-        touched: Vec::new(alloc),
+    };
+    let mut progress = Progress {
+        tree,
         effort: *effort,
     };
     let mut frontier = F::with_nodes(alloc, nodes as u32)?;
-    let unmet = meet_all(&mut frontier, links, flow, &mut tree)?;
-    *effort = tree.effort;
+    let unmet = meet_all(&mut frontier, links, flow, &mut progress)?;
+    *effort = progress.effort;
     match unmet {
         None => Ok(Outcome::Met(priced_flow(alloc, network, links, flow)?)),
-        Some(root) => Ok(Outcome::Short(short_set(alloc, network, links, flow, &tree, root)?)),
+        Some(root) => Ok(Outcome::Short(short_set(
+            alloc,
+            network,
+            links,
+            flow,
+            &progress.tree,
+            root,
+        )?)),
     }
 }
 
-/// Runs the solver from no flow.
-fn solve_indexed<F: Frontier>(
+/// Runs the solver over a network's links, from no flow.
+fn solve_from_none<F: Frontier>(
     alloc: Global,
     network: &Network,
     links: &Links,
-    order: &mut [usize],
-    slots: &mut [usize],
     effort: &mut Effort,
 ) -> Result<Outcome, AllocError>
     requires links_of { IsLinksOf network.now links.now }
     requires small { IsSmall (problem_of network.now) }
     requires least { IsLeastBound network.now links.now.most }
     requires first { links.now.first ≡ 1 + length network.now.limits.now + length network.now.capacities.now }
-    requires by_head { ByHead (nodes links.now) links.now.heads.now order.old links.now.places.now slots.old }
     requires nodes { MayHaveUpTo F.may_have (nodes links.now) }
     ensures { IfOk result (Answers (problem_of network.now)) }
 {
-    let nodes = links.supplies.len();
     let mut flows = vec![in alloc; 0; links.tails.len()]?;
     let mut room = links.capacities.to_vec(alloc)?;
     let mut price = first_prices(alloc, links)?;
     let mut unmet = links.supplies.to_vec(alloc)?;
-    let mut ends = links.places[..nodes].to_vec(alloc)?;
     let mut flow = Flow {
         flows: &mut flows,
         room: &mut room,
         price: &mut price,
         unmet: &mut unmet,
-        order,
-        slots,
-        ends: &mut ends,
     };
     solve_from::<F>(alloc, network, links, &mut flow, effort)
-}
-
-/// Runs the solver over a network's links, whose numbers and index by tails are known.
-fn solve_ordered<F: Frontier>(
-    alloc: Global,
-    network: &Network,
-    links: &Links,
-    effort: &mut Effort,
-) -> Result<Outcome, AllocError>
-    requires links_of { IsLinksOf network.now links.now }
-    requires small { IsSmall (problem_of network.now) }
-    requires least { IsLeastBound network.now links.now.most }
-    requires first { links.now.first ≡ 1 + length network.now.limits.now + length network.now.capacities.now }
-    requires placed { Places (nodes links.now) links.now.heads.now links.now.places.now }
-    requires nodes { MayHaveUpTo F.may_have (nodes links.now) }
-    ensures { IfOk result (Answers (problem_of network.now)) }
-{
-    let many = links.heads.len();
-    let nodes = links.supplies.len();
-    let mut order = vec![in alloc; 0; many]?;
-    let mut slots = vec![in alloc; 0; many]?;
-    let mut ends = links.places[..nodes].to_vec(alloc)?;
-    fill_order(links.heads, links.places, &mut order, &mut slots, &mut ends);
-    solve_indexed::<F>(alloc, network, links, &mut order, &mut slots, effort)
-}
-
-/// Where the links that enter each node begin.
-fn places_of(alloc: Global, heads: &[u32], nodes: usize) -> Result<Vec<usize>, AllocError>
-    requires few { length heads.now < 4294967296 }
-    requires inside { (k : ℕ) → k < length heads.now → slice_index heads.now k < nodes }
-    ensures { IfOk result (λ places. Places nodes heads.now places.items) }
-{
-    let mut counts = vec![in alloc; 0; nodes]?;
-    count_heads(heads, &mut counts);
-    head_places(alloc, heads, &counts)
 }
 
 /// Runs the solver over the lists of a network's links.
@@ -144,7 +110,9 @@ fn solve_links<F: Frontier>(
 {
     let nodes = supplies.len();
     let runs = Runs::of(alloc, tails, nodes as u32)?;
-    let places = places_of(alloc, heads, nodes)?;
+    let mut lasts = vec![in alloc; 0; nodes]?;
+    let mut before = vec![in alloc; 0; heads.len()]?;
+    chain_links(heads, &mut lasts, &mut before);
     let most = greatest(network.costs);
     let limit = nodes as u64 * most;
     let links = Links {
@@ -155,12 +123,13 @@ fn solve_links<F: Frontier>(
         capacities,
         supplies,
         starts: runs.starts(),
-        places: &places,
+        lasts: &lasts,
+        before: &before,
         most,
         limit,
         step: limit + most,
     };
-    solve_ordered::<F>(alloc, network, &links, effort)
+    solve_from_none::<F>(alloc, network, &links, effort)
 }
 
 /// A flow that meets every source at the least cost, with prices that show it, or a set of sources that demand more than

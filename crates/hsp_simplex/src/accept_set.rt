@@ -11,8 +11,8 @@ ghost use Rattle.hsp_simplex.specs.Sums.{AreHosted, AreZero};
 use crate::network::Network;
 use std::alloc::{AllocError, Global};
 
-// The sum of the numbers whose flags are set.
-fn sum_flagged(numbers: &[u64], flags: &[bool]) -> u128
+/// The sum of the numbers whose flags are set.
+pub fn sum_flagged(numbers: &[u64], flags: &[bool]) -> u128
     requires many { length flags.now ≡ length numbers.now }
     ensures { result ≡ flagged_sum numbers.now flags.now (length numbers.now) }
 {
@@ -135,8 +135,12 @@ fn host_rooms(
     Ok(sums)
 }
 
-// What the servers that the set may use can take.
-fn reached_capacity(alloc: Global, network: &Network<'_>, set: &[bool]) -> Result<u128, AllocError>
+/// What the servers that the set may use can take: `set` has a flag for each source.
+pub fn reached_capacity(
+    alloc: Global,
+    network: &Network<'_>,
+    set: &[bool],
+) -> Result<u128, AllocError>
     requires set { length set.now ≡ length network.now.demands.now }
     ensures { IfOk result
         (λ capacity. capacity ≡ capacity_of (problem_of network.now) (flag_at set.now)) }

@@ -25,6 +25,7 @@ mod tree;
 mod update;
 
 pub use accept::{accepts, greatest};
+pub use accept_set::{reached_capacity, sum_flagged};
 pub use network::{Network, NetworkLists, Outcome, PricedFlow};
 pub use proposal::{propose, propose_counted};
 pub use tree::SimplexEffort;

@@ -29,11 +29,11 @@ returns c =
     λ h l. c.in_ok-copy_range-3.ensures.each h (omega arith) in
     record {
       many = omega (arith, c.in_ok-copy_range.ensures.many, c.requires.ready.sound.flows_many);
-      feasible = feasible (problem_of c.args.network.now) whole c.requires.small _ _ _ _ _ links _ _ c.args.flow.now.price.now _ c.requires.ready.sound (λ k. slice_index c.in_ok-copy_range.field-0.items k) flow-is
+      feasible = feasible (problem_of c.args.network.now) whole c.requires.small _ _ links c.requires.ready.sound (λ k. slice_index c.in_ok-copy_range.field-0.items k) flow-is
           (λ i l. c.requires.met (first_of (problem_of c.args.network.now) + i) (omega (arith, c.requires.first)) (omega arith));
-      prices = has_prices (problem_of c.args.network.now) whole c.requires.small _ _ _ _ _ links _ _ c.args.flow.now.price.now _ c.requires.ready.sound (λ k. slice_index c.in_ok-copy_range.field-0.items k) flow-is
+      prices = has_prices (problem_of c.args.network.now) whole c.requires.small _ _ links c.requires.ready.sound (λ k. slice_index c.in_ok-copy_range.field-0.items k) flow-is
           _ _ _ (omega (arith, c.in_ok-copy_range-2.ensures.many, c.requires.ready.price_many)) (omega (arith, c.in_ok-link_prices.ensures.many)) (omega (arith, c.in_ok-copy_range-3.ensures.many)) u-is p-is q-is;
-      low = λ most bound. low_prices (problem_of c.args.network.now) whole c.requires.small _ _ _ _ _ links _ _ c.args.flow.now.price.now _ c.requires.ready.sound (λ k. slice_index c.in_ok-copy_range.field-0.items k) flow-is
+      low = λ most bound. low_prices (problem_of c.args.network.now) whole c.requires.small _ _ links c.requires.ready.sound (λ k. slice_index c.in_ok-copy_range.field-0.items k) flow-is
           _ _ _ (omega (arith, c.in_ok-copy_range-2.ensures.many, c.requires.ready.price_many)) (omega (arith, c.in_ok-link_prices.ensures.many)) (omega (arith, c.in_ok-copy_range-3.ensures.many)) u-is p-is q-is _
           (λ v l.
           let e : length c.args.links.now.supplies.now ≡ length c.args.network.now.demands.now + length c.args.network.now.capacities.now + length c.args.network.now.limits.now + 1 = omega arith in

@@ -15,8 +15,8 @@ returns c =
     ∙ ap (λ n. nat_lt (slice_index c.args.tree.now.key.now (n + i)) 18446744073709551615) c.requires.first in
     record {
       many = omega (arith, c.loop-node.invariant.0, c.requires.many, c.requires.first);
-      short = is_short (problem_of c.args.network.now) c.args.network.now.ends c.requires.small _ _ _ _ _ links _ _ c.args.flow.now.price.now _ c.requires.ready.sound
-          c.args.root _ c.args.tree.now.key.now c.requires.closed (λ i. slice_index_or c.loop-node.reached.items i false)
+      short = is_short (problem_of c.args.network.now) c.args.network.now.ends c.requires.small _ _ links c.requires.ready.sound
+          _ _ c.requires.closed (λ i. slice_index_or c.loop-node.reached.items i false)
           (λ i l inside. ltb-true _ _ (sym (set-is i l) ∙ inside)) (λ i l near. set-is i l ∙ lt-ltb _ _ near)
           (c.args.root - c.args.links.now.first) (omega (arith, c.requires.root_in, c.requires.first, c.requires.from)) (omega (arith, c.requires.from, c.requires.first)) c.requires.unmet;
     }

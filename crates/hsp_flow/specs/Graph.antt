@@ -1,0 +1,22 @@
+-- The links of a network as a graph, and the bounds by which all numbers of a run fit.
+use Rattle.std.specs.Prelude.{◌≡◌, ℕ, ◌+◌, ◌*◌, ◌<◌, ◌≤◌, List, length, slice_index}
+
+-- links lead down to the sink
+pub record Graph (nodes : ℕ) (tails heads costs capacities supplies : List ℕ) : Type 0 where
+  pub heads_many : length heads ≡ length tails
+  pub costs_many : length costs ≡ length tails
+  pub capacities_many : length capacities ≡ length tails
+  pub supplies_many : length supplies ≡ nodes
+  pub tails_in : (k : ℕ) → k < length tails → slice_index tails k < nodes
+  pub down : (k : ℕ) → k < length tails → slice_index heads k < slice_index tails k
+
+-- the links that leave sources cost `most` at the most and others nothing; with no more prices than `limit` every number fits
+pub record Scale (first nodes : ℕ) (tails heads costs capacities : List ℕ) (most limit step : ℕ) : Type 0 where
+  pub dear : (k : ℕ) → k < length tails → slice_index costs k ≤ most
+  pub free : (k : ℕ) → k < length tails → slice_index tails k < first → slice_index costs k ≡ 0
+  pub low : (k : ℕ) → k < length tails → slice_index heads k < first
+  pub limit_is : limit ≡ nodes * most
+  pub step_is : step ≡ limit + most
+  pub small : (nodes + 1) * step < 18446744073709551615
+  pub few : nodes < 4294967296
+  pub bounded : (k : ℕ) → k < length tails → slice_index capacities k ≤ 18446744073709551615
