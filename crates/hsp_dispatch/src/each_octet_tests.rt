@@ -2,7 +2,7 @@
 
 use super::*;
 use crate::fakes::{FakeReader, FakeWriter};
-use crate::worked::{certificate, dispatcher, instance, two_fronts};
+use crate::worked::{certificate, dispatcher, fronts, instance};
 use hsp_cert::Certificate;
 use hsp_instance::Instance;
 use std::alloc::Global;
@@ -184,7 +184,7 @@ impl Answered for Events {
         reader: FakeReader<'_>,
         writer: &mut FakeWriter,
     ) -> Option<Ended> {
-        let mut fronts = two_fronts(alloc, instance, certificate)?;
+        let mut fronts = fronts(alloc, instance, certificate, 2)?;
         let fault = fault_of(run_fronts(alloc, reader, writer, &mut fronts))?;
         let left = [
             fronts.left(0, 0, 0),

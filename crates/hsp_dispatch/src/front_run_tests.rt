@@ -339,19 +339,9 @@ fn five_queries_go_to_the_first_five_of_64_fronts(rt: HostRuntime) {
     assert_eq!(rt; ends, Some(Ok(sums)));
 }
 
-// Want of memory ends this test at once, since each of its runs is long.
-#[test]
-fn a_log_has_ten_million_events_at_most(rt: HostRuntime) -> Result<(), Fail> {
-    let Some(instance) = instance(rt.alloc()) else {
-        return Ok(());
-    };
-    let Some(certificate) = certificate(rt.alloc()) else {
-        return Ok(());
-    };
-    let Some(mut fronts) = fronts(rt.alloc(), &instance, &certificate, 2) else {
-        return Ok(());
-    };
-    let events = Rows {
+// Runs the log of one row more than there may be. None where a growth is refused before its first row.
+fn run_longest<'a>(alloc: Global, fronts: &mut Fronts<'a>) -> Option<(LogFault, Lines)> {
+    let rows = Rows {
         head: b"front,region,handle\n",
         row: b"0,a,b/\n",
         times: 10_000_001,
@@ -361,11 +351,37 @@ fn a_log_has_ten_million_events_at_most(rt: HostRuntime) -> Result<(), Fail> {
         many: 0,
         others: 0,
     };
-    let ends = run_fronts(rt.alloc(), events, &mut lines, &mut fronts);
-    if ends != Err(LogFault::OutOfMemory) {
-        assert_eq!(rt; ends, Err(LogFault::LogTooLong));
-        assert_eq!(rt; lines.many, 10_000_000);
-        assert_eq!(rt; lines.others, 0);
+    match run_fronts(alloc, rows, &mut lines, fronts) {
+        Err(LogFault::OutOfMemory) if lines.many == 0 => None,
+        Err(fault) => Some((fault, lines)),
+        Ok(_) => None,
     }
+}
+
+// Where a growth is refused while instance, certificate or fronts are made, they are made once more, and the long log isn't run: a run
+// takes seconds, and that of a test whose growths are all given is insisted on.
+#[test]
+fn a_log_has_ten_million_events_at_most(rt: HostRuntime) -> Result<(), Fail> {
+    let alloc = rt.alloc();
+    let Some(instance) = instance(alloc) else {
+        assert!(rt; instance(alloc).is_some());
+        return Ok(());
+    };
+    let Some(certificate) = certificate(alloc) else {
+        assert!(rt; certificate(alloc).is_some());
+        return Ok(());
+    };
+    let Some(mut fronts) = fronts(alloc, &instance, &certificate, 2) else {
+        assert!(rt; fronts(alloc, &instance, &certificate, 2).is_some());
+        return Ok(());
+    };
+    let ran = match run_longest(alloc, &mut fronts) {
+        None => run_longest(alloc, &mut fronts),
+        ran => ran,
+    };
+    let (fault, lines) = ran.ok_or("a log that is too long")?;
+    assert_eq!(rt; fault, LogFault::LogTooLong);
+    assert_eq!(rt; lines.many, 10_000_000);
+    assert_eq!(rt; lines.others, 0);
     Ok(())
 }

@@ -300,18 +300,8 @@ fn failing_reads_and_writes_are_told(rt: HostRuntime) {
     }
 }
 
-// Want of memory ends this test at once, since each of its runs is long.
-#[test]
-fn a_log_has_ten_million_rows_at_most(rt: HostRuntime) -> Result<(), Fail> {
-    let Some(instance) = instance(rt.alloc()) else {
-        return Ok(());
-    };
-    let Some(certificate) = certificate(rt.alloc()) else {
-        return Ok(());
-    };
-    let Some(mut dispatcher) = dispatcher(rt.alloc(), &instance, &certificate) else {
-        return Ok(());
-    };
+// Runs the log of one row more than there may be. None where a growth is refused before its first row.
+fn run_longest<'a>(alloc: Global, dispatcher: &mut Dispatcher<'a>) -> Option<(LogFault, Lines)> {
     let rows = Rows {
         head: b"region,handle\n",
         row: b"a,b/\n",
@@ -322,11 +312,37 @@ fn a_log_has_ten_million_rows_at_most(rt: HostRuntime) -> Result<(), Fail> {
         many: 0,
         others: 0,
     };
-    let ends = run_log(rt.alloc(), rows, &mut lines, &mut dispatcher);
-    if ends != Err(LogFault::OutOfMemory) {
-        assert_eq!(rt; ends, Err(LogFault::LogTooLong));
-        assert_eq!(rt; lines.many, 10_000_000);
-        assert_eq!(rt; lines.others, 0);
+    match run_log(alloc, rows, &mut lines, dispatcher) {
+        Err(LogFault::OutOfMemory) if lines.many == 0 => None,
+        Err(fault) => Some((fault, lines)),
+        Ok(_) => None,
     }
+}
+
+// Where a growth is refused while instance, certificate or dispatcher are made, they are made once more, and the long log isn't run: a run
+// takes seconds, and that of a test whose growths are all given is insisted on.
+#[test]
+fn a_log_has_ten_million_rows_at_most(rt: HostRuntime) -> Result<(), Fail> {
+    let alloc = rt.alloc();
+    let Some(instance) = instance(alloc) else {
+        assert!(rt; instance(alloc).is_some());
+        return Ok(());
+    };
+    let Some(certificate) = certificate(alloc) else {
+        assert!(rt; certificate(alloc).is_some());
+        return Ok(());
+    };
+    let Some(mut dispatcher) = dispatcher(alloc, &instance, &certificate) else {
+        assert!(rt; dispatcher(alloc, &instance, &certificate).is_some());
+        return Ok(());
+    };
+    let ran = match run_longest(alloc, &mut dispatcher) {
+        None => run_longest(alloc, &mut dispatcher),
+        ran => ran,
+    };
+    let (fault, lines) = ran.ok_or("a log that is too long")?;
+    assert_eq!(rt; fault, LogFault::LogTooLong);
+    assert_eq!(rt; lines.many, 10_000_000);
+    assert_eq!(rt; lines.others, 0);
     Ok(())
 }
