@@ -17,6 +17,7 @@ use crate::answering::{Given, given_by, row_in, served};
 use crate::counts::Counts;
 use crate::fault::LogFault;
 use crate::front_share::Front;
+use crate::plan_cells::PlanCells;
 use crate::reading::LentEntry;
 use crate::row_cells::RowCells;
 use crate::sharing::share_out;
@@ -35,7 +36,7 @@ use std::marker::Model;
 pub struct Fronts<'a> {
     instance: &'a Instance,
     fronts: u32,
-    rows: Vec<RowCells>,
+    plan: PlanCells,
     lefts: Counts,
 }
 
@@ -49,15 +50,15 @@ impl<'a> Model for Fronts<'a> {
     ghost view = { λ f. record {
       instance = f.instance.now;
       fronts = f.fronts;
-      lefts = lefts_of f.fronts f.rows.items f.lefts;
+      lefts = lefts_of f.fronts f.plan f.lefts;
     } };
 
     ghost invariant = { λ f. AreHeld (record {
       instance = f.instance.now;
       fronts = f.fronts;
-      lefts = lefts_of f.fronts f.rows.items f.lefts;
+      lefts = lefts_of f.fronts f.plan f.lefts;
     })
-        × (length f.lefts ≡ length f.rows.items * f.fronts) };
+        × (length f.lefts ≡ length f.plan * f.fronts) };
 }
 
 // Appends how much each front has of a row at first.
@@ -122,10 +123,11 @@ impl<'a> Fronts<'a> {
             rows.push(RowCells::new(share.cells(alloc)?))?;
         }
         let lefts = Counts::of(alloc, sums_in(alloc, &rows, fronts)?)?;
+        let plan = PlanCells::of(alloc, rows)?;
         Ok(Fronts {
             instance,
             fronts,
-            rows,
+            plan,
             lefts,
         })
     }
@@ -199,7 +201,7 @@ impl<'a> Fronts<'a> {
         let left = self.lefts.take(place);
         let fronts = self.fronts;
         let number = front;
-        self.rows[row as usize].server(left, Front { fronts, number })
+        self.plan.server(row, left, Front { fronts, number })
     }
 
     /// How many queries of a row a front has left for a site, 0 where the front, the row or the site is not there.
@@ -209,12 +211,12 @@ impl<'a> Fronts<'a> {
         if front >= self.fronts {
             return 0;
         }
-        let Some(own) = self.rows.get(row as usize) else {
+        if row as usize >= self.plan.len() {
             return 0;
-        };
+        }
         let left = self.lefts.get(self.place(front, row));
         let fronts = self.fronts;
         let number = front;
-        u64::from(own.left(left, site, Front { fronts, number }))
+        u64::from(self.plan.left(row, left, site, Front { fronts, number }))
     }
 }

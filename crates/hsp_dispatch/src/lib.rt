@@ -16,6 +16,7 @@ mod front_share;
 mod fronts;
 pub mod laws;
 mod lines;
+mod plan_cells;
 mod reading;
 mod row_cells;
 mod run;

@@ -1,35 +1,32 @@
 // The cells that a plan gives a row, of which each front has a share.
 
-ghost use Rattle.std.specs.Prelude.{◌≡◌, ◌<◌, ◌≤◌, length, option_map};
+ghost use Rattle.std.specs.Prelude.{◌≡◌, ◌<◌, ◌≤◌, IfSome, length, option_map};
 ghost use Rattle.hsp_text.specs.declared.limits.TheConstants.{MOST_SITES};
 ghost use Rattle.hsp_dispatch.specs.Shares.{first_of, left_at};
-ghost use Rattle.hsp_dispatch.specs.Standings.{AreBounded, left_among, shares_sum};
+ghost use Rattle.hsp_dispatch.specs.Standings.{AreBounded, IsSole, left_among, shares_sum};
 ghost use Rattle.hsp_dispatch.specs.declared.share.Cell.{Cell};
 
 use crate::front_share::{Front, share_at, stand_with, sum_in};
 use crate::share::Cell;
 use std::marker::Model;
 
-/// The cells that a plan gives a row. Where there is one alone, the number of its server stands in place, so that most queries read
-/// no cell.
+/// The cells that a plan gives a row.
 #[derive(Debug, Drop)]
 pub(crate) struct RowCells {
     cells: Vec<Cell>,
-    sole: Option<u32>,
 }
 
 impl Model for RowCells {
-    ghost use Rattle.std.specs.Prelude.{◌≤◌, IfSome, List, length};
+    ghost use Rattle.std.specs.Prelude.{◌≤◌, List, length};
     ghost use Rattle.hsp_text.specs.declared.limits.TheConstants.{MOST_SITES};
-    ghost use Rattle.hsp_dispatch.specs.Standings.{AreBounded, IsSole};
+    ghost use Rattle.hsp_dispatch.specs.Standings.{AreBounded};
     ghost use Rattle.hsp_dispatch.specs.declared.share.Cell.{Cell};
 
     ghost Value = { List Cell };
 
     ghost view = { λ r. r.cells.items };
 
-    ghost invariant = { λ r. (length r.cells.items ≤ MOST_SITES) × AreBounded r.cells.items
-        × IfSome r.sole (λ server. IsSole server r.cells.items) };
+    ghost invariant = { λ r. (length r.cells.items ≤ MOST_SITES) × AreBounded r.cells.items };
 }
 
 impl RowCells {
@@ -39,12 +36,18 @@ impl RowCells {
         requires bounded { AreBounded cells.items }
         ensures { result ≡ cells.items }
     {
-        let sole = if cells.len() == 1 {
-            Some(cells[0].server)
+        RowCells { cells }
+    }
+
+    /// The number of the server where there is one cell alone; None otherwise.
+    pub(crate) fn sole(&self) -> Option<u32>
+        ensures { IfSome result (λ server. IsSole server self.now) }
+    {
+        if self.cells.len() == 1 {
+            Some(self.cells[0].server)
         } else {
             None
-        };
-        RowCells { cells, sole }
+        }
     }
 
     /// The shares of a front in all cells together.
@@ -62,12 +65,6 @@ impl RowCells {
         ensures { result ≡ option_map (λ (cell : Cell). cell.server)
             (first_of (left_among front.fronts front.number left self.now)) }
     {
-        if left == 0 {
-            return None;
-        }
-        if self.sole.is_some() {
-            return self.sole;
-        }
         let standing = stand_with(&self.cells, left, front);
         if standing.left == 0 {
             return None;

@@ -20,8 +20,9 @@ invariant_of-result c =
     let it = c.args.instance.now in
     let shares = c.in_ok-shares.shares.items in
     let whole : take c.loop-share.share-index shares ≡ shares = take_all c.loop-share.share-index shares (omega arith) in
-    let rows : c.loop-share.rows.items ≡ shares = rw (c.deref-share-items.ensures.value, whole) at c.loop-share.invariant in
-    let lefts : c.in_ok-lefts.lefts ≡ all_sums c.args.fronts shares = rw (c.deref.ensures.value, rows) at (c.in_ok-lefts.ensures ∙ c.in_ok-sums_in.ensures) in
+    let items : c.loop-share.rows.items ≡ shares = rw (c.deref-share-items.ensures.value, whole) at c.loop-share.invariant in
+    let rows : c.in_ok-plan.plan ≡ shares = c.in_ok-plan.ensures ∙ items in
+    let lefts : c.in_ok-lefts.lefts ≡ all_sums c.args.fronts shares = rw (c.deref.ensures.value, items) at (c.in_ok-lefts.ensures ∙ c.in_ok-sums_in.ensures) in
     rw (lefts, rows) (
       all_hold it c.args.fronts shares (lefts_of c.args.fronts shares (all_sums c.args.fronts shares)) c.in_ok-shares.ensures.held (rows_first c.args.fronts shares),
       all_long c.args.fronts shares,
@@ -32,8 +33,9 @@ returns c =
     let it = c.args.instance.now in
     let shares = c.in_ok-shares.shares.items in
     let whole : take c.loop-share.share-index shares ≡ shares = take_all c.loop-share.share-index shares (omega arith) in
-    let rows : c.loop-share.rows.items ≡ shares = rw (c.deref-share-items.ensures.value, whole) at c.loop-share.invariant in
-    let lefts : c.in_ok-lefts.lefts ≡ all_sums c.args.fronts shares = rw (c.deref.ensures.value, rows) at (c.in_ok-lefts.ensures ∙ c.in_ok-sums_in.ensures) in
+    let items : c.loop-share.rows.items ≡ shares = rw (c.deref-share-items.ensures.value, whole) at c.loop-share.invariant in
+    let rows : c.in_ok-plan.plan ≡ shares = c.in_ok-plan.ensures ∙ items in
+    let lefts : c.in_ok-lefts.lefts ≡ all_sums c.args.fronts shares = rw (c.deref.ensures.value, items) at (c.in_ok-lefts.ensures ∙ c.in_ok-sums_in.ensures) in
     rw (lefts, rows)
     (all_share it (table c.args.uses.now) c.args.fronts shares (lefts_of c.args.fronts shares (all_sums c.args.fronts shares)) c.in_ok-shares.ensures.held
     c.in_ok-shares.ensures.table (rows_first c.args.fronts shares))

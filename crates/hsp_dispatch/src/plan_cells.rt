@@ -1,0 +1,78 @@
+// The cells that a plan gives all rows.
+
+ghost use Rattle.std.specs.Prelude.{◌≡◌, ◌<◌, IfOk, length, option_map, slice_get};
+ghost use Rattle.hsp_dispatch.specs.Shares.{cells_in, first_of, left_at};
+ghost use Rattle.hsp_dispatch.specs.Standings.{left_among};
+ghost use Rattle.hsp_dispatch.specs.declared.share.Cell.{Cell};
+
+use crate::front_share::Front;
+use crate::row_cells::RowCells;
+use std::alloc::{AllocError, Global};
+use std::marker::Model;
+
+/// The cells that a plan gives each row. The server of each row that has one cell alone stands in a list of its own, eight octets a
+/// row, so that most queries read no cell.
+#[derive(Debug, Drop)]
+pub(crate) struct PlanCells {
+    rows: Vec<RowCells>,
+    soles: Vec<Option<u32>>,
+}
+
+impl Model for PlanCells {
+    ghost use Rattle.std.specs.Prelude.{List};
+    ghost use Rattle.hsp_dispatch.specs.Standings.{AreSoles};
+    ghost use Rattle.hsp_dispatch.specs.declared.share.Cell.{Cell};
+
+    ghost Value = { List (List Cell) };
+
+    ghost view = { λ plan. plan.rows.items };
+
+    ghost invariant = { λ plan. AreSoles plan.soles.items plan.rows.items };
+}
+
+impl PlanCells {
+    /// The cells of rows.
+    pub(crate) fn of(alloc: Global, rows: Vec<RowCells>) -> Result<PlanCells, AllocError>
+        ensures { IfOk result (λ plan. plan ≡ rows.items) }
+    {
+        let mut soles = Vec::with_capacity(alloc, rows.len())?;
+        for row in &rows {
+            soles.push(row.sole())?;
+        }
+        Ok(PlanCells { rows, soles })
+    }
+
+    /// The number of the server to which a front's next query for a row goes where it has so many left, at the first site where it
+    /// has something left; None where nothing is left.
+    pub(crate) fn server(&self, row: u32, left: u32, front: Front) -> Option<u32>
+        requires some { 0 < front.fronts }
+        requires row { row < length self.now }
+        ensures { result ≡ option_map (λ (cell : Cell). cell.server)
+            (first_of (left_among front.fronts front.number left (cells_in (slice_get self.now row)))) }
+    {
+        if left == 0 {
+            return None;
+        }
+        if let Some(server) = self.soles[row as usize] {
+            return Some(server);
+        }
+        self.rows[row as usize].server(left, front)
+    }
+
+    /// What a front has left of a row at a site where it has so many left in all.
+    pub(crate) fn left(&self, row: u32, left: u32, site: u32, front: Front) -> u32
+        requires some { 0 < front.fronts }
+        requires row { row < length self.now }
+        ensures { result ≡
+            left_at (left_among front.fronts front.number left (cells_in (slice_get self.now row))) site }
+    {
+        self.rows[row as usize].left(left, site, front)
+    }
+
+    /// How many rows there are.
+    pub(crate) fn len(&self) -> usize
+        ensures { result ≡ length self.now }
+    {
+        self.rows.len()
+    }
+}
