@@ -80,6 +80,27 @@ pub record MayBeOffered (held : ℕ → Option ℕ) (t : SearchTree) (o : Offer)
   pub free : distance t o.to ≡ top → held o.to ≡ None
   pub waits : o.key < distance t o.to → distance t o.to < top → held o.to ≡ Some (distance t o.to)
 
+-- the source `root` lacks something, and a search from it didn't come to the sink
+pub record Stuck (n : Links) (f : Flow) (t : SearchTree) (root : ℕ) : Type 0 where
+  pub many : length t.key.now ≡ nodes n
+  pub closed : Closed n f t root
+  pub unmet : 0 < slice_index f.unmet.now root
+
+-- some source is so
+pub record HasStuckSource (n : Links) (f : Flow) (t : SearchTree) : Type 0 where
+  pub root : ℕ
+  pub from : n.first ≤ root
+  pub inside : root < nodes n
+  pub stuck : Stuck n f t root
+
+-- no source lacks anything
+abbrev pub AreAllMet : Links → Flow → Type 0
+AreAllMet n f = (v : ℕ) → n.first ≤ v → v < nodes n → slice_index f.unmet.now v ≡ 0
+
+-- what the other sources lack is as before
+abbrev pub LeavesOthers : Flow → Flow → ℕ → Type 0
+LeavesOthers f f' root = (v : ℕ) → v ≢ root → slice_index f'.unmet.now v ≡ slice_index f.unmet.now v
+
 -- the node takes the way that it was offered
 pub record TakesWay (held held' : ℕ → Option ℕ) (t t' : SearchTree) (o : Offer) : Type 0 where
   pub frontier : Changes held held' o.to (Some o.key)

@@ -2,9 +2,9 @@ ghost use Rattle.std.specs.Prelude.{◌≡◌, ℕ, ◌+◌, ◌-◌, ◌<◌, �
 ghost use Rattle.hsp_simplex.specs.Answer.{IsMet, IsShortSet};
 ghost use Rattle.hsp_flow.specs.Layout.{IsSmall};
 ghost use Rattle.hsp_simplex.specs.Problem.{problem_of};
-ghost use Rattle.hsp_flow.specs.Problem.{IsLeastBound, IsLinksOf};
+ghost use Rattle.hsp_flow.specs.Problem.{IsLinksOf};
 ghost use Rattle.hsp_flow.specs.Residual.{nodes, prices};
-ghost use Rattle.hsp_flow.specs.Search.{Closed, Ready};
+ghost use Rattle.hsp_flow.specs.Search.{AreAllMet, HasStuckSource, Ready};
 
 use crate::links::{Flow, Links, SearchTree};
 use hsp_simplex::{Network, PricedFlow};
@@ -57,10 +57,8 @@ pub fn priced_flow(
 ) -> Result<PricedFlow, AllocError>
     requires links_of { IsLinksOf network.now links.now }
     requires small { IsSmall (problem_of network.now) }
-    requires least { IsLeastBound network.now links.now.most }
     requires ready { Ready links.now flow.now }
-    requires met { (v : ℕ) → links.now.first ≤ v → v < nodes links.now → slice_index flow.now.unmet.now v ≡ 0 }
-    requires first { links.now.first ≡ 1 + length network.now.limits.now + length network.now.capacities.now }
+    requires met { AreAllMet links.now flow.now }
     ensures { IfOk result (λ plan. IsMet (problem_of network.now) plan) }
 {
     let hosts = network.limits.len();
@@ -80,17 +78,11 @@ pub fn short_set(
     links: &Links,
     flow: &Flow,
     tree: &SearchTree,
-    root: u32,
 ) -> Result<Vec<bool>, AllocError>
     requires links_of { IsLinksOf network.now links.now }
     requires small { IsSmall (problem_of network.now) }
     requires ready { Ready links.now flow.now }
-    requires first { links.now.first ≡ 1 + length network.now.limits.now + length network.now.capacities.now }
-    requires closed { Closed links.now flow.now tree.now root }
-    requires many { length tree.now.key.now ≡ nodes links.now }
-    requires from { links.now.first ≤ root }
-    requires root_in { root < nodes links.now }
-    requires unmet { 0 < slice_index flow.now.unmet.now root }
+    requires stuck { HasStuckSource links.now flow.now tree.now }
     ensures { IfOk result (λ set. IsShortSet (problem_of network.now) set.items) }
 {
     let mut reached = Vec::new(alloc);

@@ -3,7 +3,7 @@ ghost use Rattle.hsp_simplex.specs.Answer.{Answers};
 ghost use Rattle.hsp_flow.specs.Layout.{IsSmall, LinksOf};
 ghost use Rattle.hsp_flow.specs.Nodes.{MayHaveUpTo, nodes_of};
 ghost use Rattle.hsp_simplex.specs.Problem.{problem_of};
-ghost use Rattle.hsp_flow.specs.Problem.{IsLeastBound, IsLinksOf};
+ghost use Rattle.hsp_flow.specs.Problem.{IsLinksOf};
 ghost use Rattle.hsp_flow.specs.Residual.{nodes};
 ghost use Rattle.hsp_flow.specs.Search.{Ready};
 
@@ -28,8 +28,6 @@ fn solve_from<F: Frontier>(
 ) -> Result<Outcome, AllocError>
     requires links_of { IsLinksOf network.now links.now }
     requires small { IsSmall (problem_of network.now) }
-    requires least { IsLeastBound network.now links.now.most }
-    requires first { links.now.first ≡ 1 + length network.now.limits.now + length network.now.capacities.now }
     requires ready { Ready links.now flow.old }
     requires nodes { MayHaveUpTo F.may_have (nodes links.now) }
     ensures { IfOk result (Answers (problem_of network.now)) }
@@ -50,19 +48,13 @@ fn solve_from<F: Frontier>(
         effort: *effort,
     };
     let mut frontier = F::with_nodes(alloc, nodes as u32)?;
-    let unmet = meet_all(&mut frontier, links, flow, &mut progress)?;
+    let met = meet_all(&mut frontier, links, flow, &mut progress)?;
     *effort = progress.effort;
-    match unmet {
-        None => Ok(Outcome::Met(priced_flow(alloc, network, links, flow)?)),
-        Some(root) => Ok(Outcome::Short(short_set(
-            alloc,
-            network,
-            links,
-            flow,
-            &progress.tree,
-            root,
-        )?)),
+    if met {
+        return Ok(Outcome::Met(priced_flow(alloc, network, links, flow)?));
     }
+    let set = short_set(alloc, network, links, flow, &progress.tree)?;
+    Ok(Outcome::Short(set))
 }
 
 /// Runs the solver over a network's links, from no flow.
@@ -74,8 +66,6 @@ fn solve_from_none<F: Frontier>(
 ) -> Result<Outcome, AllocError>
     requires links_of { IsLinksOf network.now links.now }
     requires small { IsSmall (problem_of network.now) }
-    requires least { IsLeastBound network.now links.now.most }
-    requires first { links.now.first ≡ 1 + length network.now.limits.now + length network.now.capacities.now }
     requires nodes { MayHaveUpTo F.may_have (nodes links.now) }
     ensures { IfOk result (Answers (problem_of network.now)) }
 {
