@@ -3,7 +3,7 @@ use Rattle.std.proofs.Common.{◌≡◌, ◌≢◌, ℕ, ◌+◌, ◌-◌, ◌<�
 use Rattle.std.proofs.lemmas.Bool.{cases_eq}
 use Rattle.hsp_simplex.specs.Sums.{only}
 use Rattle.hsp_flow.specs.Sums.{through}
-use Rattle.hsp_flow.specs.Residual.{IsTree, Sends, Sound, TreeArc, Walk, gives, nodes, predecessor, takes, to, way, width}
+use Rattle.hsp_flow.specs.Residual.{IsBalanced, IsTree, Sends, Sound, TreeArc, Walk, gives, nodes, predecessor, takes, to, way, width}
 use Rattle.hsp_flow.specs.declared.links.Links.{Links}
 use Rattle.hsp_flow.specs.declared.links.Flow.{Flow}
 use Rattle.hsp_flow.specs.declared.links.SearchTree.{SearchTree}
@@ -11,11 +11,14 @@ use Rattle.hsp_flow.proofs.Sums.{through_more, through_less}
 use Rattle.hsp_flow.proofs.Directions.{from_in}
 
 module _ (n : Links) (f f' : Flow) (k much : ℕ) (lf : k < length f.flows.now) (lr : k < length f.room.now)
-    (price : f'.price.now ≡ f.price.now) (unmet : f'.unmet.now ≡ f.unmet.now) where
+    (balanced : IsBalanced n f k) (price : f'.price.now ≡ f.price.now) (unmet : f'.unmet.now ≡ f.unmet.now) where
   -- along the link
-  pub sent_along : much ≤ slice_index f.room.now k → f'.flows.now ≡ set f.flows.now k (slice_index f.flows.now k + much) →
-      f'.room.now ≡ set f.room.now k (slice_index f.room.now k - much) → Sends n f f' k true much
-  sent_along fits flows room =
+  pub sent_along : much ≤ slice_index f.room.now k → f'.room.now ≡ set f.room.now k (slice_index f.room.now k - much) →
+      f'.flows.now ≡ set f.flows.now k (slice_index n.capacities.now k - slice_index f'.room.now k) → Sends n f f' k true much
+  sent_along fits room left =
+      let sum : slice_index n.capacities.now k - slice_index f'.room.now k ≡ slice_index f.flows.now k + much =
+      let b : slice_index f'.room.now k ≡ slice_index f.room.now k - much = rw room (get_or-set_same f.room.now k _ 0 lr) in omega arith in
+      let flows : f'.flows.now ≡ set f.flows.now k (slice_index f.flows.now k + much) = left ∙ ap (λ x. set f.flows.now k x) sum in
       let a : slice_index f'.flows.now k ≡ slice_index f.flows.now k + much = rw flows (get_or-set_same f.flows.now k _ 0 lf) in
       let b : slice_index f'.room.now k ≡ slice_index f.room.now k - much = rw room (get_or-set_same f.room.now k _ 0 lr) in
       let t : (v : ℕ) → through n.tails.now f'.flows.now v ≡ through n.tails.now f.flows.now v + only (slice_index n.tails.now k) v much =
@@ -36,8 +39,11 @@ module _ (n : Links) (f f' : Flow) (k much : ℕ) (lf : k < length f.flows.now) 
 
   -- against it
   pub sent_back : much ≤ slice_index f.flows.now k → f'.flows.now ≡ set f.flows.now k (slice_index f.flows.now k - much) →
-      f'.room.now ≡ set f.room.now k (slice_index f.room.now k + much) → Sends n f f' k false much
-  sent_back fits flows room =
+      f'.room.now ≡ set f.room.now k (slice_index n.capacities.now k - slice_index f'.flows.now k) → Sends n f f' k false much
+  sent_back fits flows left =
+      let sum : slice_index n.capacities.now k - slice_index f'.flows.now k ≡ slice_index f.room.now k + much =
+      let b : slice_index f'.flows.now k ≡ slice_index f.flows.now k - much = rw flows (get_or-set_same f.flows.now k _ 0 lf) in omega arith in
+      let room : f'.room.now ≡ set f.room.now k (slice_index f.room.now k + much) = left ∙ ap (λ x. set f.room.now k x) sum in
       let a : slice_index f'.flows.now k ≡ slice_index f.flows.now k - much = rw flows (get_or-set_same f.flows.now k _ 0 lf) in
       let b : slice_index f'.room.now k ≡ slice_index f.room.now k + much = rw room (get_or-set_same f.room.now k _ 0 lr) in
       let t : (v : ℕ) → through n.tails.now f'.flows.now v + only (slice_index n.tails.now k) v much ≡ through n.tails.now f.flows.now v =

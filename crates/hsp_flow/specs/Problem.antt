@@ -3,6 +3,7 @@ use Rattle.std.specs.Prelude.{◌≡◌, ℕ, ◌≤◌}
 use Rattle.hsp_simplex.specs.Answer.{BoundsCosts}
 use Rattle.hsp_flow.specs.Layout.{LinksOf, first_of}
 use Rattle.hsp_flow.specs.declared.links.Links.{Links}
+use Rattle.hsp_flow.specs.declared.links.LinkLists.{LinkLists}
 use Rattle.hsp_simplex.specs.Problem.{problem_of}
 use Rattle.hsp_simplex.specs.declared.network.Network.{Network}
 
@@ -15,3 +16,7 @@ pub record IsLinksOf (network : Network) (n : Links) : Type 0 where
   pub lists : LinksOf (problem_of network) n.tails.now n.heads.now n.costs.now n.capacities.now n.supplies.now
   pub first : n.first ≡ first_of (problem_of network)
   pub least : IsLeastBound network n.most
+
+-- the lists are those of the network's links
+abbrev pub AreLinksOf : Network → LinkLists → Type 0
+AreLinksOf network l = LinksOf (problem_of network) l.tails.now l.heads.now l.costs.now l.capacities.now l.supplies.now

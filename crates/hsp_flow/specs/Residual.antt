@@ -48,13 +48,17 @@ takes n price k false = price (slice_index n.tails.now k)
 abbrev pub AreOptimal : Links → Flow → (ℕ → ℕ) → Type 0
 AreOptimal n f price = (k : ℕ) (d : Bool) → k < length n.tails.now → 0 < width f k d → gives n price k d ≤ takes n price k d
 
+-- what flows on a link and what room it has left are its capacity
+abbrev pub IsBalanced : Links → Flow → ℕ → Type 0
+IsBalanced n f k = slice_index f.flows.now k + slice_index f.room.now k ≡ slice_index n.capacities.now k
+
 -- a flow within the capacities that is conserved at each node but the sink, with prices at which no residual arc has a
 -- negative reduced cost
 pub record Sound (n : Links) (f : Flow) (price : ℕ → ℕ) : Type 0 where
   pub flows_many : length f.flows.now ≡ length n.tails.now
   pub room_many : length f.room.now ≡ length n.tails.now
   pub unmet_many : length f.unmet.now ≡ nodes n
-  pub balanced : (k : ℕ) → k < length n.tails.now → slice_index f.flows.now k + slice_index f.room.now k ≡ slice_index n.capacities.now k
+  pub balanced : (k : ℕ) → k < length n.tails.now → IsBalanced n f k
   pub conserved : (v : ℕ) → v < nodes n → v ≢ 0 →
       through n.tails.now f.flows.now v + slice_index f.unmet.now v ≡ through n.heads.now f.flows.now v + slice_index n.supplies.now v
   pub within : (v : ℕ) → v < nodes n → slice_index f.unmet.now v ≤ slice_index n.supplies.now v
@@ -104,7 +108,7 @@ pub record Walk (n : Links) (f : Flow) (t : SearchTree) (price : ℕ → ℕ) (r
   pub at_in : at < nodes n
   pub near : distance t at ≤ distance t 0
   pub ready : much ≤ slice_index t.amount.now at
-  pub balanced : (k : ℕ) → k < length n.tails.now → slice_index f.flows.now k + slice_index f.room.now k ≡ slice_index n.capacities.now k
+  pub balanced : (k : ℕ) → k < length n.tails.now → IsBalanced n f k
   pub pending : (v : ℕ) → v < nodes n → v ≢ 0 →
       through n.tails.now f.flows.now v + slice_index f.unmet.now v + only root v much
       ≡ through n.heads.now f.flows.now v + slice_index n.supplies.now v + only at v much

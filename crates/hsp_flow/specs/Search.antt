@@ -1,5 +1,5 @@
 -- A search for the sink by Dijkstra's algorithm over reduced costs (Network Flows, sections 4.5 and 9.7), in the middle of its work.
-use Rattle.std.specs.Prelude.{◌≡◌, ◌≢◌, ℕ, ◌+◌, ◌*◌, ◌<◌, ◌≤◌, ◌&&◌, Bool, length, slice_index, slice_set, Option, Some, None, is_none, nat_lt, if◌then◌else◌}
+use Rattle.std.specs.Prelude.{◌≡◌, ◌≢◌, ℕ, ◌+◌, ◌*◌, ◌<◌, ◌≤◌, ◌&&◌, Bool, length, slice_index, slice_set, Option, Some, None, is_none, min, nat_lt, if◌then◌else◌}
 use Rattle.hsp_simplex.specs.Sums.{sum_below}
 use Rattle.hsp_flow.specs.Frontier.{Changes}
 use Rattle.hsp_flow.specs.Residual.{AreRelaxed, IsOnPath, Sound, distance, from, gives, nodes, predecessor, prices, takes, to, way, width}
@@ -68,6 +68,14 @@ pub record Closed (n : Links) (f : Flow) (t : SearchTree) (root : ℕ) : Type 0 
   pub root_in : distance t root < top
   pub sink_out : top ≤ distance t 0
   pub out : (k : ℕ) (d : Bool) → k < length n.tails.now → 0 < width f k d → distance t (from n k d) < top → distance t (to n k d) < top
+
+-- the offer of the way over a residual arc that leaves the node that is settled
+pub record IsWay (n : Links) (f : Flow) (t : SearchTree) (at : Visit) (k : ℕ) (d : Bool) (o : Offer) : Type 0 where
+  pub over : o.link ≡ k
+  pub start : o.from ≡ at.node
+  pub enters : o.to ≡ to n k d
+  pub exact : o.key + gives n (prices f) k d ≡ at.near + takes n (prices f) k d
+  pub amount : o.much ≡ min (slice_index t.amount.now at.node) (width f k d)
 
 -- what a search knows of the node that is offered a way lets it take it: it waits, unless it was not reached or is no farther
 pub record MayBeOffered (held : ℕ → Option ℕ) (t : SearchTree) (o : Offer) : Type 0 where
@@ -174,19 +182,8 @@ pub record Spread (n : Links) (f : Flow) (t : SearchTree) (root turn : ℕ) : Ty
   pub within : up + down ≤ turn * n.most
   pub priced : Priced n f t root up down
 
--- a way over a link from the node that is settled lets prices and distances lie farther apart by its cost the one way, a way
--- back over one the other way
-abbrev pub WidensOver : Links → Flow → SearchTree → SearchTree → Visit → ℕ → Type 0
-WidensOver n f t t' at link = (more up down : ℕ) → slice_index n.costs.now link ≤ more →
-    at.near + prices f at.root ≤ prices f at.node + up → prices f at.node ≤ at.near + prices f at.root + down →
-    Priced n f t at.root (up + more) down → Priced n f t' at.root (up + more) down
-
-abbrev pub WidensBack : Links → Flow → SearchTree → SearchTree → Visit → ℕ → Type 0
-WidensBack n f t t' at link = (more up down : ℕ) → slice_index n.costs.now link ≤ more →
-    at.near + prices f at.root ≤ prices f at.node + up → prices f at.node ≤ at.near + prices f at.root + down →
-    Priced n f t at.root up (down + more) → Priced n f t' at.root up (down + more)
-
--- the same of all links that leave the node that is settled, and of all that enter it
+-- ways over the links that leave the node that is settled let prices and distances lie farther apart by their greatest cost the one
+-- way, ways back over those that enter it the other way
 abbrev pub WidensOut : Links → Flow → SearchTree → SearchTree → Visit → Type 0
 WidensOut n f t t' at = (cost up down : ℕ) →
     ((k : ℕ) → k < length n.tails.now → slice_index n.tails.now k ≡ at.node → slice_index n.costs.now k ≤ cost) →

@@ -26,7 +26,17 @@ pub struct Links<'a> {
     pub ghost graph: { Graph (length supplies.now) tails.now heads.now costs.now capacities.now supplies.now },
     pub ghost by_tail: { AreRuns (length supplies.now) tails.now starts.now },
     pub ghost by_head: { ByHead (length supplies.now) heads.now lasts.now before.now },
-    pub ghost scale: { Scale first (length supplies.now) tails.now heads.now costs.now capacities.now most limit step },
+    pub ghost scale: { Scale first (length supplies.now) tails.now heads.now costs.now most limit step },
+}
+
+/// The lists of a network's links: an entry of `supplies` for each node, of the others for each link.
+#[derive(Clone, Copy)]
+pub struct LinkLists<'a> {
+    pub tails: &'a [u32],
+    pub heads: &'a [u32],
+    pub costs: &'a [u64],
+    pub capacities: &'a [u64],
+    pub supplies: &'a [u64],
 }
 
 /// A flow with its prices: what flows on each link and what room is left, the price of each node, and what of its supply

@@ -1,5 +1,5 @@
 ghost use Rattle.std.specs.Prelude.{◌≡◌, ℕ, ◌+◌, ◌<◌, ◌≤◌, true, false, length, slice_index};
-ghost use Rattle.hsp_flow.specs.Residual.{Sends};
+ghost use Rattle.hsp_flow.specs.Residual.{IsBalanced, Sends};
 
 use crate::links::{Flow, Links};
 
@@ -8,12 +8,12 @@ pub fn send_along(links: &Links, flow: &mut Flow, link: usize, much: u64)
     requires link_in { link < length links.now.tails.now }
     requires flows_many { length flow.old.flows.now ≡ length links.now.tails.now }
     requires room_many { length flow.old.room.now ≡ length links.now.tails.now }
-    requires fits { slice_index flow.old.flows.now link + slice_index flow.old.room.now link ≤ u64.MAX }
+    requires balanced { IsBalanced links.now flow.old link }
     requires room { much ≤ slice_index flow.old.room.now link }
     ensures { Sends links.now flow.old flow.new link true much }
 {
-    flow.flows[link] += much;
     flow.room[link] -= much;
+    flow.flows[link] = links.capacities[link] - flow.room[link];
 }
 
 /// Takes `much` back from a link.
@@ -21,10 +21,10 @@ pub fn take_back(links: &Links, flow: &mut Flow, link: usize, much: u64)
     requires link_in { link < length links.now.tails.now }
     requires flows_many { length flow.old.flows.now ≡ length links.now.tails.now }
     requires room_many { length flow.old.room.now ≡ length links.now.tails.now }
-    requires fits { slice_index flow.old.flows.now link + slice_index flow.old.room.now link ≤ u64.MAX }
+    requires balanced { IsBalanced links.now flow.old link }
     requires held { much ≤ slice_index flow.old.flows.now link }
     ensures { Sends links.now flow.old flow.new link false much }
 {
     flow.flows[link] -= much;
-    flow.room[link] += much;
+    flow.room[link] = links.capacities[link] - flow.flows[link];
 }
