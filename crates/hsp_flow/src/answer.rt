@@ -10,7 +10,7 @@ use crate::links::{Flow, Links, SearchTree};
 use hsp_simplex::{Network, PricedFlow};
 use std::alloc::{AllocError, Global};
 
-/// By how much the price at the tail of each link from `start` up to `end` is above that at its head.
+/// By how amount the price at the tail of each link from `start` up to `end` is above that at its head.
 pub fn link_prices(
     alloc: Global,
     links: &Links,
@@ -22,7 +22,10 @@ pub fn link_prices(
     requires end_in { end ≤ length links.now.tails.now }
     requires many { length price.now ≡ nodes links.now }
     ensures many { IfOk result (λ prices. length prices.items ≡ end - start) }
-    ensures each { IfOk result (λ prices. (j : ℕ) → j < end - start → slice_index prices.items j ≡ slice_index price.now (slice_index links.now.tails.now (start + j)) - slice_index price.now (slice_index links.now.heads.now (start + j))) }
+    ensures each { IfOk result (λ prices.
+        (j : ℕ) → j < end - start → slice_index prices.items j
+        ≡ slice_index price.now (slice_index links.now.tails.now (start + j)) - slice_index
+        price.now (slice_index links.now.heads.now (start + j))) }
 {
     let mut prices = Vec::new(alloc);
     for link in start..end {
@@ -43,7 +46,8 @@ pub fn copy_range(
     requires rising { start ≤ end }
     requires end_in { end ≤ length numbers.now }
     ensures many { IfOk result (λ copy. length copy.items ≡ end - start) }
-    ensures each { IfOk result (λ copy. (k : ℕ) → k < end - start → slice_index copy.items k ≡ slice_index numbers.now (start + k)) }
+    ensures each { IfOk result (λ copy. (k : ℕ) → k < end - start → slice_index copy.items k
+        ≡ slice_index numbers.now (start + k)) }
 {
     numbers[start..end].to_vec(alloc)
 }
@@ -86,8 +90,8 @@ pub fn short_set(
     ensures { IfOk result (λ set. IsShortSet (problem_of network.now) set.items) }
 {
     let mut reached = Vec::new(alloc);
-    for node in links.first as usize..tree.key.len() {
-        reached.push(tree.key[node] < u64::MAX)?;
+    for node in links.first as usize..tree.distance.len() {
+        reached.push(tree.distance[node] < u64::MAX)?;
     }
     Ok(reached)
 }

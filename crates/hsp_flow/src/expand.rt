@@ -14,7 +14,7 @@ fn offer_along(links: &Links, flow: &Flow, tree: &SearchTree, at: Visit, link: u
     requires link_in { link < length links.now.tails.now }
     requires leaves { slice_index links.now.tails.now link ≡ at.node }
     requires wide { 0 < slice_index flow.now.room.now link }
-    requires far { at.near + links.now.step < u64.MAX }
+    requires far { at.distance + links.now.step < u64.MAX }
     ensures { IsWay links.now flow.now tree.now at link true result }
 {
     let node = at.node as usize;
@@ -23,8 +23,8 @@ fn offer_along(links: &Links, flow: &Flow, tree: &SearchTree, at: Visit, link: u
         link,
         from: at.node,
         to,
-        key: at.near + (links.costs[link] + flow.price[to as usize] - flow.price[node]),
-        much: tree.amount[node].min(flow.room[link]),
+        distance: at.distance + (links.costs[link] + flow.price[to as usize] - flow.price[node]),
+        amount: tree.amount[node].min(flow.room[link]),
     }
 }
 
@@ -35,7 +35,7 @@ fn offer_back(links: &Links, flow: &Flow, tree: &SearchTree, at: Visit, link: us
     requires link_in { link < length links.now.tails.now }
     requires enters { slice_index links.now.heads.now link ≡ at.node }
     requires wide { 0 < slice_index flow.now.flows.now link }
-    requires far { at.near + links.now.step < u64.MAX }
+    requires far { at.distance + links.now.step < u64.MAX }
     ensures { IsWay links.now flow.now tree.now at link false result }
 {
     let node = at.node as usize;
@@ -44,8 +44,8 @@ fn offer_back(links: &Links, flow: &Flow, tree: &SearchTree, at: Visit, link: us
         link,
         from: at.node,
         to,
-        key: at.near + (flow.price[to as usize] - (links.costs[link] + flow.price[node])),
-        much: tree.amount[node].min(flow.flows[link]),
+        distance: at.distance + (flow.price[to as usize] - (links.costs[link] + flow.price[node])),
+        amount: tree.amount[node].min(flow.flows[link]),
     }
 }
 
@@ -59,10 +59,11 @@ pub fn expand_out<F: Frontier>(
 ) -> Result<(), AllocError>
     requires ready { Ready links.now flow.now }
     requires expanding { Expanding links.now flow.now tree.old (F.held frontier.old) at (λ _ _. ⊥) }
-    requires far { at.near + links.now.step < u64.MAX }
+    requires far { at.distance + links.now.step < u64.MAX }
     requires turns { at.turn + 1 < u64.MAX }
     requires count { nodes links.now ≤ F.node_count frontier.old }
-    ensures ok { OnOk result (Expanding links.now flow.now tree.new (F.held frontier.new) at (λ _ d. d ≡ true)) }
+    ensures ok { OnOk result (Expanding links.now flow.now tree.new (F.held frontier.new) at
+        (λ _ d. d ≡ true)) }
     ensures priced { OnOk result (WidensOut links.now flow.now tree.old tree.new at) }
     ensures count { F.node_count frontier.new ≡ F.node_count frontier.old }
 {
@@ -85,11 +86,13 @@ pub fn expand_in<F: Frontier>(
     at: Visit,
 ) -> Result<(), AllocError>
     requires ready { Ready links.now flow.now }
-    requires expanding { Expanding links.now flow.now tree.old (F.held frontier.old) at (λ _ d. d ≡ true) }
-    requires far { at.near + links.now.step < u64.MAX }
+    requires expanding { Expanding links.now flow.now tree.old (F.held frontier.old) at
+        (λ _ d. d ≡ true) }
+    requires far { at.distance + links.now.step < u64.MAX }
     requires turns { at.turn + 1 < u64.MAX }
     requires count { nodes links.now ≤ F.node_count frontier.old }
-    ensures ok { OnOk result (Expanding links.now flow.now tree.new (F.held frontier.new) at (λ _ _. Unit {0})) }
+    ensures ok { OnOk result (Expanding links.now flow.now tree.new (F.held frontier.new) at
+        (λ _ _. Unit {0})) }
     ensures priced { OnOk result (WidensIn links.now flow.now tree.old tree.new at) }
     ensures count { F.node_count frontier.new ≡ F.node_count frontier.old }
 {

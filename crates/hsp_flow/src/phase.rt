@@ -25,18 +25,20 @@ pub fn meet_some<F: Frontier>(
     requires count { nodes links.now ≤ F.node_count frontier.old }
     ensures ready { OnOk result (Ready links.now flow.new) }
     ensures blank { IfOk result (λ yes. IsTrue yes → Blank links.now progress.new.tree) }
-    ensures less { IfOk result (λ yes. IsTrue yes → slice_index flow.new.unmet.now root < slice_index flow.old.unmet.now root) }
+    ensures less { IfOk result (λ yes. IsTrue yes → slice_index flow.new.unmet.now root
+        < slice_index flow.old.unmet.now root) }
     ensures others { OnOk result (LeavesOthers flow.old flow.new root) }
-    ensures stuck { IfOk result (λ yes. yes ≡ false → Stuck links.now flow.new progress.new.tree root) }
+    ensures stuck { IfOk result (λ yes. yes ≡ false
+        → Stuck links.now flow.new progress.new.tree root) }
     ensures count { F.node_count frontier.new ≡ F.node_count frontier.old }
 {
     if !search(frontier, links, flow, progress, root)? {
         return Ok(false);
     }
-    let reach = progress.tree.key[0];
-    let much = progress.tree.amount[0];
-    augment(links, flow, &progress.tree, root, much);
-    raise(flow.price, progress.tree.key, reach);
+    let reach = progress.tree.distance[0];
+    let amount = progress.tree.amount[0];
+    augment(links, flow, &progress.tree, root, amount);
+    raise(flow.price, progress.tree.distance, reach);
     progress.effort.augmentations = progress.effort.augmentations.saturating_add(1);
     Ok(true)
 }
@@ -58,7 +60,8 @@ pub fn meet_source<F: Frontier>(
     ensures blank { IfOk result (λ yes. IsTrue yes → Blank links.now progress.new.tree) }
     ensures met { IfOk result (λ yes. IsTrue yes → slice_index flow.new.unmet.now root ≡ 0) }
     ensures others { OnOk result (LeavesOthers flow.old flow.new root) }
-    ensures stuck { IfOk result (λ yes. yes ≡ false → Stuck links.now flow.new progress.new.tree root) }
+    ensures stuck { IfOk result (λ yes. yes ≡ false
+        → Stuck links.now flow.new progress.new.tree root) }
     ensures count { F.node_count frontier.new ≡ F.node_count frontier.old }
 {
     while flow.unmet[root as usize] > 0 {
@@ -83,7 +86,8 @@ pub fn meet_all<F: Frontier>(
     requires count { nodes links.now ≤ F.node_count frontier.old }
     ensures ready { OnOk result (Ready links.now flow.new) }
     ensures met { IfOk result (λ met. IsTrue met → AreAllMet links.now flow.new) }
-    ensures stuck { IfOk result (λ met. met ≡ false → HasStuckSource links.now flow.new progress.new.tree) }
+    ensures stuck { IfOk result (λ met. met ≡ false
+        → HasStuckSource links.now flow.new progress.new.tree) }
 {
     for root in links.first..links.supplies.len() as u32 {
         if !meet_source(frontier, links, flow, progress, root)? {

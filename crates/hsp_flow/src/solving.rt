@@ -33,13 +33,13 @@ fn solve_from<F: Frontier>(
     ensures { IfOk result (Answers (problem_of network.now)) }
 {
     let nodes = links.supplies.len();
-    let mut key = vec![in alloc; u64::MAX; nodes]?;
-    let mut via = vec![in alloc; 0; nodes]?;
+    let mut distance = vec![in alloc; u64::MAX; nodes]?;
+    let mut predecessor = vec![in alloc; 0; nodes]?;
     let mut amount = vec![in alloc; 0; nodes]?;
     let mut depth = vec![in alloc; 0; nodes]?;
     let tree = SearchTree {
-        key: &mut key,
-        via: &mut via,
+        distance: &mut distance,
+        predecessor: &mut predecessor,
         amount: &mut amount,
         depth: &mut depth,
     };

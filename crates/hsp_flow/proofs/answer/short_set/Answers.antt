@@ -8,11 +8,11 @@ pub returns : goal.returns
 returns c =
     let links = c.requires.links_of.lists in
     let nodes = links.supplies.many in
-    let done : c.loop-node.node ≡ length c.args.tree.now.key.now = omega (arith, c.loop-node-test.false, c.loop-node.auto.node-end, c.requires.stuck.stuck.many, c.requires.links_of.first) in
+    let done : c.loop-node.node ≡ length c.args.tree.now.distance.now = omega (arith, c.loop-node-test.false, c.loop-node.auto.node-end, c.requires.stuck.stuck.many, c.requires.links_of.first) in
     let set-is : (i : ℕ) → i < length c.args.network.now.demands.now →
-    slice_index_or c.loop-node.reached.items i false ≡ nat_lt (slice_index c.args.tree.now.key.now (first_of (problem_of c.args.network.now) + i)) 18446744073709551615 = λ i l.
+    slice_index_or c.loop-node.reached.items i false ≡ nat_lt (slice_index c.args.tree.now.distance.now (first_of (problem_of c.args.network.now) + i)) 18446744073709551615 = λ i l.
     c.loop-node.invariant.1 i (omega (arith, c.requires.stuck.stuck.many, c.requires.links_of.first))
-    ∙ ap (λ n. nat_lt (slice_index c.args.tree.now.key.now (n + i)) 18446744073709551615) c.requires.links_of.first in
+    ∙ ap (λ n. nat_lt (slice_index c.args.tree.now.distance.now (n + i)) 18446744073709551615) c.requires.links_of.first in
     record {
       many = omega (arith, c.loop-node.invariant.0, c.requires.stuck.stuck.many, c.requires.links_of.first);
       short = is_short (problem_of c.args.network.now) c.args.network.now.ends c.requires.small _ _ links c.requires.ready.sound
