@@ -18,13 +18,13 @@ module _ (n : Links) (f : Flow) (t : SearchTree) (root : ℕ) (sound : Sound n f
 
   pub tree_by : IsTree n f t root (raised f t)
   tree_by = record {
-    via_many = found.search.covers.via_many;
+    predecessors_many = found.search.covers.predecessors_many;
     arc = λ v l nr q.
         let near : distance t v < top = omega (arith, found.sink_near) in
         let it = found.search.reached v l nr near in
-        let wide : 0 < width f (slice_index t.via.now v) (way n t v) = omega (arith, found.search.some v l near, it.path.fits) in
-        let paid = sound.paid (slice_index t.via.now v) (way n t v) it.path.link wide in
-        let end-key : distance t (to n (slice_index t.via.now v) (way n t v)) ≡ distance t v = ap (λ m. slice_index t.key.now m) it.path.end in
+        let wide : 0 < width f (slice_index t.predecessor.now v) (way n t v) = omega (arith, found.search.some v l near, it.path.fits) in
+        let paid = sound.paid (slice_index t.predecessor.now v) (way n t v) it.path.link wide in
+        let end-distance : distance t (to n (slice_index t.predecessor.now v) (way n t v)) ≡ distance t v = ap (λ m. slice_index t.distance.now m) it.path.end in
         let sooner : distance t (predecessor n t v (way n t v)) ≤ distance t v = omega (arith, it.exact) in
         record {
           path = it.path;
@@ -32,8 +32,8 @@ module _ (n : Links) (f : Flow) (t : SearchTree) (root : ℕ) (sound : Sound n f
           tight = omega (
             arith,
             it.exact,
-            gives_raised n f t (slice_index t.via.now v) (way n t v),
-            takes_raised n f t (slice_index t.via.now v) (way n t v),
+            gives_raised n f t (slice_index t.predecessor.now v) (way n t v),
+            takes_raised n f t (slice_index t.predecessor.now v) (way n t v),
           );
         };
   }
@@ -53,17 +53,17 @@ priced_more n f t root up down up' down' p a b = record { low = λ v l q. omega 
 
 -- an offer within the bounds keeps them
 pub priced_offered : (n : Links) (f : Flow) (t t' : SearchTree) (held held' : ℕ → Option ℕ) (o : Offer) (root up down : ℕ) →
-    o.to < length t.key.now → Offered held held' t t' o → Priced n f t root up down →
-    o.key + prices f root ≤ prices f o.to + up → prices f o.to ≤ o.key + prices f root + down → Priced n f t' root up down
-priced_offered n f t t' held held' o root up down in' it p low high = elim (cases_lt o.key (distance t o.to)) [
+    o.to < length t.distance.now → Offered held held' t t' o → Priced n f t root up down →
+    o.distance + prices f root ≤ prices f o.to + up → prices f o.to ≤ o.distance + prices f root + down → Priced n f t' root up down
+priced_offered n f t t' held held' o root up down in' it p low high = elim (cases_lt o.distance (distance t o.to)) [
   | inl less ↦ taken (it.took less)
   | inr more ↦ rw (it.kept more).1 p
 ]
   where
     taken : TakesWay held held' t t' o → Priced n f t' root up down
     taken w =
-        let same : (v : ℕ) → v ≢ o.to → distance t' v ≡ distance t v = λ v ne. rw w.key (get_or-set_other t.key.now o.to v _ 0 ne) in
-        let here : distance t' o.to ≡ o.key = rw w.key (get_or-set_same t.key.now o.to _ 0 in') in
+        let same : (v : ℕ) → v ≢ o.to → distance t' v ≡ distance t v = λ v ne. rw w.distance (get_or-set_other t.distance.now o.to v _ 0 ne) in
+        let here : distance t' o.to ≡ o.distance = rw w.distance (get_or-set_same t.distance.now o.to _ 0 in') in
         record {
           low = λ v l q. elim (cases_eq v o.to) [
             | inl e ↦ rw e (omega (arith, here))
@@ -75,21 +75,21 @@ priced_offered n f t t' held held' o root up down in' it p low high = elim (case
           ];
         }
 
-pub spread_begun : (n : Links) (f : Flow) (t : SearchTree) (held : ℕ → Option ℕ) (root much : ℕ) → Begun t held root much →
-    length t.key.now ≡ nodes n → Spread n f t root 0
-spread_begun n f t held root much b many =
+pub spread_begun : (n : Links) (f : Flow) (t : SearchTree) (held : ℕ → Option ℕ) (root amount : ℕ) → Begun t held root amount →
+    length t.distance.now ≡ nodes n → Spread n f t root 0
+spread_begun n f t held root amount b many =
     record {
       up = 0;
       down = 0;
       within = omega arith;
       priced = record {
-        low = λ v l q. rw (root-only v l q) (omega (arith, b.key_root));
-        high = λ v l q. rw (root-only v l q) (omega (arith, b.key_root));
+        low = λ v l q. rw (root-only v l q) (omega (arith, b.distance_root));
+        high = λ v l q. rw (root-only v l q) (omega (arith, b.distance_root));
       };
     }
   where
     root-only : (v : ℕ) → v < nodes n → distance t v < top → v ≡ root
-    root-only v l near = elim (cases_eq v root) [ inl e ↦ e | inr ne ↦ absurd (omega (arith, b.key_rest v (omega arith) ne)) ]
+    root-only v l near = elim (cases_eq v root) [ inl e ↦ e | inr ne ↦ absurd (omega (arith, b.distance_rest v (omega arith) ne)) ]
 
 pub spread_later : (n : Links) (f : Flow) (t : SearchTree) (root turn later : ℕ) → Spread n f t root turn → turn ≤ later → Spread n f t root later
 spread_later n f t root turn later s l = record { up = s.up; down = s.down; within = omega (arith, s.within, mul-le-mul_right n.most l); priced = s.priced }

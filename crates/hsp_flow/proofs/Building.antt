@@ -65,9 +65,9 @@ module _ (net : Transport) (whole : IsNetwork net) (small : IsSmall net) (tails 
   }
 
   pub scale_of : (most limit step : ℕ) → ((k : ℕ) → k < length net.sources → slice_index net.costs k ≤ most) →
-      limit ≡ length supplies * most → step ≡ limit + most → (length supplies + 1) * step < 18446744073709551615 → ((k : ℕ) → slice_index capacities k < 18446744073709551616) →
-      Scale (first_of net) (length supplies) tails heads costs capacities most limit step
-  scale_of most limit step dear limit-is step-is fit bounded = record {
+      limit ≡ length supplies * most → step ≡ limit + most → (length supplies + 1) * step < 18446744073709551615 →
+      Scale (first_of net) (length supplies) tails heads costs most limit step
+  scale_of most limit step dear limit-is step-is fit = record {
     dear = λ k l. elim (kind net k (omega (arith, links.tails.many))) [
       | inl host ↦ omega (arith, links.costs.node k (omega arith))
       | inr (inl s) ↦ rw s.2 (omega (arith, links.costs.node (hosts_of net + s.0) (omega (arith, s.1))))
@@ -79,7 +79,6 @@ module _ (net : Transport) (whole : IsNetwork net) (small : IsSmall net) (tails 
     step_is = step-is;
     small = fit;
     few = omega (arith, links.supplies.many, small.few);
-    bounded = λ k l. omega (arith, bounded k);
   }
 
   -- the links stand in the order of their tails

@@ -30,24 +30,24 @@ begun n f t held root covers root-in away pos b = record {
   search = record {
     covers = covers;
     held_in = λ v d h. rw (is-root v d h) root-in;
-    held_key = λ v d h. rw (is-root v d h) (b.key_root ∙ sym (is-zero v d h));
+    held_distance = λ v d h. rw (is-root v d h) (b.distance_root ∙ sym (is-zero v d h));
     held_late = λ v d h. omega arith;
     held_low = λ v d h. omega (arith, is-zero v d h);
-    settled_early = λ v st. elim (cases_lt v (length t.key.now)) [
-      | inl l ↦ absurd (omega (arith, b.key_rest v l (not-root v st), st.reached))
-      | inr past ↦ omega (arith, get_or_past t.key.now v 0 past)
+    settled_early = λ v st. elim (cases_lt v (length t.distance.now)) [
+      | inl l ↦ absurd (omega (arith, b.distance_rest v l (not-root v st), st.reached))
+      | inr past ↦ omega (arith, get_or_past t.distance.now v 0 past)
     ];
     sink_waits = λ st. none 0 (omega arith) st;
     relaxed = λ k d l wide st look. absurd (none (from n k d) (from_in n k d l) st);
     reached = λ v l nr near. absurd (nr (root-only v l near));
-    root_near = omega (arith, b.key_root);
+    root_near = omega (arith, b.distance_root);
     some = λ v l near. rw (root-only v l near) (omega (arith, b.amount_root));
     no_more = λ v l near. rw (root-only v l near) (omega (arith, b.amount_root));
   };
   counted = record {
     settled = omega arith;
     depth_low = λ v l near. rw (root-only v l near) (omega (arith, b.depth_root));
-    key_low = λ v l near. rw (root-only v l near) (omega (arith, b.key_root));
+    distance_low = λ v l near. rw (root-only v l near) (omega (arith, b.distance_root));
   };
   early = omega arith;
 }
@@ -62,26 +62,26 @@ begun n f t held root covers root-in away pos b = record {
     not-root v st e = let q : held v ≡ held root = ap held e in let r = b.held_root in let m = st.not_held in cc
 
     none : (v : ℕ) → v < nodes n → Settled held t v → ⊥
-    none v l st = omega (arith, b.key_rest v (omega (arith, covers.key_many)) (not-root v st), st.reached)
+    none v l st = omega (arith, b.distance_rest v (omega (arith, covers.distances_many)) (not-root v st), st.reached)
 
     root-only : (v : ℕ) → v < nodes n → distance t v < top → v ≡ root
-    root-only v l near = elim (cases_eq v root) [ inl e ↦ e | inr ne ↦ absurd (omega (arith, b.key_rest v (omega (arith, covers.key_many)) ne)) ]
+    root-only v l near = elim (cases_eq v root) [ inl e ↦ e | inr ne ↦ absurd (omega (arith, b.distance_rest v (omega (arith, covers.distances_many)) ne)) ]
 
 module _ (n : Links) (f : Flow) (t : SearchTree) (held : ℕ → Option ℕ) (root turn : ℕ) (r : Running n f t held root turn) where
   pub next_near : (node near : ℕ) → IsLeast held node near → near ≤ r.now + n.step
   next_near node near least =
-      let k : distance t node ≡ near = r.search.held_key node near least.there in
+      let k : distance t node ≡ near = r.search.held_distance node near least.there in
       let low : near < top = r.search.held_low node near least.there in
-      omega (arith, r.counted.key_low node (r.search.held_in node near least.there) (omega arith))
+      omega (arith, r.counted.distance_low node (r.search.held_in node near least.there) (omega arith))
 
-  pub turned : (at : Visit) → at.root ≡ root → at.turn ≡ turn → (held' : ℕ → Option ℕ) → IsLeast held at.node at.near → Changes held held' at.node None → at.node ≢ 0 →
+  pub turned : (at : Visit) → at.root ≡ root → at.turn ≡ turn → (held' : ℕ → Option ℕ) → IsLeast held at.node at.distance → Changes held held' at.node None → at.node ≢ 0 →
       Expanding n f t held' at (λ _ _. ⊥)
   turned at is when held' least change away =
       let s = r.search in
-      let here : distance t at.node ≡ at.near = s.held_key at.node at.near least.there in
-      let low : at.near < top = s.held_low at.node at.near least.there in
-      let in' : at.node < nodes n = s.held_in at.node at.near least.there in
-      let late : r.now ≤ at.near = s.held_late at.node at.near least.there in
+      let here : distance t at.node ≡ at.distance = s.held_distance at.node at.distance least.there in
+      let low : at.distance < top = s.held_low at.node at.distance least.there in
+      let in' : at.node < nodes n = s.held_in at.node at.distance least.there in
+      let late : r.now ≤ at.distance = s.held_late at.node at.distance least.there in
       let st : Settled held' t at.node = record { not_held = change.at; reached = omega arith } in
       let still : (v : ℕ) → Settled held t v → Settled held' t v = λ v q.
       let ne : v ≢ at.node = λ e. let a : held v ≡ held at.node = ap held e in let b = q.not_held in let c = least.there in cc in
@@ -89,7 +89,7 @@ module _ (n : Links) (f : Flow) (t : SearchTree) (held : ℕ → Option ℕ) (ro
       let before : settled_test held t at.node ≡ false = rw least.there refl in
       let after : settled_test held' t at.node ≡ true = test_from_settled held' t at.node st in
       record {
-        search = rw is (taken n f t held root r.now s at.node at.near held' least change away);
+        search = rw is (taken n f t held root r.now s at.node at.distance held' least change away);
         settled = st;
         here = here;
         node_in = in';
@@ -106,7 +106,7 @@ module _ (n : Links) (f : Flow) (t : SearchTree) (held : ℕ → Option ℕ) (ro
               ]) in
               omega (arith, r.counted.settled);
           depth_low = λ v l q. omega (arith, r.counted.depth_low v l q);
-          key_low = λ v l q. omega (arith, r.counted.key_low v l q);
+          distance_low = λ v l q. omega (arith, r.counted.distance_low v l q);
         };
       }
 
@@ -130,11 +130,11 @@ module _ (n : Links) (f : Flow) (t : SearchTree) (held : ℕ → Option ℕ) (ro
       at-most-one false = omega arith
 
 -- after a node's arcs were looked at
-pub went : (n : Links) (f : Flow) (t : SearchTree) (held : ℕ → Option ℕ) (at : Visit) (now : ℕ) → at.near ≤ now + n.step → now ≤ at.turn * n.step →
+pub went : (n : Links) (f : Flow) (t : SearchTree) (held : ℕ → Option ℕ) (at : Visit) (now : ℕ) → at.distance ≤ now + n.step → now ≤ at.turn * n.step →
     Expanding n f t held at (λ _ _. Unit {0}) → Running n f t held at.root (at.turn + 1)
 went n f t held at now near early e = record {
-  now = at.near;
-  search = fewer n f t held at.root at.near _ _ (λ k d l wide look q. tt) e.search;
+  now = at.distance;
+  search = fewer n f t held at.root at.distance _ _ (λ k d l wide look q. tt) e.search;
   counted = e.counted;
   early = omega (arith, add-mul at.turn 1 n.step);
 }

@@ -3,25 +3,28 @@ use Rattle.std.proofs.Common.{◌≡◌, ◌≢◌, ℕ, ◌+◌, ◌-◌, ◌<�
 use Rattle.std.proofs.lemmas.Bool.{cases_eq}
 use Rattle.hsp_simplex.specs.Sums.{only}
 use Rattle.hsp_flow.specs.Sums.{through}
-use Rattle.hsp_flow.specs.Residual.{IsTree, Sends, Sound, TreeArc, Walk, gives, nodes, predecessor, takes, to, way, width}
+use Rattle.hsp_flow.specs.Residual.{IsBalanced, IsTree, Sends, Sound, TreeArc, Walk, gives, nodes, predecessor, takes, to, way, width}
 use Rattle.hsp_flow.specs.declared.links.Links.{Links}
 use Rattle.hsp_flow.specs.declared.links.Flow.{Flow}
 use Rattle.hsp_flow.specs.declared.links.SearchTree.{SearchTree}
 use Rattle.hsp_flow.proofs.Sums.{through_more, through_less}
 use Rattle.hsp_flow.proofs.Directions.{from_in}
 
-module _ (n : Links) (f f' : Flow) (k much : ℕ) (lf : k < length f.flows.now) (lr : k < length f.room.now)
-    (price : f'.price.now ≡ f.price.now) (unmet : f'.unmet.now ≡ f.unmet.now) where
+module _ (n : Links) (f f' : Flow) (k amount : ℕ) (lf : k < length f.flows.now) (lr : k < length f.room.now)
+    (balanced : IsBalanced n f k) (price : f'.price.now ≡ f.price.now) (unmet : f'.unmet.now ≡ f.unmet.now) where
   -- along the link
-  pub sent_along : much ≤ slice_index f.room.now k → f'.flows.now ≡ set f.flows.now k (slice_index f.flows.now k + much) →
-      f'.room.now ≡ set f.room.now k (slice_index f.room.now k - much) → Sends n f f' k true much
-  sent_along fits flows room =
-      let a : slice_index f'.flows.now k ≡ slice_index f.flows.now k + much = rw flows (get_or-set_same f.flows.now k _ 0 lf) in
-      let b : slice_index f'.room.now k ≡ slice_index f.room.now k - much = rw room (get_or-set_same f.room.now k _ 0 lr) in
-      let t : (v : ℕ) → through n.tails.now f'.flows.now v ≡ through n.tails.now f.flows.now v + only (slice_index n.tails.now k) v much =
-      λ v. rw flows (through_more n.tails.now f.flows.now k much v lf) in
-      let h : (v : ℕ) → through n.heads.now f'.flows.now v ≡ through n.heads.now f.flows.now v + only (slice_index n.heads.now k) v much =
-      λ v. rw flows (through_more n.heads.now f.flows.now k much v lf) in
+  pub sent_along : amount ≤ slice_index f.room.now k → f'.room.now ≡ set f.room.now k (slice_index f.room.now k - amount) →
+      f'.flows.now ≡ set f.flows.now k (slice_index n.capacities.now k - slice_index f'.room.now k) → Sends n f f' k true amount
+  sent_along fits room left =
+      let sum : slice_index n.capacities.now k - slice_index f'.room.now k ≡ slice_index f.flows.now k + amount =
+      let b : slice_index f'.room.now k ≡ slice_index f.room.now k - amount = rw room (get_or-set_same f.room.now k _ 0 lr) in omega arith in
+      let flows : f'.flows.now ≡ set f.flows.now k (slice_index f.flows.now k + amount) = left ∙ ap (λ x. set f.flows.now k x) sum in
+      let a : slice_index f'.flows.now k ≡ slice_index f.flows.now k + amount = rw flows (get_or-set_same f.flows.now k _ 0 lf) in
+      let b : slice_index f'.room.now k ≡ slice_index f.room.now k - amount = rw room (get_or-set_same f.room.now k _ 0 lr) in
+      let t : (v : ℕ) → through n.tails.now f'.flows.now v ≡ through n.tails.now f.flows.now v + only (slice_index n.tails.now k) v amount =
+      λ v. rw flows (through_more n.tails.now f.flows.now k amount v lf) in
+      let h : (v : ℕ) → through n.heads.now f'.flows.now v ≡ through n.heads.now f.flows.now v + only (slice_index n.heads.now k) v amount =
+      λ v. rw flows (through_more n.heads.now f.flows.now k amount v lf) in
       record {
         flows_many = rw flows (length-set f.flows.now k _);
         room_many = rw room (length-set f.room.now k _);
@@ -35,15 +38,18 @@ module _ (n : Links) (f f' : Flow) (k much : ℕ) (lf : k < length f.flows.now) 
       }
 
   -- against it
-  pub sent_back : much ≤ slice_index f.flows.now k → f'.flows.now ≡ set f.flows.now k (slice_index f.flows.now k - much) →
-      f'.room.now ≡ set f.room.now k (slice_index f.room.now k + much) → Sends n f f' k false much
-  sent_back fits flows room =
-      let a : slice_index f'.flows.now k ≡ slice_index f.flows.now k - much = rw flows (get_or-set_same f.flows.now k _ 0 lf) in
-      let b : slice_index f'.room.now k ≡ slice_index f.room.now k + much = rw room (get_or-set_same f.room.now k _ 0 lr) in
-      let t : (v : ℕ) → through n.tails.now f'.flows.now v + only (slice_index n.tails.now k) v much ≡ through n.tails.now f.flows.now v =
-      λ v. rw flows (through_less n.tails.now f.flows.now k much v lf fits) in
-      let h : (v : ℕ) → through n.heads.now f'.flows.now v + only (slice_index n.heads.now k) v much ≡ through n.heads.now f.flows.now v =
-      λ v. rw flows (through_less n.heads.now f.flows.now k much v lf fits) in
+  pub sent_back : amount ≤ slice_index f.flows.now k → f'.flows.now ≡ set f.flows.now k (slice_index f.flows.now k - amount) →
+      f'.room.now ≡ set f.room.now k (slice_index n.capacities.now k - slice_index f'.flows.now k) → Sends n f f' k false amount
+  sent_back fits flows left =
+      let sum : slice_index n.capacities.now k - slice_index f'.flows.now k ≡ slice_index f.room.now k + amount =
+      let b : slice_index f'.flows.now k ≡ slice_index f.flows.now k - amount = rw flows (get_or-set_same f.flows.now k _ 0 lf) in omega arith in
+      let room : f'.room.now ≡ set f.room.now k (slice_index f.room.now k + amount) = left ∙ ap (λ x. set f.room.now k x) sum in
+      let a : slice_index f'.flows.now k ≡ slice_index f.flows.now k - amount = rw flows (get_or-set_same f.flows.now k _ 0 lf) in
+      let b : slice_index f'.room.now k ≡ slice_index f.room.now k + amount = rw room (get_or-set_same f.room.now k _ 0 lr) in
+      let t : (v : ℕ) → through n.tails.now f'.flows.now v + only (slice_index n.tails.now k) v amount ≡ through n.tails.now f.flows.now v =
+      λ v. rw flows (through_less n.tails.now f.flows.now k amount v lf fits) in
+      let h : (v : ℕ) → through n.heads.now f'.flows.now v + only (slice_index n.heads.now k) v amount ≡ through n.heads.now f.flows.now v =
+      λ v. rw flows (through_less n.heads.now f.flows.now k amount v lf fits) in
       record {
         flows_many = rw flows (length-set f.flows.now k _);
         room_many = rw room (length-set f.room.now k _);
@@ -57,7 +63,7 @@ module _ (n : Links) (f f' : Flow) (k much : ℕ) (lf : k < length f.flows.now) 
       }
 
 -- the widths of a link's two arcs
-module _ (n : Links) (f f' : Flow) (k : ℕ) (d : Bool) (much : ℕ) (s : Sends n f f' k d much) where
+module _ (n : Links) (f f' : Flow) (k : ℕ) (d : Bool) (amount : ℕ) (s : Sends n f f' k d amount) where
   width_same : (j : ℕ) (e : Bool) → j ≢ k → width f' j e ≡ width f j e
   width_same j true ne = s.room_same j ne
   width_same j false ne = s.flows_same j ne
@@ -67,7 +73,7 @@ module _ (n : Links) (f f' : Flow) (k : ℕ) (d : Bool) (much : ℕ) (s : Sends 
   widths e = at d e s.sum s.less
     where
       at : (d e : Bool) → slice_index f'.flows.now k + slice_index f'.room.now k ≡ slice_index f.flows.now k + slice_index f.room.now k →
-          width f' k d + much ≡ width f k d → (e ≡ d) ⊎ (width f k e ≤ width f' k e)
+          width f' k d + amount ≡ width f k d → (e ≡ d) ⊎ (width f k e ≤ width f' k e)
       at true true sum less = inl refl
       at false false sum less = inl refl
       at true false sum less = inr (omega arith)
@@ -80,11 +86,11 @@ both_ways n price k true false tight = omega arith
 both_ways n price k false true tight = omega arith
 both_ways n price k false false tight = omega arith
 
-module _ (n : Links) (f : Flow) (t : SearchTree) (price : ℕ → ℕ) (root much : ℕ) where
+module _ (n : Links) (f : Flow) (t : SearchTree) (price : ℕ → ℕ) (root amount : ℕ) where
   -- `f0` before the source's lack was lowered
-  pub walk_begun : (f0 : Flow) → Sound n f0 price → IsTree n f0 t root price → 0 < nodes n → much ≤ slice_index t.amount.now 0 →
+  pub walk_begun : (f0 : Flow) → Sound n f0 price → IsTree n f0 t root price → 0 < nodes n → amount ≤ slice_index t.amount.now 0 →
       f.flows.now ≡ f0.flows.now → f.room.now ≡ f0.room.now →
-      ((v : ℕ) → slice_index f.unmet.now v + only root v much ≡ slice_index f0.unmet.now v) → Walk n f t price root much 0
+      ((v : ℕ) → slice_index f.unmet.now v + only root v amount ≡ slice_index f0.unmet.now v) → Walk n f t price root amount 0
   walk_begun f0 sound tree some ready flows room spent = record {
     flows_many = ap (λ xs. length xs) flows ∙ sound.flows_many;
     room_many = ap (λ xs. length xs) room ∙ sound.room_many;
@@ -94,10 +100,10 @@ module _ (n : Links) (f : Flow) (t : SearchTree) (price : ℕ → ℕ) (root muc
     balanced = λ k l. rw (flows, room) (sound.balanced k l);
     pending = λ v l nz. rw flows (omega (arith, sound.conserved v l nz, spent v, only_there v nz));
     paid = λ k d l wide. sound.paid k d l (omega (arith, same k d));
-    fits = λ v l nr q deep. omega (arith, (tree.arc v l nr q).path.fits, same (slice_index t.via.now v) (way n t v));
+    fits = λ v l nr q deep. omega (arith, (tree.arc v l nr q).path.fits, same (slice_index t.predecessor.now v) (way n t v));
   }
     where
-      only_there : (v : ℕ) → v ≢ 0 → only 0 v much ≡ 0
+      only_there : (v : ℕ) → v ≢ 0 → only 0 v amount ≡ 0
       only_there v nz = rw (ne_eqb 0 v (λ e. nz (sym e))) refl
 
       same : (k : ℕ) (d : Bool) → width f k d ≡ width f0 k d
@@ -105,57 +111,57 @@ module _ (n : Links) (f : Flow) (t : SearchTree) (price : ℕ → ℕ) (root muc
       same k false = ap (λ xs. slice_index xs k) flows
 
   -- `f0` is the flow that the tree was found in
-  module _ (at : ℕ) (f0 : Flow) (tree : IsTree n f0 t root price) (walk : Walk n f t price root much at)
+  module _ (at : ℕ) (f0 : Flow) (tree : IsTree n f0 t root price) (walk : Walk n f t price root amount at)
       (away : at ≢ root) (d : Bool) (is : way n t at ≡ d) where
     arc : TreeArc n f0 t price at d
     arc = rw is at (tree.arc at walk.at_in away walk.near)
 
-    pub step_link : slice_index t.via.now at < length n.tails.now
+    pub step_link : slice_index t.predecessor.now at < length n.tails.now
     step_link = arc.path.link
 
-    pub step_fits : much ≤ width f (slice_index t.via.now at) d
+    pub step_fits : amount ≤ width f (slice_index t.predecessor.now at) d
     step_fits = let w = rw is at (walk.fits at walk.at_in away walk.near (omega arith)) in omega (arith, walk.ready)
 
     pub step_nearer : slice_index t.depth.now (predecessor n t at d) < slice_index t.depth.now at
     step_nearer = arc.path.nearer
 
-    pub stepped : (f' : Flow) → Sends n f f' (slice_index t.via.now at) d much → Walk n f' t price root much (predecessor n t at d)
+    pub stepped : (f' : Flow) → Sends n f f' (slice_index t.predecessor.now at) d amount → Walk n f' t price root amount (predecessor n t at d)
     stepped f' s = record {
       flows_many = s.flows_many ∙ walk.flows_many;
       room_many = s.room_many ∙ walk.room_many;
-      at_in = from_in n (slice_index t.via.now at) d arc.path.link;
+      at_in = from_in n (slice_index t.predecessor.now at) d arc.path.link;
       near = omega (arith, arc.sooner, walk.near);
       ready = omega (arith, arc.path.carried, walk.ready);
-      balanced = λ j l. elim (cases_eq j (slice_index t.via.now at)) [
+      balanced = λ j l. elim (cases_eq j (slice_index t.predecessor.now at)) [
         | inl e ↦ rw e (s.sum ∙ rw e at (walk.balanced j l))
         | inr ne ↦ omega (arith, walk.balanced j l, s.flows_same j ne, s.room_same j ne)
       ];
       pending = λ v l nz.
-          let here : only (to n (slice_index t.via.now at) d) v much ≡ only at v much = ap (λ m. only m v much) arc.path.end in
+          let here : only (to n (slice_index t.predecessor.now at) d) v amount ≡ only at v amount = ap (λ m. only m v amount) arc.path.end in
           let lack : slice_index f'.unmet.now v ≡ slice_index f.unmet.now v = ap (λ xs. slice_index xs v) s.unmet in
           omega (arith, walk.pending v l nz, s.moved v);
-      paid = λ j e l wide. elim (cases_eq j (slice_index t.via.now at)) [
-        | inl q ↦ rw q (both_ways n price (slice_index t.via.now at) d e arc.tight)
-        | inr ne ↦ walk.paid j e l (omega (arith, width_same n f f' (slice_index t.via.now at) d much s j e ne))
+      paid = λ j e l wide. elim (cases_eq j (slice_index t.predecessor.now at)) [
+        | inl q ↦ rw q (both_ways n price (slice_index t.predecessor.now at) d e arc.tight)
+        | inr ne ↦ walk.paid j e l (omega (arith, width_same n f f' (slice_index t.predecessor.now at) d amount s j e ne))
       ];
       fits = λ v l nr q deep.
           let it = (tree.arc v l nr q).path in
           let old = walk.fits v l nr q (omega (arith, arc.path.nearer)) in
-          elim (cases_eq (slice_index t.via.now v) (slice_index t.via.now at)) [
-            | inl e ↦ elim (widths n f f' (slice_index t.via.now at) d much s (way n t v)) [
+          elim (cases_eq (slice_index t.predecessor.now v) (slice_index t.predecessor.now at)) [
+            | inl e ↦ elim (widths n f f' (slice_index t.predecessor.now at) d amount s (way n t v)) [
               | inl same ↦
-                  let end : to n (slice_index t.via.now at) d ≡ v = rw (same, e) at it.end in
+                  let end : to n (slice_index t.predecessor.now at) d ≡ v = rw (same, e) at it.end in
                   let v-at : v ≡ at = sym end ∙ arc.path.end in
                   let deeper : slice_index t.depth.now v ≡ slice_index t.depth.now at = ap (λ m. slice_index t.depth.now m) v-at in
                   absurd (omega (arith, arc.path.nearer))
               | inr wider ↦ rw e (let b = rw e at old in let w = rw e at wider in omega arith)
             ]
-            | inr ne ↦ omega (arith, width_same n f f' (slice_index t.via.now at) d much s (slice_index t.via.now v) (way n t v) ne)
+            | inr ne ↦ omega (arith, width_same n f f' (slice_index t.predecessor.now at) d amount s (slice_index t.predecessor.now v) (way n t v) ne)
           ];
     }
 
-  pub walk_done : (f0 : Flow) → Sound n f0 price → Walk n f t price root much root → length f.unmet.now ≡ length f0.unmet.now →
-      ((v : ℕ) → slice_index f.unmet.now v + only root v much ≡ slice_index f0.unmet.now v) → Sound n f price
+  pub walk_done : (f0 : Flow) → Sound n f0 price → Walk n f t price root amount root → length f.unmet.now ≡ length f0.unmet.now →
+      ((v : ℕ) → slice_index f.unmet.now v + only root v amount ≡ slice_index f0.unmet.now v) → Sound n f price
   walk_done f0 sound walk many spent = record {
     flows_many = walk.flows_many;
     room_many = walk.room_many;

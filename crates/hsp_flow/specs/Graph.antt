@@ -11,7 +11,7 @@ pub record Graph (nodes : ℕ) (tails heads costs capacities supplies : List ℕ
   pub down : (k : ℕ) → k < length tails → slice_index heads k < slice_index tails k
 
 -- the links that leave sources cost `most` at the most and others nothing; with no more prices than `limit` every number fits
-pub record Scale (first nodes : ℕ) (tails heads costs capacities : List ℕ) (most limit step : ℕ) : Type 0 where
+pub record Scale (first nodes : ℕ) (tails heads costs : List ℕ) (most limit step : ℕ) : Type 0 where
   pub dear : (k : ℕ) → k < length tails → slice_index costs k ≤ most
   pub free : (k : ℕ) → k < length tails → slice_index tails k < first → slice_index costs k ≡ 0
   pub low : (k : ℕ) → k < length tails → slice_index heads k < first
@@ -19,4 +19,3 @@ pub record Scale (first nodes : ℕ) (tails heads costs capacities : List ℕ) (
   pub step_is : step ≡ limit + most
   pub small : (nodes + 1) * step < 18446744073709551615
   pub few : nodes < 4294967296
-  pub bounded : (k : ℕ) → k < length tails → slice_index capacities k ≤ 18446744073709551615

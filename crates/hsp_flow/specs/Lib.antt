@@ -11,5 +11,6 @@ pub mod Planning
 pub mod Ordered
 pub mod Lists
 pub mod Grouping
+pub mod Grouped
 pub mod Spreads
 pub mod Nodes

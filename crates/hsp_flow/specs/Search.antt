@@ -1,5 +1,5 @@
 -- A search for the sink by Dijkstra's algorithm over reduced costs (Network Flows, sections 4.5 and 9.7), in the middle of its work.
-use Rattle.std.specs.Prelude.{◌≡◌, ◌≢◌, ℕ, ◌+◌, ◌*◌, ◌<◌, ◌≤◌, ◌&&◌, Bool, length, slice_index, slice_set, Option, Some, None, is_none, nat_lt, if◌then◌else◌}
+use Rattle.std.specs.Prelude.{◌≡◌, ◌≢◌, ℕ, ◌+◌, ◌*◌, ◌<◌, ◌≤◌, ◌&&◌, Bool, length, slice_index, slice_set, Option, Some, None, is_none, min, nat_lt, if◌then◌else◌}
 use Rattle.hsp_simplex.specs.Sums.{sum_below}
 use Rattle.hsp_flow.specs.Frontier.{Changes}
 use Rattle.hsp_flow.specs.Residual.{AreRelaxed, IsOnPath, Sound, distance, from, gives, nodes, predecessor, prices, takes, to, way, width}
@@ -21,15 +21,15 @@ pub record Ready (n : Links) (f : Flow) : Type 0 where
 
 -- an entry for each node
 pub record Covers (n : Links) (t : SearchTree) : Type 0 where
-  pub key_many : length t.key.now ≡ nodes n
-  pub via_many : length t.via.now ≡ nodes n
-  pub amount_many : length t.amount.now ≡ nodes n
-  pub depth_many : length t.depth.now ≡ nodes n
+  pub distances_many : length t.distance.now ≡ nodes n
+  pub predecessors_many : length t.predecessor.now ≡ nodes n
+  pub amounts_many : length t.amount.now ≡ nodes n
+  pub depths_many : length t.depth.now ≡ nodes n
 
 -- no node was reached
 pub record Blank (n : Links) (t : SearchTree) : Type 0 where
   pub covers : Covers n t
-  pub none : (v : ℕ) → v < length t.key.now → distance t v ≡ top
+  pub none : (v : ℕ) → v < length t.distance.now → distance t v ≡ top
 
 -- the node was reached, and doesn't wait any more
 pub record Settled (held : ℕ → Option ℕ) (t : SearchTree) (v : ℕ) : Type 0 where
@@ -40,8 +40,8 @@ pub record Settled (held : ℕ → Option ℕ) (t : SearchTree) (v : ℕ) : Type
 pub record Reached (n : Links) (f : Flow) (t : SearchTree) (now v : ℕ) (d : Bool) : Type 0 where
   pub path : IsOnPath n f t v d
   pub soon : distance t (predecessor n t v d) ≤ now
-  pub exact : distance t v + gives n (prices f) (slice_index t.via.now v) d
-      ≡ distance t (predecessor n t v d) + takes n (prices f) (slice_index t.via.now v) d
+  pub exact : distance t v + gives n (prices f) (slice_index t.predecessor.now v) d
+      ≡ distance t (predecessor n t v d) + takes n (prices f) (slice_index t.predecessor.now v) d
 
 -- the end of a residual arc was reached, and is no farther than by the arc
 pub record IsRelaxed (n : Links) (f : Flow) (t : SearchTree) (k : ℕ) (d : Bool) : Type 0 where
@@ -52,7 +52,7 @@ pub record IsRelaxed (n : Links) (f : Flow) (t : SearchTree) (k : ℕ) (d : Bool
 pub record Search (n : Links) (f : Flow) (t : SearchTree) (held : ℕ → Option ℕ) (root now : ℕ) (looked : ℕ → Bool → Type 0) : Type 0 where
   pub covers : Covers n t
   pub held_in : (v d : ℕ) → held v ≡ Some d → v < nodes n
-  pub held_key : (v d : ℕ) → held v ≡ Some d → distance t v ≡ d
+  pub held_distance : (v d : ℕ) → held v ≡ Some d → distance t v ≡ d
   pub held_late : (v d : ℕ) → held v ≡ Some d → now ≤ d
   pub held_low : (v d : ℕ) → held v ≡ Some d → d < top
   pub settled_early : (v : ℕ) → Settled held t v → distance t v ≤ now
@@ -69,33 +69,62 @@ pub record Closed (n : Links) (f : Flow) (t : SearchTree) (root : ℕ) : Type 0 
   pub sink_out : top ≤ distance t 0
   pub out : (k : ℕ) (d : Bool) → k < length n.tails.now → 0 < width f k d → distance t (from n k d) < top → distance t (to n k d) < top
 
+-- the offer of the way over a residual arc that leaves the node that is settled
+pub record IsWay (n : Links) (f : Flow) (t : SearchTree) (at : Visit) (k : ℕ) (d : Bool) (o : Offer) : Type 0 where
+  pub over : o.link ≡ k
+  pub start : o.from ≡ at.node
+  pub enters : o.to ≡ to n k d
+  pub exact : o.distance + gives n (prices f) k d ≡ at.distance + takes n (prices f) k d
+  pub amount : o.amount ≡ min (slice_index t.amount.now at.node) (width f k d)
+
 -- what a search knows of the node that is offered a way lets it take it: it waits, unless it was not reached or is no farther
 pub record MayBeOffered (held : ℕ → Option ℕ) (t : SearchTree) (o : Offer) : Type 0 where
-  pub from_in : o.from < length t.key.now
-  pub to_in : o.to < length t.key.now
-  pub via_many : length t.via.now ≡ length t.key.now
-  pub amount_many : length t.amount.now ≡ length t.key.now
-  pub depth_many : length t.depth.now ≡ length t.key.now
+  pub from_in : o.from < length t.distance.now
+  pub to_in : o.to < length t.distance.now
+  pub predecessors_many : length t.predecessor.now ≡ length t.distance.now
+  pub amounts_many : length t.amount.now ≡ length t.distance.now
+  pub depths_many : length t.depth.now ≡ length t.distance.now
   pub shallow : slice_index t.depth.now o.from + 1 < 18446744073709551616
   pub free : distance t o.to ≡ top → held o.to ≡ None
-  pub waits : o.key < distance t o.to → distance t o.to < top → held o.to ≡ Some (distance t o.to)
+  pub waits : o.distance < distance t o.to → distance t o.to < top → held o.to ≡ Some (distance t o.to)
+
+-- the source `root` lacks something, and a search from it didn't come to the sink
+pub record Stuck (n : Links) (f : Flow) (t : SearchTree) (root : ℕ) : Type 0 where
+  pub many : length t.distance.now ≡ nodes n
+  pub closed : Closed n f t root
+  pub unmet : 0 < slice_index f.unmet.now root
+
+-- some source is so
+pub record HasStuckSource (n : Links) (f : Flow) (t : SearchTree) : Type 0 where
+  pub root : ℕ
+  pub from : n.first ≤ root
+  pub inside : root < nodes n
+  pub stuck : Stuck n f t root
+
+-- no source lacks anything
+abbrev pub AreAllMet : Links → Flow → Type 0
+AreAllMet n f = (v : ℕ) → n.first ≤ v → v < nodes n → slice_index f.unmet.now v ≡ 0
+
+-- what the other sources lack is as before
+abbrev pub LeavesOthers : Flow → Flow → ℕ → Type 0
+LeavesOthers f f' root = (v : ℕ) → v ≢ root → slice_index f'.unmet.now v ≡ slice_index f.unmet.now v
 
 -- the node takes the way that it was offered
 pub record TakesWay (held held' : ℕ → Option ℕ) (t t' : SearchTree) (o : Offer) : Type 0 where
-  pub frontier : Changes held held' o.to (Some o.key)
-  pub key : t'.key.now ≡ slice_set t.key.now o.to o.key
-  pub via : t'.via.now ≡ slice_set t.via.now o.to o.link
-  pub amount : t'.amount.now ≡ slice_set t.amount.now o.to o.much
+  pub frontier : Changes held held' o.to (Some o.distance)
+  pub distance : t'.distance.now ≡ slice_set t.distance.now o.to o.distance
+  pub predecessor : t'.predecessor.now ≡ slice_set t.predecessor.now o.to o.link
+  pub amount : t'.amount.now ≡ slice_set t.amount.now o.to o.amount
   pub depth : t'.depth.now ≡ slice_set t.depth.now o.to (slice_index t.depth.now o.from + 1)
 
 -- a node was offered a way, and took it where it is shorter
 pub record Offered (held held' : ℕ → Option ℕ) (t t' : SearchTree) (o : Offer) : Type 0 where
-  pub kept : distance t o.to ≤ o.key → (held' ≡ held) × (t' ≡ t)
-  pub took : o.key < distance t o.to → TakesWay held held' t t' o
+  pub kept : distance t o.to ≤ o.distance → (held' ≡ held) × (t' ≡ t)
+  pub took : o.distance < distance t o.to → TakesWay held held' t t' o
 
 -- whether the node is settled
 abbrev pub settled_test : (ℕ → Option ℕ) → SearchTree → ℕ → Bool
-settled_test held t v = is_none (held v) && nat_lt (slice_index t.key.now v) top
+settled_test held t v = is_none (held v) && nat_lt (slice_index t.distance.now v) top
 
 -- how many nodes are settled
 abbrev pub settled_count : Links → (ℕ → Option ℕ) → SearchTree → ℕ
@@ -105,24 +134,24 @@ settled_count n held t = sum_below (nodes n) (λ v. if settled_test held t v the
 pub record Counted (n : Links) (t : SearchTree) (held : ℕ → Option ℕ) (turn far : ℕ) : Type 0 where
   pub settled : turn ≤ settled_count n held t
   pub depth_low : (v : ℕ) → v < nodes n → distance t v < top → slice_index t.depth.now v ≤ turn
-  pub key_low : (v : ℕ) → v < nodes n → distance t v < top → distance t v ≤ far
+  pub distance_low : (v : ℕ) → v < nodes n → distance t v < top → distance t v ≤ far
 
 -- the residual arcs of the node that is settled which were `seen` are relaxed
 pub record Expanding (n : Links) (f : Flow) (t : SearchTree) (held : ℕ → Option ℕ) (at : Visit) (seen : ℕ → Bool → Type 0) : Type 0 where
-  pub search : Search n f t held at.root at.near (λ k d. from n k d ≡ at.node → seen k d)
+  pub search : Search n f t held at.root at.distance (λ k d. from n k d ≡ at.node → seen k d)
   pub settled : Settled held t at.node
-  pub here : distance t at.node ≡ at.near
+  pub here : distance t at.node ≡ at.distance
   pub node_in : at.node < nodes n
   pub shallow : slice_index t.depth.now at.node < at.turn + 1
-  pub counted : Counted n t held (at.turn + 1) (at.near + n.step)
+  pub counted : Counted n t held (at.turn + 1) (at.distance + n.step)
 
 -- the root alone is held
-pub record Begun (t : SearchTree) (held : ℕ → Option ℕ) (root much : ℕ) : Type 0 where
+pub record Begun (t : SearchTree) (held : ℕ → Option ℕ) (root amount : ℕ) : Type 0 where
   pub held_root : held root ≡ Some 0
   pub held_rest : (v : ℕ) → v ≢ root → held v ≡ None
-  pub key_root : distance t root ≡ 0
-  pub key_rest : (v : ℕ) → v < length t.key.now → v ≢ root → distance t v ≡ top
-  pub amount_root : slice_index t.amount.now root ≡ much
+  pub distance_root : distance t root ≡ 0
+  pub distance_rest : (v : ℕ) → v < length t.distance.now → v ≢ root → distance t v ≡ top
+  pub amount_root : slice_index t.amount.now root ≡ amount
   pub depth_root : slice_index t.depth.now root ≡ 0
 
 -- between two turns of the search
@@ -153,19 +182,8 @@ pub record Spread (n : Links) (f : Flow) (t : SearchTree) (root turn : ℕ) : Ty
   pub within : up + down ≤ turn * n.most
   pub priced : Priced n f t root up down
 
--- a way over a link from the node that is settled lets prices and distances lie farther apart by its cost the one way, a way
--- back over one the other way
-abbrev pub WidensOver : Links → Flow → SearchTree → SearchTree → Visit → ℕ → Type 0
-WidensOver n f t t' at link = (more up down : ℕ) → slice_index n.costs.now link ≤ more →
-    at.near + prices f at.root ≤ prices f at.node + up → prices f at.node ≤ at.near + prices f at.root + down →
-    Priced n f t at.root (up + more) down → Priced n f t' at.root (up + more) down
-
-abbrev pub WidensBack : Links → Flow → SearchTree → SearchTree → Visit → ℕ → Type 0
-WidensBack n f t t' at link = (more up down : ℕ) → slice_index n.costs.now link ≤ more →
-    at.near + prices f at.root ≤ prices f at.node + up → prices f at.node ≤ at.near + prices f at.root + down →
-    Priced n f t at.root up (down + more) → Priced n f t' at.root up (down + more)
-
--- the same of all links that leave the node that is settled, and of all that enter it
+-- ways over the links that leave the node that is settled let prices and distances lie farther apart by their greatest cost the one
+-- way, ways back over those that enter it the other way
 abbrev pub WidensOut : Links → Flow → SearchTree → SearchTree → Visit → Type 0
 WidensOut n f t t' at = (cost up down : ℕ) →
     ((k : ℕ) → k < length n.tails.now → slice_index n.tails.now k ≡ at.node → slice_index n.costs.now k ≤ cost) →

@@ -2,15 +2,15 @@ ghost use Rattle.std.specs.Prelude.{◌≡◌, ℕ, ◌+◌, ◌-◌, ◌<◌, �
 ghost use Rattle.hsp_simplex.specs.Answer.{IsMet, IsShortSet};
 ghost use Rattle.hsp_flow.specs.Layout.{IsSmall};
 ghost use Rattle.hsp_simplex.specs.Problem.{problem_of};
-ghost use Rattle.hsp_flow.specs.Problem.{IsLeastBound, IsLinksOf};
+ghost use Rattle.hsp_flow.specs.Problem.{IsLinksOf};
 ghost use Rattle.hsp_flow.specs.Residual.{nodes, prices};
-ghost use Rattle.hsp_flow.specs.Search.{Closed, Ready};
+ghost use Rattle.hsp_flow.specs.Search.{AreAllMet, HasStuckSource, Ready};
 
 use crate::links::{Flow, Links, SearchTree};
 use hsp_simplex::{Network, PricedFlow};
 use std::alloc::{AllocError, Global};
 
-/// By how much the price at the tail of each link from `start` up to `end` is above that at its head.
+/// By how amount the price at the tail of each link from `start` up to `end` is above that at its head.
 pub fn link_prices(
     alloc: Global,
     links: &Links,
@@ -22,7 +22,10 @@ pub fn link_prices(
     requires end_in { end ≤ length links.now.tails.now }
     requires many { length price.now ≡ nodes links.now }
     ensures many { IfOk result (λ prices. length prices.items ≡ end - start) }
-    ensures each { IfOk result (λ prices. (j : ℕ) → j < end - start → slice_index prices.items j ≡ slice_index price.now (slice_index links.now.tails.now (start + j)) - slice_index price.now (slice_index links.now.heads.now (start + j))) }
+    ensures each { IfOk result (λ prices.
+        (j : ℕ) → j < end - start → slice_index prices.items j
+        ≡ slice_index price.now (slice_index links.now.tails.now (start + j)) - slice_index
+        price.now (slice_index links.now.heads.now (start + j))) }
 {
     let mut prices = Vec::new(alloc);
     for link in start..end {
@@ -43,7 +46,8 @@ pub fn copy_range(
     requires rising { start ≤ end }
     requires end_in { end ≤ length numbers.now }
     ensures many { IfOk result (λ copy. length copy.items ≡ end - start) }
-    ensures each { IfOk result (λ copy. (k : ℕ) → k < end - start → slice_index copy.items k ≡ slice_index numbers.now (start + k)) }
+    ensures each { IfOk result (λ copy. (k : ℕ) → k < end - start → slice_index copy.items k
+        ≡ slice_index numbers.now (start + k)) }
 {
     numbers[start..end].to_vec(alloc)
 }
@@ -57,10 +61,8 @@ pub fn priced_flow(
 ) -> Result<PricedFlow, AllocError>
     requires links_of { IsLinksOf network.now links.now }
     requires small { IsSmall (problem_of network.now) }
-    requires least { IsLeastBound network.now links.now.most }
     requires ready { Ready links.now flow.now }
-    requires met { (v : ℕ) → links.now.first ≤ v → v < nodes links.now → slice_index flow.now.unmet.now v ≡ 0 }
-    requires first { links.now.first ≡ 1 + length network.now.limits.now + length network.now.capacities.now }
+    requires met { AreAllMet links.now flow.now }
     ensures { IfOk result (λ plan. IsMet (problem_of network.now) plan) }
 {
     let hosts = network.limits.len();
@@ -80,22 +82,16 @@ pub fn short_set(
     links: &Links,
     flow: &Flow,
     tree: &SearchTree,
-    root: u32,
 ) -> Result<Vec<bool>, AllocError>
     requires links_of { IsLinksOf network.now links.now }
     requires small { IsSmall (problem_of network.now) }
     requires ready { Ready links.now flow.now }
-    requires first { links.now.first ≡ 1 + length network.now.limits.now + length network.now.capacities.now }
-    requires closed { Closed links.now flow.now tree.now root }
-    requires many { length tree.now.key.now ≡ nodes links.now }
-    requires from { links.now.first ≤ root }
-    requires root_in { root < nodes links.now }
-    requires unmet { 0 < slice_index flow.now.unmet.now root }
+    requires stuck { HasStuckSource links.now flow.now tree.now }
     ensures { IfOk result (λ set. IsShortSet (problem_of network.now) set.items) }
 {
     let mut reached = Vec::new(alloc);
-    for node in links.first as usize..tree.key.len() {
-        reached.push(tree.key[node] < u64::MAX)?;
+    for node in links.first as usize..tree.distance.len() {
+        reached.push(tree.distance[node] < u64::MAX)?;
     }
     Ok(reached)
 }

@@ -51,7 +51,8 @@ fn total_of(costs: &[u64], flows: &[u64]) -> u128
     requires many { length flows.now ≡ length costs.now }
     requires few { length costs.now < 2 ^ 32 }
     requires cheap { (k : ℕ) → k < length costs.now → slice_index costs.now k ≤ GREATEST_COST }
-    ensures { result ≡ sum_below (length costs.now) (λ k. slice_index costs.now k * slice_index flows.now k) }
+    ensures { result ≡ sum_below (length costs.now)
+        (λ k. slice_index costs.now k * slice_index flows.now k) }
 {
     let mut total: u128 = 0;
     for place in 0..costs.len() {
@@ -68,8 +69,20 @@ fn certificate_of(
     server_prices: Vec<u64>,
     host_prices: Vec<u64>,
 ) -> Certificate
-    requires { IsBest (record { cost = cost; uses = uses.items; row_prices = row_prices.items; server_prices = server_prices.items; host_prices = host_prices.items }) }
-    ensures { result ≡ best (record { cost = cost; uses = uses.items; row_prices = row_prices.items; server_prices = server_prices.items; host_prices = host_prices.items }) }
+    requires { IsBest (record {
+      cost = cost;
+      uses = uses.items;
+      row_prices = row_prices.items;
+      server_prices = server_prices.items;
+      host_prices = host_prices.items;
+    }) }
+    ensures { result ≡ best (record {
+      cost = cost;
+      uses = uses.items;
+      row_prices = row_prices.items;
+      server_prices = server_prices.items;
+      host_prices = host_prices.items;
+    }) }
 {
     Certificate::best_with_hosts(cost, uses, row_prices, server_prices, host_prices).unwrap()
 }

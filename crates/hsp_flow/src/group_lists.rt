@@ -5,6 +5,7 @@ ghost use Rattle.hsp_instance.specs.Groups.{AreGroups};
 ghost use Rattle.hsp_instance.specs.Instance.{IsInstance};
 ghost use Rattle.hsp_flow.specs.Grouping.{AreFirsts, AreGroupLists};
 
+use crate::amounts::TransportLists;
 use crate::arcs::{costs_of, rows_of, servers_of};
 use crate::grouping::{group_arcs_of, group_demands, group_places_of, runs_of};
 use hsp_instance::{Groups, Instance};
@@ -18,6 +19,16 @@ pub(crate) struct GroupLists {
     pub(crate) servers: Vec<u32>,
     pub(crate) costs: Vec<u64>,
     pub(crate) group_places: Vec<usize>,
+}
+
+/// An instance with its groups, a row of each, the lists of its rows' network, and those of its groups' network.
+#[derive(Drop)]
+pub(crate) struct Grouping<'a> {
+    pub(crate) instance: &'a Instance,
+    pub(crate) groups: &'a Groups,
+    pub(crate) firsts: &'a [u32],
+    pub(crate) rows: &'a TransportLists,
+    pub(crate) lists: &'a GroupLists,
 }
 
 /// The lists of the groups' network.

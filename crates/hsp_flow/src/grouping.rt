@@ -38,7 +38,8 @@ pub(crate) fn group_arcs_of(
     firsts: &[u32],
 ) -> Result<Vec<NetworkArc>, AllocError>
     requires many { length firsts.now ≤ MOST_DEMAND_ROWS }
-    requires there { (g : ℕ) → g < length firsts.now → slice_index firsts.now g < length instance.now.rows }
+    requires there { (g : ℕ) → g < length firsts.now → slice_index firsts.now g
+        < length instance.now.rows }
     ensures { IfOk result (λ arcs. arcs.items ≡ group_arcs instance.now firsts.now) }
 {
     let mut all = Vec::new(alloc);
@@ -55,7 +56,8 @@ pub(crate) fn runs_of(
     firsts: &[u32],
 ) -> Result<Runs, AllocError>
     requires many { length firsts.now ≤ MOST_DEMAND_ROWS }
-    requires there { (g : ℕ) → g < length firsts.now → slice_index firsts.now g < length instance.now.rows }
+    requires there { (g : ℕ) → g < length firsts.now → slice_index firsts.now g
+        < length instance.now.rows }
     requires within { IsInstance instance.now }
     ensures { IfOk result (BeginAt (lists_at instance.now firsts.now)) }
 {
@@ -74,7 +76,8 @@ fn add_counts(demands: &mut [u64], instance: &Instance, groups: &Groups)
     requires many { length demands.old ≡ groups.now.count }
     requires none { (g : ℕ) → g < length demands.old → slice_index demands.old g ≡ 0 }
     ensures many { length demands.new ≡ groups.now.count }
-    ensures demands { (g : ℕ) → g < groups.now.count → slice_index demands.new g ≡ group_demand instance.now groups.now g }
+    ensures demands { (g : ℕ) → g < groups.now.count → slice_index demands.new g
+        ≡ group_demand instance.now groups.now g }
 {
     for row in 0..instance.rows() {
         let (_, _, count) = instance.row(row);
@@ -90,7 +93,9 @@ pub(crate) fn group_demands(
 ) -> Result<Vec<u64>, AllocError>
     requires groups { AreGroups instance.now groups.now }
     ensures many { IfOk result (λ demands. length demands.items ≡ groups.now.count) }
-    ensures demands { IfOk result (λ demands. (g : ℕ) → g < groups.now.count → slice_index demands.items g ≡ group_demand instance.now groups.now g) }
+    ensures demands { IfOk result (λ demands.
+        (g : ℕ) → g < groups.now.count → slice_index demands.items g
+        ≡ group_demand instance.now groups.now g) }
 {
     let mut demands = vec![in alloc; 0u64; groups.len() as usize]?;
     add_counts(&mut demands, instance, groups);
@@ -120,7 +125,9 @@ pub(crate) fn group_places_of(
     requires within { IsInstance instance.now }
     requires firsts { AreFirsts groups.now firsts.now }
     requires runs { BeginAt (lists_at instance.now firsts.now) runs.now }
-    ensures { IfOk result (λ group_places. IsRun instance.now.arcs (lists_at instance.now firsts.now) groups.now (length instance.now.rows) group_places.items) }
+    ensures { IfOk result (λ group_places.
+        IsRun instance.now.arcs (lists_at instance.now firsts.now) groups.now
+        (length instance.now.rows) group_places.items) }
 {
     let mut group_places = Vec::new(alloc);
     for row in 0..instance.rows() {

@@ -87,8 +87,10 @@ fn is_present(keys: &[Option<u64>], node: u32, key: u64) -> bool
 
 /// Lets no node of a pair be held.
 fn forget_keys(keys: &mut Vec<Option<u64>>, pairs: &[Reverse<(u64, u32)>])
-    ensures gone { (v key : ℕ) → list_any (is_pair v key) pairs.now ≡ true → slice_index_or keys.new.items v None ≡ None }
-    ensures kept { (v key : ℕ) → slice_index_or keys.new.items v None ≡ Some key → slice_index_or keys.old.items v None ≡ Some key }
+    ensures gone { (v key : ℕ) → list_any (is_pair v key) pairs.now ≡ true
+        → slice_index_or keys.new.items v None ≡ None }
+    ensures kept { (v key : ℕ) → slice_index_or keys.new.items v None ≡ Some key
+        → slice_index_or keys.old.items v None ≡ Some key }
     ensures many { vec_len keys.new ≡ vec_len keys.old }
 {
     for Reverse((_, node)) in pairs {

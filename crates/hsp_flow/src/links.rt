@@ -23,10 +23,22 @@ pub struct Links<'a> {
     pub most: u64,
     pub limit: u64,
     pub step: u64,
-    pub ghost graph: { Graph (length supplies.now) tails.now heads.now costs.now capacities.now supplies.now },
+    pub ghost graph: { Graph (length supplies.now) tails.now heads.now costs.now capacities.now
+        supplies.now },
     pub ghost by_tail: { AreRuns (length supplies.now) tails.now starts.now },
     pub ghost by_head: { ByHead (length supplies.now) heads.now lasts.now before.now },
-    pub ghost scale: { Scale first (length supplies.now) tails.now heads.now costs.now capacities.now most limit step },
+    pub ghost scale: { Scale first (length supplies.now) tails.now heads.now costs.now most limit
+        step },
+}
+
+/// The lists of a network's links: an entry of `supplies` for each node, of the others for each link.
+#[derive(Clone, Copy)]
+pub struct LinkLists<'a> {
+    pub tails: &'a [u32],
+    pub heads: &'a [u32],
+    pub costs: &'a [u64],
+    pub capacities: &'a [u64],
+    pub supplies: &'a [u64],
 }
 
 /// A flow with its prices: what flows on each link and what room is left, the price of each node, and what of its supply
@@ -39,7 +51,7 @@ pub struct Flow<'a> {
     pub unmet: &'a mut [u64],
 }
 
-/// How much work a solver's run took: the searches that were begun, the nodes that they settled, and the paths along which
+/// How amount work a solver's run took: the searches that were begun, the nodes that they settled, and the paths along which
 /// flow was sent; and the proposals that were accepted, and the pivots of all that were made.
 #[derive(Clone, Copy, Default)]
 pub struct Effort {
@@ -54,8 +66,8 @@ pub struct Effort {
 /// way, and over how many links.
 #[derive(Drop)]
 pub struct SearchTree<'a> {
-    pub key: &'a mut [u64],
-    pub via: &'a mut [usize],
+    pub distance: &'a mut [u64],
+    pub predecessor: &'a mut [usize],
     pub amount: &'a mut [u64],
     pub depth: &'a mut [usize],
 }
@@ -67,21 +79,21 @@ pub struct Progress<'a> {
     pub effort: Effort,
 }
 
-/// A node that a search from `root` settles in its turn `turn`, at the distance `near`.
+/// A node that a search from `root` settles in its turn `turn`, at the distance `distance`.
 #[derive(Clone, Copy)]
 pub struct Visit {
     pub root: u32,
     pub node: u32,
-    pub near: u64,
+    pub distance: u64,
     pub turn: usize,
 }
 
-/// A way of length `key` to the node `to`, by `link` from the node `from`, for up to `much`.
+/// A way of length `distance` to the node `to`, by `link` from the node `from`, for up to `amount`.
 #[derive(Clone, Copy)]
 pub struct Offer {
     pub link: usize,
     pub from: u32,
     pub to: u32,
-    pub key: u64,
-    pub much: u64,
+    pub distance: u64,
+    pub amount: u64,
 }

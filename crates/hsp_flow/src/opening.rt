@@ -27,7 +27,8 @@ fn least_cost(costs: &[u64], start: usize, end: usize) -> u64
 
 /// The price of each node before any flow: the least cost of a link that leaves it.
 pub(crate) fn first_prices(alloc: Global, links: &Links) -> Result<Vec<u64>, AllocError>
-    ensures { IfOk result (λ price. FirstPrices (nodes links.now) links.now.costs.now links.now.starts.now price.items) }
+    ensures { IfOk result (λ price. FirstPrices
+        (nodes links.now) links.now.costs.now links.now.starts.now price.items) }
 {
     let mut price = Vec::new(alloc);
     for node in 0..links.supplies.len() {

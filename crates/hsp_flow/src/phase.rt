@@ -1,6 +1,6 @@
 ghost use Rattle.std.specs.Prelude.{◌≡◌, ◌≢◌, ℕ, ◌+◌, ◌*◌, ◌<◌, ◌≤◌, ◌^◌, length, slice_index, OnOk, IfOk, IfNone, IfSome, IsTrue, false};
 ghost use Rattle.hsp_flow.specs.Residual.{nodes};
-ghost use Rattle.hsp_flow.specs.Search.{Blank, Closed, Ready};
+ghost use Rattle.hsp_flow.specs.Search.{AreAllMet, Blank, HasStuckSource, LeavesOthers, Ready, Stuck};
 
 use crate::augment::augment;
 use crate::frontier::Frontier;
@@ -25,20 +25,20 @@ pub fn meet_some<F: Frontier>(
     requires count { nodes links.now ≤ F.node_count frontier.old }
     ensures ready { OnOk result (Ready links.now flow.new) }
     ensures blank { IfOk result (λ yes. IsTrue yes → Blank links.now progress.new.tree) }
-    ensures less { IfOk result (λ yes. IsTrue yes → slice_index flow.new.unmet.now root < slice_index flow.old.unmet.now root) }
-    ensures others { OnOk result ((v : ℕ) → v ≢ root → slice_index flow.new.unmet.now v ≡ slice_index flow.old.unmet.now v) }
-    ensures closed { IfOk result (λ yes. yes ≡ false → Closed links.now flow.new progress.new.tree root) }
-    ensures many { IfOk result (λ yes. yes ≡ false → length progress.new.tree.key.now ≡ nodes links.now) }
-    ensures unmet { IfOk result (λ yes. yes ≡ false → 0 < slice_index flow.new.unmet.now root) }
+    ensures less { IfOk result (λ yes. IsTrue yes → slice_index flow.new.unmet.now root
+        < slice_index flow.old.unmet.now root) }
+    ensures others { OnOk result (LeavesOthers flow.old flow.new root) }
+    ensures stuck { IfOk result (λ yes. yes ≡ false
+        → Stuck links.now flow.new progress.new.tree root) }
     ensures count { F.node_count frontier.new ≡ F.node_count frontier.old }
 {
     if !search(frontier, links, flow, progress, root)? {
         return Ok(false);
     }
-    let reach = progress.tree.key[0];
-    let much = progress.tree.amount[0];
-    augment(links, flow, &progress.tree, root, much);
-    raise(flow.price, progress.tree.key, reach);
+    let reach = progress.tree.distance[0];
+    let amount = progress.tree.amount[0];
+    augment(links, flow, &progress.tree, root, amount);
+    raise(flow.price, progress.tree.distance, reach);
     progress.effort.augmentations = progress.effort.augmentations.saturating_add(1);
     Ok(true)
 }
@@ -59,10 +59,9 @@ pub fn meet_source<F: Frontier>(
     ensures ready { OnOk result (Ready links.now flow.new) }
     ensures blank { IfOk result (λ yes. IsTrue yes → Blank links.now progress.new.tree) }
     ensures met { IfOk result (λ yes. IsTrue yes → slice_index flow.new.unmet.now root ≡ 0) }
-    ensures others { OnOk result ((v : ℕ) → v ≢ root → slice_index flow.new.unmet.now v ≡ slice_index flow.old.unmet.now v) }
-    ensures closed { IfOk result (λ yes. yes ≡ false → Closed links.now flow.new progress.new.tree root) }
-    ensures many { IfOk result (λ yes. yes ≡ false → length progress.new.tree.key.now ≡ nodes links.now) }
-    ensures unmet { IfOk result (λ yes. yes ≡ false → 0 < slice_index flow.new.unmet.now root) }
+    ensures others { OnOk result (LeavesOthers flow.old flow.new root) }
+    ensures stuck { IfOk result (λ yes. yes ≡ false
+        → Stuck links.now flow.new progress.new.tree root) }
     ensures count { F.node_count frontier.new ≡ F.node_count frontier.old }
 {
     while flow.unmet[root as usize] > 0 {
@@ -73,29 +72,27 @@ pub fn meet_source<F: Frontier>(
     Ok(true)
 }
 
-/// Meets every source whole, or finds one that can't be: `None` where all are met.
+/// Meets every source whole, or finds one that can't be: whether all are met.
 pub fn meet_all<F: Frontier>(
     frontier: &mut F,
     links: &Links,
     flow: &mut Flow,
     progress: &mut Progress,
-) -> Result<Option<u32>, AllocError>
+) -> Result<bool, AllocError>
     requires ready { Ready links.now flow.old }
     requires blank { Blank links.now progress.old.tree }
     requires first_in { links.now.first ≤ nodes links.now }
     requires away { 0 < links.now.first }
     requires count { nodes links.now ≤ F.node_count frontier.old }
     ensures ready { OnOk result (Ready links.now flow.new) }
-    ensures met { IfOk result (λ found. IfNone found ((v : ℕ) → links.now.first ≤ v → v < nodes links.now → slice_index flow.new.unmet.now v ≡ 0)) }
-    ensures source { IfOk result (λ found. IfSome found (λ root. (links.now.first ≤ root) × (root < nodes links.now))) }
-    ensures closed { IfOk result (λ found. IfSome found (λ root. Closed links.now flow.new progress.new.tree root)) }
-    ensures many { IfOk result (λ found. IfSome found (λ root. length progress.new.tree.key.now ≡ nodes links.now)) }
-    ensures unmet { IfOk result (λ found. IfSome found (λ root. 0 < slice_index flow.new.unmet.now root)) }
+    ensures met { IfOk result (λ met. IsTrue met → AreAllMet links.now flow.new) }
+    ensures stuck { IfOk result (λ met. met ≡ false
+        → HasStuckSource links.now flow.new progress.new.tree) }
 {
     for root in links.first..links.supplies.len() as u32 {
         if !meet_source(frontier, links, flow, progress, root)? {
-            return Ok(Some(root));
+            return Ok(false);
         }
     }
-    Ok(None)
+    Ok(true)
 }

@@ -7,7 +7,7 @@ ghost use Rattle.hsp_check.specs.Instance.{arcs_from, network_of};
 ghost use Rattle.hsp_check.specs.Valid.{IsValid};
 ghost use Rattle.hsp_simplex.specs.Answer.{Answers, IsMet, IsShortSet};
 ghost use Rattle.hsp_simplex.specs.Problem.{problem_of};
-ghost use Rattle.hsp_flow.specs.Grouping.{AreFirsts, AreGroupLists, grouped};
+ghost use Rattle.hsp_flow.specs.Grouped.{IsGrouping, nodes_with, transport_by};
 ghost use Rattle.hsp_flow.specs.Lists.{transport_in};
 ghost use Rattle.hsp_flow.specs.Nodes.{MayHaveNodesOf, MayHaveUpTo, nodes_by};
 ghost use Rattle.hsp_flow.specs.Planning.{HasLimitedPrices, transport_of};
@@ -16,7 +16,7 @@ use crate::amounts::{TransportLists, lists_of};
 use crate::arcs::arcs_of;
 use crate::certify::plan_certificate;
 use crate::frontier::Frontier;
-use crate::group_lists::{GroupLists, group_lists};
+use crate::group_lists::{Grouping, group_lists};
 use crate::grouping::firsts_of;
 use crate::heap::HeapFrontier;
 use crate::links::Effort;
@@ -48,34 +48,23 @@ fn row_network<'a>(instance: &Instance, rows: &'a TransportLists) -> Network<'a>
 }
 
 // What becomes of the groups' network.
-fn solve_groups<'a, F: Frontier>(
+fn solve_groups<F: Frontier>(
     alloc: Global,
-    instance: &Instance,
-    groups: &Groups,
-    firsts: &[u32],
-    rows: &'a TransportLists,
-    lists: &'a GroupLists,
+    grouping: &Grouping,
     effort: &mut Effort,
 ) -> Result<Outcome, AllocError>
-    requires within { IsInstance instance.now }
-    requires groups { AreGroups instance.now groups.now }
-    requires firsts { AreFirsts groups.now firsts.now }
-    requires rows { transport_in rows.now ≡ transport_of instance.now }
-    requires lists { AreGroupLists instance.now groups.now firsts.now lists.now }
-    requires nodes { MayHaveUpTo F.may_have (nodes_by instance.now groups.now.count) }
-    ensures { IfOk result (Answers (grouped instance.now firsts.now lists.now.demands.items)) }
+    requires grouping { IsGrouping grouping.now }
+    requires nodes { MayHaveUpTo F.may_have (nodes_with grouping.now) }
+    ensures { IfOk result (Answers (transport_by grouping.now)) }
 {
-    let _ = instance;
-    let _ = groups;
-    let _ = firsts;
     let network = Network {
-        demands: &lists.demands,
-        capacities: &rows.capacities,
-        limits: &rows.limits,
-        hosts: &rows.hosts,
-        sources: &lists.sources,
-        servers: &lists.servers,
-        costs: &lists.costs,
+        demands: &grouping.lists.demands,
+        capacities: &grouping.rows.capacities,
+        limits: &grouping.rows.limits,
+        hosts: &grouping.rows.hosts,
+        sources: &grouping.lists.sources,
+        servers: &grouping.lists.servers,
+        costs: &grouping.lists.costs,
     };
     solve_network::<F>(alloc, &network, effort)
 }
@@ -83,30 +72,22 @@ fn solve_groups<'a, F: Frontier>(
 // The plan of the groups, spread over their rows.
 fn spread_plan(
     alloc: Global,
-    instance: &Instance,
-    groups: &Groups,
-    firsts: &[u32],
-    rows: &TransportLists,
-    lists: &GroupLists,
+    grouping: &Grouping,
     plan: PricedFlow,
 ) -> Result<PricedFlow, AllocError>
-    requires within { IsInstance instance.now }
-    requires groups { AreGroups instance.now groups.now }
-    requires firsts { AreFirsts groups.now firsts.now }
-    requires rows { transport_in rows.now ≡ transport_of instance.now }
-    requires lists { AreGroupLists instance.now groups.now firsts.now lists.now }
-    requires met { IsMet (grouped instance.now firsts.now lists.now.demands.items) plan }
-    ensures { IfOk result (IsMet (transport_of instance.now)) }
+    requires grouping { IsGrouping grouping.now }
+    requires met { IsMet (transport_by grouping.now) plan }
+    ensures { IfOk result (IsMet (transport_of grouping.now.instance.now)) }
 {
-    let _ = firsts;
     let flows = spread_flows(
         alloc,
-        &rows.demands,
-        &rows.sources,
-        &lists.group_places,
+        &grouping.rows.demands,
+        &grouping.rows.sources,
+        &grouping.lists.group_places,
         &plan.flows,
     )?;
-    let source_prices = spread_prices(alloc, groups, instance.rows(), &plan.source_prices)?;
+    let rows = grouping.instance.rows();
+    let source_prices = spread_prices(alloc, grouping.groups, rows, &plan.source_prices)?;
     Ok(PricedFlow {
         flows,
         source_prices,
@@ -133,54 +114,29 @@ fn certify_short(
 }
 
 // The flags of the rows of short groups.
-fn short_rows(
-    alloc: Global,
-    instance: &Instance,
-    groups: &Groups,
-    firsts: &[u32],
-    lists: &GroupLists,
-    set: &[bool],
-) -> Result<Vec<bool>, AllocError>
-    requires within { IsInstance instance.now }
-    requires groups { AreGroups instance.now groups.now }
-    requires firsts { AreFirsts groups.now firsts.now }
-    requires lists { AreGroupLists instance.now groups.now firsts.now lists.now }
-    requires short { IsShortSet (grouped instance.now firsts.now lists.now.demands.items) set.now }
-    ensures { IfOk result (λ flags. IsShortSet (transport_of instance.now) flags.items) }
+fn short_rows(alloc: Global, grouping: &Grouping, set: &[bool]) -> Result<Vec<bool>, AllocError>
+    requires grouping { IsGrouping grouping.now }
+    requires short { IsShortSet (transport_by grouping.now) set.now }
+    ensures { IfOk result (λ flags. IsShortSet (transport_of grouping.now.instance.now) flags.items) }
 {
-    let _ = firsts;
-    let _ = lists;
-    let flags = spread_flags(alloc, groups, instance.rows(), set)?;
+    let rows = grouping.instance.rows();
+    let flags = spread_flags(alloc, grouping.groups, rows, set)?;
     Ok(flags)
 }
 
 // What becomes of the rows' network, by the groups'.
 fn solve_spread<F: Frontier>(
     alloc: Global,
-    instance: &Instance,
-    groups: &Groups,
-    firsts: &[u32],
-    rows: &TransportLists,
-    lists: &GroupLists,
+    grouping: &Grouping,
     effort: &mut Effort,
 ) -> Result<Outcome, AllocError>
-    requires within { IsInstance instance.now }
-    requires groups { AreGroups instance.now groups.now }
-    requires firsts { AreFirsts groups.now firsts.now }
-    requires rows { transport_in rows.now ≡ transport_of instance.now }
-    requires lists { AreGroupLists instance.now groups.now firsts.now lists.now }
-    requires nodes { MayHaveUpTo F.may_have (nodes_by instance.now groups.now.count) }
-    ensures { IfOk result (Answers (transport_of instance.now)) }
+    requires grouping { IsGrouping grouping.now }
+    requires nodes { MayHaveUpTo F.may_have (nodes_with grouping.now) }
+    ensures { IfOk result (Answers (transport_of grouping.now.instance.now)) }
 {
-    match solve_groups::<F>(alloc, instance, groups, firsts, rows, lists, effort)? {
-        Outcome::Met(plan) => {
-            let plan = spread_plan(alloc, instance, groups, firsts, rows, lists, plan)?;
-            Ok(Outcome::Met(plan))
-        }
-        Outcome::Short(set) => {
-            let set = short_rows(alloc, instance, groups, firsts, lists, &set)?;
-            Ok(Outcome::Short(set))
-        }
+    match solve_groups::<F>(alloc, grouping, effort)? {
+        Outcome::Met(plan) => Ok(Outcome::Met(spread_plan(alloc, grouping, plan)?)),
+        Outcome::Short(set) => Ok(Outcome::Short(short_rows(alloc, grouping, &set)?)),
     }
 }
 
@@ -200,7 +156,14 @@ fn solve_grouped<F: Frontier>(
 {
     let firsts = firsts_of(alloc, instance, groups)?;
     let lists = group_lists(alloc, instance, groups, &firsts)?;
-    solve_spread::<F>(alloc, instance, groups, &firsts, rows, &lists, effort)
+    let grouping = Grouping {
+        instance,
+        groups,
+        firsts: &firsts,
+        rows,
+        lists: &lists,
+    };
+    solve_spread::<F>(alloc, &grouping, effort)
 }
 
 // What becomes of the rows' network, each row a source of its own.

@@ -12,22 +12,23 @@ pub fn relax<F: Frontier>(
     offer: Offer,
 ) -> Result<(), AllocError>
     requires may { MayBeOffered (F.held frontier.old) tree.old offer }
-    requires count { length tree.old.key.now ≤ F.node_count frontier.old }
-    ensures ok { OnOk result (Offered (F.held frontier.old) (F.held frontier.new) tree.old tree.new offer) }
+    requires count { length tree.old.distance.now ≤ F.node_count frontier.old }
+    ensures ok { OnOk result (Offered (F.held frontier.old)
+        (F.held frontier.new) tree.old tree.new offer) }
     ensures count { F.node_count frontier.new ≡ F.node_count frontier.old }
 {
     let to = offer.to as usize;
-    if offer.key >= tree.key[to] {
+    if offer.distance >= tree.distance[to] {
         return Ok(());
     }
-    if tree.key[to] == u64::MAX {
-        frontier.put(offer.to, offer.key)?;
+    if tree.distance[to] == u64::MAX {
+        frontier.put(offer.to, offer.distance)?;
     } else {
-        frontier.lower(offer.to, offer.key)?;
+        frontier.lower(offer.to, offer.distance)?;
     }
-    tree.key[to] = offer.key;
-    tree.via[to] = offer.link;
-    tree.amount[to] = offer.much;
+    tree.distance[to] = offer.distance;
+    tree.predecessor[to] = offer.link;
+    tree.amount[to] = offer.amount;
     tree.depth[to] = tree.depth[offer.from as usize] + 1;
     Ok(())
 }

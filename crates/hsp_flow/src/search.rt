@@ -7,26 +7,26 @@ use crate::frontier::Frontier;
 use crate::links::{Flow, Links, Progress, SearchTree, Visit};
 use std::alloc::AllocError;
 
-/// Starts a search at the node `root`, for up to `much`.
+/// Starts a search at the node `root`, for up to `amount`.
 pub fn begin<F: Frontier>(
     frontier: &mut F,
     links: &Links,
     tree: &mut SearchTree,
     root: u32,
-    much: u64,
+    amount: u64,
 ) -> Result<(), AllocError>
     requires root_in { root < nodes links.now }
     requires blank { Blank links.now tree.old }
     requires count { nodes links.now ≤ F.node_count frontier.old }
     ensures covers { OnOk result (Covers links.now tree.new) }
-    ensures ok { OnOk result (Begun tree.new (F.held frontier.new) root much) }
+    ensures ok { OnOk result (Begun tree.new (F.held frontier.new) root amount) }
     ensures count { F.node_count frontier.new ≡ F.node_count frontier.old }
 {
     frontier.clear();
     frontier.put(root, 0)?;
     let node = root as usize;
-    tree.key[node] = 0;
-    tree.amount[node] = much;
+    tree.distance[node] = 0;
+    tree.amount[node] = amount;
     tree.depth[node] = 0;
     Ok(())
 }
@@ -41,11 +41,13 @@ pub fn expand<F: Frontier>(
 ) -> Result<(), AllocError>
     requires ready { Ready links.now flow.now }
     requires expanding { Expanding links.now flow.now tree.old (F.held frontier.old) at (λ _ _. ⊥) }
-    requires far { at.near + links.now.step < u64.MAX }
+    requires far { at.distance + links.now.step < u64.MAX }
     requires turns { at.turn + 1 < u64.MAX }
     requires count { nodes links.now ≤ F.node_count frontier.old }
-    ensures ok { OnOk result (Expanding links.now flow.now tree.new (F.held frontier.new) at (λ _ _. Unit {0})) }
-    ensures spread { OnOk result (Spread links.now flow.now tree.old at.root at.turn → Spread links.now flow.now tree.new at.root (at.turn + 1)) }
+    ensures ok { OnOk result (Expanding links.now flow.now tree.new (F.held frontier.new) at
+        (λ _ _. Unit {0})) }
+    ensures spread { OnOk result (Spread links.now flow.now tree.old at.root at.turn
+        → Spread links.now flow.now tree.new at.root (at.turn + 1)) }
     ensures count { F.node_count frontier.new ≡ F.node_count frontier.old }
 {
     expand_out(frontier, links, flow, tree, at)?;
@@ -68,16 +70,19 @@ pub fn search<F: Frontier>(
     requires unmet { 0 < slice_index flow.now.unmet.now root }
     requires count { nodes links.now ≤ F.node_count frontier.old }
     ensures covers { OnOk result (Covers links.now progress.new.tree) }
-    ensures found { IfOk result (λ yes. IsTrue yes → Found links.now flow.now progress.new.tree root) }
-    ensures spread { IfOk result (λ yes. IsTrue yes → Spread links.now flow.now progress.new.tree root (nodes links.now)) }
-    ensures none { IfOk result (λ yes. yes ≡ false → Closed links.now flow.now progress.new.tree root) }
+    ensures found { IfOk result (λ yes. IsTrue yes
+        → Found links.now flow.now progress.new.tree root) }
+    ensures spread { IfOk result (λ yes. IsTrue yes
+        → Spread links.now flow.now progress.new.tree root (nodes links.now)) }
+    ensures none { IfOk result (λ yes. yes ≡ false
+        → Closed links.now flow.now progress.new.tree root) }
     ensures count { F.node_count frontier.new ≡ F.node_count frontier.old }
 {
-    let much = flow.unmet[root as usize];
-    begin(frontier, links, &mut progress.tree, root, much)?;
+    let amount = flow.unmet[root as usize];
+    begin(frontier, links, &mut progress.tree, root, amount)?;
     progress.effort.searches = progress.effort.searches.saturating_add(1);
     for turn in 0..links.supplies.len() {
-        let Some((node, near)) = frontier.take_least() else {
+        let Some((node, distance)) = frontier.take_least() else {
             return Ok(false);
         };
         if node == 0 {
@@ -87,7 +92,7 @@ pub fn search<F: Frontier>(
         let at = Visit {
             root,
             node,
-            near,
+            distance,
             turn,
         };
         expand(frontier, links, flow, &mut progress.tree, at)?;

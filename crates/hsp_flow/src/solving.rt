@@ -1,16 +1,16 @@
 ghost use Rattle.std.specs.Prelude.{◌≡◌, ℕ, ◌+◌, ◌<◌, IfOk, length, slice_index};
 ghost use Rattle.hsp_simplex.specs.Answer.{Answers};
-ghost use Rattle.hsp_flow.specs.Layout.{IsSmall, LinksOf};
+ghost use Rattle.hsp_flow.specs.Layout.{IsSmall};
 ghost use Rattle.hsp_flow.specs.Nodes.{MayHaveUpTo, nodes_of};
 ghost use Rattle.hsp_simplex.specs.Problem.{problem_of};
-ghost use Rattle.hsp_flow.specs.Problem.{IsLeastBound, IsLinksOf};
+ghost use Rattle.hsp_flow.specs.Problem.{AreLinksOf, IsLinksOf};
 ghost use Rattle.hsp_flow.specs.Residual.{nodes};
 ghost use Rattle.hsp_flow.specs.Search.{Ready};
 
 use crate::answer::{priced_flow, short_set};
 use crate::frontier::Frontier;
 use crate::index::chain_links;
-use crate::links::{Effort, Flow, Links, Progress, SearchTree};
+use crate::links::{Effort, Flow, LinkLists, Links, Progress, SearchTree};
 use crate::opening::first_prices;
 use crate::phase::meet_all;
 use crate::tables::{link_capacities, link_costs, link_heads, link_tails, node_supplies};
@@ -28,20 +28,18 @@ fn solve_from<F: Frontier>(
 ) -> Result<Outcome, AllocError>
     requires links_of { IsLinksOf network.now links.now }
     requires small { IsSmall (problem_of network.now) }
-    requires least { IsLeastBound network.now links.now.most }
-    requires first { links.now.first ≡ 1 + length network.now.limits.now + length network.now.capacities.now }
     requires ready { Ready links.now flow.old }
     requires nodes { MayHaveUpTo F.may_have (nodes links.now) }
     ensures { IfOk result (Answers (problem_of network.now)) }
 {
     let nodes = links.supplies.len();
-    let mut key = vec![in alloc; u64::MAX; nodes]?;
-    let mut via = vec![in alloc; 0; nodes]?;
+    let mut distance = vec![in alloc; u64::MAX; nodes]?;
+    let mut predecessor = vec![in alloc; 0; nodes]?;
     let mut amount = vec![in alloc; 0; nodes]?;
     let mut depth = vec![in alloc; 0; nodes]?;
     let tree = SearchTree {
-        key: &mut key,
-        via: &mut via,
+        distance: &mut distance,
+        predecessor: &mut predecessor,
         amount: &mut amount,
         depth: &mut depth,
     };
@@ -50,19 +48,13 @@ fn solve_from<F: Frontier>(
         effort: *effort,
     };
     let mut frontier = F::with_nodes(alloc, nodes as u32)?;
-    let unmet = meet_all(&mut frontier, links, flow, &mut progress)?;
+    let met = meet_all(&mut frontier, links, flow, &mut progress)?;
     *effort = progress.effort;
-    match unmet {
-        None => Ok(Outcome::Met(priced_flow(alloc, network, links, flow)?)),
-        Some(root) => Ok(Outcome::Short(short_set(
-            alloc,
-            network,
-            links,
-            flow,
-            &progress.tree,
-            root,
-        )?)),
+    if met {
+        return Ok(Outcome::Met(priced_flow(alloc, network, links, flow)?));
     }
+    let set = short_set(alloc, network, links, flow, &progress.tree)?;
+    Ok(Outcome::Short(set))
 }
 
 /// Runs the solver over a network's links, from no flow.
@@ -74,8 +66,6 @@ fn solve_from_none<F: Frontier>(
 ) -> Result<Outcome, AllocError>
     requires links_of { IsLinksOf network.now links.now }
     requires small { IsSmall (problem_of network.now) }
-    requires least { IsLeastBound network.now links.now.most }
-    requires first { links.now.first ≡ 1 + length network.now.limits.now + length network.now.capacities.now }
     requires nodes { MayHaveUpTo F.may_have (nodes links.now) }
     ensures { IfOk result (Answers (problem_of network.now)) }
 {
@@ -96,32 +86,28 @@ fn solve_from_none<F: Frontier>(
 fn solve_links<F: Frontier>(
     alloc: Global,
     network: &Network,
-    tails: &[u32],
-    heads: &[u32],
-    costs: &[u64],
-    capacities: &[u64],
-    supplies: &[u64],
+    lists: LinkLists,
     effort: &mut Effort,
 ) -> Result<Outcome, AllocError>
     requires small { IsSmall (problem_of network.now) }
-    requires links_of { LinksOf (problem_of network.now) tails.now heads.now costs.now capacities.now supplies.now }
+    requires links_of { AreLinksOf network.now lists }
     requires nodes { MayHaveUpTo F.may_have (nodes_of (problem_of network.now)) }
     ensures { IfOk result (Answers (problem_of network.now)) }
 {
-    let nodes = supplies.len();
-    let runs = Runs::of(alloc, tails, nodes as u32)?;
+    let nodes = lists.supplies.len();
+    let runs = Runs::of(alloc, lists.tails, nodes as u32)?;
     let mut lasts = vec![in alloc; 0; nodes]?;
-    let mut before = vec![in alloc; 0; heads.len()]?;
-    chain_links(heads, &mut lasts, &mut before);
+    let mut before = vec![in alloc; 0; lists.heads.len()]?;
+    chain_links(lists.heads, &mut lasts, &mut before);
     let most = greatest(network.costs);
     let limit = nodes as u64 * most;
     let links = Links {
         first: (1 + network.limits.len() + network.capacities.len()) as u32,
-        tails,
-        heads,
-        costs,
-        capacities,
-        supplies,
+        tails: lists.tails,
+        heads: lists.heads,
+        costs: lists.costs,
+        capacities: lists.capacities,
+        supplies: lists.supplies,
         starts: runs.starts(),
         lasts: &lasts,
         before: &before,
@@ -148,14 +134,12 @@ pub fn solve_network<F: Frontier>(
     let costs = link_costs(alloc, network)?;
     let capacities = link_capacities(alloc, network)?;
     let supplies = node_supplies(alloc, network)?;
-    solve_links::<F>(
-        alloc,
-        network,
-        &tails,
-        &heads,
-        &costs,
-        &capacities,
-        &supplies,
-        effort,
-    )
+    let lists = LinkLists {
+        tails: &tails,
+        heads: &heads,
+        costs: &costs,
+        capacities: &capacities,
+        supplies: &supplies,
+    };
+    solve_links::<F>(alloc, network, lists, effort)
 }

@@ -3,7 +3,7 @@
 ghost use Rattle.std.specs.Prelude.{◌≡◌, ℕ, List, ◌+◌, ◌<◌, ◌≤◌, ◌⊎◌, false, IfOk, length, slice_index, slice_index_or};
 ghost use Rattle.hsp_instance.specs.Groups.{AreBelow};
 ghost use Rattle.hsp_flow.specs.Grouping.{group_of};
-ghost use Rattle.hsp_flow.specs.Spreads.{Spread};
+ghost use Rattle.hsp_flow.specs.Spreads.{SpreadOf};
 
 use hsp_instance::Groups;
 use std::alloc::{AllocError, Global};
@@ -27,9 +27,11 @@ fn spread_each(
 ) -> Result<Vec<u64>, AllocError>
     requires many { length group_places.now ≡ length rows.now }
     requires rows { (k : ℕ) → k < length rows.now → slice_index rows.now k < length need.old }
-    requires group_places { (k : ℕ) → k < length rows.now → slice_index group_places.now k < length left.old }
+    requires group_places { (k : ℕ) → k < length rows.now → slice_index group_places.now k
+        < length left.old }
     ensures many { IfOk result (λ flows. length flows.items ≡ length rows.now) }
-    ensures spread { IfOk result (λ flows. Spread (length need.old) (length rows.now) (length left.old) (λ i. slice_index need.old i) (λ k. slice_index rows.now k) (λ k. slice_index group_places.now k) (λ k. slice_index flows.items k) (λ e. slice_index left.old e) (λ i. slice_index need.new i) (λ e. slice_index left.new e)) }
+    ensures spread { IfOk result (λ flows.
+        SpreadOf need.old rows.now group_places.now left.old flows.items need.new left.new) }
 {
     let mut flows = Vec::new(alloc);
     for arc in 0..rows.len() {
@@ -53,9 +55,11 @@ pub(crate) fn spread_flows(
 ) -> Result<Vec<u64>, AllocError>
     requires many { length group_places.now ≡ length rows.now }
     requires rows { (k : ℕ) → k < length rows.now → slice_index rows.now k < length counts.now }
-    requires group_places { (k : ℕ) → k < length rows.now → slice_index group_places.now k < length flows.now }
+    requires group_places { (k : ℕ) → k < length rows.now → slice_index group_places.now k
+        < length flows.now }
     ensures many { IfOk result (λ spread. length spread.items ≡ length rows.now) }
-    ensures spread { IfOk result (λ spread. (need : List ℕ) × (left : List ℕ) × Spread (length counts.now) (length rows.now) (length flows.now) (λ i. slice_index counts.now i) (λ k. slice_index rows.now k) (λ k. slice_index group_places.now k) (λ k. slice_index spread.items k) (λ e. slice_index flows.now e) (λ i. slice_index need i) (λ e. slice_index left e)) }
+    ensures spread { IfOk result (λ spread. (need left : List ℕ)
+        × SpreadOf counts.now rows.now group_places.now flows.now spread.items need left) }
 {
     let mut need = counts.to_vec(alloc)?;
     let mut left = flows.to_vec(alloc)?;
@@ -72,7 +76,9 @@ pub(crate) fn spread_prices(
     requires rows { length groups.now.of_rows ≡ rows }
     requires groups { length prices.now ≡ groups.now.count }
     ensures many { IfOk result (λ spread. length spread.items ≡ rows) }
-    ensures prices { IfOk result (λ spread. (i : ℕ) → i < rows → slice_index spread.items i ≡ slice_index prices.now (group_of groups.now i)) }
+    ensures prices { IfOk result (λ spread.
+        (i : ℕ) → i < rows → slice_index spread.items i
+        ≡ slice_index prices.now (group_of groups.now i)) }
 {
     let mut spread = Vec::new(alloc);
     for row in 0..rows {
@@ -91,7 +97,9 @@ pub(crate) fn spread_flags(
     requires rows { length groups.now.of_rows ≡ rows }
     requires groups { length flags.now ≡ groups.now.count }
     ensures many { IfOk result (λ spread. length spread.items ≡ rows) }
-    ensures flags { IfOk result (λ spread. (i : ℕ) → i < rows → slice_index_or spread.items i false ≡ slice_index_or flags.now (group_of groups.now i) false) }
+    ensures flags { IfOk result (λ spread.
+        (i : ℕ) → i < rows → slice_index_or spread.items i false ≡ slice_index_or flags.now
+        (group_of groups.now i) false) }
 {
     let mut spread = Vec::new(alloc);
     for row in 0..rows {

@@ -7,8 +7,10 @@ use std::alloc::{AllocError, Global};
 
 /// Appends each number, raised by `shift`.
 pub fn push_shifted(target: &mut Vec<u32>, numbers: &[u32], shift: u32) -> Result<(), AllocError>
-    requires fits { (k : ℕ) → k < length numbers.now → shift + slice_index numbers.now k < 4294967296 }
-    ensures { OnOk result (Appends target.old.items target.new.items (length numbers.now) (λ k. shift + slice_index numbers.now k)) }
+    requires fits { (k : ℕ) → k < length numbers.now → shift + slice_index numbers.now k
+        < 4294967296 }
+    ensures { OnOk result (Appends target.old.items target.new.items (length numbers.now)
+        (λ k. shift + slice_index numbers.now k)) }
 {
     for number in numbers {
         target.push(shift + *number)?;
@@ -19,7 +21,8 @@ pub fn push_shifted(target: &mut Vec<u32>, numbers: &[u32], shift: u32) -> Resul
 /// Appends the node of each server's host, or the sink.
 pub fn push_hosts(target: &mut Vec<u32>, hosts: &[Option<u32>]) -> Result<(), AllocError>
     requires fits { (j : ℕ) → host_node (slice_index_or hosts.now j None) < 4294967296 }
-    ensures { OnOk result (Appends target.old.items target.new.items (length hosts.now) (λ j. host_node (slice_index_or hosts.now j None))) }
+    ensures { OnOk result (Appends target.old.items target.new.items (length hosts.now)
+        (λ j. host_node (slice_index_or hosts.now j None))) }
 {
     for host in hosts {
         target.push(match *host {

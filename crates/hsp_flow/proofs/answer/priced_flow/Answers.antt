@@ -8,7 +8,7 @@ use Rattle.hsp_flow.proofs.answer.priced_flow.Goals as goal
 pub returns : goal.returns
 returns c =
     let whole = c.args.network.now.ends in
-    let links = c.requires.links_of in
+    let links = c.requires.links_of.lists in
     let many = links.tails.many in
     let nodes = links.supplies.many in
     let scale = c.args.links.now.scale in
@@ -30,7 +30,7 @@ returns c =
     record {
       many = omega (arith, c.in_ok-copy_range.ensures.many, c.requires.ready.sound.flows_many);
       feasible = feasible (problem_of c.args.network.now) whole c.requires.small _ _ links c.requires.ready.sound (λ k. slice_index c.in_ok-copy_range.field-0.items k) flow-is
-          (λ i l. c.requires.met (first_of (problem_of c.args.network.now) + i) (omega (arith, c.requires.first)) (omega arith));
+          (λ i l. c.requires.met (first_of (problem_of c.args.network.now) + i) (omega (arith, c.requires.links_of.first)) (omega arith));
       prices = has_prices (problem_of c.args.network.now) whole c.requires.small _ _ links c.requires.ready.sound (λ k. slice_index c.in_ok-copy_range.field-0.items k) flow-is
           _ _ _ (omega (arith, c.in_ok-copy_range-2.ensures.many, c.requires.ready.price_many)) (omega (arith, c.in_ok-link_prices.ensures.many)) (omega (arith, c.in_ok-copy_range-3.ensures.many)) u-is p-is q-is;
       low = λ most bound. low_prices (problem_of c.args.network.now) whole c.requires.small _ _ links c.requires.ready.sound (λ k. slice_index c.in_ok-copy_range.field-0.items k) flow-is
@@ -38,5 +38,5 @@ returns c =
           (λ v l.
           let e : length c.args.links.now.supplies.now ≡ length c.args.network.now.demands.now + length c.args.network.now.capacities.now + length c.args.network.now.limits.now + 1 = omega arith in
           let s : length c.args.links.now.supplies.now * most ≡ (length c.args.network.now.demands.now + length c.args.network.now.capacities.now + length c.args.network.now.limits.now + 1) * most = ap (λ n. n * most) e in
-          omega (arith, c.requires.ready.low v l, scale.limit_is, mul-le-mul_left (length c.args.links.now.supplies.now) (c.requires.least most bound)));
+          omega (arith, c.requires.ready.low v l, scale.limit_is, mul-le-mul_left (length c.args.links.now.supplies.now) (c.requires.links_of.least most bound)));
     }

@@ -4,7 +4,7 @@ use Rattle.hsp_flow.proofs.augment.augment.Given as goal
 
 abbrev pub invariant-loop-at : goal.invariant-loop-at
 invariant-loop-at l =
-    Walk l.links l.flow l.tree (raised l.fn.flow l.tree) l.root l.much l.at
+    Walk l.links l.flow l.tree (raised l.fn.flow l.tree) l.root l.amount l.at
     × (l.flow.price.now ≡ l.fn.flow.price.now)
     × (l.flow.unmet.now ≡ l.initial.flow.unmet.now)
 

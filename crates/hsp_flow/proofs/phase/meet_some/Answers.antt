@@ -32,7 +32,7 @@ returns-clause-ready g c =
     let many : length c.raise.new.price ≡ length c.args.links.now.supplies.now =
     c.raise.auto.price ∙ ap (λ xs. length xs) c.augment.ensures.price ∙ c.requires.ready.price_many in
     let by : (v : ℕ) → v < length c.args.links.now.supplies.now →
-    slice_index c.raise.new.price v ≡ slice_index c.args.flow.now.price.now v + (slice_index c.search.new.progress.tree.key.now 0 - slice_index c.search.new.progress.tree.key.now v) = λ v l.
+    slice_index c.raise.new.price v ≡ slice_index c.args.flow.now.price.now v + (slice_index c.search.new.progress.tree.distance.now 0 - slice_index c.search.new.progress.tree.distance.now v) = λ v l.
     let same : slice_index c.augment.new.flow.price.now v ≡ slice_index c.args.flow.now.price.now v = ap (λ xs. slice_index xs v) c.augment.ensures.price in
     omega (arith, c.raise.ensures.by v (omega (arith, many))) in
     record {

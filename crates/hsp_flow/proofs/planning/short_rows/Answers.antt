@@ -4,5 +4,5 @@ use Rattle.hsp_flow.proofs.planning.short_rows.Goals as goal
 
 pub returns : goal.returns
 returns c =
-    short_spread c.args.instance.now c.requires.within c.args.groups.now c.requires.groups c.args.firsts.now c.requires.firsts c.args.lists.now c.requires.lists c.args.set.now c.in_ok-flags.flags.items c.requires.short
-    (c.in_ok-flags.ensures.many ∙ c.rows.ensures.count) (rw c.rows.ensures.count at c.in_ok-flags.ensures.flags)
+    short_spread c.args.grouping.now.instance.now c.requires.grouping.within c.args.grouping.now.groups.now c.requires.grouping.are_groups c.args.grouping.now.firsts.now c.requires.grouping.are_firsts c.args.grouping.now.lists.now c.requires.grouping.of_groups c.args.set.now c.in_ok-flags.flags.items c.requires.short
+    (c.in_ok-flags.ensures.many ∙ c.rows-rows.ensures.count) (rw c.rows-rows.ensures.count at c.in_ok-flags.ensures.flags)

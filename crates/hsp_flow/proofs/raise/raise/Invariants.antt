@@ -5,8 +5,8 @@ use Rattle.hsp_flow.proofs.raise.raise.Given as goal
 abbrev pub invariant-loop-node : goal.invariant-loop-node
 invariant-loop-node l =
     (length l.price ≡ length l.fn.price)
-    × (length l.key ≡ length l.fn.key)
-    × ((v : ℕ) → v < l.node → slice_index l.key v ≡ top)
-    × ((v : ℕ) → v < l.node → slice_index l.price v ≡ slice_index l.fn.price v + (l.reach - slice_index l.fn.key v))
-    × ((v : ℕ) → l.node ≤ v → slice_index l.key v ≡ slice_index l.fn.key v)
+    × (length l.distance ≡ length l.fn.distance)
+    × ((v : ℕ) → v < l.node → slice_index l.distance v ≡ top)
+    × ((v : ℕ) → v < l.node → slice_index l.price v ≡ slice_index l.fn.price v + (l.reach - slice_index l.fn.distance v))
+    × ((v : ℕ) → l.node ≤ v → slice_index l.distance v ≡ slice_index l.fn.distance v)
     × ((v : ℕ) → l.node ≤ v → slice_index l.price v ≡ slice_index l.fn.price v)

@@ -9,7 +9,7 @@ loop-turn-init g c =
     let covers = c.in_ok-begin.ensures.covers in (
       begun _ _ _ _ _ covers c.requires.root_in c.requires.away c.requires.unmet c.in_ok-begin.ensures.ok,
       c.begin.ensures.count,
-      spread_begun _ _ _ _ _ _ c.in_ok-begin.ensures.ok covers.key_many,
+      spread_begun _ _ _ _ _ _ c.in_ok-begin.ensures.ok covers.distances_many,
     )
 
 pub returns-in_default-clause-none : goal.returns-in_default-clause-none

@@ -1,4 +1,4 @@
-use Rattle.std.proofs.Common.{◌≡◌, ◌<◌, ◌≤◌, false, slice_index_or, subst, arith}
+use Rattle.std.proofs.Common.{◌≡◌, ◌≤◌, false, slice_index_or, subst, arith}
 use Rattle.std.proofs.Math.Facts.{Fits-below}
 use Rattle.hsp_simplex.specs.Network.{Transport, capacity_of, demand_of}
 use Rattle.hsp_flow.specs.Planning.{transport_of}

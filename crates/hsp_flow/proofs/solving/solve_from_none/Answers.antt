@@ -12,7 +12,7 @@ solve_from-requires-clause-ready g c =
     let unmet : c.deref_mut-4.result.now ≡ c.args.links.now.supplies.now = c.deref_mut-4.ensures.value ∙ c.in_ok-unmet.ensures.items_if_clones_equal (λ x y same. same) in
     let prices : FirstPrices (length c.args.links.now.supplies.now) c.args.links.now.costs.now c.args.links.now.starts.now c.deref_mut-3.result.now =
     rw c.deref_mut-3.ensures.value c.in_ok-price.ensures in
-    let some : 0 < length c.args.links.now.supplies.now = omega (arith, c.requires.links_of.supplies.many) in
+    let some : 0 < length c.args.links.now.supplies.now = omega (arith, c.requires.links_of.lists.supplies.many) in
     record {
       sound = sound_start _ _ flows.0
           (ap (λ xs. length xs) room ∙ graph.capacities_many) (ap (λ xs. length xs) unmet) flows.1 (λ k l. ap (λ xs. slice_index xs k) room)
