@@ -1,21 +1,21 @@
 #!/usr/bin/env python3
-"""Measures how many rows of a log the built program answers a second, over an instance at the limits.
+"""Measures how many rows of a log the built program answers a second, without fronts and with 64 by turns, over an instance at the limits.
 
-    tools/measure_dispatch.py [ROWS] [PROGRAM]
+    tools/measure_dispatch.py [ROWS] [PROGRAM] [FACTOR]
 
-Then it does so with a front drawn for each row, at 64 fronts. ROWS is 10,000,000 at first, PROGRAM crates/hsplan/out/hsplan, which `rt run` leaves there. The instance has 8,192 rows, 64 regions,
-32 sites of 32 servers and 2,048 costs; the log draws its rows at random by their counts, so that most of it is assigned. A run of a
-log of its header alone tells what is spent before the first row.
+ROWS is 10,000,000 at first, PROGRAM crates/hsplan/out/hsplan, which `rt run` leaves there. The instance has 8,192 rows, 64 regions, 32 sites of 32 servers and
+2,048 costs, and counts of 1 to 3,000, or FACTOR times as many; a log draws its rows at random by their counts, and with fronts a front for each, so that most of
+it is assigned. Seconds are those of the processor; a run of a log of its header alone tells what is spent before the first row.
 """
 import os
 import random
+import statistics
 import subprocess
 import sys
 import tempfile
-import time
 
 TOP = os.path.dirname(os.path.dirname(os.path.abspath(__file__)))
-SITES, SERVERS, REGIONS, ROWS, FRONTS = 32, 32, 64, 8192, 64
+SITES, SERVERS, REGIONS, ROWS, FRONTS, TURNS = 32, 32, 64, 8192, 64, 7
 
 
 def address(number):
@@ -37,10 +37,10 @@ def write(folder, name, lines):
     return path
 
 
-def inputs(folder, draw, factor=1.5, hosts=0):
+def inputs(folder, draw, factor=1.5, hosts=0, times=1):
     """The rows, their counts, and the options with the files of an instance: its capacity is the factor times its demand, and that of its hosts
     together three fifths of that."""
-    counts = [draw.randint(1, 3000) for _ in range(ROWS)]
+    counts = [times * draw.randint(1, 3000) for _ in range(ROWS)]
     rows = [f"region-{draw.randrange(REGIONS)},20.500.12345/object-{row:06}" for row in range(ROWS)]
     capacity = int(factor * sum(counts)) // (SITES * SERVERS)
     sites = [f'[[site]]\nname = "site-{site}"\nrecord = "{record(site, hosts)}"' for site in range(SITES)]
@@ -67,42 +67,55 @@ def log(folder, name, header, lines, weights, many, draw):
 
 
 def timed(words):
-    """Seconds by the clock, and what was told on standard error."""
-    with open(os.devnull, "w") as sink:
-        begun = time.perf_counter()
-        ended = subprocess.run(words, stdout=sink, stderr=subprocess.PIPE, text=True)
-        if ended.returncode:
-            sys.exit(ended.stderr)
-        return time.perf_counter() - begun, ended.stderr
+    """Seconds of the processor, and what was told on standard error."""
+    with open(os.devnull, "w") as sink, tempfile.TemporaryFile("w+") as told:
+        running = subprocess.Popen(words, stdout=sink, stderr=told)
+        _, status, used = os.wait4(running.pid, 0)
+        told.seek(0)
+        if status:
+            sys.exit(told.read())
+        return used.ru_utime + used.ru_stime, told.read()
 
 
-def measure(words, empty, path, many):
-    before, _ = timed(words + ["--log", empty])
-    print(f"{many} rows, {os.path.getsize(path)} octets, {before:.2f} s before the first row")
-    for _ in range(3):
-        spent, told = timed(words + ["--log", path])
-        print(f"{spent:.2f} s, {many / (spent - before) / 1e6:.2f} million rows a second: {told.strip()}")
+def measure(kinds, many):
+    """Runs each kind by turns: its name, words, empty log and log."""
+    before = {name: min(timed(words + ["--log", empty])[0] for _ in range(3)) for name, words, empty, _ in kinds}
+    spent = {name: [] for name, *_ in kinds}
+    for _ in range(TURNS):
+        for name, words, _, path in kinds:
+            seconds, told = timed(words + ["--log", path])
+            spent[name].append(seconds - before[name])
+            print(f"{name}: {seconds:.2f} s, {many / spent[name][-1] / 1e6:.2f} million rows a second: {told.strip()}", flush=True)
+    none, fronts = spent.values()
+    pairs = [a / b for a, b in zip(none, fronts)]
+    print(f"of the rows a second without fronts: {min(none) / min(fronts):.2f} by the fastest runs, {statistics.median(pairs):.2f} by the median of {TURNS} turns")
 
 
 def main():
     many = int(sys.argv[1]) if len(sys.argv) > 1 else 10_000_000
     program = sys.argv[2] if len(sys.argv) > 2 else os.path.join(TOP, "crates", "hsplan", "out", "hsplan")
+    times = int(sys.argv[3]) if len(sys.argv) > 3 else 1
     draw = random.Random(1)
     with tempfile.TemporaryDirectory() as folder:
-        rows, counts, files = inputs(folder, draw)
+        rows, counts, files = inputs(folder, draw, times=times)
         plan = os.path.join(folder, "plan.txt")
         with open(plan, "w") as file:
             subprocess.run([program, "plan"] + files, stdout=file, check=True)
         words = [program, "dispatch"] + files + ["--plan", plan]
         entries = "region,handle"
-        path = log(folder, "log.csv", entries, rows, counts, many, draw)
-        measure(words, log(folder, "none.csv", entries, rows, counts, 0, draw), path, many)
-        os.remove(path)
         events = "front," + entries
         at_fronts = [f"{front},{row}" for row in rows for front in range(FRONTS)]
         weights = [count for count in counts for _ in range(FRONTS)]
-        path = log(folder, "events.csv", events, at_fronts, weights, many, draw)
-        measure(words + ["--fronts", str(FRONTS)], log(folder, "no_events.csv", events, rows, counts, 0, draw), path, many)
+        kinds = [
+            ("none", words, log(folder, "no_log.csv", entries, rows, counts, 0, draw), log(folder, "log.csv", entries, rows, counts, many, draw)),
+            (
+                f"{FRONTS} fronts",
+                words + ["--fronts", str(FRONTS)],
+                log(folder, "no_events.csv", events, rows, counts, 0, draw),
+                log(folder, "events.csv", events, at_fronts, weights, many, draw),
+            ),
+        ]
+        measure(kinds, many)
     return 0
 
 
