@@ -156,7 +156,7 @@ fn has_the_share(rt: &impl Abort, alloc: Global, wide: Wide) -> Option<()> {
     for front in 0..wide.many {
         assert_eq!(rt; fronts.left(front, 0, 0), wide.share);
         assert_eq!(rt; fronts.assign(front, b"r1", handle), assigned(0, 1, 3));
-        assert_eq!(rt; fronts.left(front, 0, 0), wide.share - 1);
+        assert_eq!(rt; fronts.left(front, 0, 0).saturating_add(1), wide.share);
     }
     assert_eq!(rt;
         [fronts.left(0, 1, 0), fronts.left(0, 2, 0)],
