@@ -136,7 +136,7 @@ fn a_front_uses_up_one_site_after_the_other(rt: HostRuntime) {
     );
 }
 
-// The counts of the first row, and what fronts have of them, before each takes one and behind it.
+// The counts of the first row, and what each front has of them before it takes one, and what the first has of the second row.
 #[derive(Clone, Copy)]
 struct Wide {
     demand: &'static [u8],
@@ -145,6 +145,7 @@ struct Wide {
     count: u64,
     many: u32,
     share: u64,
+    next: u64,
 }
 
 // Fronts of which each has the share, None where memory ran out.
@@ -160,7 +161,7 @@ fn has_the_share(rt: &impl Abort, alloc: Global, wide: Wide) -> Option<()> {
     }
     assert_eq!(rt;
         [fronts.left(0, 1, 0), fronts.left(0, 2, 0)],
-        [4 / u64::from(wide.many), 1]
+        [wide.next, 1]
     );
     Some(())
 }
@@ -172,6 +173,7 @@ const ONE_LESS: Wide = Wide {
     count: 65535,
     many: 1,
     share: 65535,
+    next: 4,
 };
 
 const ONE_MORE: Wide = Wide {
@@ -181,6 +183,7 @@ const ONE_MORE: Wide = Wide {
     count: 65536,
     many: 1,
     share: 65536,
+    next: 4,
 };
 
 const BOTH_LESS: Wide = Wide {
@@ -190,6 +193,7 @@ const BOTH_LESS: Wide = Wide {
     count: 131070,
     many: 2,
     share: 65535,
+    next: 2,
 };
 
 const BOTH_MORE: Wide = Wide {
@@ -199,6 +203,7 @@ const BOTH_MORE: Wide = Wide {
     count: 131072,
     many: 2,
     share: 65536,
+    next: 2,
 };
 
 const MOST: Wide = Wide {
@@ -208,6 +213,7 @@ const MOST: Wide = Wide {
     count: 1000000,
     many: 2,
     share: 500000,
+    next: 2,
 };
 
 #[test]
