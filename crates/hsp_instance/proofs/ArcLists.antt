@@ -1,10 +1,10 @@
 -- The arcs of a row, site by site.
-use Rattle.std.proofs.Common.{◌≡◌, ◌∙◌, ◌≤◌, ◌<◌, ◌+◌, ℕ, zero, suc, List, [], ◌∷◌, ◌++◌, Option, Some, None, drop, get_or, length, option_map, refl, ap, arith}
+use Rattle.std.proofs.Common.{◌≡◌, ◌≤◌, ◌<◌, ◌+◌, ℕ, suc, List, [], ◌∷◌, ◌++◌, Option, Some, None, drop, length, refl, ap, arith}
 use Rattle.std.specs.List.{AllByRecursion, slice_get}
 use Rattle.hsp_tables.specs.Costs.{CostEntry}
 use Rattle.hsp_instance.specs.Building.{arc_to, arcs_from, cost_of}
 use Rattle.hsp_instance.specs.Instance.{IsAscending, Row, Site}
-use Rattle.hsp_instance.specs.RegionCosts.{RegionCosts, arcs_by, costs_at}
+use Rattle.hsp_instance.specs.RegionCosts.{arcs_by, costs_at}
 use Rattle.hsp_instance.specs.declared.arc.Arc.{Arc}
 use Rattle.hsp_instance.proofs.Lists.{all_append, drop_at}
 
@@ -12,12 +12,6 @@ use Rattle.hsp_instance.proofs.Lists.{all_append, drop_at}
 pub by_region : (table : List CostEntry) (row : Row) (n first : ℕ) (sites : List Site) → arcs_by row.handle n first sites (costs_at table row.region sites) ≡ arcs_from table row n first sites
 by_region table row n first [] = refl
 by_region table row n first (site ∷ more) = ap (λ arcs. arc_to row.handle n first site (cost_of table row.region site.name) ++ arcs) (by_region table row (n + 1) (first + length site.servers) more)
-
--- the costs of a region that is known
-pub costs_there : (known : List RegionCosts) (place : ℕ) (it : RegionCosts) (costs : List (Option ℕ)) → option_map (λ (k : RegionCosts). k.costs) (slice_get known place) ≡ Some costs → it ≡ get_or known place it → it.costs ≡ costs
-costs_there [] place it costs are read = let none : ◌≡◌ {A = Option (List (Option ℕ))} None (Some costs) = are in cc
-costs_there (k ∷ known) zero it costs are read = let same : k.costs ≡ costs = cc (are) in ap (λ (k : RegionCosts). k.costs) read ∙ same
-costs_there (k ∷ known) (suc i) it costs are read = costs_there known i it costs are read
 
 -- the arcs from a site on are that to the site and the rest
 pub arcs_next : (handle : List ℕ) (n first : ℕ) (sites : List Site) (costs : List (Option ℕ)) (site : Site) (cost : Option ℕ) → slice_get sites n ≡ Some site → slice_get costs n ≡ Some cost

@@ -1,5 +1,6 @@
 pub mod Lists
 pub mod ArcLists
+pub mod KnownRegions
 pub mod ServerLists
 pub mod Limits
 pub mod FirstSeen

@@ -10,7 +10,7 @@ ghost use Rattle.hsp_instance.specs.RegionCosts.{arcs_by, arcs_of};
 use crate::arc::Arc;
 use crate::digests::Digests;
 use crate::instance::ArcList;
-use crate::region_costs::{RegionCosts, place_of};
+use crate::region_costs::{RegionCosts, costs_there, place_of};
 use crate::sites::Site;
 use hsp_names::HandleRef;
 use hsp_tables::{Costs, Demand};
@@ -87,13 +87,13 @@ pub(crate) fn arcs_of(
     requires { AreSites sites.now }
     ensures { IfOk result (λ v. v.items ≡ map (arcs_of costs.now sites.now) demand.now) }
 {
-    let mut known: Vec<RegionCosts> = Vec::new(alloc);
+    let mut known: RegionCosts = RegionCosts::new(alloc);
     let mut lists = Vec::with_capacity(alloc, demand.len() as usize)?;
     for number in 0..demand.len() {
         let row = demand.row(number);
         let place = place_of(alloc, &mut known, costs, sites, row.region)?;
-        let found = &known[place];
-        lists.push(arcs_by(alloc, row.handle, sites, found.costs.as_slice())?)?;
+        let found = costs_there(&known, place);
+        lists.push(arcs_by(alloc, row.handle, sites, found)?)?;
     }
     Ok(lists)
 }

@@ -10,7 +10,7 @@ ghost use Rattle.hsp_tables.specs.Keyed.{PairEntry, same_pair};
 ghost use Rattle.hsp_tables.specs.KeyedRows.{names_in, pair_entry, pair_of, server_entry};
 
 use crate::fault::TableFault;
-use indexmap::{Equivalent, IndexMap};
+use indexmap::{Equivalent, IndexMap, IndexSet};
 use std::alloc::Global;
 use std::hash::Hash;
 use std::marker::Model;
@@ -264,7 +264,7 @@ impl ServerRows {
 // The regions that were seen, in first-seen order.
 #[derive(Drop)]
 pub(crate) struct Regions {
-    names: Vec<Vec<u8>>,
+    names: IndexSet<Vec<u8>>,
 }
 
 impl Model for Regions {
@@ -273,19 +273,19 @@ impl Model for Regions {
 
     ghost Value = { List (List ℕ) };
 
-    ghost view = { λ t. names_in t.names.items };
+    ghost view = { λ t. names_in t.names.keys };
 }
 
-// Whether a name is among those that were seen.
-fn has_name(names: &[Vec<u8>], name: &[u8]) -> bool
-    ensures { result ≡ list_any (bytes_eq name.now) (names_in names.now) }
+// Adds a name to those that were seen.
+fn insert_name(alloc: Global, names: &mut IndexSet<Vec<u8>>, name: &[u8]) -> Result<(), TableFault>
+    ensures ok { OnOk result (
+        names_in names.new.keys ≡ insert_key bytes_eq (names_in names.old.keys) name.now) }
+    ensures err { IfErr result (λ e. e ≡ OutOfMemory) }
 {
-    for seen in names {
-        if name == seen.as_slice() {
-            return true;
-        }
+    if !names.contains(name) {
+        names.insert(Vec::from_slice(alloc, name)?)?;
     }
-    false
+    Ok(())
 }
 
 impl Regions {
@@ -293,7 +293,7 @@ impl Regions {
         ensures { result ≡ [] }
     {
         Regions {
-            names: Vec::new(alloc),
+            names: IndexSet::new(alloc),
         }
     }
 
@@ -308,9 +308,6 @@ impl Regions {
         ensures ok { OnOk result (self.new ≡ insert_key bytes_eq self.old region.now) }
         ensures err { IfErr result (λ e. e ≡ OutOfMemory) }
     {
-        if !has_name(self.names.as_slice(), region) {
-            self.names.push(Vec::from_slice(alloc, region)?)?;
-        }
-        Ok(())
+        insert_name(alloc, &mut self.names, region)
     }
 }

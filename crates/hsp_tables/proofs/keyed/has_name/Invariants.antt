@@ -1,8 +1,0 @@
-use Rattle.std.proofs.Common.{◌≡◌, drop}
-use Rattle.std.specs.List.{list_any}
-use Rattle.std.specs.Str.{bytes_eq}
-use Rattle.hsp_tables.specs.KeyedRows.{names_in}
-use Rattle.hsp_tables.proofs.keyed.has_name.Given as goal
-
-abbrev pub invariant-loop-seen : goal.invariant-loop-seen
-invariant-loop-seen l = list_any (bytes_eq l.name) (names_in (drop l.seen-index l.names)) ≡ list_any (bytes_eq l.name) (names_in l.names)
