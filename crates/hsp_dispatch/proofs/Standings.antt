@@ -1,5 +1,5 @@
 -- Where fronts stand among the cells of a row, and what they take of them.
-use Rattle.std.proofs.Common.{Option, ◌≡◌, ◌≢◌, ◌<◌, ◌≤◌, ◌+◌, ◌-◌, ◌*◌, ◌∙◌, ◌++◌, ℕ, zero, suc, List, [], ◌∷◌, drop, length, set, take, Some, None, option_map, arith, refl, sym, ap, drop-drop, eq-eqb, zero-add}
+use Rattle.std.proofs.Common.{◌≡◌, ◌≢◌, ◌<◌, ◌≤◌, ◌+◌, ◌-◌, ◌*◌, ◌∙◌, ◌++◌, ℕ, zero, suc, List, [], ◌∷◌, drop, length, set, take, Some, None, option_map, arith, refl, sym, ap, drop-drop, eq-eqb, zero-add}
 use Rattle.std.proofs.Common.{inl, inr}
 use Rattle.std.specs.Prelude.{IfSome}
 use Rattle.std.specs.List.{AllByRecursion, slice_get}
@@ -12,7 +12,7 @@ use Rattle.hsp_instance.specs.Instance.{Instance}
 use Rattle.hsp_instance.proofs.Lists.{back_at, drop_at, front_at}
 use Rattle.hsp_dispatch.specs.Fronts.{cells_at, share}
 use Rattle.hsp_dispatch.specs.Shares.{AreCells, AreCellsOf, IsCellOf, cells_in, first_of, left_at, without_first}
-use Rattle.hsp_dispatch.specs.Standings.{AreBounded, AreSoles, IsSole, all_sums, cells_left, left_among, lefts_from, lefts_of, shares_in, shares_sum, sums_of}
+use Rattle.hsp_dispatch.specs.Standings.{AreBounded, AreSoles, IsSole, all_sums, cells_left, left_among, lefts_from, lefts_of, shares_in, shares_sum, sole_in, sums_of}
 use Rattle.hsp_dispatch.specs.declared.front_share.Standing.{Standing}
 use Rattle.hsp_dispatch.specs.declared.share.Cell.{Cell}
 use Rattle.hsp_dispatch.proofs.FrontShares.{share_le, share_none}
@@ -139,24 +139,25 @@ first_sole fronts front left server (cell ∷ []) sole some = rw (lt-ltb 0 left 
 first_sole fronts front left server (cell ∷ second ∷ more) sole some = absurd sole
 
 -- of a row for which a server is named
-pub sole_at : (soles : List (Option ℕ)) (rows : List (List Cell)) (row server : ℕ) → AreSoles soles rows → slice_get soles row ≡ Some (Some server)
+pub sole_at : (soles : List ℕ) (rows : List (List Cell)) (row own server : ℕ) → AreSoles soles rows → slice_get soles row ≡ Some own → sole_in own ≡ Some server
     → IsSole server (cells_in (slice_get rows row))
-sole_at [] rows row server are e = absurd (cc)
-sole_at (sole ∷ soles) [] row server are e = absurd are
-sole_at (sole ∷ soles) (cells ∷ rows) zero server are e =
-    let same : sole ≡ Some server = cc in
-    rw same at are.0
-sole_at (sole ∷ soles) (cells ∷ rows) (suc row) server are e = sole_at soles rows row server are.1 e
+sole_at [] rows row own server are e is = absurd (cc)
+sole_at (sole ∷ soles) [] row own server are e is = absurd are
+sole_at (sole ∷ soles) (cells ∷ rows) zero own server are e is =
+    let same : sole ≡ own = cc (e) in
+    let names : sole_in sole ≡ Some server = ap sole_in same ∙ is in
+    rw names at are.0
+sole_at (sole ∷ soles) (cells ∷ rows) (suc row) own server are e is = sole_at soles rows row own server are.1 e is
 
-pub soles_long : (soles : List (Option ℕ)) (rows : List (List Cell)) → AreSoles soles rows → length soles ≡ length rows
+pub soles_long : (soles : List ℕ) (rows : List (List Cell)) → AreSoles soles rows → length soles ≡ length rows
 soles_long [] [] are = refl
 soles_long [] (cells ∷ rows) are = absurd are
 soles_long (sole ∷ soles) [] are = absurd are
 soles_long (sole ∷ soles) (cells ∷ rows) are = ap suc (soles_long soles rows are.1)
 
 -- one row more
-pub soles_next : (soles : List (Option ℕ)) (rows : List (List Cell)) (k : ℕ) (sole : Option ℕ) (cells : List Cell) → AreSoles soles (take k rows)
-    → slice_get rows k ≡ Some cells → IfSome sole (λ server. IsSole server cells) → AreSoles (soles ++ sole ∷ []) (take (k + 1) rows)
+pub soles_next : (soles : List ℕ) (rows : List (List Cell)) (k : ℕ) (sole : ℕ) (cells : List Cell) → AreSoles soles (take k rows)
+    → slice_get rows k ≡ Some cells → IfSome (sole_in sole) (λ server. IsSole server cells) → AreSoles (soles ++ sole ∷ []) (take (k + 1) rows)
 soles_next soles [] k sole cells are e is = absurd (cc)
 soles_next [] (first ∷ rows) zero sole cells are e is =
     let same : first ≡ cells = cc in

@@ -1,5 +1,5 @@
 -- Where fronts stand among the cells of a row.
-use Rattle.std.specs.Prelude.{Option, ⊤, IfSome, ◌≡◌, ◌≤◌, ◌+◌, ◌-◌, ◌==◌, nat_lt, ℕ, zero, suc, List, [], ◌∷◌, ◌++◌, drop, take, if◌then◌else◌}
+use Rattle.std.specs.Prelude.{Option, Some, None, ⊤, IfSome, ◌≡◌, ◌≤◌, ◌+◌, ◌-◌, ◌==◌, nat_lt, ℕ, zero, suc, List, [], ◌∷◌, ◌++◌, drop, take, if◌then◌else◌}
 use Rattle.std.specs.List.{AllByRecursion}
 use Rattle.hsp_text.specs.declared.limits.TheConstants.{GREATEST_COUNT}
 use Rattle.hsp_dispatch.specs.Fronts.{share}
@@ -71,12 +71,16 @@ IsSole server [] = ⊥
 IsSole server (cell ∷ []) = cell.server ≡ server
 IsSole server (cell ∷ second ∷ more) = ⊥
 
+-- the server that a number of two octets names; the greatest names none
+abbrev pub sole_in : ℕ → Option ℕ
+sole_in sole = if sole == 65535 then None else Some sole
+
 -- where a server is named for a row, the row's one cell is of it
-abbrev pub AreSoles : List (Option ℕ) → List (List Cell) → Type 0
+abbrev pub AreSoles : List ℕ → List (List Cell) → Type 0
 AreSoles [] [] = ⊤
 AreSoles [] (cells ∷ rows) = ⊥
 AreSoles (sole ∷ soles) [] = ⊥
-AreSoles (sole ∷ soles) (cells ∷ rows) = IfSome sole (λ server. IsSole server cells) × AreSoles soles rows
+AreSoles (sole ∷ soles) (cells ∷ rows) = IfSome (sole_in sole) (λ server. IsSole server cells) × AreSoles soles rows
 
 -- the counts, however wide they are
 abbrev pub numbers_in : Widths → List ℕ

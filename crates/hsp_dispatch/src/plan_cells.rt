@@ -2,7 +2,7 @@
 
 ghost use Rattle.std.specs.Prelude.{◌≡◌, ◌<◌, IfOk, length, option_map, slice_get};
 ghost use Rattle.hsp_dispatch.specs.Shares.{cells_in, first_of, left_at};
-ghost use Rattle.hsp_dispatch.specs.Standings.{left_among};
+ghost use Rattle.hsp_dispatch.specs.Standings.{left_among, sole_in};
 ghost use Rattle.hsp_dispatch.specs.declared.share.Cell.{Cell};
 
 use crate::front_share::Front;
@@ -10,12 +10,12 @@ use crate::row_cells::RowCells;
 use std::alloc::{AllocError, Global};
 use std::marker::Model;
 
-/// The cells that a plan gives each row. The server of each row that has one cell alone stands in a list of its own, eight octets a
+/// The cells that a plan gives each row. The server of each row that has one cell alone stands in a list of its own, two octets a
 /// row, so that most queries read no cell.
 #[derive(Debug, Drop)]
 pub(crate) struct PlanCells {
     rows: Vec<RowCells>,
-    soles: Vec<Option<u32>>,
+    soles: Vec<u16>,
 }
 
 impl Model for PlanCells {
@@ -28,6 +28,17 @@ impl Model for PlanCells {
     ghost view = { λ plan. plan.rows.items };
 
     ghost invariant = { λ plan. AreSoles plan.soles.items plan.rows.items };
+}
+
+// The server that a number names.
+fn named(sole: u16) -> Option<u32>
+    ensures { result ≡ sole_in sole }
+{
+    if sole == u16::MAX {
+        None
+    } else {
+        Some(u32::from(sole))
+    }
 }
 
 impl PlanCells {
@@ -53,7 +64,7 @@ impl PlanCells {
         if left == 0 {
             return None;
         }
-        if let Some(server) = self.soles[row as usize] {
+        if let Some(server) = named(self.soles[row as usize]) {
             return Some(server);
         }
         self.rows[row as usize].server(left, front)

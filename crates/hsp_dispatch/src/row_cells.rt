@@ -3,7 +3,7 @@
 ghost use Rattle.std.specs.Prelude.{◌≡◌, ◌<◌, ◌≤◌, IfSome, length, option_map};
 ghost use Rattle.hsp_text.specs.declared.limits.TheConstants.{MOST_SITES};
 ghost use Rattle.hsp_dispatch.specs.Shares.{first_of, left_at};
-ghost use Rattle.hsp_dispatch.specs.Standings.{AreBounded, IsSole, left_among, shares_sum};
+ghost use Rattle.hsp_dispatch.specs.Standings.{AreBounded, IsSole, left_among, shares_sum, sole_in};
 ghost use Rattle.hsp_dispatch.specs.declared.share.Cell.{Cell};
 
 use crate::front_share::{Front, share_at, stand_with, sum_in};
@@ -39,14 +39,14 @@ impl RowCells {
         RowCells { cells }
     }
 
-    /// The number of the server where there is one cell alone; None otherwise.
-    pub(crate) fn sole(&self) -> Option<u32>
-        ensures { IfSome result (λ server. IsSole server self.now) }
+    /// The number of the server where there is one cell alone and the number is below the greatest of two octets; else that greatest.
+    pub(crate) fn sole(&self) -> u16
+        ensures { IfSome (sole_in result) (λ server. IsSole server self.now) }
     {
-        if self.cells.len() == 1 {
-            Some(self.cells[0].server)
+        if self.cells.len() == 1 && self.cells[0].server < 65_535 {
+            self.cells[0].server as u16
         } else {
-            None
+            u16::MAX
         }
     }
 

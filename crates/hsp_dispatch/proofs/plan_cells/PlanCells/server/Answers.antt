@@ -1,4 +1,4 @@
-use Rattle.std.proofs.Common.{◌≡◌, ◌<◌, Some, arith, length, refl, sym}
+use Rattle.std.proofs.Common.{◌≡◌, ◌∙◌, ◌<◌, Some, arith, length, refl, sym}
 use Rattle.std.specs.List.{slice_get}
 use Rattle.std.proofs.lemmas.Option.{slice_get_read}
 use Rattle.hsp_dispatch.specs.Shares.{cells_in}
@@ -21,7 +21,7 @@ returns-in-Some c =
     let inside : c.args.row < length rows = rw (← c.self.view_is) at c.requires.row in
     let there : c.args.row < length soles = omega (arith, inside, soles_long soles rows c.self.invariant) in
     let own : slice_get soles c.args.row ≡ Some c.index.result.now = slice_get_read soles (length soles) c.args.row c.index.result.now refl there c.index.ensures in
-    let sole = sole_at soles rows c.args.row c.in-Some.server c.self.invariant (rw c.in-Some.is at own) in
+    let sole = sole_at soles rows c.args.row c.index.result.now c.in-Some.server c.self.invariant own (sym c.named.ensures ∙ c.in-Some.is) in
     rw (← c.self.view_is)
     (sym (first_sole c.args.front.fronts c.args.front.number c.args.left c.in-Some.server (cells_in (slice_get rows c.args.row)) sole
     (λ none. absurd (omega (arith, none, c.if-left-eq0.false)))))
