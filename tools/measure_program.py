@@ -4,12 +4,13 @@
     tools/measure_program.py [--runs N] [--hosts N] [--program FILE] [FACTOR..]
 
 For each factor, which is the capacity of all servers over the demand of all rows, it makes the inputs, plans them, has the answer judged, and
-reports the loads of a plan. Then it locates a handle over the largest settings. Of N runs (5, if not said otherwise) it prints the least and the
-greatest. With hosts, the servers stand on so many machines, whose limits together are three fifths of the capacity.
+reports the loads of a plan. Then it locates a handle over the largest settings. Of N runs (5, if not said otherwise) it prints the least, the middle and
+the greatest. With hosts, the servers stand on so many machines, whose limits together are three fifths of the capacity.
 """
 import argparse
 import os
 import random
+import statistics
 import subprocess
 import sys
 import tempfile
@@ -33,7 +34,7 @@ def row(name, words, out, runs):
     """Runs a command so often, and prints a row of the table. The status of the last run."""
     took = [spent_by(words, out) for _ in range(runs)]
     seconds = [it[1] for it in took]
-    print(f"| {name} | {min(seconds):.3f} to {max(seconds):.3f} | {max(it[2] for it in took) / 1000:.1f} MB | {took[-1][0]} |", flush=True)
+    print(f"| {name} | {min(seconds):.3f}, {statistics.median(seconds):.3f}, {max(seconds):.3f} | {max(it[2] for it in took) / 1000:.1f} MB | {took[-1][0]} |", flush=True)
     return took[-1][0]
 
 
