@@ -17,7 +17,7 @@ use Rattle.hsp_simplex.specs.Network.{HasLowPrices, capacity_of, demand_of}
 use Rattle.hsp_flow.specs.Planning.{transport_of, uses_of, flagged_from, HasLimitedPrices, row_of, cost_of}
 use Rattle.hsp_simplex.specs.Sums.{sum_below, only}
 use Rattle.hsp_simplex.specs.declared.network.PricedFlow.{PricedFlow}
-use Rattle.hsp_flow.proofs.Sums.{term_within, only_here}
+use Rattle.hsp_mincost.proofs.Sums.{term_within, only_here}
 use Rattle.hsp_flow.proofs.Ordering.{no_arc}
 use Rattle.hsp_flow.proofs.Bridging.{arc, total_sum, total_at}
 use Rattle.hsp_flow.proofs.Certifying.{plan_valid, plan_feasible, instance_ordered}

@@ -11,7 +11,7 @@ use Rattle.hsp_instance.specs.Groups.{Groups, AreGroups, AreAlike}
 use Rattle.hsp_check.specs.declared.arc.NetworkArc.{NetworkArc}
 use Rattle.hsp_check.specs.Instance.{arc_of, arcs_from}
 use Rattle.hsp_flow.specs.Grouping.{group_of, AreFirsts, arcs_at, lists_at, group_arcs, offset, IsRun, AreGroupPlaces}
-use Rattle.hsp_flow.specs.Layout.{Appends}
+use Rattle.hsp_mincost.specs.Layout.{Appends}
 use Rattle.hsp_flow.specs.Planning.{row_of, server_of, cost_of}
 use Rattle.hsp_flow.proofs.Ordering.{no_arc, each_at, rows_between}
 use Rattle.hsp_flow.proofs.Bridging.{arc}

@@ -14,10 +14,10 @@ use Rattle.hsp_flow.specs.Planning.{transport_of, row_of, server_of, cost_of}
 use Rattle.hsp_flow.specs.Spreads.{Spread}
 use Rattle.hsp_simplex.specs.Sums.{sum_below, only, any_below}
 use Rattle.hsp_simplex.specs.declared.network.PricedFlow.{PricedFlow}
-use Rattle.hsp_flow.proofs.Sums.{sum_below_same, only_here, only_there}
-use Rattle.hsp_flow.proofs.Totals.{sum_below_zero, by_key}
+use Rattle.hsp_mincost.proofs.Sums.{sum_below_same, only_here, only_there}
+use Rattle.hsp_mincost.proofs.Totals.{sum_below_zero, by_key}
 use Rattle.hsp_flow.proofs.SpreadFlows as spread
-use Rattle.hsp_flow.specs.Layout.{IsSmall}
+use Rattle.hsp_mincost.specs.Layout.{IsSmall}
 use Rattle.hsp_flow.specs.declared.group_lists.GroupLists.{GroupLists}
 use Rattle.hsp_flow.proofs.Ordering.{no_arc, all_ordered, rows_ordered, arcs_many}
 use Rattle.hsp_flow.proofs.Bridging.{arc}

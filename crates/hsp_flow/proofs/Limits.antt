@@ -15,7 +15,7 @@ use Rattle.hsp_check.specs.Instance.{arc_of, arcs_from, network_of}
 use Rattle.hsp_check.specs.Plan.{Plan, Feasible, planned, served, total}
 use Rattle.hsp_instance.proofs.Lists.{all_at}
 use Rattle.hsp_check.proofs.Summing.{sum_by_le_all, by_key}
-use Rattle.hsp_flow.specs.Layout.{IsSmall}
+use Rattle.hsp_mincost.specs.Layout.{IsSmall}
 use Rattle.hsp_simplex.specs.Network.{IsNetwork, demand_of, host_of}
 use Rattle.hsp_flow.specs.Planning.{transport_of, row_of, server_of, cost_of}
 use Rattle.hsp_flow.proofs.Ordering.{no_arc, each_weaker, each_append, each_at, rows_between, rows_ordered, arcs_many}

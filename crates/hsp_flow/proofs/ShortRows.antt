@@ -18,7 +18,7 @@ use Rattle.hsp_simplex.specs.Network.{Transport, IsShort, reaches, reached_capac
 use Rattle.hsp_flow.specs.Planning.{transport_of, flagged_from, row_of, server_of}
 use Rattle.hsp_flow.proofs.Ordering.{no_arc, each_weaker}
 use Rattle.hsp_flow.proofs.Bridging.{arc}
-use Rattle.hsp_flow.proofs.Sums as flow_sums
+use Rattle.hsp_mincost.proofs.Sums as flow_sums
 use Rattle.hsp_flow.proofs.Certifying.{same_on}
 
 or_assoc : (a b c : Bool) → ((a || b) || c) ≡ (a || (b || c))

@@ -3,8 +3,8 @@ use Rattle.std.proofs.Common.{◌≡◌, ℕ, zero, suc, ◌+◌, ◌-◌, ◌<�
 use Rattle.std.proofs.lemmas.Bool.{cases_eq}
 use Rattle.hsp_simplex.specs.Sums.{sum_below, only}
 use Rattle.hsp_flow.specs.Spreads.{Spread}
-use Rattle.hsp_flow.proofs.Sums.{sum_below_same, term_within, only_here, only_there, only_split}
-use Rattle.hsp_flow.proofs.Totals.{sum_below_zero, sum_below_one, sum_below_add}
+use Rattle.hsp_mincost.proofs.Sums.{sum_below_same, term_within, only_here, only_there, only_split}
+use Rattle.hsp_mincost.proofs.Totals.{sum_below_zero, sum_below_one, sum_below_add}
 
 only_zero : (w v : ℕ) → only w v 0 ≡ 0
 only_zero w v = elim (cases_eq w v) [

@@ -6,8 +6,8 @@ use Rattle.hsp_flow.proofs.Limits.{small_is}
 use Rattle.hsp_flow.proofs.NodeCounts.{few_nodes}
 use Rattle.hsp_flow.proofs.planning.solve_rows.Goals as goal
 
-pub solve_network-requires : goal.solve_network-requires
-solve_network-requires g c = record {
+pub minimum_cost_flow-requires : goal.minimum_cost_flow-requires
+minimum_cost_flow-requires g c = record {
   small = rw c.row_network-network.ensures (small_is c.args.instance.now c.requires.within);
   nodes = λ n l. c.requires.nodes n
       (few_nodes c.args.instance.now (length c.args.instance.now.rows) _ _ _
