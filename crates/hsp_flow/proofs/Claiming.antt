@@ -19,7 +19,7 @@ use Rattle.hsp_simplex.specs.Sums.{sum_below, only}
 use Rattle.hsp_simplex.specs.declared.network.PricedFlow.{PricedFlow}
 use Rattle.hsp_mincost.proofs.Sums.{term_within, only_here}
 use Rattle.hsp_flow.proofs.Ordering.{no_arc}
-use Rattle.hsp_flow.proofs.Bridging.{arc, total_sum, total_at}
+use Rattle.hsp_flow.proofs.Bridging.{arc, total_at}
 use Rattle.hsp_flow.proofs.Certifying.{plan_valid, plan_feasible, instance_ordered}
 use Rattle.hsp_flow.proofs.Ranges.{uses_ascend, uses_fit, prices_fit, flags_ascend, flags_fit}
 use Rattle.hsp_flow.proofs.ShortRows.{set_valid}
@@ -31,7 +31,7 @@ module _ (it : Instance) (is : IsInstance it) (plan : PricedFlow) (met : IsMet (
 
   bounded : HasLowPrices plan.source_prices.items plan.server_prices.items plan.host_prices.items limit
   unfolding limit
-  bounded = met.low 1000000 (λ k l. costs_low it is k (omega (arith, l, length-map (arcs_from 0 it.arcs) row_of, length-map (arcs_from 0 it.arcs) cost_of)))
+  bounded = met.low 1000000 (costs_low it is)
 
   limit_low : limit ≤ 1000000000000
   unfolding limit
@@ -42,16 +42,13 @@ module _ (it : Instance) (is : IsInstance it) (plan : PricedFlow) (met : IsMet (
   flow_low k l =
       let inside : k < length (transport_of it).sources = omega (arith, l, length-map (arcs_from 0 it.arcs) row_of) in
       let i = slice_index (transport_of it).sources k in
-      let there : i < length (transport_of it).demands = sources_in k inside in
+      let there : i < length (transport_of it).demands = (network_is it is).sources_in k inside in
       let term : only i i (slice_index plan.flows.items k) ≤ sum_below (length (transport_of it).sources) (λ m. only (slice_index (transport_of it).sources m) i (slice_index plan.flows.items m)) =
       term_within (length (transport_of it).sources) (λ m. only (slice_index (transport_of it).sources m) i (slice_index plan.flows.items m)) k inside in
       omega (arith, term, only_here i i (slice_index plan.flows.items k) refl, met.feasible.met i there, counts_low it is i there)
-    where
-      sources_in : (k : ℕ) → k < length (transport_of it).sources → slice_index (transport_of it).sources k < length (transport_of it).demands
-      sources_in = (network_is it is).sources_in
 
   pub cost_is : total (network_of it) (table (uses_of (arcs_from 0 it.arcs) plan.flows.items)) ≡ sum_below (length (arcs_from 0 it.arcs)) (λ k. slice_index (transport_of it).costs k * slice_index plan.flows.items k)
-  cost_is = total_sum (network_of it) (uses_of (arcs_from 0 it.arcs) plan.flows.items) ∙ total_at (arcs_from 0 it.arcs) plan.flows.items (met.many ∙ length-map (arcs_from 0 it.arcs) row_of) (instance_ordered it is)
+  cost_is = total_at (arcs_from 0 it.arcs) plan.flows.items (met.many ∙ length-map (arcs_from 0 it.arcs) row_of) (instance_ordered it is)
 
   is_feasible : Feasible (network_of it) (table (uses_of (arcs_from 0 it.arcs) plan.flows.items))
   is_feasible = plan_feasible it is plan.flows.items plan.source_prices.items plan.server_prices.items plan.host_prices.items limit met.many limit_low met.feasible met.prices bounded
@@ -96,7 +93,7 @@ module _ (it : Instance) (is : IsInstance it) (costs : List ℕ) (same : costs �
   costs_few = rw same (omega (arith, length-map (arcs_from 0 it.arcs) cost_of, few_arcs it is))
 
   pub costs_cheap : (k : ℕ) → k < length costs → slice_index costs k ≤ 1000000
-  costs_cheap = rw same (costs_low it is)
+  costs_cheap = rw same (λ k l. costs_low it is k (omega (arith, l, length-map (arcs_from 0 it.arcs) row_of, length-map (arcs_from 0 it.arcs) cost_of)))
 
   module _ (plan : PricedFlow) (met : IsMet (transport_of it) plan) (total : ℕ) (sum : total ≡ sum_below (length costs) (λ k. slice_index costs k * slice_index plan.flows.items k)) where
     many : length costs ≡ length (arcs_from 0 it.arcs)

@@ -18,7 +18,6 @@ use Rattle.hsp_simplex.specs.Network.{Transport, IsShort, reaches, reached_capac
 use Rattle.hsp_flow.specs.Planning.{transport_of, flagged_from, row_of, server_of}
 use Rattle.hsp_flow.proofs.Ordering.{no_arc, each_weaker}
 use Rattle.hsp_flow.proofs.Bridging.{arc}
-use Rattle.hsp_mincost.proofs.Sums as flow_sums
 use Rattle.hsp_flow.proofs.Certifying.{same_on}
 
 or_assoc : (a b c : Bool) → ((a || b) || c) ≡ (a || (b || c))
@@ -132,17 +131,3 @@ module _ (it : Instance) (set : List Bool) (many : length set ≡ length it.rows
     demand = d ∙ sym demand_is;
     capacity = c ∙ sym capacity_is;
   }
-
--- what the reached servers can take, by the flags of those and the rooms of the hosts
-pub capacity_from : (net : Transport) (set : ℕ → Bool) (reached : List Bool) (rooms : List ℕ) (free limited : ℕ) →
-    ((j : ℕ) → j < length net.capacities → slice_index_or reached j false ≡ reaches net set j) →
-    ((h : ℕ) → h < length net.limits → slice_index rooms h ≡ sum_below (length net.capacities) (λ j. if is_on (host_of net j) h then (if slice_index_or reached j false then slice_index net.capacities j else 0) else 0)) →
-    free ≡ sum_below (length net.capacities) (λ j. if is_none (host_of net j) then (if slice_index_or reached j false then slice_index net.capacities j else 0) else 0) →
-    limited ≡ sum_below (length net.limits) (λ h. min (slice_index net.limits h) (slice_index rooms h)) → free + limited ≡ capacity_of net set
-capacity_from net set reached rooms free limited is host_rooms f m =
-    let server = λ (j : ℕ). λ (l : j < length net.capacities). ap (λ b. if b then slice_index net.capacities j else 0) (is j l) in
-    let frees = flow_sums.sum_below_same (length net.capacities) _ (λ j. if is_none (host_of net j) then reached_capacity net set j else 0) (λ j l. ap (λ n. if is_none (host_of net j) then n else 0) (server j l)) in
-    let hosted = flow_sums.sum_below_same (length net.limits) _ (λ h. min (slice_index net.limits h) (on_host net (λ j. reached_capacity net set j) h))
-    (λ h l. ap (λ n. min (slice_index net.limits h) n)
-    (host_rooms h l ∙ flow_sums.sum_below_same (length net.capacities) _ (λ j. if is_on (host_of net j) h then reached_capacity net set j else 0) (λ j m'. ap (λ n. if is_on (host_of net j) h then n else 0) (server j m')))) in
-    ap₂ (λ a b. a + b) (f ∙ frees) (m ∙ hosted)

@@ -1,12 +1,8 @@
 -- After a search that came to the sink: its tree is tight under the raised prices, and the prices stay within bounds.
 use Rattle.std.proofs.Common.{◌≡◌, ◌≢◌, ℕ, ◌+◌, ◌<◌, ◌≤◌, inl, inr, length, slice_index, Option, ap, arith, get_or-set_same, get_or-set_other, add-mul, mul-le-mul_right}
 use Rattle.std.proofs.lemmas.Bool.{cases_eq, cases_lt}
-use Rattle.hsp_mincost.specs.Residual.{IsTree, Sound, distance, nodes, predecessor, prices, raised, to, way, width}
-use Rattle.hsp_mincost.specs.Search.{Begun, Found, Offered, Priced, Spread, TakesWay, top}
-use Rattle.hsp_mincost.specs.declared.links.Links.{Links}
-use Rattle.hsp_mincost.specs.declared.links.Flow.{Flow}
-use Rattle.hsp_mincost.specs.declared.links.SearchTree.{SearchTree}
-use Rattle.hsp_mincost.specs.declared.links.Offer.{Offer}
+use Rattle.hsp_mincost.specs.Residual.{Flow, IsTree, Links, SearchTree, Sound, distance, nodes, predecessor, prices, raised, to, way, width}
+use Rattle.hsp_mincost.specs.Search.{Begun, Found, Offer, Offered, Priced, Spread, TakesWay, top}
 use Rattle.hsp_mincost.proofs.Directions.{gives_raised, takes_raised}
 
 module _ (n : Links) (f : Flow) (t : SearchTree) (root : ℕ) (sound : Sound n f (λ v. slice_index f.price.now v)) (found : Found n f t root) where
@@ -39,11 +35,11 @@ module _ (n : Links) (f : Flow) (t : SearchTree) (root : ℕ) (sound : Sound n f
   }
 
   -- no raised price is above what the search may add and take
-  pub priced_by : (limit up down : ℕ) → Priced n f t root up down → up + down ≤ limit →
-      ((v : ℕ) → v < nodes n → prices f v ≤ limit) → (v : ℕ) → v < nodes n → raised f t v ≤ limit
-  priced_by limit up down p few old v l = elim (cases_lt (distance t v) (distance t 0)) [
+  pub raised_low : Spread n f t root (nodes n) → ((v : ℕ) → v < nodes n → prices f v ≤ n.limit) → (v : ℕ) → v < nodes n → raised f t v ≤ n.limit
+  raised_low s old v l = elim (cases_lt (distance t v) (distance t 0)) [
     | inl less ↦
-        omega (arith, sound.sink_free, p.low 0 found.sink_in found.sink_near, p.high v l (omega (arith, found.sink_near)))
+        let low = s.priced.low 0 found.sink_in found.sink_near in
+        omega (arith, sound.sink_free, s.within, n.scale.limit_is, low, s.priced.high v l (omega (arith, found.sink_near)))
     | inr more ↦ omega (arith, old v l)
   ]
 

@@ -1,9 +1,6 @@
 -- The two directions of a link.
 use Rattle.std.proofs.Common.{◌≡◌, ℕ, ◌+◌, ◌-◌, ◌<◌, ◌==◌, Bool, true, false, length, slice_index, refl, arith, eq-eqb, ne_eqb}
-use Rattle.hsp_mincost.specs.Residual.{distance, from, gives, nodes, prices, raised, takes, to}
-use Rattle.hsp_mincost.specs.declared.links.Links.{Links}
-use Rattle.hsp_mincost.specs.declared.links.Flow.{Flow}
-use Rattle.hsp_mincost.specs.declared.links.SearchTree.{SearchTree}
+use Rattle.hsp_mincost.specs.Residual.{Flow, Links, SearchTree, distance, from, gives, nodes, prices, raised, takes, to}
 
 -- both ends are nodes
 pub from_in : (n : Links) (k : ℕ) (d : Bool) → k < length n.tails.now → from n k d < nodes n

@@ -1,13 +1,8 @@
 -- Looking at the residual arcs of a node, one after the other.
 use Rattle.std.proofs.Common.{◌≡◌, ◌≢◌, ℕ, ◌+◌, ◌<◌, ◌≤◌, ◌⊎◌, inl, inr, Bool, true, length, slice_index, Option, Some, None, is_none, refl, ap, sym, ◌∙◌, arith, lt-ltb, ltb-true}
 use Rattle.std.proofs.lemmas.Bool.{cases_eq, cases_lt, cases_Bool, and_parts, and_from}
-use Rattle.hsp_mincost.specs.Residual.{distance, from, gives, nodes, prices, takes, to, width}
-use Rattle.hsp_mincost.specs.Search.{Expanding, MayBeOffered, Offered, Settled, settled_count, settled_test, top}
-use Rattle.hsp_mincost.specs.declared.links.Links.{Links}
-use Rattle.hsp_mincost.specs.declared.links.Flow.{Flow}
-use Rattle.hsp_mincost.specs.declared.links.SearchTree.{SearchTree}
-use Rattle.hsp_mincost.specs.declared.links.Visit.{Visit}
-use Rattle.hsp_mincost.specs.declared.links.Offer.{Offer}
+use Rattle.hsp_mincost.specs.Residual.{Flow, Links, SearchTree, distance, from, gives, nodes, prices, takes, to, width}
+use Rattle.hsp_mincost.specs.Search.{Expanding, MayBeOffered, Offer, Offered, Settled, Visit, settled_count, settled_test, top}
 use Rattle.hsp_mincost.proofs.Sums.{sum_below_le}
 use Rattle.hsp_mincost.proofs.Directions.{to_in}
 use Rattle.hsp_mincost.proofs.Searching.{fewer, kept, lowered, still, distance_here, distance_same, depth_here, depth_same, cases_option}
@@ -76,14 +71,7 @@ module _ (n : Links) (f : Flow) (t : SearchTree) (held : ℕ → Option ℕ) (at
   -- the same of other seen arcs, where no open arc of the node is new among them
   pub reseen : (seen' : ℕ → Bool → Type 0) →
       ((k : ℕ) (d : Bool) → k < length n.tails.now → 0 < width f k d → from n k d ≡ at.node → seen' k d → seen k d) → Expanding n f t held at seen'
-  reseen seen' old = record {
-    search = fewer n f t held at.root at.distance _ _ (λ k d l wide look q. old k d l wide q (look q)) e.search;
-    settled = e.settled;
-    here = e.here;
-    node_in = e.node_in;
-    shallow = e.shallow;
-    counted = e.counted;
-  }
+  reseen seen' old = record { visit = e.visit; search = fewer n f t held at.root at.distance _ _ (λ k d l wide look q. old k d l wide q (look q)) e.search }
 
   -- one arc more was looked at
   module _ (k : ℕ) (d : Bool) (seen' : ℕ → Bool → Type 0)
@@ -96,14 +84,7 @@ module _ (n : Links) (f : Flow) (t : SearchTree) (held : ℕ → Option ℕ) (at
 
     -- one without residual capacity
     pub passed : width f k d ≡ 0 → Expanding n f t held at seen'
-    passed shut = record {
-      search = kept n f t held at.root at.distance k d _ _ look_next e.search (λ wide st. absurd (omega arith));
-      settled = e.settled;
-      here = e.here;
-      node_in = e.node_in;
-      shallow = e.shallow;
-      counted = e.counted;
-    }
+    passed shut = record { visit = e.visit; search = kept n f t held at.root at.distance k d _ _ look_next e.search (λ wide st. absurd (omega arith)) }
 
     -- one whose end was offered the way over it
     module _ (o : Offer) (over : o.link ≡ k) (is : o.from ≡ at.node) (leaves : from n k d ≡ at.node) (enters : o.to ≡ to n k d) (link : k < length n.tails.now)
@@ -142,20 +123,22 @@ module _ (n : Links) (f : Flow) (t : SearchTree) (held : ℕ → Option ℕ) (at
             let c = e.counted in
             record {
               search = search;
-              settled = still' at.node e.settled;
-              here = distance-same at.node ne ∙ e.here;
-              node_in = e.node_in;
-              shallow = omega (arith, depth-same at.node ne, e.shallow);
-              counted = record {
-                settled = omega (arith, c.settled, count_kept n held held' t t' still');
-                depth_low = λ v l q. elim (cases_eq v o.to) [
-                  | inl w ↦ rw w (omega (arith, depth-here, e.shallow))
-                  | inr nv ↦ omega (arith, depth-same v nv, c.depth_low v l (omega (arith, distance-same v nv)))
-                ];
-                distance_low = λ v l q. elim (cases_eq v o.to) [
-                  | inl w ↦ rw w (omega (arith, distance-here))
-                  | inr nv ↦ omega (arith, distance-same v nv, c.distance_low v l (omega (arith, distance-same v nv)))
-                ];
+              visit = record {
+                settled = still' at.node e.settled;
+                here = distance-same at.node ne ∙ e.here;
+                node_in = e.node_in;
+                shallow = omega (arith, depth-same at.node ne, e.shallow);
+                counted = record {
+                  settled = omega (arith, c.settled, count_kept n held held' t t' still');
+                  depth_low = λ v l q. elim (cases_eq v o.to) [
+                    | inl w ↦ rw w (omega (arith, depth-here, e.shallow))
+                    | inr nv ↦ omega (arith, depth-same v nv, c.depth_low v l (omega (arith, distance-same v nv)))
+                  ];
+                  distance_low = λ v l q. elim (cases_eq v o.to) [
+                    | inl w ↦ rw w (omega (arith, distance-here))
+                    | inr nv ↦ omega (arith, distance-same v nv, c.distance_low v l (omega (arith, distance-same v nv)))
+                  ];
+                };
               };
             }
         | inr more ↦
@@ -164,11 +147,7 @@ module _ (n : Links) (f : Flow) (t : SearchTree) (held : ℕ → Option ℕ) (at
             let no-farther : distance t (to n k d) ≤ o.distance = rw enters at more in
             let from-near : distance t (from n k d) ≡ at.distance = rw leaves e.here in
             rw (w.0, w.1) (record {
+              visit = e.visit;
               search = kept n f t held at.root at.distance k d _ _ look_next e.search (λ wide st. record { no_farther = omega (arith, exact); reached = near-end });
-              settled = e.settled;
-              here = e.here;
-              node_in = e.node_in;
-              shallow = e.shallow;
-              counted = e.counted;
             })
       ]

@@ -2,9 +2,8 @@
 use Rattle.std.proofs.Common.{◌≡◌, ℕ, ◌+◌, ◌-◌, ◌<◌, ◌≤◌, ◌⊎◌, inl, inr, Bool, true, false, List, length, slice_index, refl, sym, ◌∙◌, arith}
 use Rattle.std.proofs.lemmas.Bool.{cases_eq, cases_lt}
 use Rattle.hsp_mincost.specs.Index.{AreChains, IsLast}
-use Rattle.hsp_mincost.specs.Residual.{ends, from, nodes}
+use Rattle.hsp_mincost.specs.Residual.{Links, ends, from, nodes}
 use Rattle.hsp_mincost.specs.Search.{Earlier, Looked}
-use Rattle.hsp_mincost.specs.declared.links.Links.{Links}
 
 -- between a link and the one before it in its chain there is no other
 pub next_in_chain : (ends : List ℕ) (v link earlier k : ℕ) → slice_index ends link ≡ v → IsLast ends (slice_index ends link) link earlier →

@@ -1,13 +1,11 @@
 -- A flow on a network's links as a flow of the network.
 use Rattle.std.proofs.Common.{◌≡◌, ℕ, ◌+◌, ◌-◌, ◌<◌, ◌≤◌, inl, inr, true, false, List, length, slice_index, Option, Some, None, if◌then◌else◌, refl, ap, sym, ◌∙◌, arith}
-use Rattle.std.proofs.lemmas.Bool.{cases_eq}
+use Rattle.std.proofs.lemmas.Bool.{cases_eq, cases_lt}
 use Rattle.hsp_simplex.specs.Sums.{only, sum_below}
 use Rattle.hsp_mincost.specs.Sums.{through}
 use Rattle.hsp_simplex.specs.Network.{Transport, IsNetwork, IsFeasible, HasPrices, HasLowPrices, host_of, sent, load, on_host, host_load, is_on, at_host}
 use Rattle.hsp_mincost.specs.Layout.{LinksOf, IsSmall, base_of, first_of, hosts_of, servers_of, host_node}
-use Rattle.hsp_mincost.specs.Residual.{Sound}
-use Rattle.hsp_mincost.specs.declared.links.Links.{Links}
-use Rattle.hsp_mincost.specs.declared.links.Flow.{Flow}
+use Rattle.hsp_mincost.specs.Residual.{Flow, Links, Sound}
 use Rattle.hsp_mincost.proofs.Sums.{only_here, only_there, sum_below_same, term_within}
 use Rattle.hsp_mincost.proofs.Totals.{sum_split, none_ends, one_ends, through_is, only_shift}
 
@@ -84,15 +82,17 @@ module _ (net : Transport) (whole : IsNetwork net) (small : IsSmall net) (n : Li
       ∙ only_shift (1 + hosts_of net) (slice_index net.servers k) j (slice_index f.flows.now (base_of net + k)) ∙ ap (λ m. only (slice_index net.servers k) j m) (sym (flow-is k l))) in
       omega (arith, parts n.heads.now (1 + hosts_of net + j))
 
-  pub out_server : (j : ℕ) → j < servers_of net → through n.tails.now f.flows.now (1 + hosts_of net + j) ≡ slice_index f.flows.now (hosts_of net + j)
-  out_server j lj =
-      let a = none_ends (hosts_of net) (λ h. slice_index n.tails.now h) (λ h. slice_index f.flows.now h) (1 + hosts_of net + j)
-      (λ h l e. omega (arith, links.tails.node h (omega arith))) in
-      let b = one_ends (servers_of net) (λ i. slice_index n.tails.now (hosts_of net + i)) (λ i. slice_index f.flows.now (hosts_of net + i)) (1 + hosts_of net + j) j lj (omega (arith, links.tails.node (hosts_of net + j) (omega arith)))
-      (λ i l ne e. ne (omega (arith, links.tails.node (hosts_of net + i) (omega arith)))) in
-      let c = none_ends (length net.sources) (λ k. slice_index n.tails.now (base_of net + k)) (λ k. slice_index f.flows.now (base_of net + k)) (1 + hosts_of net + j)
-      (λ k l e. omega (arith, links.tails.arc k l)) in
-      omega (arith, parts n.tails.now (1 + hosts_of net + j))
+  -- the link of a server or a host has its tail alone
+  out_node : (v k : ℕ) → v ≡ 1 + k → k < base_of net → through n.tails.now f.flows.now v ≡ slice_index f.flows.now k
+  out_node v k is l =
+      through_is n.tails.now f.flows.now v
+      ∙ one_ends (length f.flows.now) (λ i. slice_index n.tails.now i) (λ i. slice_index f.flows.now i) v k (omega (arith, many)) (omega (arith, links.tails.node k l))
+      (λ i m ne e. elim (cases_lt i (base_of net)) [
+        | inl node ↦ ne (omega (arith, links.tails.node i node))
+        | inr arc ↦
+            let place : base_of net + (i - base_of net) ≡ i = omega arith in
+            omega (arith, links.tails.arc (i - base_of net) (omega (arith, many)), ap (λ a. slice_index n.tails.now a) place)
+      ])
 
   pub in_host : (h : ℕ) → h < hosts_of net → through n.heads.now f.flows.now (1 + h) ≡ on_host net (λ j. slice_index f.flows.now (hosts_of net + j)) h
   in_host h lh =
@@ -105,36 +105,26 @@ module _ (net : Transport) (whole : IsNetwork net) (small : IsSmall net) (n : Li
       (λ k l e. omega (arith, links.heads.arc k l)) in
       omega (arith, parts n.heads.now (1 + h))
 
-  pub out_host : (h : ℕ) → h < hosts_of net → through n.tails.now f.flows.now (1 + h) ≡ slice_index f.flows.now h
-  out_host h lh =
-      let a = one_ends (hosts_of net) (λ g. slice_index n.tails.now g) (λ g. slice_index f.flows.now g) (1 + h) h lh (links.tails.node h (omega arith))
-      (λ g l ne e. ne (omega (arith, links.tails.node g (omega arith)))) in
-      let b = none_ends (servers_of net) (λ j. slice_index n.tails.now (hosts_of net + j)) (λ j. slice_index f.flows.now (hosts_of net + j)) (1 + h)
-      (λ j l e. omega (arith, links.tails.node (hosts_of net + j) (omega arith))) in
-      let c = none_ends (length net.sources) (λ k. slice_index n.tails.now (base_of net + k)) (λ k. slice_index f.flows.now (base_of net + k)) (1 + h)
-      (λ k l e. omega (arith, links.tails.arc k l)) in
-      omega (arith, parts n.tails.now (1 + h))
-
-  -- a server's and a host's load is what f.flows.now on its link
+  -- a server's and a host's load is what flows on its link
   pub server_flow : (j : ℕ) → j < servers_of net → slice_index f.flows.now (hosts_of net + j) ≡ load net flow j
   server_flow j l =
       let v : ℕ = 1 + hosts_of net + j in
       let l' : 1 + hosts_of net + j < length n.supplies.now = omega (arith, nodes) in
-      omega (arith, sound.conserved (1 + hosts_of net + j) l' (λ e. omega arith), sound.within (1 + hosts_of net + j) l', links.supplies.node (1 + hosts_of net + j) (omega arith), in_server j, out_server j l)
+      omega (arith, sound.conserved (1 + hosts_of net + j) l' (λ e. omega arith), sound.within (1 + hosts_of net + j) l', links.supplies.node (1 + hosts_of net + j) (omega arith), in_server j, out_node (1 + hosts_of net + j) (hosts_of net + j) (omega arith) (omega arith))
 
   pub host_flow : (h : ℕ) → h < hosts_of net → slice_index f.flows.now h ≡ host_load net flow h
   host_flow h l =
       let l' : 1 + h < length n.supplies.now = omega (arith, nodes) in
       let same : on_host net (λ j. slice_index f.flows.now (hosts_of net + j)) h ≡ host_load net flow h =
       sum_below_same (servers_of net) _ _ (λ j lj. ap (λ m. if is_on (host_of net j) h then m else 0) (server_flow j lj)) in
-      omega (arith, sound.conserved (1 + h) l' (λ e. omega arith), sound.within (1 + h) l', links.supplies.node (1 + h) (omega arith), in_host h l, out_host h l)
+      omega (arith, sound.conserved (1 + h) l' (λ e. omega arith), sound.within (1 + h) l', links.supplies.node (1 + h) (omega arith), in_host h l, out_node (1 + h) h refl (omega arith))
 
   pub source_flow : (i : ℕ) → i < length net.demands → sent net flow i + slice_index f.unmet.now (first_of net + i) ≡ slice_index net.demands i
   source_flow i l =
       let l' : first_of net + i < length n.supplies.now = omega (arith, nodes) in
       omega (arith, sound.conserved (first_of net + i) l' (λ e. omega arith), links.supplies.source i l, in_source i, out_source i)
 
-  -- an arc always has f.room.now
+  -- an arc always has room
   pub arc_room : (k : ℕ) → k < length net.sources → 0 < slice_index f.room.now (base_of net + k)
   arc_room k l =
       let i : ℕ = slice_index net.sources k in
@@ -156,52 +146,49 @@ module _ (net : Transport) (whole : IsNetwork net) (small : IsSmall net) (n : Li
     hosted = λ h l. omega (arith, host_flow h l, sound.balanced h (omega (arith, links.tails.many)), links.capacities.host h l);
   }
 
-  -- the price of an arc's source and of its server
-  source_price : (k : ℕ) → k < length net.sources → slice_index f.price.now (slice_index n.tails.now (base_of net + k)) ≡ slice_index f.price.now (first_of net + slice_index net.sources k)
-  source_price k l = ap (λ m. slice_index f.price.now m) (links.tails.arc k l)
+  -- what prices at a link's ends are to its cost, where it has room and where it has flow
+  pays : (k v w : ℕ) → k < length n.tails.now → 0 < slice_index f.room.now k → slice_index n.tails.now k ≡ v → slice_index n.heads.now k ≡ w →
+      slice_index f.price.now v ≤ slice_index n.costs.now k + slice_index f.price.now w
+  pays k v w l wide tail head = rw (tail, head) at (sound.paid k true l wide)
 
-  server_price : (k : ℕ) → k < length net.sources → slice_index f.price.now (slice_index n.heads.now (base_of net + k)) ≡ slice_index f.price.now (1 + hosts_of net + slice_index net.servers k)
-  server_price k l = ap (λ m. slice_index f.price.now m) (links.heads.arc k l)
+  earns : (k v w : ℕ) → k < length n.tails.now → 0 < slice_index f.flows.now k → slice_index n.tails.now k ≡ v → slice_index n.heads.now k ≡ w →
+      slice_index n.costs.now k + slice_index f.price.now w ≤ slice_index f.price.now v
+  earns k v w l used tail head = rw (tail, head) at (sound.paid k false l used)
 
   arc_in : (k : ℕ) → k < length net.sources → base_of net + k < length n.tails.now
   arc_in k l = omega (arith, links.tails.many)
 
   pub arc_pays : (k : ℕ) → k < length net.sources →
       slice_index f.price.now (first_of net + slice_index net.sources k) ≤ slice_index net.costs k + slice_index f.price.now (1 + hosts_of net + slice_index net.servers k)
-  arc_pays k l = omega (arith, sound.paid (base_of net + k) true (arc_in k l) (arc_room k l), source_price k l, server_price k l, links.costs.arc k l)
+  arc_pays k l = omega (arith, pays (base_of net + k) _ _ (arc_in k l) (arc_room k l) (links.tails.arc k l) (links.heads.arc k l), links.costs.arc k l)
 
   pub arc_used : (k : ℕ) → k < length net.sources → 0 < flow k →
       slice_index net.costs k + slice_index f.price.now (1 + hosts_of net + slice_index net.servers k) ≤ slice_index f.price.now (first_of net + slice_index net.sources k)
-  arc_used k l pos = omega (arith, sound.paid (base_of net + k) false (arc_in k l) (omega (arith, flow-is k l)), source_price k l, server_price k l, links.costs.arc k l)
+  arc_used k l pos = omega (arith, earns (base_of net + k) _ _ (arc_in k l) (omega (arith, flow-is k l)) (links.tails.arc k l) (links.heads.arc k l), links.costs.arc k l)
 
   -- a server's link, to its host or to the sink
-  server_tail : (j : ℕ) → j < servers_of net → slice_index f.price.now (slice_index n.tails.now (hosts_of net + j)) ≡ slice_index f.price.now (1 + hosts_of net + j)
-  server_tail j l = let e : slice_index n.tails.now (hosts_of net + j) ≡ 1 + hosts_of net + j = omega (arith, links.tails.node (hosts_of net + j) (omega arith)) in ap (λ m. slice_index f.price.now m) e
-
-  server_head : (j : ℕ) → j < servers_of net → slice_index f.price.now (slice_index n.heads.now (hosts_of net + j)) ≡ slice_index f.price.now (host_node (host_of net j))
-  server_head j l = ap (λ m. slice_index f.price.now m) (links.heads.server j l)
+  server_tail : (j : ℕ) → j < servers_of net → slice_index n.tails.now (hosts_of net + j) ≡ 1 + hosts_of net + j
+  server_tail j l = omega (arith, links.tails.node (hosts_of net + j) (omega arith))
 
   pub server_idle : (j : ℕ) → j < servers_of net → load net flow j < slice_index net.capacities j →
       slice_index f.price.now (1 + hosts_of net + j) ≤ slice_index f.price.now (host_node (host_of net j))
   server_idle j l idle =
       let in' : hosts_of net + j < length n.tails.now = omega (arith, links.tails.many) in
       let wide : 0 < slice_index f.room.now (hosts_of net + j) = omega (arith, server_flow j l, sound.balanced (hosts_of net + j) in', links.capacities.server j l) in
-      omega (arith, sound.paid (hosts_of net + j) true in' wide, server_tail j l, server_head j l, links.costs.node (hosts_of net + j) (omega arith))
+      omega (arith, pays (hosts_of net + j) _ _ in' wide (server_tail j l) (links.heads.server j l), links.costs.node (hosts_of net + j) (omega arith))
 
   pub server_busy : (j : ℕ) → j < servers_of net → 0 < load net flow j →
       slice_index f.price.now (host_node (host_of net j)) ≤ slice_index f.price.now (1 + hosts_of net + j)
   server_busy j l busy =
       let in' : hosts_of net + j < length n.tails.now = omega (arith, links.tails.many) in
-      let wide : 0 < slice_index f.flows.now (hosts_of net + j) = omega (arith, server_flow j l) in
-      omega (arith, sound.paid (hosts_of net + j) false in' wide, server_tail j l, server_head j l, links.costs.node (hosts_of net + j) (omega arith))
+      let used : 0 < slice_index f.flows.now (hosts_of net + j) = omega (arith, server_flow j l) in
+      omega (arith, earns (hosts_of net + j) _ _ in' used (server_tail j l) (links.heads.server j l), links.costs.node (hosts_of net + j) (omega arith))
 
   pub host_idle : (h : ℕ) → h < hosts_of net → host_load net flow h < slice_index net.limits h → slice_index f.price.now (1 + h) ≡ 0
   host_idle h l idle =
       let in' : h < length n.tails.now = omega (arith, links.tails.many) in
       let wide : 0 < slice_index f.room.now h = omega (arith, host_flow h l, sound.balanced h in', links.capacities.host h l) in
-      let tail : slice_index f.price.now (slice_index n.tails.now h) ≡ slice_index f.price.now (1 + h) = ap (λ m. slice_index f.price.now m) (links.tails.node h (omega arith)) in
-      let head : slice_index f.price.now (slice_index n.heads.now h) ≡ slice_index f.price.now 0 = ap (λ m. slice_index f.price.now m) (links.heads.host h l) in
-      omega (arith, sound.paid h true in' wide, sound.sink_free, links.costs.node h (omega arith))
+      omega (arith, pays h _ _ in' wide (links.tails.node h (omega arith)) (links.heads.host h l), sound.sink_free, links.costs.node h (omega arith))
 
   module _ (u p q : List ℕ) (um : length u ≡ length net.demands) (pm : length p ≡ servers_of net) (qm : length q ≡ hosts_of net)
       (u-is : (i : ℕ) → i < length net.demands → slice_index u i ≡ slice_index f.price.now (first_of net + i))

@@ -1,12 +1,7 @@
 -- The ways that a node offers, along its links and against them.
 use Rattle.std.proofs.Common.{◌≡◌, ℕ, ◌+◌, ◌-◌, ◌<◌, ◌≤◌, ◌⊎◌, Bool, true, false, length, slice_index, Option, if◌then◌else◌, ap, arith}
-use Rattle.hsp_mincost.specs.Residual.{from, gives, nodes, prices, takes, to, width}
-use Rattle.hsp_mincost.specs.Search.{Expanding, IsWay, MayBeOffered, Offered, Priced, Ready, top}
-use Rattle.hsp_mincost.specs.declared.links.Links.{Links}
-use Rattle.hsp_mincost.specs.declared.links.Flow.{Flow}
-use Rattle.hsp_mincost.specs.declared.links.SearchTree.{SearchTree}
-use Rattle.hsp_mincost.specs.declared.links.Visit.{Visit}
-use Rattle.hsp_mincost.specs.declared.links.Offer.{Offer}
+use Rattle.hsp_mincost.specs.Residual.{Flow, Links, SearchTree, from, gives, nodes, prices, takes, to, width}
+use Rattle.hsp_mincost.specs.Search.{Expanding, IsWay, MayBeOffered, Offer, Offered, Priced, Ready, Visit, top}
 use Rattle.hsp_mincost.proofs.Directions.{to_in}
 use Rattle.hsp_mincost.proofs.Expansion.{may_be_offered, offered}
 use Rattle.hsp_mincost.proofs.Arrival.{priced_offered}

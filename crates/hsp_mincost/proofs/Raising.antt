@@ -1,10 +1,7 @@
 -- Raised prices.
 use Rattle.std.proofs.Common.{◌≡◌, ℕ, ◌<◌, inl, inr, Bool, true, false, slice_index, refl, ◌∙◌, arith}
 use Rattle.std.proofs.lemmas.Bool.{cases_lt}
-use Rattle.hsp_mincost.specs.Residual.{AreOptimal, AreRelaxed, Sound, distance, from, nodes, raised, width}
-use Rattle.hsp_mincost.specs.declared.links.Links.{Links}
-use Rattle.hsp_mincost.specs.declared.links.Flow.{Flow}
-use Rattle.hsp_mincost.specs.declared.links.SearchTree.{SearchTree}
+use Rattle.hsp_mincost.specs.Residual.{AreOptimal, AreRelaxed, Flow, Links, SearchTree, Sound, distance, from, nodes, raised, width}
 use Rattle.hsp_mincost.proofs.Directions.{gives_raised, takes_raised, gives_same, takes_same}
 
 -- after a search no reduced cost is negative under the raised prices
@@ -20,28 +17,21 @@ module _ (n : Links) (f : Flow) (t : SearchTree) (sound : Sound n f (λ v. slice
       ]
 
   pub sound_raised : Sound n f (raised f t)
-  sound_raised = record {
-    flows_many = sound.flows_many;
-    room_many = sound.room_many;
-    unmet_many = sound.unmet_many;
-    balanced = sound.balanced;
-    conserved = sound.conserved;
-    within = sound.within;
-    paid = paid_raised;
-    sink_free = omega (arith, sound.sink_free);
-  }
+  sound_raised = record { flow = sound.flow; paid = paid_raised; sink_free = omega (arith, sound.sink_free) }
 
 -- a flow is sound under prices that are the same at each node
 pub sound_same : (n : Links) (f f' : Flow) (price price' : ℕ → ℕ) → 0 < nodes n → Sound n f price →
     f'.flows.now ≡ f.flows.now → f'.room.now ≡ f.room.now → f'.unmet.now ≡ f.unmet.now →
     ((v : ℕ) → v < nodes n → price' v ≡ price v) → Sound n f' price'
 sound_same n f f' price price' some sound flows room unmet same = record {
-  flows_many = rw flows sound.flows_many;
-  room_many = rw room sound.room_many;
-  unmet_many = rw unmet sound.unmet_many;
-  balanced = λ k l. rw (flows, room) (sound.balanced k l);
-  conserved = λ v l nz. rw (flows, unmet) (sound.conserved v l nz);
-  within = λ v l. rw unmet (sound.within v l);
+  flow = record {
+    flows_many = rw flows sound.flows_many;
+    room_many = rw room sound.room_many;
+    unmet_many = rw unmet sound.unmet_many;
+    balanced = λ k l. rw (flows, room) (sound.balanced k l);
+    conserved = λ v l nz. rw (flows, unmet) (sound.conserved v l nz);
+    within = λ v l. rw unmet (sound.within v l);
+  };
   paid = λ k d l wide.
       let tail = same (slice_index n.tails.now k) (n.graph.tails_in k l) in
       let head = same (slice_index n.heads.now k) (omega (arith, n.graph.tails_in k l, n.graph.down k l)) in

@@ -2,12 +2,8 @@
 use Rattle.std.proofs.Common.{◌≡◌, ◌≢◌, ℕ, ◌+◌, ◌<◌, ◌≤◌, ◌⊎◌, inl, inr, Bool, length, slice_index, Option, Some, None, refl, ap, sym, ◌∙◌, arith, length-set, get_or-set_same, get_or-set_other}
 use Rattle.std.proofs.lemmas.Bool.{cases_eq, cases_lt}
 use Rattle.hsp_mincost.specs.Frontier.{Changes, IsLeast}
-use Rattle.hsp_mincost.specs.Residual.{distance, from, gives, nodes, predecessor, prices, takes, to, way, width}
-use Rattle.hsp_mincost.specs.Search.{Closed, Found, IsRelaxed, Reached, Search, Settled, TakesWay, top}
-use Rattle.hsp_mincost.specs.declared.links.Links.{Links}
-use Rattle.hsp_mincost.specs.declared.links.Flow.{Flow}
-use Rattle.hsp_mincost.specs.declared.links.SearchTree.{SearchTree}
-use Rattle.hsp_mincost.specs.declared.links.Offer.{Offer}
+use Rattle.hsp_mincost.specs.Residual.{Flow, Links, SearchTree, distance, from, gives, nodes, predecessor, prices, takes, to, way, width}
+use Rattle.hsp_mincost.specs.Search.{Closed, Found, IsRelaxed, Offer, Reached, Search, Settled, TakesWay, top}
 use Rattle.hsp_mincost.proofs.Directions.{from_in, to_in, direction}
 
 pub cases_option : (o : Option ℕ) → (o ≡ None) ⊎ ((d : ℕ) × (o ≡ Some d))
@@ -18,20 +14,7 @@ cases_option (Some d) = inr (d, refl)
 pub fewer : (n : Links) (f : Flow) (t : SearchTree) (held : ℕ → Option ℕ) (root now : ℕ) (looked looked' : ℕ → Bool → Type 0) →
     ((k : ℕ) (d : Bool) → k < length n.tails.now → 0 < width f k d → looked' k d → looked k d) →
     Search n f t held root now looked → Search n f t held root now looked'
-fewer n f t held root now looked looked' old s = record {
-  covers = s.covers;
-  held_in = s.held_in;
-  held_distance = s.held_distance;
-  held_late = s.held_late;
-  held_low = s.held_low;
-  settled_early = s.settled_early;
-  sink_waits = s.sink_waits;
-  relaxed = λ k d l wide st look. s.relaxed k d l wide st (old k d l wide look);
-  reached = s.reached;
-  root_near = s.root_near;
-  some = s.some;
-  no_more = s.no_more;
-}
+fewer n f t held root now looked looked' old s = record { labels = s.labels; relaxed = λ k d l wide st look. s.relaxed k d l wide st (old k d l wide look) }
 
 -- one arc more was looked at
 module _ (n : Links) (f : Flow) (t : SearchTree) (held : ℕ → Option ℕ) (root now k : ℕ) (d : Bool) (looked looked' : ℕ → Bool → Type 0)
@@ -40,21 +23,11 @@ module _ (n : Links) (f : Flow) (t : SearchTree) (held : ℕ → Option ℕ) (ro
   -- the arc is relaxed already
   pub kept : (0 < width f k d → Settled held t (from n k d) → IsRelaxed n f t k d) → Search n f t held root now looked'
   kept fact = record {
-    covers = s.covers;
-    held_in = s.held_in;
-    held_distance = s.held_distance;
-    held_late = s.held_late;
-    held_low = s.held_low;
-    settled_early = s.settled_early;
-    sink_waits = s.sink_waits;
+    labels = s.labels;
     relaxed = λ j e l wide st look. elim (next j e l look) [
       | inl is ↦ rw (is.0, is.1) (fact (rw (is.0, is.1) at wide) (rw (is.0, is.1) at st))
       | inr past ↦ s.relaxed j e l wide st past
     ];
-    reached = s.reached;
-    root_near = s.root_near;
-    some = s.some;
-    no_more = s.no_more;
   }
 
   -- its end takes the offer
@@ -166,18 +139,38 @@ module _ (n : Links) (f : Flow) (t : SearchTree) (held : ℕ → Option ℕ) (ro
 
     pub lowered : Search n f t' held' root now looked'
     lowered = record {
-      covers = record {
-        distances_many = rw w.distance (length-set t.distance.now o.to _ ∙ s.covers.distances_many);
-        predecessors_many = rw w.predecessor (length-set t.predecessor.now o.to _ ∙ s.covers.predecessors_many);
-        amounts_many = rw w.amount (length-set t.amount.now o.to _ ∙ s.covers.amounts_many);
-        depths_many = rw w.depth (length-set t.depth.now o.to _ ∙ s.covers.depths_many);
+      labels = record {
+        covers = record {
+          distances_many = rw w.distance (length-set t.distance.now o.to _ ∙ s.covers.distances_many);
+          predecessors_many = rw w.predecessor (length-set t.predecessor.now o.to _ ∙ s.covers.predecessors_many);
+          amounts_many = rw w.amount (length-set t.amount.now o.to _ ∙ s.covers.amounts_many);
+          depths_many = rw w.depth (length-set t.depth.now o.to _ ∙ s.covers.depths_many);
+        };
+        held_in = λ v c h. elim (entry v c h) [ inl q ↦ rw q.0 node-in | inr q ↦ s.held_in v c q.1 ];
+        held_distance = λ v c h. elim (entry v c h) [ inl q ↦ rw q.0 (distance_here ∙ sym q.1) | inr q ↦ distance_same v q.0 ∙ s.held_distance v c q.1 ];
+        held_late = λ v c h. elim (entry v c h) [ inl q ↦ rw q.1 late | inr q ↦ s.held_late v c q.1 ];
+        held_low = λ v c h. elim (entry v c h) [ inl q ↦ rw q.1 low | inr q ↦ s.held_low v c q.1 ];
+        settled_early = λ v st. let q = was v st in omega (arith, distance_same v q.0, s.settled_early v q.1);
+        sink_waits = λ st. s.sink_waits (was 0 st).1;
+        reached = λ v l nr near. elim (cases_eq v o.to) [
+          | inl e ↦
+              let turn : way n t' o.to ≡ d = rw predecessor_here (direction n k d o.to link (sym enters)) in
+              rw e (rw turn new_arc)
+          | inr ne ↦
+              let it = s.reached v l nr (omega (arith, distance_same v ne)) in
+              let turn : way n t' v ≡ way n t v = rw (predecessor_same v ne) refl in
+              rw turn (old_arc v ne (way n t v) it)
+        ];
+        root_near = omega (arith, distance_down root, s.root_near);
+        some = λ v l near. elim (cases_eq v o.to) [
+          | inl e ↦ rw e (omega (arith, amount_here))
+          | inr ne ↦ omega (arith, amount_same v ne, s.some v l (omega (arith, distance_same v ne)))
+        ];
+        no_more = λ v l near. elim (cases_eq v o.to) [
+          | inl e ↦ rw e (omega (arith, amount_here, s.no_more o.from from-in (omega arith)))
+          | inr ne ↦ omega (arith, amount_same v ne, s.no_more v l (omega (arith, distance_same v ne)))
+        ];
       };
-      held_in = λ v c h. elim (entry v c h) [ inl q ↦ rw q.0 node-in | inr q ↦ s.held_in v c q.1 ];
-      held_distance = λ v c h. elim (entry v c h) [ inl q ↦ rw q.0 (distance_here ∙ sym q.1) | inr q ↦ distance_same v q.0 ∙ s.held_distance v c q.1 ];
-      held_late = λ v c h. elim (entry v c h) [ inl q ↦ rw q.1 late | inr q ↦ s.held_late v c q.1 ];
-      held_low = λ v c h. elim (entry v c h) [ inl q ↦ rw q.1 low | inr q ↦ s.held_low v c q.1 ];
-      settled_early = λ v st. let q = was v st in omega (arith, distance_same v q.0, s.settled_early v q.1);
-      sink_waits = λ st. s.sink_waits (was 0 st).1;
       relaxed = λ j e l wide st look.
           let q = was (from n j e) st in
           let same = distance_same (from n j e) q.0 in
@@ -191,24 +184,6 @@ module _ (n : Links) (f : Flow) (t : SearchTree) (held : ℕ → Option ℕ) (ro
                 let r = s.relaxed j e l wide q.1 past in
                 record { no_farther = omega (arith, r.no_farther, distance_down (to n j e)); reached = omega (arith, r.reached, distance_down (to n j e)) }
           ];
-      reached = λ v l nr near. elim (cases_eq v o.to) [
-        | inl e ↦
-            let turn : way n t' o.to ≡ d = rw predecessor_here (direction n k d o.to link (sym enters)) in
-            rw e (rw turn new_arc)
-        | inr ne ↦
-            let it = s.reached v l nr (omega (arith, distance_same v ne)) in
-            let turn : way n t' v ≡ way n t v = rw (predecessor_same v ne) refl in
-            rw turn (old_arc v ne (way n t v) it)
-      ];
-      root_near = omega (arith, distance_down root, s.root_near);
-      some = λ v l near. elim (cases_eq v o.to) [
-        | inl e ↦ rw e (omega (arith, amount_here))
-        | inr ne ↦ omega (arith, amount_same v ne, s.some v l (omega (arith, distance_same v ne)))
-      ];
-      no_more = λ v l near. elim (cases_eq v o.to) [
-        | inl e ↦ rw e (omega (arith, amount_here, s.no_more o.from from-in (omega arith)))
-        | inr ne ↦ omega (arith, amount_same v ne, s.no_more v l (omega (arith, distance_same v ne)))
-      ];
     }
 
 module _ (n : Links) (f : Flow) (t : SearchTree) (held : ℕ → Option ℕ) (root now : ℕ) (s : Search n f t held root now (λ _ _. Unit {0})) where
@@ -254,23 +229,25 @@ module _ (n : Links) (f : Flow) (t : SearchTree) (held : ℕ → Option ℕ) (ro
   pub taken : (node near : ℕ) (held' : ℕ → Option ℕ) → IsLeast held node near → Changes held held' node None → node ≢ 0 →
       Search n f t held' root near (λ k d. from n k d ≡ node → ⊥)
   taken node near held' least change away = record {
-    covers = s.covers;
-    held_in = λ v d h. s.held_in v d (past v d h);
-    held_distance = λ v d h. s.held_distance v d (past v d h);
-    held_late = λ v d h. least.none_below v d (past v d h);
-    held_low = λ v d h. s.held_low v d (past v d h);
-    settled_early = λ v st. elim (cases_eq v node) [
-      | inl e ↦ rw e (omega (arith, s.held_distance node near least.there))
-      | inr ne ↦ omega (arith, s.settled_early v (was v ne st), s.held_late node near least.there)
-    ];
-    sink_waits = λ st. s.sink_waits (was 0 (λ e. away (sym e)) st);
+    labels = record {
+      covers = s.covers;
+      held_in = λ v d h. s.held_in v d (past v d h);
+      held_distance = λ v d h. s.held_distance v d (past v d h);
+      held_late = λ v d h. least.none_below v d (past v d h);
+      held_low = λ v d h. s.held_low v d (past v d h);
+      settled_early = λ v st. elim (cases_eq v node) [
+        | inl e ↦ rw e (omega (arith, s.held_distance node near least.there))
+        | inr ne ↦ omega (arith, s.settled_early v (was v ne st), s.held_late node near least.there)
+      ];
+      sink_waits = λ st. s.sink_waits (was 0 (λ e. away (sym e)) st);
+      reached = λ v l nr near'.
+          let it = s.reached v l nr near' in
+          record { path = it.path; soon = omega (arith, it.soon, s.held_late node near least.there); exact = it.exact };
+      root_near = s.root_near;
+      some = s.some;
+      no_more = s.no_more;
+    };
     relaxed = λ k d l wide st look. s.relaxed k d l wide (was (from n k d) (λ e. look e) st) tt;
-    reached = λ v l nr near'.
-        let it = s.reached v l nr near' in
-        record { path = it.path; soon = omega (arith, it.soon, s.held_late node near least.there); exact = it.exact };
-    root_near = s.root_near;
-    some = s.some;
-    no_more = s.no_more;
   }
     where
       past : (v d : ℕ) → held' v ≡ Some d → held v ≡ Some d

@@ -4,10 +4,7 @@ use Rattle.std.proofs.lemmas.Bool.{cases_eq, cases_lt, cases_Bool, and_parts}
 use Rattle.hsp_simplex.specs.Sums.{only, sum_below}
 use Rattle.hsp_simplex.specs.Network.{Transport, IsNetwork, IsShort, host_of, sent, load, on_host, host_load, is_on, reaches, reached_capacity, capacity_of, demand_of}
 use Rattle.hsp_mincost.specs.Layout.{LinksOf, IsSmall, base_of, first_of, hosts_of, servers_of, host_node}
-use Rattle.hsp_mincost.specs.Residual.{Sound}
-use Rattle.hsp_mincost.specs.declared.links.Links.{Links}
-use Rattle.hsp_mincost.specs.declared.links.Flow.{Flow}
-use Rattle.hsp_mincost.specs.declared.links.SearchTree.{SearchTree}
+use Rattle.hsp_mincost.specs.Residual.{Flow, Links, SearchTree, Sound, from, to, width}
 use Rattle.hsp_mincost.specs.Search.{Closed, top}
 use Rattle.hsp_mincost.proofs.Sums.{only_here, only_there, sum_below_same, sum_below_le, sum_below_lt}
 use Rattle.hsp_mincost.proofs.Totals.{by_key, by_host, sum_below_zero, any_at}
@@ -37,21 +34,24 @@ module _ (net : Transport) (whole : IsNetwork net) (small : IsSmall net) (n : Li
   arc_in : (k : ℕ) → k < length net.sources → base_of net + k < length n.tails.now
   arc_in k l = omega (arith, links.tails.many)
 
+  -- over a residual arc from a reached node
+  out : (k : ℕ) (d : Bool) (v w : ℕ) → k < length n.tails.now → 0 < width f k d → from n k d ≡ v → to n k d ≡ w →
+      slice_index t.distance.now v < top → slice_index t.distance.now w < top
+  out k d v w l wide start end near = rw end at (closed.out k d l wide (rw start near))
+
   -- a reached source reaches the servers of its arcs
   arc_out : (k : ℕ) → k < length net.sources → set (slice_index net.sources k) ≡ true → slice_index t.distance.now (1 + hosts_of net + slice_index net.servers k) < top
   arc_out k l inside =
-      let near = set-is (slice_index net.sources k) (whole.sources_in k l) inside in
-      let tail : slice_index t.distance.now (slice_index n.tails.now (base_of net + k)) ≡ slice_index t.distance.now (first_of net + slice_index net.sources k) = ap (λ m. slice_index t.distance.now m) (links.tails.arc k l) in
-      let head : slice_index t.distance.now (slice_index n.heads.now (base_of net + k)) ≡ slice_index t.distance.now (1 + hosts_of net + slice_index net.servers k) = ap (λ m. slice_index t.distance.now m) (links.heads.arc k l) in
-      let wide = arc_room net whole small n f links sound flow (λ j m. refl) k l in
-      omega (arith, closed.out (base_of net + k) true (arc_in k l) wide (omega arith))
+      out (base_of net + k) true _ _ (arc_in k l) (arc_room net whole small n f links sound flow (λ j m. refl) k l) (links.tails.arc k l) (links.heads.arc k l)
+      (set-is (slice_index net.sources k) (whole.sources_in k l) inside)
 
   -- a reached server reaches the sources that it serves
   arc_back : (k : ℕ) → k < length net.sources → 0 < flow k → slice_index t.distance.now (1 + hosts_of net + slice_index net.servers k) < top → set (slice_index net.sources k) ≡ true
   arc_back k l pos near =
-      let tail : slice_index t.distance.now (slice_index n.tails.now (base_of net + k)) ≡ slice_index t.distance.now (first_of net + slice_index net.sources k) = ap (λ m. slice_index t.distance.now m) (links.tails.arc k l) in
-      let head : slice_index t.distance.now (slice_index n.heads.now (base_of net + k)) ≡ slice_index t.distance.now (1 + hosts_of net + slice_index net.servers k) = ap (λ m. slice_index t.distance.now m) (links.heads.arc k l) in
-      is-set (slice_index net.sources k) (whole.sources_in k l) (omega (arith, closed.out (base_of net + k) false (arc_in k l) pos (omega arith)))
+      is-set (slice_index net.sources k) (whole.sources_in k l) (out (base_of net + k) false _ _ (arc_in k l) pos (links.heads.arc k l) (links.tails.arc k l) near)
+
+  server_tail : (j : ℕ) → j < servers_of net → slice_index n.tails.now (hosts_of net + j) ≡ 1 + hosts_of net + j
+  server_tail j l = omega (arith, links.tails.node (hosts_of net + j) (omega arith))
 
   part_le : (k : ℕ) → part k ≤ flow k
   part_le k = elim (cases_Bool (set (slice_index net.sources k))) [ inl t ↦ rw t (omega arith) | inr f ↦ rw f (omega arith) ]
@@ -94,12 +94,9 @@ module _ (net : Transport) (whole : IsNetwork net) (small : IsSmall net) (n : Li
       load net flow j ≡ slice_index net.capacities j
   full j l near far =
       let in' : hosts_of net + j < length n.tails.now = omega (arith, links.tails.many) in
-      let e : slice_index n.tails.now (hosts_of net + j) ≡ 1 + hosts_of net + j = omega (arith, links.tails.node (hosts_of net + j) (omega arith)) in
-      let tail : slice_index t.distance.now (slice_index n.tails.now (hosts_of net + j)) ≡ slice_index t.distance.now (1 + hosts_of net + j) = ap (λ m. slice_index t.distance.now m) e in
-      let head : slice_index t.distance.now (slice_index n.heads.now (hosts_of net + j)) ≡ slice_index t.distance.now (host_node (host_of net j)) = ap (λ m. slice_index t.distance.now m) (links.heads.server j l) in
       let shut : slice_index f.room.now (hosts_of net + j) ≡ 0 = elim (cases_eq (slice_index f.room.now (hosts_of net + j)) 0) [
         | inl z ↦ z
-        | inr wide ↦ absurd (omega (arith, closed.out (hosts_of net + j) true in' (omega arith) (omega arith)))
+        | inr wide ↦ absurd (omega (arith, out (hosts_of net + j) true _ _ in' (omega arith) (server_tail j l) (links.heads.server j l) near))
       ] in
       omega (arith, sound.balanced (hosts_of net + j) in', links.capacities.server j l, served j l)
 
@@ -113,21 +110,16 @@ module _ (net : Transport) (whole : IsNetwork net) (small : IsSmall net) (n : Li
   host_near : (h : ℕ) → h < hosts_of net → slice_index t.distance.now (1 + h) < top → slice_index net.limits h ≤ on_host net (λ j. load net part j) h
   host_near h l near =
       let in' : h < length n.tails.now = omega (arith, links.tails.many) in
-      let tail : slice_index t.distance.now (slice_index n.tails.now h) ≡ slice_index t.distance.now (1 + h) = ap (λ m. slice_index t.distance.now m) (links.tails.node h (omega arith)) in
-      let head : slice_index t.distance.now (slice_index n.heads.now h) ≡ slice_index t.distance.now 0 = ap (λ m. slice_index t.distance.now m) (links.heads.host h l) in
       let shut : slice_index f.room.now h ≡ 0 = elim (cases_eq (slice_index f.room.now h) 0) [
         | inl z ↦ z
-        | inr wide ↦ absurd (omega (arith, closed.out h true in' (omega arith) (omega arith), closed.sink_out))
+        | inr wide ↦ absurd (omega (arith, out h true _ _ in' (omega arith) (links.tails.node h (omega arith)) (links.heads.host h l) near, closed.sink_out))
       ] in
       let all : on_host net (λ j. load net part j) h ≡ host_load net flow h = sum_below_same (servers_of net) _ _ (λ j lj.
       elim (cases_Bool (is_on (host_of net j) h)) [
         | inl on ↦ ap (λ m. if is_on (host_of net j) h then m else 0) (elim (cases_lt 0 (load net flow j)) [
           | inl busy ↦
               let in'' : hosts_of net + j < length n.tails.now = omega (arith, links.tails.many) in
-              let e : slice_index n.tails.now (hosts_of net + j) ≡ 1 + hosts_of net + j = omega (arith, links.tails.node (hosts_of net + j) (omega arith)) in
-              let tail' : slice_index t.distance.now (slice_index n.tails.now (hosts_of net + j)) ≡ slice_index t.distance.now (1 + hosts_of net + j) = ap (λ m. slice_index t.distance.now m) e in
-              let head' : slice_index t.distance.now (slice_index n.heads.now (hosts_of net + j)) ≡ slice_index t.distance.now (1 + h) = ap (λ m. slice_index t.distance.now m) (links.heads.server j lj ∙ node_of (host_of net j) h on) in
-              load_same j (omega (arith, closed.out (hosts_of net + j) false in'' (omega (arith, served j lj)) (omega arith)))
+              load_same j (out (hosts_of net + j) false _ _ in'' (omega (arith, served j lj)) (links.heads.server j lj ∙ node_of (host_of net j) h on) (server_tail j lj) near)
           | inr none ↦ omega (arith, load_le j)
         ])
         | inr off ↦ rw off refl

@@ -1,18 +1,13 @@
 -- No flow, with the least cost of a node's links as its price.
 use Rattle.std.proofs.Common.{◌≡◌, ℕ, ◌+◌, ◌*◌, ◌++◌, ◌∷◌, [], ap, length-append, ◌<◌, ◌≤◌, mul-le-mul_right, inl, inr, true, false, List, length, slice_index, refl, ◌∙◌, arith}
-use Rattle.std.proofs.lemmas.Bool.{cases_eq, cases_lt}
+use Rattle.std.proofs.lemmas.Bool.{cases_lt}
 use Rattle.std.proofs.lemmas.List.{get_or_append_left, get_or-append-add}
 use Rattle.hsp_simplex.specs.Sums.{only}
 use Rattle.hsp_mincost.specs.Sums.{through}
 use Rattle.hsp_mincost.specs.Opening.{FirstPrices, LeastCost}
-use Rattle.hsp_mincost.specs.Residual.{AreOptimal, Sound, nodes}
-use Rattle.hsp_mincost.specs.declared.links.Links.{Links}
-use Rattle.hsp_mincost.specs.declared.links.Flow.{Flow}
-use Rattle.hsp_mincost.proofs.Sums.{only_here, only_there}
+use Rattle.hsp_mincost.specs.Residual.{AreOptimal, Flow, Links, Sound, nodes}
+use Rattle.hsp_mincost.proofs.Sums.{only_zero}
 use Rattle.hsp_mincost.proofs.Totals.{sum_below_zero, through_is}
-
-nothing : (w v n : ℕ) → n ≡ 0 → only w v n ≡ 0
-nothing w v n z = elim (cases_eq w v) [ inl e ↦ only_here w v n e ∙ z | inr ne ↦ only_there w v n ne ]
 
 module _ (n : Links) (f : Flow)
     (fm : length f.flows.now ≡ length n.tails.now) (rm : length f.room.now ≡ length n.tails.now) (um : length f.unmet.now ≡ nodes n)
@@ -23,16 +18,18 @@ module _ (n : Links) (f : Flow)
     (unmet-all : (v : ℕ) → v < nodes n → slice_index f.unmet.now v ≡ slice_index n.supplies.now v) where
   through_none : (ends : List ℕ) (v : ℕ) → through ends f.flows.now v ≡ 0
   through_none ends v = through_is ends f.flows.now v ∙ sum_below_zero (length f.flows.now) (λ k. only (slice_index ends k) v (slice_index f.flows.now k))
-      (λ k l. nothing (slice_index ends k) v (slice_index f.flows.now k) (flows-zero k (omega arith)))
+      (λ k l. ap (only (slice_index ends k) v) (flows-zero k (omega arith)) ∙ only_zero (slice_index ends k) v)
 
   pub sound_start : Sound n f (λ v. slice_index f.price.now v)
   sound_start = record {
-    flows_many = fm;
-    room_many = rm;
-    unmet_many = um;
-    balanced = λ k l. omega (arith, flows-zero k l, room-all k l);
-    conserved = λ v l nz. omega (arith, through_none n.tails.now v, through_none n.heads.now v, unmet-all v l);
-    within = λ v l. omega (arith, unmet-all v l);
+    flow = record {
+      flows_many = fm;
+      room_many = rm;
+      unmet_many = um;
+      balanced = λ k l. omega (arith, flows-zero k l, room-all k l);
+      conserved = λ v l nz. omega (arith, through_none n.tails.now v, through_none n.heads.now v, unmet-all v l);
+      within = λ v l. omega (arith, unmet-all v l);
+    };
     paid = pays;
     sink_free = price-sink;
   }

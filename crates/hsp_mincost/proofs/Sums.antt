@@ -1,5 +1,5 @@
 -- Sums over numbers, and what a change of one arc's flow does to them.
-use Rattle.std.proofs.Common.{◌≡◌, ◌≢◌, ℕ, zero, suc, ◌+◌, ◌-◌, ◌<◌, ◌≤◌, ◌==◌, inl, inr, true, false, List, length, slice_index, set, if◌then◌else◌, refl, ap, arith, eq-eqb, ne_eqb, length-set, get_or-set_same, get_or-set_other}
+use Rattle.std.proofs.Common.{◌≡◌, ◌≢◌, ℕ, zero, suc, ◌+◌, ◌-◌, ◌*◌, ◌<◌, ◌≤◌, ◌==◌, inl, inr, true, false, List, length, slice_index, set, if◌then◌else◌, refl, ap, arith, eq-eqb, ne_eqb, length-set, get_or-set_same, get_or-set_other}
 use Rattle.std.proofs.lemmas.Bool.{cases_eq}
 pub use Rattle.hsp_check.proofs.Summing.{sum_below_same, sum_below_le}
 use Rattle.hsp_simplex.specs.Sums.{sum_below, only}
@@ -58,6 +58,9 @@ only_here w v n e = rw (eq-eqb w v e)
 pub only_there : (w v n : ℕ) → w ≢ v → only w v n ≡ 0
 only_there w v n ne = rw (ne_eqb w v ne)
 
+pub only_zero : (w v : ℕ) → only w v 0 ≡ 0
+only_zero w v = elim (cases_eq w v) [ inl e ↦ only_here w v 0 e | inr ne ↦ only_there w v 0 ne ]
+
 module _ (ends flows : List ℕ) (e y v : ℕ) (l : e < length flows) where
   pub through_more : through ends (set flows e (slice_index flows e + y)) v ≡ through ends flows v + only (slice_index ends e) v y
   through_more = omega (arith, through_set ends flows e (slice_index flows e + y) v l, only_split (slice_index ends e) v (slice_index flows e) y)
@@ -84,20 +87,18 @@ sum_below_lt (suc n) f g i l more h = elim (cases_eq n i) [
       omega arith
 ]
 
+-- a sum of terms that are no more than `most`
+pub sum_below_low : (n : ℕ) (f : ℕ → ℕ) (most : ℕ) → ((k : ℕ) → k < n → f k ≤ most) → sum_below n f ≤ n * most
+sum_below_low zero f most low = omega arith
+sum_below_low (suc n) f most low = omega (arith, sum_below_low n f most (λ k l. low k (omega arith)), low n (omega arith))
+
 -- a sum of ones and zeros that is as large as can be has only ones
 pub all_ones : (n : ℕ) (f : ℕ → ℕ) → ((k : ℕ) → k < n → f k ≤ 1) → n ≤ sum_below n f → (k : ℕ) → k < n → f k ≡ 1
 all_ones zero f h m k l = absurd (omega arith)
 all_ones (suc n) f h m k l =
     let top : f n ≤ 1 = h n (omega arith) in
-    let under : sum_below n f ≤ n = at_most n f (λ j q. h j (omega arith)) in
+    let under : sum_below n f ≤ n * 1 = sum_below_low n f 1 (λ j q. h j (omega arith)) in
     elim (cases_eq k n) [
       | inl e ↦ let b : f k ≡ f n = ap f e in omega arith
       | inr ne ↦ all_ones n f (λ j q. h j (omega arith)) (omega arith) k (omega arith)
     ]
-  where
-    at_most : (n : ℕ) (f : ℕ → ℕ) → ((k : ℕ) → k < n → f k ≤ 1) → sum_below n f ≤ n
-    at_most zero f h = omega arith
-    at_most (suc n) f h =
-        let a : sum_below n f ≤ n = at_most n f (λ k l. h k (omega arith)) in
-        let b : f n ≤ 1 = h n (omega arith) in
-        omega arith

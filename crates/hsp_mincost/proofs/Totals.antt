@@ -1,10 +1,10 @@
 -- Sums in parts, and sums of sums.
-use Rattle.std.proofs.Common.{◌≡◌, ◌≢◌, ℕ, zero, suc, ◌+◌, ◌<◌, ◌==◌, inl, inr, Bool, true, List, length, slice_index, Option, Some, None, is_none, if◌then◌else◌, refl, ap, sym, ◌∙◌, arith}
-use Rattle.std.proofs.lemmas.Bool.{cases_eq, or_cases}
+use Rattle.std.proofs.Common.{◌≡◌, ◌≢◌, ℕ, zero, suc, ◌+◌, ◌<◌, ◌==◌, inl, inr, Bool, true, false, List, length, slice_index, Option, Some, None, is_none, if◌then◌else◌, refl, ap, ap₂, sym, ◌∙◌, arith}
+use Rattle.std.proofs.lemmas.Bool.{cases_Bool, cases_eq, or_cases, or_left, or_right}
 use Rattle.hsp_simplex.specs.Sums.{any_below, only, sum_below}
 use Rattle.hsp_mincost.specs.Sums.{through}
 use Rattle.hsp_simplex.specs.Network.{is_on}
-use Rattle.hsp_mincost.proofs.Sums.{only_here, only_there}
+use Rattle.hsp_mincost.proofs.Sums.{only_here, only_split, only_there, only_zero, sum_below_same}
 pub use Rattle.hsp_check.proofs.Summing.{sum_below_zero, sum_below_one, sum_below_add}
 
 pub sum_split : (a n : ℕ) (f : ℕ → ℕ) → sum_below (a + n) f ≡ sum_below a f + sum_below n (λ k. f (a + k))
@@ -18,14 +18,22 @@ sum_split a (suc n) f =
     let b = sum_split a n f in
     omega arith
 
+-- what is summed by a key, summed again by a key of the key
+pub by_keys : (outer key f : ℕ → ℕ) (n m g : ℕ) → ((k : ℕ) → k < m → key k < n) →
+    sum_below n (λ v. only (outer v) g (sum_below m (λ k. only (key k) v (f k)))) ≡ sum_below m (λ k. only (outer (key k)) g (f k))
+by_keys outer key f n zero g inside = sum_below_zero n (λ v. only (outer v) g 0) (λ v l. only_zero (outer v) g)
+by_keys outer key f n (suc m) g inside =
+    let rest = by_keys outer key f n m g (λ k l. inside k (omega arith)) in
+    let last : sum_below n (λ v. only (outer v) g (only (key m) v (f m))) ≡ only (outer (key m)) g (only (key m) (key m) (f m)) =
+    sum_below_one n (λ v. only (outer v) g (only (key m) v (f m))) (key m) (inside m (omega arith))
+    (λ v l ne. ap (only (outer v) g) (only_there (key m) v (f m) (λ e. ne (sym e))) ∙ only_zero (outer v) g) in
+    sum_below_same n _ _ (λ v l. only_split (outer v) g (sum_below m (λ k. only (key k) v (f k))) (only (key m) v (f m)))
+    ∙ sum_below_add n (λ v. only (outer v) g (sum_below m (λ k. only (key k) v (f k)))) (λ v. only (outer v) g (only (key m) v (f m)))
+    ∙ ap₂ (λ a b. a + b) rest (last ∙ ap (only (outer (key m)) g) (only_here (key m) (key m) (f m) refl))
+
 -- each term counts at its key
 pub by_key : (key f : ℕ → ℕ) (n m : ℕ) → ((k : ℕ) → k < m → key k < n) → sum_below m f ≡ sum_below n (λ v. sum_below m (λ k. only (key k) v (f k)))
-by_key key f n zero h = sym (sum_below_zero n (λ v. 0) (λ v l. refl))
-by_key key f n (suc m) h =
-    let a = by_key key f n m (λ k l. h k (omega arith)) in
-    let b : sum_below n (λ v. only (key m) v (f m)) ≡ only (key m) (key m) (f m) =
-    sum_below_one n (λ v. only (key m) v (f m)) (key m) (h m (omega arith)) (λ v l ne. only_there (key m) v (f m) (λ e. ne (sym e))) in
-    omega (arith, sum_below_add n (λ v. sum_below m (λ k. only (key k) v (f k))) (λ v. only (key m) v (f m)), only_here (key m) (key m) (f m) refl)
+by_key key f n m h = sym (by_keys (λ v. 0) key f n m 0 h)
 
 -- servers on no host, and those on each host
 pub by_host : (host : ℕ → Option ℕ) (g : ℕ → ℕ) (n m : ℕ) → ((j h : ℕ) → j < n → host j ≡ Some h → h < m) →
@@ -58,6 +66,27 @@ any_at (suc n) test h = elim (or_cases (any_below n test) (test n) h) [
   | inl before ↦ let w = any_at n test before in (w.0, omega (arith, w.1), w.2)
   | inr here ↦ (n, omega arith, here)
 ]
+
+pub any_from : (n : ℕ) (test : ℕ → Bool) (k : ℕ) → k < n → test k ≡ true → any_below n test ≡ true
+any_from zero test k l e = absurd (omega arith)
+any_from (suc n) test k l e = elim (cases_eq k n) [
+  | inl last ↦ or_right (any_below n test) (test n) (ap test (sym last) ∙ e)
+  | inr before ↦ or_left (any_below n test) (test n) (any_from n test k (omega arith) e)
+]
+
+-- tests of which one holds somewhere where the other does
+pub any_alike : (n m : ℕ) (f g : ℕ → Bool) → ((k : ℕ) → k < n → f k ≡ true → (e : ℕ) × (e < m) × (g e ≡ true)) →
+    ((e : ℕ) → e < m → g e ≡ true → (k : ℕ) × (k < n) × (f k ≡ true)) → any_below n f ≡ any_below m g
+any_alike n m f g there back = elim (cases_Bool (any_below n f)) [
+  | inl some ↦ let w = any_at n f some in let e = there w.0 w.1 w.2 in some ∙ sym (any_from m g e.0 e.1 e.2)
+  | inr none ↦ elim (cases_Bool (any_below m g)) [
+    | inl some ↦ let w = any_at m g some in let k = back w.0 w.1 w.2 in some-none (sym (any_from n f k.0 k.1 k.2) ∙ none)
+    | inr none' ↦ none ∙ sym none'
+  ]
+]
+  where
+    some-none : {A : Type 0} → true ≡ false → A
+    some-none q = absurd cc
 
 -- no arc, or one, has that end
 pub none_ends : (n : ℕ) (end f : ℕ → ℕ) (v : ℕ) → ((k : ℕ) → k < n → end k ≢ v) → sum_below n (λ k. only (end k) v (f k)) ≡ 0

@@ -3,12 +3,8 @@ use Rattle.std.proofs.Common.{◌≡◌, ◌≢◌, ℕ, ◌+◌, ◌*◌, ◌<�
 use Rattle.std.proofs.lemmas.Bool.{cases_eq, cases_lt, cases_Bool}
 use Rattle.std.proofs.lemmas.List.{get_or_past}
 use Rattle.hsp_mincost.specs.Frontier.{Changes, IsLeast}
-use Rattle.hsp_mincost.specs.Residual.{distance, from, nodes}
-use Rattle.hsp_mincost.specs.Search.{Begun, Covers, Expanding, Running, Settled, settled_count, settled_test, top}
-use Rattle.hsp_mincost.specs.declared.links.Links.{Links}
-use Rattle.hsp_mincost.specs.declared.links.Flow.{Flow}
-use Rattle.hsp_mincost.specs.declared.links.SearchTree.{SearchTree}
-use Rattle.hsp_mincost.specs.declared.links.Visit.{Visit}
+use Rattle.hsp_mincost.specs.Residual.{Flow, Links, SearchTree, distance, from, nodes}
+use Rattle.hsp_mincost.specs.Search.{Begun, Covers, Expanding, Running, Settled, Visit, settled_count, settled_test, top}
 use Rattle.hsp_mincost.proofs.Sums.{sum_below_lt, all_ones}
 use Rattle.hsp_mincost.proofs.Directions.{from_in}
 use Rattle.hsp_mincost.proofs.Searching.{fewer, taken, cases_option}
@@ -28,21 +24,23 @@ pub begun : (n : Links) (f : Flow) (t : SearchTree) (held : ℕ → Option ℕ) 
 begun n f t held root covers root-in away pos b = record {
   now = 0;
   search = record {
-    covers = covers;
-    held_in = λ v d h. rw (is-root v d h) root-in;
-    held_distance = λ v d h. rw (is-root v d h) (b.distance_root ∙ sym (is-zero v d h));
-    held_late = λ v d h. omega arith;
-    held_low = λ v d h. omega (arith, is-zero v d h);
-    settled_early = λ v st. elim (cases_lt v (length t.distance.now)) [
-      | inl l ↦ absurd (omega (arith, b.distance_rest v l (not-root v st), st.reached))
-      | inr past ↦ omega (arith, get_or_past t.distance.now v 0 past)
-    ];
-    sink_waits = λ st. none 0 (omega arith) st;
+    labels = record {
+      covers = covers;
+      held_in = λ v d h. rw (is-root v d h) root-in;
+      held_distance = λ v d h. rw (is-root v d h) (b.distance_root ∙ sym (is-zero v d h));
+      held_late = λ v d h. omega arith;
+      held_low = λ v d h. omega (arith, is-zero v d h);
+      settled_early = λ v st. elim (cases_lt v (length t.distance.now)) [
+        | inl l ↦ absurd (omega (arith, b.distance_rest v l (not-root v st), st.reached))
+        | inr past ↦ omega (arith, get_or_past t.distance.now v 0 past)
+      ];
+      sink_waits = λ st. none 0 (omega arith) st;
+      reached = λ v l nr near. absurd (nr (root-only v l near));
+      root_near = omega (arith, b.distance_root);
+      some = λ v l near. rw (root-only v l near) (omega (arith, b.amount_root));
+      no_more = λ v l near. rw (root-only v l near) (omega (arith, b.amount_root));
+    };
     relaxed = λ k d l wide st look. absurd (none (from n k d) (from_in n k d l) st);
-    reached = λ v l nr near. absurd (nr (root-only v l near));
-    root_near = omega (arith, b.distance_root);
-    some = λ v l near. rw (root-only v l near) (omega (arith, b.amount_root));
-    no_more = λ v l near. rw (root-only v l near) (omega (arith, b.amount_root));
   };
   counted = record {
     settled = omega arith;
@@ -90,23 +88,25 @@ module _ (n : Links) (f : Flow) (t : SearchTree) (held : ℕ → Option ℕ) (ro
       let after : settled_test held' t at.node ≡ true = test_from_settled held' t at.node st in
       record {
         search = rw is (taken n f t held root r.now s at.node at.distance held' least change away);
-        settled = st;
-        here = here;
-        node_in = in';
-        shallow = omega (arith, r.counted.depth_low at.node in' (omega arith));
-        counted = record {
-          settled =
-              let more : settled_count n held t < settled_count n held' t =
-              sum_below_lt (nodes n) _ _ at.node in' (rw (before, after) (omega arith))
-              (λ v l. elim (cases_Bool (settled_test held t v)) [
-                | inl test ↦
-                    let test' : settled_test held' t v ≡ true = test_from_settled held' t v (still v (settled_from_test held t v test)) in
-                    rw (test, test') (omega arith)
-                | inr out ↦ rw out (omega arith)
-              ]) in
-              omega (arith, r.counted.settled);
-          depth_low = λ v l q. omega (arith, r.counted.depth_low v l q);
-          distance_low = λ v l q. omega (arith, r.counted.distance_low v l q);
+        visit = record {
+          settled = st;
+          here = here;
+          node_in = in';
+          shallow = omega (arith, r.counted.depth_low at.node in' (omega arith));
+          counted = record {
+            settled =
+                let more : settled_count n held t < settled_count n held' t =
+                sum_below_lt (nodes n) _ _ at.node in' (rw (before, after) (omega arith))
+                (λ v l. elim (cases_Bool (settled_test held t v)) [
+                  | inl test ↦
+                      let test' : settled_test held' t v ≡ true = test_from_settled held' t v (still v (settled_from_test held t v test)) in
+                      rw (test, test') (omega arith)
+                  | inr out ↦ rw out (omega arith)
+                ]) in
+                omega (arith, r.counted.settled);
+            depth_low = λ v l q. omega (arith, r.counted.depth_low v l q);
+            distance_low = λ v l q. omega (arith, r.counted.distance_low v l q);
+          };
         };
       }
 

@@ -3,10 +3,7 @@ use Rattle.std.proofs.Common.{◌≡◌, ◌≢◌, ℕ, ◌+◌, ◌-◌, ◌<�
 use Rattle.std.proofs.lemmas.Bool.{cases_eq}
 use Rattle.hsp_simplex.specs.Sums.{only}
 use Rattle.hsp_mincost.specs.Sums.{through}
-use Rattle.hsp_mincost.specs.Residual.{IsBalanced, IsTree, Sends, Sound, TreeArc, Walk, from, gives, nodes, predecessor, takes, to, way, width}
-use Rattle.hsp_mincost.specs.declared.links.Links.{Links}
-use Rattle.hsp_mincost.specs.declared.links.Flow.{Flow}
-use Rattle.hsp_mincost.specs.declared.links.SearchTree.{SearchTree}
+use Rattle.hsp_mincost.specs.Residual.{Flow, IsBalanced, IsTree, Links, SearchTree, Sends, Sound, TreeArc, Walk, from, gives, nodes, predecessor, takes, to, way, width}
 use Rattle.hsp_mincost.proofs.Sums.{through_more, through_less}
 use Rattle.hsp_mincost.proofs.Directions.{from_in}
 
@@ -148,12 +145,14 @@ module _ (n : Links) (f : Flow) (t : SearchTree) (price : ℕ → ℕ) (root amo
   pub walk_done : (f0 : Flow) → Sound n f0 price → Walk n f t price root amount root → length f.unmet.now ≡ length f0.unmet.now →
       ((v : ℕ) → slice_index f.unmet.now v + only root v amount ≡ slice_index f0.unmet.now v) → Sound n f price
   walk_done f0 sound walk many spent = record {
-    flows_many = walk.flows_many;
-    room_many = walk.room_many;
-    unmet_many = many ∙ sound.unmet_many;
-    balanced = walk.balanced;
-    conserved = λ v l nz. omega (arith, walk.pending v l nz);
-    within = λ v l. omega (arith, sound.within v l, spent v);
+    flow = record {
+      flows_many = walk.flows_many;
+      room_many = walk.room_many;
+      unmet_many = many ∙ sound.unmet_many;
+      balanced = walk.balanced;
+      conserved = λ v l nz. omega (arith, walk.pending v l nz);
+      within = λ v l. omega (arith, sound.within v l, spent v);
+    };
     paid = walk.paid;
     sink_free = sound.sink_free;
   }

@@ -4,9 +4,9 @@
 use Rattle.std.specs.Prelude.{◌≡◌, ◌≢◌, ℕ, ◌+◌, ◌-◌, ◌<◌, ◌≤◌, ◌==◌, Bool, true, false, List, length, slice_index}
 use Rattle.hsp_simplex.specs.Sums.{only}
 use Rattle.hsp_mincost.specs.Sums.{through}
-use Rattle.hsp_mincost.specs.declared.links.Links.{Links}
-use Rattle.hsp_mincost.specs.declared.links.Flow.{Flow}
-use Rattle.hsp_mincost.specs.declared.links.SearchTree.{SearchTree}
+pub use Rattle.hsp_mincost.specs.declared.links.Links.{Links}
+pub use Rattle.hsp_mincost.specs.declared.links.Flow.{Flow}
+pub use Rattle.hsp_mincost.specs.declared.links.SearchTree.{SearchTree}
 
 -- the number of nodes
 abbrev pub nodes : Links → ℕ
@@ -56,9 +56,8 @@ AreOptimal n f price = (k : ℕ) (d : Bool) → k < length n.tails.now → 0 < w
 abbrev pub IsBalanced : Links → Flow → ℕ → Type 0
 IsBalanced n f k = slice_index f.flows.now k + slice_index f.room.now k ≡ slice_index n.capacities.now k
 
--- a flow within the capacities that is conserved at each node but the sink, with prices at which no residual arc has a
--- negative reduced cost
-pub record Sound (n : Links) (f : Flow) (price : ℕ → ℕ) : Type 0 where
+-- a flow within the capacities that is conserved at each node but the sink
+pub record IsConserved (n : Links) (f : Flow) : Type 0 where
   pub flows_many : length f.flows.now ≡ length n.tails.now
   pub room_many : length f.room.now ≡ length n.tails.now
   pub unmet_many : length f.unmet.now ≡ nodes n
@@ -66,6 +65,11 @@ pub record Sound (n : Links) (f : Flow) (price : ℕ → ℕ) : Type 0 where
   pub conserved : (v : ℕ) → v < nodes n → v ≢ 0 →
       through n.tails.now f.flows.now v + slice_index f.unmet.now v ≡ through n.heads.now f.flows.now v + slice_index n.supplies.now v
   pub within : (v : ℕ) → v < nodes n → slice_index f.unmet.now v ≤ slice_index n.supplies.now v
+
+-- with prices at which no residual arc has a negative reduced cost
+pub record Sound (n : Links) (f : Flow) (price : ℕ → ℕ) : Type 0 where
+  pub flow : IsConserved n f
+  pub open flow use *
   pub paid : AreOptimal n f price
   pub sink_free : price 0 ≡ 0
 

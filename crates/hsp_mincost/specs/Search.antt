@@ -2,13 +2,10 @@
 use Rattle.std.specs.Prelude.{◌≡◌, ◌≢◌, ℕ, ◌+◌, ◌*◌, ◌<◌, ◌≤◌, ◌&&◌, Bool, true, false, length, slice_index, slice_set, Option, Some, None, is_none, min, nat_lt, if◌then◌else◌}
 use Rattle.hsp_simplex.specs.Sums.{sum_below}
 use Rattle.hsp_mincost.specs.Frontier.{Changes}
-use Rattle.hsp_mincost.specs.Residual.{AreRelaxed, IsOnPath, Sound, distance, from, gives, nodes, predecessor, prices, takes, to, way, width}
-use Rattle.hsp_mincost.specs.declared.links.Links.{Links}
-use Rattle.hsp_mincost.specs.declared.links.Flow.{Flow}
-use Rattle.hsp_mincost.specs.declared.links.SearchTree.{SearchTree}
-use Rattle.hsp_mincost.specs.declared.links.Visit.{Visit}
-use Rattle.hsp_mincost.specs.declared.links.Ways.{Ways}
-use Rattle.hsp_mincost.specs.declared.links.Offer.{Offer}
+use Rattle.hsp_mincost.specs.Residual.{AreRelaxed, Flow, IsOnPath, Links, SearchTree, Sound, distance, from, gives, nodes, predecessor, prices, takes, to, way, width}
+pub use Rattle.hsp_mincost.specs.declared.links.Visit.{Visit}
+pub use Rattle.hsp_mincost.specs.declared.links.Ways.{Ways}
+pub use Rattle.hsp_mincost.specs.declared.links.Offer.{Offer}
 
 -- the distance of a node that was not reached
 abbrev pub top : ℕ
@@ -49,8 +46,8 @@ pub record IsRelaxed (n : Links) (f : Flow) (t : SearchTree) (k : ℕ) (d : Bool
   pub no_farther : distance t (to n k d) + gives n (prices f) k d ≤ distance t (from n k d) + takes n (prices f) k d
   pub reached : distance t (to n k d) < top
 
--- the residual arcs of settled nodes are relaxed where they were `looked` at; `now` is the distance of the node that was settled last
-pub record Search (n : Links) (f : Flow) (t : SearchTree) (held : ℕ → Option ℕ) (root now : ℕ) (looked : ℕ → Bool → Type 0) : Type 0 where
+-- the labels of nodes in the middle of a search; `now` is the distance of the node that was settled last
+pub record Labels (n : Links) (f : Flow) (t : SearchTree) (held : ℕ → Option ℕ) (root now : ℕ) : Type 0 where
   pub covers : Covers n t
   pub held_in : (v d : ℕ) → held v ≡ Some d → v < nodes n
   pub held_distance : (v d : ℕ) → held v ≡ Some d → distance t v ≡ d
@@ -58,11 +55,16 @@ pub record Search (n : Links) (f : Flow) (t : SearchTree) (held : ℕ → Option
   pub held_low : (v d : ℕ) → held v ≡ Some d → d < top
   pub settled_early : (v : ℕ) → Settled held t v → distance t v ≤ now
   pub sink_waits : Settled held t 0 → ⊥
-  pub relaxed : (k : ℕ) (d : Bool) → k < length n.tails.now → 0 < width f k d → Settled held t (from n k d) → looked k d → IsRelaxed n f t k d
   pub reached : (v : ℕ) → v < nodes n → v ≢ root → distance t v < top → Reached n f t now v (way n t v)
   pub root_near : distance t root < top
   pub some : (v : ℕ) → v < nodes n → distance t v < top → 0 < slice_index t.amount.now v
   pub no_more : (v : ℕ) → v < nodes n → distance t v < top → slice_index t.amount.now v ≤ slice_index f.unmet.now root
+
+-- and the residual arcs of settled nodes are relaxed where they were `looked` at
+pub record Search (n : Links) (f : Flow) (t : SearchTree) (held : ℕ → Option ℕ) (root now : ℕ) (looked : ℕ → Bool → Type 0) : Type 0 where
+  pub labels : Labels n f t held root now
+  pub open labels use *
+  pub relaxed : (k : ℕ) (d : Bool) → k < length n.tails.now → 0 < width f k d → Settled held t (from n k d) → looked k d → IsRelaxed n f t k d
 
 -- the search is over: no residual arc leads out of what it reached, and the sink is not among it
 pub record Closed (n : Links) (f : Flow) (t : SearchTree) (root : ℕ) : Type 0 where
@@ -137,14 +139,19 @@ pub record Counted (n : Links) (t : SearchTree) (held : ℕ → Option ℕ) (tur
   pub depth_low : (v : ℕ) → v < nodes n → distance t v < top → slice_index t.depth.now v ≤ turn
   pub distance_low : (v : ℕ) → v < nodes n → distance t v < top → distance t v ≤ far
 
--- the residual arcs of the node that is settled which were `seen` are relaxed
-pub record Expanding (n : Links) (f : Flow) (t : SearchTree) (held : ℕ → Option ℕ) (at : Visit) (seen : ℕ → Bool → Type 0) : Type 0 where
-  pub search : Search n f t held at.root at.distance (λ k d. from n k d ≡ at.node → seen k d)
+-- the node is settled in its turn
+pub record IsVisited (n : Links) (t : SearchTree) (held : ℕ → Option ℕ) (at : Visit) : Type 0 where
   pub settled : Settled held t at.node
   pub here : distance t at.node ≡ at.distance
   pub node_in : at.node < nodes n
   pub shallow : slice_index t.depth.now at.node < at.turn + 1
   pub counted : Counted n t held (at.turn + 1) (at.distance + n.step)
+
+-- and those of its residual arcs which were `seen` are relaxed
+pub record Expanding (n : Links) (f : Flow) (t : SearchTree) (held : ℕ → Option ℕ) (at : Visit) (seen : ℕ → Bool → Type 0) : Type 0 where
+  pub visit : IsVisited n t held at
+  pub open visit use *
+  pub search : Search n f t held at.root at.distance (λ k d. from n k d ≡ at.node → seen k d)
 
 -- the ways along links are looked at first: which arcs were, before those of a direction are, and once they are
 abbrev pub Earlier : Bool → ℕ → Bool → Type 0

@@ -1,5 +1,5 @@
-use Rattle.std.proofs.Common.{◌≡◌, ℕ, ◌+◌, ◌-◌, ◌<◌, ◌≤◌, length, slice_index, ap, refl, sym, ◌∙◌, arith, add-mul}
-use Rattle.hsp_mincost.proofs.Arrival.{tree_by, priced_by}
+use Rattle.std.proofs.Common.{◌≡◌, ℕ, ◌+◌, ◌-◌, ◌<◌, length, slice_index, ap, refl, sym, ◌∙◌, arith, add-mul}
+use Rattle.hsp_mincost.proofs.Arrival.{tree_by, raised_low}
 use Rattle.hsp_mincost.proofs.Raising.{sound_same}
 use Rattle.hsp_mincost.proofs.Sums.{only_there}
 use Rattle.hsp_mincost.proofs.phase.meet_some.Goals as goal
@@ -9,34 +9,27 @@ augment-requires-clause-tree g c = tree_by _ _ _ _ c.requires.ready.sound (c.in_
 
 pub raise-requires-clause-fits : goal.raise-requires-clause-fits
 raise-requires-clause-fits g c = λ v l.
-    let links = c.args.links.now in
-    let scale = links.scale in
-    let spread = c.in_ok-search.ensures.spread c.if-not-branch.false in
+    let ready = c.requires.ready in
     let same : slice_index c.augment.new.flow.price.now v ≡ slice_index c.args.flow.now.price.now v = ap (λ xs. slice_index xs v) c.augment.ensures.price in
-    let many : length c.augment.new.flow.price.now ≡ length c.args.flow.now.price.now = ap (λ xs. length xs) c.augment.ensures.price in
-    let n = length c.args.links.now.supplies.now in
-    let in' : v < length c.args.links.now.supplies.now = omega (arith, c.requires.ready.price_many) in
-    let within : spread.up + spread.down ≤ c.args.links.now.limit = omega (arith, spread.within, scale.limit_is) in
-    let low = priced_by _ _ _ _ c.requires.ready.sound (c.in_ok-search.ensures.found c.if-not-branch.false) links.limit spread.up spread.down spread.priced within c.requires.ready.low v in' in
-    omega (arith, scale.small, scale.step_is, add-mul n 1 links.step)
+    let in' : v < length c.args.links.now.supplies.now = omega (arith, ready.price_many, ap (λ xs. length xs) c.augment.ensures.price) in
+    let low = raised_low _ _ _ _ ready.sound (c.in_ok-search.ensures.found c.if-not-branch.false) (c.in_ok-search.ensures.spread c.if-not-branch.false) ready.low v in' in
+    omega (arith, c.args.links.now.scale.small, c.args.links.now.scale.step_is, add-mul (length c.args.links.now.supplies.now) 1 c.args.links.now.step)
 
 pub returns-clause-others : goal.returns-clause-others
 returns-clause-others g c = λ v ne. omega (arith, c.augment.ensures.spent v, only_there c.args.root v (slice_index c.search.new.progress.tree.amount.now 0) (λ e. ne (sym e)))
 
 pub returns-clause-ready : goal.returns-clause-ready
 returns-clause-ready g c =
-    let links = c.args.links.now in
-    let scale = links.scale in
-    let spread = c.in_ok-search.ensures.spread c.if-not-branch.false in
-    let within : spread.up + spread.down ≤ c.args.links.now.limit = omega (arith, spread.within, scale.limit_is) in
+    let ready = c.requires.ready in
+    let found = c.in_ok-search.ensures.found c.if-not-branch.false in
     let many : length c.raise.new.price ≡ length c.args.links.now.supplies.now =
-    c.raise.auto.price ∙ ap (λ xs. length xs) c.augment.ensures.price ∙ c.requires.ready.price_many in
+    c.raise.auto.price ∙ ap (λ xs. length xs) c.augment.ensures.price ∙ ready.price_many in
     let by : (v : ℕ) → v < length c.args.links.now.supplies.now →
     slice_index c.raise.new.price v ≡ slice_index c.args.flow.now.price.now v + (slice_index c.search.new.progress.tree.distance.now 0 - slice_index c.search.new.progress.tree.distance.now v) = λ v l.
     let same : slice_index c.augment.new.flow.price.now v ≡ slice_index c.args.flow.now.price.now v = ap (λ xs. slice_index xs v) c.augment.ensures.price in
     omega (arith, c.raise.ensures.by v (omega (arith, many))) in
     record {
-      sound = sound_same _ _ _ _ _ (c.in_ok-search.ensures.found c.if-not-branch.false).sink_in c.augment.ensures.sound refl refl refl by;
+      sound = sound_same _ _ _ _ _ found.sink_in c.augment.ensures.sound refl refl refl by;
       price_many = many;
-      low = λ v l. omega (arith, by v l, priced_by _ _ _ _ c.requires.ready.sound (c.in_ok-search.ensures.found c.if-not-branch.false) links.limit spread.up spread.down spread.priced within c.requires.ready.low v l);
+      low = λ v l. omega (arith, by v l, raised_low _ _ _ _ ready.sound found (c.in_ok-search.ensures.spread c.if-not-branch.false) ready.low v l);
     }
