@@ -1,5 +1,5 @@
 -- A flow with prices through an instance's network is a valid certificate's plan.
-use Rattle.std.proofs.Common.{◌≡◌, ℕ, zero, suc, ◌+◌, ◌*◌, ◌<◌, ◌≤◌, ◌∙◌, Bool, true, false, List, [], ◌∷◌, length, map, slice_index, if◌then◌else◌, refl, ap, ap₂, sym, inl, inr, arith, eq-eqb, ne_eqb}
+use Rattle.std.proofs.Common.{◌≡◌, ℕ, zero, suc, ◌+◌, ◌*◌, ◌<◌, ◌≤◌, ◌∙◌, Bool, true, false, List, [], ◌∷◌, length, map, slice_index, if◌then◌else◌, refl, ap, sym, inl, inr, arith, eq-eqb, ne_eqb}
 use Rattle.std.specs.Prelude.{◌||◌, Option, Some, None}
 use Rattle.std.specs.List.{AllByRecursion, list_any}
 use Rattle.std.proofs.lemmas.List.Elements.{All-from_get_or, All-from_recursion, recursion_from_All}
@@ -23,10 +23,6 @@ use Rattle.hsp_flow.specs.Ordered.{AreOrdered}
 use Rattle.hsp_flow.specs.Planning.{transport_of, uses_of, row_of, server_of, cost_of}
 use Rattle.hsp_flow.proofs.Ordering.{no_arc, each_weaker, all_ordered}
 use Rattle.hsp_flow.proofs.Bridging.{arc, leads, sum_at, total_at, planned_is, none_planned}
-
-pub same_on : (o : Option ℕ) (h : ℕ) → plans.is_on o h ≡ is_on o h
-same_on None h = refl
-same_on (Some g) h = refl
 
 same_at : (o : Option ℕ) (q : List ℕ) → at_home o (λ h. slice_index q h) ≡ at_host o q
 same_at None q = refl
@@ -63,9 +59,7 @@ module _ (it : Instance) (is : IsInstance it) (flows u p q : List ℕ) (most : �
   load_is j = sum_at (arcs_from 0 it.arcs) flows all (instance_ordered it is) row_of server_of j
 
   host_is : (h : ℕ) → plans.host_load (network_of it) (table (uses_of (arcs_from 0 it.arcs) flows)) h ≡ host_load (transport_of it) (λ k. slice_index flows k) h
-  host_is h =
-      sum_below_same (length (map (λ s. s.capacity) it.servers)) _ _
-      (λ j l. ap₂ (λ b n. if b then n else 0) (same_on (host_of (transport_of it) j) h) (load_is j))
+  host_is h = sum_below_same (length (map (λ s. s.capacity) it.servers)) _ _ (λ j l. ap (λ n. if is_on (host_of (transport_of it) j) h then n else 0) (load_is j))
 
   pub plan_feasible : Feasible (network_of it) (table (uses_of (arcs_from 0 it.arcs) flows))
   plan_feasible = record {

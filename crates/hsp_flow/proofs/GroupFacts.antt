@@ -1,8 +1,8 @@
 -- What the arcs of groups have to do with those of their rows.
-use Rattle.std.proofs.Common.{◌≡◌, ℕ, ◌+◌, ◌-◌, ◌<◌, ◌≤◌, ◌∙◌, List, [], ◌∷◌, length, map, slice_index, slice_index_or, ◌++◌, refl, ap, sym, subst, inl, inr, arith, zero-add, length-append}
+use Rattle.std.proofs.Common.{◌≡◌, ℕ, ◌+◌, ◌-◌, ◌<◌, ◌≤◌, ◌∙◌, List, [], ◌∷◌, length, map, slice_index, slice_index_or, ◌++◌, ap, sym, subst, inl, inr, arith, zero-add, length-append}
 use Rattle.std.specs.Prelude.{Some, slice_get, option_map}
 use Rattle.std.specs.List.{AllByRecursion}
-use Rattle.std.proofs.lemmas.List.{length-map, get_or-map, get_or_past, get_or_append_left, get_or-append_right}
+use Rattle.std.proofs.lemmas.List.{length-map, get_or-map, get_or_past}
 use Rattle.std.proofs.lemmas.Option.{slice_get-get_or, get_or_from_slice_get, slice_get-map, slice_get_within}
 use Rattle.std.proofs.lemmas.Bool.{cases_lt}
 use Rattle.hsp_instance.specs.declared.arc.Arc.{Arc}
@@ -12,6 +12,7 @@ use Rattle.hsp_check.specs.declared.arc.NetworkArc.{NetworkArc}
 use Rattle.hsp_check.specs.Instance.{arc_of, arcs_from}
 use Rattle.hsp_flow.specs.Grouping.{group_of, AreFirsts, arcs_at, lists_at, group_arcs, offset, IsRun, AreGroupPlaces}
 use Rattle.hsp_mincost.specs.Layout.{Appends}
+use Rattle.hsp_mincost.proofs.Appending.{longer}
 use Rattle.hsp_flow.specs.Planning.{row_of, server_of, cost_of}
 use Rattle.hsp_flow.proofs.Ordering.{no_arc, each_at, each_weaker}
 use Rattle.hsp_flow.proofs.Bridging.{arc}
@@ -182,21 +183,12 @@ module _ (it : Instance) (gs : Groups) (ag : AreGroups it gs) (row g : ℕ) (fir
   ]
 
   pub first_there : (k : ℕ) → k < length (firsts ++ row ∷ []) → slice_index (firsts ++ row ∷ []) k < row + 1
-  first_there k l = elim (cases_lt k (length firsts)) [
-    | inl old ↦ omega (arith, get_or_append_left firsts (row ∷ []) 0 k old, there k old)
-    | inr new ↦
-        let at : k - length firsts ≡ 0 = omega (arith, l, new, length-append firsts (row ∷ [])) in
-        omega (arith, get_or-append_right firsts (row ∷ []) (length firsts) k 0 refl new, ap (λ (m : ℕ). slice_index (row ∷ []) m) at)
-  ]
+  first_there k l = elim (longer firsts row k l) [ inl old ↦ omega (arith, old.1, there k old.0) | inr new ↦ omega (arith, new.1) ]
 
   pub first_own : g ≡ length firsts → (k : ℕ) → k < length (firsts ++ row ∷ []) → group_of gs (slice_index (firsts ++ row ∷ []) k) ≡ k
-  first_own is k l = elim (cases_lt k (length firsts)) [
-    | inl old ↦ ap (group_of gs) (get_or_append_left firsts (row ∷ []) 0 k old) ∙ own k old
-    | inr new ↦
-        let at : k - length firsts ≡ 0 = omega (arith, l, new, length-append firsts (row ∷ [])) in
-        let here : slice_index (firsts ++ row ∷ []) k ≡ row = get_or-append_right firsts (row ∷ []) (length firsts) k 0 refl new ∙ ap (λ (m : ℕ). slice_index (row ∷ []) m) at in
-        let last : length firsts ≡ k = omega (arith, l, new, length-append firsts (row ∷ [])) in
-        ap (group_of gs) here ∙ group_is ∙ is ∙ last
+  first_own is k l = elim (longer firsts row k l) [
+    | inl old ↦ ap (group_of gs) old.1 ∙ own k old.0
+    | inr new ↦ ap (group_of gs) new.1 ∙ group_is ∙ is ∙ sym new.0
   ]
 
   pub seen_new : g ≡ length firsts → (i : ℕ) → i < row + 1 → group_of gs i < length (firsts ++ row ∷ [])

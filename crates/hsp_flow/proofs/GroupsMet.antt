@@ -1,9 +1,9 @@
 -- A flow that meets the groups meets their rows when it is spread; groups that are short have rows that are.
-use Rattle.std.proofs.Common.{◌≡◌, ℕ, zero, suc, ◌+◌, ◌*◌, ◌<◌, ◌≤◌, ◌==◌, ◌∙◌, Bool, true, false, List, length, map, slice_index, slice_index_or, if◌then◌else◌, refl, ap, ap₂, sym, inl, inr, arith}
-use Rattle.std.specs.Prelude.{Option, ◌&&◌, ◌||◌, is_none, min}
+use Rattle.std.proofs.Common.{◌≡◌, ℕ, ◌+◌, ◌*◌, ◌<◌, ◌≤◌, ◌==◌, ◌∙◌, Bool, false, List, length, map, slice_index, slice_index_or, if◌then◌else◌, ap, ap₂, sym, inl, inr, arith}
+use Rattle.std.specs.Prelude.{Option, ◌&&◌, is_none, min}
 use Rattle.std.proofs.Math.Nat.{mul-le-mul_right}
 use Rattle.std.proofs.lemmas.List.{length-map, get_or-map}
-use Rattle.std.proofs.lemmas.Bool.{cases_Bool, cases_eq}
+use Rattle.std.proofs.lemmas.Bool.{cases_eq}
 use Rattle.hsp_instance.specs.Instance.{Instance, Row, IsInstance}
 use Rattle.hsp_instance.specs.Groups.{Groups, AreGroups}
 use Rattle.hsp_check.specs.Instance.{arcs_from}
@@ -12,10 +12,10 @@ use Rattle.hsp_flow.specs.Grouping.{group_of, group_demand, grouped, AreFirsts, 
 use Rattle.hsp_simplex.specs.Network.{Transport, IsNetwork, HasLowPrices, load, host_load, is_on, host_of, reaches, reached_capacity, capacity_of, demand_of}
 use Rattle.hsp_flow.specs.Planning.{transport_of, row_of, server_of, cost_of}
 use Rattle.hsp_flow.specs.Spreads.{Spread}
-use Rattle.hsp_simplex.specs.Sums.{sum_below, only, any_below}
+use Rattle.hsp_simplex.specs.Sums.{sum_below, only}
 use Rattle.hsp_simplex.specs.declared.network.PricedFlow.{PricedFlow}
-use Rattle.hsp_mincost.proofs.Sums.{sum_below_low, sum_below_same, only_here, only_there, only_zero}
-use Rattle.hsp_mincost.proofs.Totals.{any_alike, sum_below_zero, by_key}
+use Rattle.hsp_mincost.proofs.Sums.{sum_below_low, sum_below_same, only_here, only_there}
+use Rattle.hsp_mincost.proofs.Totals.{any_alike, by_key, only_when}
 use Rattle.hsp_flow.proofs.SpreadFlows as spread
 use Rattle.hsp_mincost.specs.Layout.{IsSmall}
 use Rattle.hsp_flow.specs.declared.group_lists.GroupLists.{GroupLists}
@@ -150,25 +150,12 @@ module _ (it : Instance) (is : IsInstance it) (gs : Groups) (ag : AreGroups it g
     abbrev groups : ℕ → Bool
     groups g = slice_index_or set g false
 
-    when_flagged : (b : Bool) (g i n : ℕ) → (if b then only g i n else 0) ≡ only g i (if b then n else 0)
-    when_flagged true g i n = refl
-    when_flagged false g i n = sym (only_zero g i)
-
-    sum_when : (b : Bool) (n : ℕ) (f : ℕ → ℕ) → (if b then sum_below n f else 0) ≡ sum_below n (λ i. if b then f i else 0)
-    sum_when true n f = refl
-    sum_when false n f = sym (sum_below_zero n (λ i. 0) (λ i l. refl))
-
     demand_is : demand_of rows chosen ≡ demand_of net groups
     demand_is =
         sum_below_same (length rows.demands) _ (λ i. if groups (group_of gs i) then slice_index rows.demands i else 0) (λ i l. ap (λ b. if b then slice_index rows.demands i else 0) (same i (omega (arith, l, rows_many))))
         ∙ by_key (group_of gs) (λ i. if groups (group_of gs i) then slice_index rows.demands i else 0) gs.count (length rows.demands) (λ i l. group_in it is gs ag firsts af i (omega (arith, l, rows_many)))
         ∙ sum_below_same gs.count _ (λ g. if groups g then slice_index demands g else 0) (λ g l.
-        sum_below_same (length rows.demands) _ (λ i. if groups g then only (group_of gs i) g (slice_index rows.demands i) else 0)
-        (λ i m. elim (cases_eq (group_of gs i) g) [
-          | inl e ↦ ap (λ (v : ℕ). only (group_of gs i) g (if groups v then slice_index rows.demands i else 0)) e ∙ sym (when_flagged (groups g) (group_of gs i) g (slice_index rows.demands i))
-          | inr ne ↦ only_there (group_of gs i) g (if groups (group_of gs i) then slice_index rows.demands i else 0) ne ∙ sym (when_flagged (groups g) (group_of gs i) g (slice_index rows.demands i) ∙ only_there (group_of gs i) g (if groups g then slice_index rows.demands i else 0) ne)
-        ])
-        ∙ sym (sum_when (groups g) (length rows.demands) (λ i. only (group_of gs i) g (slice_index rows.demands i)))
+        only_when (length rows.demands) (group_of gs) (λ i. slice_index rows.demands i) groups g
         ∙ ap (λ n. if groups g then n else 0) (ap (λ n. sum_below n (λ i. only (group_of gs i) g (slice_index rows.demands i))) rows_many ∙ sym (dd g l)))
         ∙ ap (λ n. sum_below n (λ g. if groups g then slice_index demands g else 0)) (sym dm)
 

@@ -5,7 +5,6 @@ pub mod GroupFacts
 pub mod GroupsMet
 pub mod Laying
 pub mod Limits
-pub mod NodeCounts
 pub mod Offsets
 pub mod Ordering
 pub mod Ranges

@@ -1,5 +1,5 @@
 -- The limits of an instance, for its network.
-use Rattle.std.proofs.Common.{◌≡◌, ℕ, ◌+◌, ◌*◌, ◌<◌, ◌≤◌, ◌∙◌, Bool, List, [], ◌∷◌, length, map, sum_by, slice_index, slice_index_or, sym, subst, inl, inr, arith}
+use Rattle.std.proofs.Common.{◌≡◌, ℕ, ◌+◌, ◌*◌, ◌<◌, ◌≤◌, ◌∙◌, Bool, List, [], ◌∷◌, length, map, sum_by, slice_index, slice_index_or, ap, sym, subst, inl, inr, arith}
 use Rattle.std.specs.Prelude.{Some, None}
 use Rattle.std.specs.List.{AllByRecursion}
 use Rattle.std.proofs.Math.Nat.{le_trans, mul-le-mul_right}
@@ -17,6 +17,7 @@ use Rattle.hsp_instance.proofs.Lists.{all_at}
 use Rattle.hsp_check.proofs.Summing.{sum_by_le_all, by_key}
 use Rattle.hsp_mincost.specs.Layout.{IsSmall}
 use Rattle.hsp_simplex.specs.Network.{IsNetwork, Transport, demand_of, host_of}
+use Rattle.hsp_flow.specs.Nodes.{nodes_by}
 use Rattle.hsp_flow.specs.Planning.{transport_of, row_of, server_of, cost_of}
 use Rattle.hsp_flow.proofs.Ordering.{no_arc, each_weaker, each_append, each_at, all_ordered, rows_between, rows_ordered, arcs_many}
 use Rattle.hsp_flow.proofs.Bridging.{arc}
@@ -178,3 +179,11 @@ module _ (it : Instance) (is : IsInstance it) where
       let low : sum_below (length (transport_of it).demands) (λ k. 1000000 * served (network_of it) x k) ≤ length (transport_of it).demands * 1000000000000 =
       sum_below_low (length (transport_of it).demands) (λ k. 1000000 * served (network_of it) x k) 1000000000000 (λ k l. omega (arith, feasible.met k l, counts_low it is k l)) in
       omega (arith, dear, keyed, low, rows_many, is.rows.few)
+
+-- how many nodes its network has
+pub few_nodes : (it : Instance) (sources : ℕ) (demands capacities limits : List ℕ) → length demands ≡ sources → capacities ≡ map (λ s. s.capacity) it.servers → limits ≡ map (λ h. h.limit) it.hosts →
+    (n : ℕ) → n ≤ 1 + length limits + length capacities + length demands → n ≤ nodes_by it sources
+few_nodes it sources demands capacities limits many servers hosts n l =
+    let servers_many : length capacities ≡ length it.servers = ap (λ (xs : List ℕ). length xs) servers ∙ length-map it.servers (λ (s : Server). s.capacity) in
+    let hosts_many : length limits ≡ length it.hosts = ap (λ (xs : List ℕ). length xs) hosts ∙ length-map it.hosts (λ (h : Host). h.limit) in
+    omega (arith, l, many)

@@ -13,12 +13,11 @@ use Rattle.hsp_check.specs.Short as shorts
 use Rattle.hsp_check.specs.Verdict.{is_one_of}
 use Rattle.hsp_check.specs.Valid.{IsValidSet}
 use Rattle.hsp_check.proofs.Summing.{sum_below_same}
-use Rattle.hsp_simplex.specs.Sums.{sum_below, any_below}
-use Rattle.hsp_simplex.specs.Network.{Transport, IsShort, reaches, reached_capacity, capacity_of, demand_of, on_host, is_on, host_of}
+use Rattle.hsp_simplex.specs.Sums.{any_below}
+use Rattle.hsp_simplex.specs.Network.{IsShort, reaches, reached_capacity, capacity_of, demand_of, on_host, is_on, host_of}
 use Rattle.hsp_flow.specs.Planning.{transport_of, flagged_from, row_of, server_of}
 use Rattle.hsp_flow.proofs.Ordering.{no_arc, each_weaker}
 use Rattle.hsp_flow.proofs.Bridging.{arc}
-use Rattle.hsp_flow.proofs.Certifying.{same_on}
 
 or_assoc : (a b c : Bool) → ((a || b) || c) ≡ (a || (b || c))
 or_assoc true b c = refl
@@ -115,7 +114,7 @@ module _ (it : Instance) (set : List Bool) (many : length set ≡ length it.rows
 
   host_room : (h : ℕ) → plans.on_host (network_of it) (shorts.room_of (network_of it) rows) h ≡ on_host (transport_of it) (λ j. reached_capacity (transport_of it) chosen j) h
   host_room h =
-      sum_below_same (length (transport_of it).capacities) _ _ (λ j l. ap₂ (λ b n. if b then n else 0) (same_on (host_of (transport_of it) j) h) (room_is j))
+      sum_below_same (length (transport_of it).capacities) _ _ (λ j l. ap (λ n. if is_on (host_of (transport_of it) j) h then n else 0) (room_is j))
 
   pub capacity_is : shorts.capacity_of (network_of it) rows ≡ capacity_of (transport_of it) chosen
   capacity_is =

@@ -1,5 +1,5 @@
 -- Flows of groups, spread over their rows.
-use Rattle.std.proofs.Common.{◌≡◌, ℕ, zero, suc, ◌+◌, ◌-◌, ◌<◌, ◌≤◌, ◌⊎◌, ◌∙◌, List, length, slice_index, refl, ap, ap₂, sym, inl, inr, arith, slice_set, get_or-set_same, get_or-set_other}
+use Rattle.std.proofs.Common.{◌≡◌, ℕ, suc, ◌+◌, ◌-◌, ◌<◌, ◌≤◌, ◌⊎◌, ◌∙◌, List, length, slice_index, refl, ap, sym, inl, inr, arith, slice_set, get_or-set_same, get_or-set_other}
 use Rattle.std.proofs.lemmas.Bool.{cases_eq}
 use Rattle.hsp_simplex.specs.Sums.{sum_below, only}
 use Rattle.hsp_flow.specs.Spreads.{Spread}

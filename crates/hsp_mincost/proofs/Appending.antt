@@ -1,11 +1,21 @@
 -- Lists that grow at their ends.
-use Rattle.std.proofs.Common.{◌≡◌, ℕ, ◌+◌, ◌<◌, inl, inr, List, [], ◌∷◌, ◌++◌, length, slice_index, replicate, refl, ap, sym, ◌∙◌, arith, length-append}
-use Rattle.std.proofs.lemmas.Bool.{cases_eq}
+use Rattle.std.proofs.Common.{◌≡◌, ℕ, ◌+◌, ◌<◌, ◌⊎◌, inl, inr, List, [], ◌∷◌, ◌++◌, length, slice_index, replicate, refl, ap, sym, ◌∙◌, arith, length-append}
+use Rattle.std.proofs.lemmas.Bool.{cases_eq, cases_lt}
 use Rattle.std.proofs.lemmas.List.{get_or_append_left, get_or-append-add, get_or-replicate, length-replicate}
 use Rattle.hsp_mincost.specs.Layout.{Appends}
 
 pub appends_none : (old : List ℕ) (f : ℕ → ℕ) → Appends old old 0 f
 appends_none old f = record { many = omega arith; kept = λ k l. refl; added = λ k l. absurd (omega arith) }
+
+-- a place in a list with one number more
+pub longer : (xs : List ℕ) (x k : ℕ) → k < length (xs ++ x ∷ []) →
+    ((k < length xs) × (slice_index (xs ++ x ∷ []) k ≡ slice_index xs k)) ⊎ ((k ≡ length xs) × (slice_index (xs ++ x ∷ []) k ≡ x))
+longer xs x k l = elim (cases_lt k (length xs)) [
+  | inl old ↦ inl (old, get_or_append_left xs (x ∷ []) 0 k old)
+  | inr new ↦
+      let is : k ≡ length xs + 0 = omega (arith, l, new, length-append xs (x ∷ [])) in
+      inr (omega arith, ap (λ i. slice_index (xs ++ x ∷ []) i) is ∙ get_or-append-add xs (x ∷ []) 0 0)
+]
 
 -- one number more
 pub appends_one : (old now new : List ℕ) (n : ℕ) (f : ℕ → ℕ) (x : ℕ) → Appends old now n f → new ≡ now ++ x ∷ [] → x ≡ f n → Appends old new (n + 1) f

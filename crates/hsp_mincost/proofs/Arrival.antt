@@ -1,9 +1,10 @@
 -- After a search that came to the sink: its tree is tight under the raised prices, and the prices stay within bounds.
-use Rattle.std.proofs.Common.{◌≡◌, ◌≢◌, ℕ, ◌+◌, ◌<◌, ◌≤◌, inl, inr, length, slice_index, Option, ap, arith, get_or-set_same, get_or-set_other, add-mul, mul-le-mul_right}
+use Rattle.std.proofs.Common.{◌≡◌, ℕ, ◌+◌, ◌<◌, ◌≤◌, inl, inr, length, slice_index, Option, ap, arith, add-mul, mul-le-mul_right}
 use Rattle.std.proofs.lemmas.Bool.{cases_eq, cases_lt}
 use Rattle.hsp_mincost.specs.Residual.{Flow, IsTree, Links, SearchTree, Sound, distance, nodes, predecessor, prices, raised, to, way, width}
 use Rattle.hsp_mincost.specs.Search.{Begun, Found, Offer, Offered, Priced, Spread, TakesWay, top}
 use Rattle.hsp_mincost.proofs.Directions.{gives_raised, takes_raised}
+use Rattle.hsp_mincost.proofs.Searching.{changed}
 
 module _ (n : Links) (f : Flow) (t : SearchTree) (root : ℕ) (sound : Sound n f (λ v. slice_index f.price.now v)) (found : Found n f t root) where
   pub sink_some : 0 < slice_index t.amount.now 0
@@ -58,16 +59,15 @@ priced_offered n f t t' held held' o root up down in' it p low high = elim (case
   where
     taken : TakesWay held held' t t' o → Priced n f t' root up down
     taken w =
-        let same : (v : ℕ) → v ≢ o.to → distance t' v ≡ distance t v = λ v ne. rw w.distance (get_or-set_other t.distance.now o.to v _ 0 ne) in
-        let here : distance t' o.to ≡ o.distance = rw w.distance (get_or-set_same t.distance.now o.to _ 0 in') in
+        let changes = changed t.distance.now t'.distance.now o.to o.distance w.distance in' in
         record {
           low = λ v l q. elim (cases_eq v o.to) [
-            | inl e ↦ rw e (omega (arith, here))
-            | inr ne ↦ omega (arith, same v ne, p.low v l (omega (arith, same v ne)))
+            | inl e ↦ rw e (omega (arith, changes.0))
+            | inr ne ↦ omega (arith, changes.1 v ne, p.low v l (omega (arith, changes.1 v ne)))
           ];
           high = λ v l q. elim (cases_eq v o.to) [
-            | inl e ↦ rw e (omega (arith, here))
-            | inr ne ↦ omega (arith, same v ne, p.high v l (omega (arith, same v ne)))
+            | inl e ↦ rw e (omega (arith, changes.0))
+            | inr ne ↦ omega (arith, changes.1 v ne, p.high v l (omega (arith, changes.1 v ne)))
           ];
         }
 

@@ -30,6 +30,7 @@ module _ (net : Transport) (whole : IsNetwork net) (small : IsSmall net) (tails 
     down : slice_index heads k < slice_index tails k
     low : slice_index heads k < first_of net
     cheap : slice_index tails k < first_of net → slice_index costs k ≡ 0
+    dear : (most : ℕ) → ((a : ℕ) → a < length net.sources → slice_index net.costs a ≤ most) → slice_index costs k ≤ most
 
   ends : (k : ℕ) → k < length tails → Ends k
   ends k l = elim (kind net k (omega (arith, links.tails.many))) [
@@ -38,18 +39,21 @@ module _ (net : Transport) (whole : IsNetwork net) (small : IsSmall net) (tails 
       down = omega (arith, links.tails.node k (omega arith), links.heads.host k host);
       low = omega (arith, links.heads.host k host);
       cheap = λ _. links.costs.node k (omega arith);
+      dear = λ most low. omega (arith, links.costs.node k (omega arith));
     }
     | inr (inl s) ↦ rw s.2 (record {
       tail_in = omega (arith, s.1, links.tails.node (hosts_of net + s.0) (omega (arith, s.1)), links.supplies.many);
       down = omega (arith, s.1, links.tails.node (hosts_of net + s.0) (omega (arith, s.1)), links.heads.server s.0 s.1, node-low s.0);
       low = omega (arith, s.1, links.heads.server s.0 s.1, node-low s.0);
       cheap = λ _. links.costs.node (hosts_of net + s.0) (omega (arith, s.1));
+      dear = λ most low. omega (arith, links.costs.node (hosts_of net + s.0) (omega (arith, s.1)));
     })
     | inr (inr a) ↦ rw a.2 (record {
       tail_in = omega (arith, links.tails.arc a.0 a.1, whole.sources_in a.0 a.1, links.supplies.many);
       down = omega (arith, links.tails.arc a.0 a.1, links.heads.arc a.0 a.1, whole.servers_in a.0 a.1);
       low = omega (arith, links.heads.arc a.0 a.1, whole.servers_in a.0 a.1);
       cheap = λ q. absurd (omega (arith, links.tails.arc a.0 a.1));
+      dear = λ most low. omega (arith, links.costs.arc a.0 a.1, low a.0 a.1);
     })
   ]
 
@@ -67,11 +71,7 @@ module _ (net : Transport) (whole : IsNetwork net) (small : IsSmall net) (tails 
       limit ≡ length supplies * most → step ≡ limit + most → (length supplies + 1) * step < 18446744073709551615 →
       Scale (first_of net) (length supplies) tails heads costs most limit step
   scale_of most limit step dear limit-is step-is fit = record {
-    dear = λ k l. elim (kind net k (omega (arith, links.tails.many))) [
-      | inl host ↦ omega (arith, links.costs.node k (omega arith))
-      | inr (inl s) ↦ rw s.2 (omega (arith, links.costs.node (hosts_of net + s.0) (omega (arith, s.1))))
-      | inr (inr a) ↦ rw a.2 (omega (arith, links.costs.arc a.0 a.1, dear a.0 a.1))
-    ];
+    dear = λ k l. (ends k l).dear most dear;
     free = λ k l. (ends k l).cheap;
     low = λ k l. (ends k l).low;
     limit_is = limit-is;

@@ -26,14 +26,3 @@ pub takes_raised : (n : Links) (f : Flow) (t : SearchTree) (k : ℕ) (d : Bool) 
     takes n (raised f t) k d ≡ takes n (prices f) k d + (distance t 0 - distance t (to n k d))
 takes_raised n f t k true = omega arith
 takes_raised n f t k false = refl
-
--- reduced costs of prices that are alike
-module _ (n : Links) (price price' : ℕ → ℕ) (k : ℕ) (tail : price' (slice_index n.tails.now k) ≡ price (slice_index n.tails.now k))
-    (head : price' (slice_index n.heads.now k) ≡ price (slice_index n.heads.now k)) where
-  pub gives_same : (d : Bool) → gives n price' k d ≡ gives n price k d
-  gives_same true = tail
-  gives_same false = omega (arith, head)
-
-  pub takes_same : (d : Bool) → takes n price' k d ≡ takes n price k d
-  takes_same true = omega (arith, head)
-  takes_same false = tail

@@ -1,11 +1,11 @@
 -- Looking at the residual arcs of a node, one after the other.
-use Rattle.std.proofs.Common.{◌≡◌, ◌≢◌, ℕ, ◌+◌, ◌<◌, ◌≤◌, ◌⊎◌, inl, inr, Bool, true, length, slice_index, Option, Some, None, is_none, refl, ap, sym, ◌∙◌, arith, lt-ltb, ltb-true}
+use Rattle.std.proofs.Common.{◌≡◌, ◌≢◌, ℕ, ◌+◌, ◌<◌, ◌≤◌, ◌⊎◌, inl, inr, Bool, true, length, slice_index, Option, Some, None, is_none, if◌then◌else◌, refl, ap, sym, ◌∙◌, arith, lt-ltb, ltb-true}
 use Rattle.std.proofs.lemmas.Bool.{cases_eq, cases_lt, cases_Bool, and_parts, and_from}
 use Rattle.hsp_mincost.specs.Residual.{Flow, Links, SearchTree, distance, from, gives, nodes, prices, takes, to, width}
 use Rattle.hsp_mincost.specs.Search.{Expanding, MayBeOffered, Offer, Offered, Settled, Visit, settled_count, settled_test, top}
 use Rattle.hsp_mincost.proofs.Sums.{sum_below_le}
 use Rattle.hsp_mincost.proofs.Directions.{to_in}
-use Rattle.hsp_mincost.proofs.Searching.{fewer, kept, lowered, still, distance_here, distance_same, depth_here, depth_same, cases_option}
+use Rattle.hsp_mincost.proofs.Searching.{fewer, kept, lowered, still, distances, depths, cases_option}
 
 module _ (held : ℕ → Option ℕ) (t : SearchTree) (v : ℕ) where
   pub settled_from_test : settled_test held t v ≡ true → Settled held t v
@@ -21,15 +21,16 @@ module _ (held : ℕ → Option ℕ) (t : SearchTree) (v : ℕ) where
   test_from_settled st = and_from _ _ (rw st.not_held refl) (lt-ltb _ _ st.reached)
 
 -- where what was settled stays settled, the count doesn't fall
+pub still_counted : (held held' : ℕ → Option ℕ) (t t' : SearchTree) (v : ℕ) → (Settled held t v → Settled held' t' v) →
+    (if settled_test held t v then 1 else 0) ≤ (if settled_test held' t' v then 1 else 0)
+still_counted held held' t t' v still = elim (cases_Bool (settled_test held t v)) [
+  | inl test ↦ rw (test, test_from_settled held' t' v (still (settled_from_test held t v test))) (omega arith)
+  | inr out ↦ rw out (omega arith)
+]
+
 pub count_kept : (n : Links) (held held' : ℕ → Option ℕ) (t t' : SearchTree) → ((v : ℕ) → Settled held t v → Settled held' t' v) →
     settled_count n held t ≤ settled_count n held' t'
-count_kept n held held' t t' still =
-    sum_below_le (nodes n) _ _ (λ v l. elim (cases_Bool (settled_test held t v)) [
-      | inl test ↦
-          let test' : settled_test held' t' v ≡ true = test_from_settled held' t' v (still v (settled_from_test held t v test)) in
-          rw (test, test') (omega arith)
-      | inr f ↦ rw f (omega arith)
-    ])
+count_kept n held held' t t' still = sum_below_le (nodes n) _ _ (λ v l. still_counted held held' t t' v (still v))
 
 module _ (n : Links) (f : Flow) (t : SearchTree) (held : ℕ → Option ℕ) (at : Visit) (seen : ℕ → Bool → Type 0) (e : Expanding n f t held at seen) where
   -- a node that was not reached is not held
@@ -111,10 +112,8 @@ module _ (n : Links) (f : Flow) (t : SearchTree) (held : ℕ → Option ℕ) (at
             let early : distance t o.from ≤ at.distance = omega (arith, from-distance) in
             let search = lowered n f t held at.root at.distance k d _ _ look_next e.search t' held' o w over from-is enters link early late less off-top exact' pos carried' fits in
             let still' = still n f t held at.root at.distance k d _ _ look_next e.search t' held' o w over from-is enters link early late less off-top exact' pos carried' fits in
-            let distance-same = distance_same n f t held at.root at.distance k d _ _ look_next e.search t' held' o w over from-is enters link early late less off-top exact' pos carried' fits in
-            let distance-here = distance_here n f t held at.root at.distance k d _ _ look_next e.search t' held' o w over from-is enters link early late less off-top exact' pos carried' fits in
-            let depth-same = depth_same n f t held at.root at.distance k d _ _ look_next e.search t' held' o w over from-is enters link early late less off-top exact' pos carried' fits in
-            let depth-here = depth_here n f t held at.root at.distance k d _ _ look_next e.search t' held' o w over from-is enters link early late less off-top exact' pos carried' fits in
+            let distances = distances n f t held at.root at.distance k d _ _ look_next e.search t' held' o w over from-is enters link early late less off-top exact' pos carried' fits in
+            let depths = depths n f t held at.root at.distance k d _ _ look_next e.search t' held' o w over from-is enters link early late less off-top exact' pos carried' fits in
             let depth-from : slice_index t.depth.now o.from ≡ slice_index t.depth.now at.node = ap (λ m. slice_index t.depth.now m) is in
             let ne : at.node ≢ o.to = λ q.
             let a : distance t at.node ≡ distance t o.to = ap (λ m. slice_index t.distance.now m) q in
@@ -125,18 +124,18 @@ module _ (n : Links) (f : Flow) (t : SearchTree) (held : ℕ → Option ℕ) (at
               search = search;
               visit = record {
                 settled = still' at.node e.settled;
-                here = distance-same at.node ne ∙ e.here;
+                here = distances.1 at.node ne ∙ e.here;
                 node_in = e.node_in;
-                shallow = omega (arith, depth-same at.node ne, e.shallow);
+                shallow = omega (arith, depths.1 at.node ne, e.shallow);
                 counted = record {
                   settled = omega (arith, c.settled, count_kept n held held' t t' still');
                   depth_low = λ v l q. elim (cases_eq v o.to) [
-                    | inl w ↦ rw w (omega (arith, depth-here, e.shallow))
-                    | inr nv ↦ omega (arith, depth-same v nv, c.depth_low v l (omega (arith, distance-same v nv)))
+                    | inl w ↦ rw w (omega (arith, depths.0, e.shallow))
+                    | inr nv ↦ omega (arith, depths.1 v nv, c.depth_low v l (omega (arith, distances.1 v nv)))
                   ];
                   distance_low = λ v l q. elim (cases_eq v o.to) [
-                    | inl w ↦ rw w (omega (arith, distance-here))
-                    | inr nv ↦ omega (arith, distance-same v nv, c.distance_low v l (omega (arith, distance-same v nv)))
+                    | inl w ↦ rw w (omega (arith, distances.0))
+                    | inr nv ↦ omega (arith, distances.1 v nv, c.distance_low v l (omega (arith, distances.1 v nv)))
                   ];
                 };
               };

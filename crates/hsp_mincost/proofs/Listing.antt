@@ -1,8 +1,8 @@
 -- The arcs of a node that a walk back along their chain has seen.
-use Rattle.std.proofs.Common.{◌≡◌, ℕ, ◌+◌, ◌-◌, ◌<◌, ◌≤◌, ◌⊎◌, inl, inr, Bool, true, false, List, length, slice_index, refl, sym, ◌∙◌, arith}
+use Rattle.std.proofs.Common.{◌≡◌, ℕ, ◌-◌, ◌<◌, ◌≤◌, ◌⊎◌, inl, inr, Bool, true, false, List, length, slice_index, refl, sym, ◌∙◌, arith}
 use Rattle.std.proofs.lemmas.Bool.{cases_eq, cases_lt}
-use Rattle.hsp_mincost.specs.Index.{AreChains, IsLast}
-use Rattle.hsp_mincost.specs.Residual.{Links, ends, from, nodes}
+use Rattle.hsp_mincost.specs.Index.{IsLast}
+use Rattle.hsp_mincost.specs.Residual.{Links, ends, from}
 use Rattle.hsp_mincost.specs.Search.{Earlier, Looked}
 
 -- between a link and the one before it in its chain there is no other

@@ -1,5 +1,5 @@
 -- The ways that a node offers, along its links and against them.
-use Rattle.std.proofs.Common.{◌≡◌, ℕ, ◌+◌, ◌-◌, ◌<◌, ◌≤◌, ◌⊎◌, Bool, true, false, length, slice_index, Option, if◌then◌else◌, ap, arith}
+use Rattle.std.proofs.Common.{◌≡◌, ℕ, ◌+◌, ◌<◌, ◌≤◌, ◌⊎◌, Bool, true, false, length, slice_index, Option, if◌then◌else◌, ap, arith}
 use Rattle.hsp_mincost.specs.Residual.{Flow, Links, SearchTree, from, gives, nodes, prices, takes, to, width}
 use Rattle.hsp_mincost.specs.Search.{Expanding, IsWay, MayBeOffered, Offer, Offered, Priced, Ready, Visit, top}
 use Rattle.hsp_mincost.proofs.Directions.{to_in}

@@ -1,8 +1,8 @@
 -- Raised prices.
-use Rattle.std.proofs.Common.{◌≡◌, ℕ, ◌<◌, inl, inr, Bool, true, false, slice_index, refl, ◌∙◌, arith}
+use Rattle.std.proofs.Common.{◌≡◌, ℕ, ◌<◌, inl, inr, true, false, length, slice_index, ◌∙◌, arith}
 use Rattle.std.proofs.lemmas.Bool.{cases_lt}
-use Rattle.hsp_mincost.specs.Residual.{AreOptimal, AreRelaxed, Flow, Links, SearchTree, Sound, distance, from, nodes, raised, width}
-use Rattle.hsp_mincost.proofs.Directions.{gives_raised, takes_raised, gives_same, takes_same}
+use Rattle.hsp_mincost.specs.Residual.{AreOptimal, AreRelaxed, Flow, Links, SearchTree, Sound, distance, from, nodes, raised}
+use Rattle.hsp_mincost.proofs.Directions.{gives_raised, takes_raised}
 
 -- after a search no reduced cost is negative under the raised prices
 module _ (n : Links) (f : Flow) (t : SearchTree) (sound : Sound n f (λ v. slice_index f.price.now v)) (relaxed : AreRelaxed n f t) where
@@ -32,15 +32,14 @@ sound_same n f f' price price' some sound flows room unmet same = record {
     conserved = λ v l nz. rw (flows, unmet) (sound.conserved v l nz);
     within = λ v l. rw unmet (sound.within v l);
   };
-  paid = λ k d l wide.
-      let tail = same (slice_index n.tails.now k) (n.graph.tails_in k l) in
-      let head = same (slice_index n.heads.now k) (omega (arith, n.graph.tails_in k l, n.graph.down k l)) in
-      let g = gives_same n price price' k tail head d in
-      let t = takes_same n price price' k tail head d in
-      omega (arith, sound.paid k d l (omega (arith, wider k d)));
+  paid = pays;
   sink_free = same 0 some ∙ sound.sink_free;
 }
   where
-    wider : (k : ℕ) (d : Bool) → width f' k d ≡ width f k d
-    wider k true = rw room refl
-    wider k false = rw flows refl
+    ends_same : (k : ℕ) → k < length n.tails.now →
+        (price' (slice_index n.tails.now k) ≡ price (slice_index n.tails.now k)) × (price' (slice_index n.heads.now k) ≡ price (slice_index n.heads.now k))
+    ends_same k l = (same _ (n.graph.tails_in k l), same _ (omega (arith, n.graph.tails_in k l, n.graph.down k l)))
+
+    pays : AreOptimal n f' price'
+    pays k true l wide = omega (arith, sound.paid k true l (rw room at wide), (ends_same k l).0, (ends_same k l).1)
+    pays k false l wide = omega (arith, sound.paid k false l (rw flows at wide), (ends_same k l).0, (ends_same k l).1)

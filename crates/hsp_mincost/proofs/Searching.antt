@@ -1,14 +1,19 @@
 -- The steps of a search.
-use Rattle.std.proofs.Common.{◌≡◌, ◌≢◌, ℕ, ◌+◌, ◌<◌, ◌≤◌, ◌⊎◌, inl, inr, Bool, length, slice_index, Option, Some, None, refl, ap, sym, ◌∙◌, arith, length-set, get_or-set_same, get_or-set_other}
+use Rattle.std.proofs.Common.{◌≡◌, ◌≢◌, ℕ, ◌+◌, ◌<◌, ◌≤◌, ◌⊎◌, inl, inr, Bool, List, length, slice_index, slice_set, Option, Some, None, refl, ap, sym, ◌∙◌, arith, length-set, get_or-set_same, get_or-set_other}
 use Rattle.std.proofs.lemmas.Bool.{cases_eq, cases_lt}
 use Rattle.hsp_mincost.specs.Frontier.{Changes, IsLeast}
-use Rattle.hsp_mincost.specs.Residual.{Flow, Links, SearchTree, distance, from, gives, nodes, predecessor, prices, takes, to, way, width}
+use Rattle.hsp_mincost.specs.Residual.{Flow, Links, SearchTree, distance, from, gives, nodes, prices, takes, to, way, width}
 use Rattle.hsp_mincost.specs.Search.{Closed, Found, IsRelaxed, Offer, Reached, Search, Settled, TakesWay, top}
 use Rattle.hsp_mincost.proofs.Directions.{from_in, to_in, direction}
 
 pub cases_option : (o : Option ℕ) → (o ≡ None) ⊎ ((d : ℕ) × (o ≡ Some d))
 cases_option None = inl refl
 cases_option (Some d) = inr (d, refl)
+
+-- a list with one entry changed
+pub changed : (xs ys : List ℕ) (i x : ℕ) → ys ≡ slice_set xs i x → i < length xs →
+    (slice_index ys i ≡ x) × ((v : ℕ) → v ≢ i → slice_index ys v ≡ slice_index xs v)
+changed xs ys i x is l = (rw is (get_or-set_same xs i x 0 l), λ v ne. rw is (get_or-set_other xs i v x 0 ne))
 
 -- the same of fewer arcs
 pub fewer : (n : Links) (f : Flow) (t : SearchTree) (held : ℕ → Option ℕ) (root now : ℕ) (looked looked' : ℕ → Bool → Type 0) →
@@ -45,46 +50,34 @@ module _ (n : Links) (f : Flow) (t : SearchTree) (held : ℕ → Option ℕ) (ro
     apart_early : (v : ℕ) → distance t v ≤ now → v ≢ o.to
     apart_early v soon e = let q : distance t v ≡ distance t o.to = ap (λ m. slice_index t.distance.now m) e in omega arith
 
-    from-apart : o.from ≢ o.to
-    from-apart = apart_early o.from early
-
-    pub distance_here : distance t' o.to ≡ o.distance
-    distance_here = rw w.distance (get_or-set_same t.distance.now o.to _ 0 (omega (arith, s.covers.distances_many, node-in)))
-
-    pub distance_same : (v : ℕ) → v ≢ o.to → distance t' v ≡ distance t v
-    distance_same v ne = rw w.distance (get_or-set_other t.distance.now o.to v _ 0 ne)
+    pub distances : (distance t' o.to ≡ o.distance) × ((v : ℕ) → v ≢ o.to → distance t' v ≡ distance t v)
+    distances = changed t.distance.now t'.distance.now o.to o.distance w.distance (omega (arith, s.covers.distances_many, node-in))
 
     distance_down : (v : ℕ) → distance t' v ≤ distance t v
-    distance_down v = elim (cases_eq v o.to) [ inl e ↦ rw e (omega (arith, distance_here)) | inr ne ↦ omega (arith, distance_same v ne) ]
+    distance_down v = elim (cases_eq v o.to) [ inl e ↦ rw e (omega (arith, distances.0)) | inr ne ↦ omega (arith, distances.1 v ne) ]
 
-    amount_here : slice_index t'.amount.now o.to ≡ o.amount
-    amount_here = rw w.amount (get_or-set_same t.amount.now o.to _ 0 (omega (arith, s.covers.amounts_many, node-in)))
+    amounts : (slice_index t'.amount.now o.to ≡ o.amount) × ((v : ℕ) → v ≢ o.to → slice_index t'.amount.now v ≡ slice_index t.amount.now v)
+    amounts = changed t.amount.now t'.amount.now o.to o.amount w.amount (omega (arith, s.covers.amounts_many, node-in))
 
-    amount_same : (v : ℕ) → v ≢ o.to → slice_index t'.amount.now v ≡ slice_index t.amount.now v
-    amount_same v ne = rw w.amount (get_or-set_other t.amount.now o.to v _ 0 ne)
+    pub depths : (slice_index t'.depth.now o.to ≡ slice_index t.depth.now o.from + 1) × ((v : ℕ) → v ≢ o.to → slice_index t'.depth.now v ≡ slice_index t.depth.now v)
+    depths = changed t.depth.now t'.depth.now o.to (slice_index t.depth.now o.from + 1) w.depth (omega (arith, s.covers.depths_many, node-in))
 
-    pub depth_here : slice_index t'.depth.now o.to ≡ slice_index t.depth.now o.from + 1
-    depth_here = rw w.depth (get_or-set_same t.depth.now o.to _ 0 (omega (arith, s.covers.depths_many, node-in)))
-
-    pub depth_same : (v : ℕ) → v ≢ o.to → slice_index t'.depth.now v ≡ slice_index t.depth.now v
-    depth_same v ne = rw w.depth (get_or-set_other t.depth.now o.to v _ 0 ne)
+    predecessors : (slice_index t'.predecessor.now o.to ≡ o.link) × ((v : ℕ) → v ≢ o.to → slice_index t'.predecessor.now v ≡ slice_index t.predecessor.now v)
+    predecessors = changed t.predecessor.now t'.predecessor.now o.to o.link w.predecessor (omega (arith, s.covers.predecessors_many, node-in))
 
     predecessor_here : slice_index t'.predecessor.now o.to ≡ k
-    predecessor_here = rw w.predecessor (get_or-set_same t.predecessor.now o.to _ 0 (omega (arith, s.covers.predecessors_many, node-in))) ∙ over
-
-    predecessor_same : (v : ℕ) → v ≢ o.to → slice_index t'.predecessor.now v ≡ slice_index t.predecessor.now v
-    predecessor_same v ne = rw w.predecessor (get_or-set_other t.predecessor.now o.to v _ 0 ne)
+    predecessor_here = predecessors.0 ∙ over
 
     -- what is settled now was so before, and the other way round
     was : (v : ℕ) → Settled held' t' v → (v ≢ o.to) × Settled held t v
     was v st =
         let ne : v ≢ o.to = λ e. let a : held' v ≡ held' o.to = ap held' e in let b = st.not_held in let c = w.frontier.at in cc in
-        (ne, record { not_held = sym (w.frontier.others v ne) ∙ st.not_held; reached = omega (arith, distance_same v ne, st.reached) })
+        (ne, record { not_held = sym (w.frontier.others v ne) ∙ st.not_held; reached = omega (arith, distances.1 v ne, st.reached) })
 
     pub still : (v : ℕ) → Settled held t v → Settled held' t' v
     still v st =
         let ne = apart_early v (s.settled_early v st) in
-        record { not_held = w.frontier.others v ne ∙ st.not_held; reached = omega (arith, distance_same v ne, st.reached) }
+        record { not_held = w.frontier.others v ne ∙ st.not_held; reached = omega (arith, distances.1 v ne, st.reached) }
 
     -- an entry is the new one or one from before
     entry : (v c : ℕ) → held' v ≡ Some c → ((v ≡ o.to) × (c ≡ o.distance)) ⊎ ((v ≢ o.to) × (held v ≡ Some c))
@@ -93,49 +86,35 @@ module _ (n : Links) (f : Flow) (t : SearchTree) (held : ℕ → Option ℕ) (ro
       | inr ne ↦ inr (ne, sym (w.frontier.others v ne) ∙ h)
     ]
 
+    -- a node that is reached over the link j from one whose labels are as they were
+    reached_by : (v j : ℕ) (e : Bool) → slice_index t'.predecessor.now v ≡ j → j < length n.tails.now → to n j e ≡ v → distance t (from n j e) ≤ now →
+        slice_index t.depth.now (from n j e) < slice_index t'.depth.now v → slice_index t'.amount.now v ≤ slice_index t.amount.now (from n j e) →
+        slice_index t'.amount.now v ≤ width f j e → distance t' v + gives n (prices f) j e ≡ distance t (from n j e) + takes n (prices f) j e → Reached n f t' now v e
+    reached_by v j e is link end soon deeper carried fits exact =
+        let apart = apart_early (from n j e) soon in
+        let p : from n (slice_index t'.predecessor.now v) e ≡ from n j e = rw is refl in
+        let pk : distance t' (from n (slice_index t'.predecessor.now v) e) ≡ distance t (from n j e) = rw p (distances.1 _ apart) in
+        let pd : slice_index t'.depth.now (from n (slice_index t'.predecessor.now v) e) ≡ slice_index t.depth.now (from n j e) = rw p (depths.1 _ apart) in
+        let pa : slice_index t'.amount.now (from n (slice_index t'.predecessor.now v) e) ≡ slice_index t.amount.now (from n j e) = rw p (amounts.1 _ apart) in
+        let g : gives n (prices f) (slice_index t'.predecessor.now v) e ≡ gives n (prices f) j e = rw is refl in
+        let c : takes n (prices f) (slice_index t'.predecessor.now v) e ≡ takes n (prices f) j e = rw is refl in
+        record {
+          path = record { link = rw is link; end = rw is end; nearer = omega (arith, pd, deeper); carried = omega (arith, pa, carried); fits = rw is fits };
+          soon = omega (arith, pk, soon);
+          exact = omega (arith, pk, exact);
+        }
+
     new_arc : Reached n f t' now o.to d
     new_arc =
-        let p : from n (slice_index t'.predecessor.now o.to) d ≡ o.from = rw predecessor_here (sym leaves) in
-        let pk : distance t' (from n (slice_index t'.predecessor.now o.to) d) ≡ distance t o.from = rw p (distance_same o.from from-apart) in
-        let pd : slice_index t'.depth.now (from n (slice_index t'.predecessor.now o.to) d) ≡ slice_index t.depth.now o.from = rw p (depth_same o.from from-apart) in
-        let pa : slice_index t'.amount.now (from n (slice_index t'.predecessor.now o.to) d) ≡ slice_index t.amount.now o.from = rw p (amount_same o.from from-apart) in
-        record {
-          path = record {
-            link = rw predecessor_here link;
-            end = rw predecessor_here (sym enters);
-            nearer = omega (arith, depth_here, pd);
-            carried = omega (arith, amount_here, pa);
-            fits = rw predecessor_here (omega (arith, amount_here, fits));
-          };
-          soon = omega (arith, pk, early);
-          exact =
-              let g : gives n (prices f) (slice_index t'.predecessor.now o.to) d ≡ gives n (prices f) k d = rw predecessor_here refl in
-              let c : takes n (prices f) (slice_index t'.predecessor.now o.to) d ≡ takes n (prices f) k d = rw predecessor_here refl in
-              omega (arith, distance_here, pk, exact);
-        }
+        reached_by o.to k d predecessor_here link (sym enters) (rw leaves at early) (omega (arith, depths.0, ap (λ m. slice_index t.depth.now m) leaves))
+        (omega (arith, amounts.0, carried, ap (λ m. slice_index t.amount.now m) leaves)) (omega (arith, amounts.0, fits))
+        (omega (arith, distances.0, exact, ap (λ m. slice_index t.distance.now m) leaves))
 
     -- an arc to another node is as it was
     old_arc : (v : ℕ) → v ≢ o.to → (e : Bool) → Reached n f t now v e → Reached n f t' now v e
     old_arc v ne e it =
-        let p : from n (slice_index t'.predecessor.now v) e ≡ from n (slice_index t.predecessor.now v) e = rw (predecessor_same v ne) refl in
-        let apart = apart_early (predecessor n t v e) it.soon in
-        let pk : distance t' (predecessor n t' v e) ≡ distance t (predecessor n t v e) = rw p (distance_same _ apart) in
-        let pd : slice_index t'.depth.now (predecessor n t' v e) ≡ slice_index t.depth.now (predecessor n t v e) = rw p (depth_same _ apart) in
-        let pa : slice_index t'.amount.now (predecessor n t' v e) ≡ slice_index t.amount.now (predecessor n t v e) = rw p (amount_same _ apart) in
-        record {
-          path = record {
-            link = rw (predecessor_same v ne) it.path.link;
-            end = rw (predecessor_same v ne) it.path.end;
-            nearer = omega (arith, depth_same v ne, pd, it.path.nearer);
-            carried = omega (arith, amount_same v ne, pa, it.path.carried);
-            fits = rw (predecessor_same v ne) (omega (arith, amount_same v ne, it.path.fits));
-          };
-          soon = omega (arith, pk, it.soon);
-          exact =
-              let g : gives n (prices f) (slice_index t'.predecessor.now v) e ≡ gives n (prices f) (slice_index t.predecessor.now v) e = rw (predecessor_same v ne) refl in
-              let c : takes n (prices f) (slice_index t'.predecessor.now v) e ≡ takes n (prices f) (slice_index t.predecessor.now v) e = rw (predecessor_same v ne) refl in
-              omega (arith, distance_same v ne, pk, it.exact);
-        }
+        reached_by v (slice_index t.predecessor.now v) e (predecessors.1 v ne) it.path.link it.path.end it.soon (omega (arith, depths.1 v ne, it.path.nearer))
+        (omega (arith, amounts.1 v ne, it.path.carried)) (omega (arith, amounts.1 v ne, it.path.fits)) (omega (arith, distances.1 v ne, it.exact))
 
     pub lowered : Search n f t' held' root now looked'
     lowered = record {
@@ -147,36 +126,36 @@ module _ (n : Links) (f : Flow) (t : SearchTree) (held : ℕ → Option ℕ) (ro
           depths_many = rw w.depth (length-set t.depth.now o.to _ ∙ s.covers.depths_many);
         };
         held_in = λ v c h. elim (entry v c h) [ inl q ↦ rw q.0 node-in | inr q ↦ s.held_in v c q.1 ];
-        held_distance = λ v c h. elim (entry v c h) [ inl q ↦ rw q.0 (distance_here ∙ sym q.1) | inr q ↦ distance_same v q.0 ∙ s.held_distance v c q.1 ];
+        held_distance = λ v c h. elim (entry v c h) [ inl q ↦ rw q.0 (distances.0 ∙ sym q.1) | inr q ↦ distances.1 v q.0 ∙ s.held_distance v c q.1 ];
         held_late = λ v c h. elim (entry v c h) [ inl q ↦ rw q.1 late | inr q ↦ s.held_late v c q.1 ];
         held_low = λ v c h. elim (entry v c h) [ inl q ↦ rw q.1 low | inr q ↦ s.held_low v c q.1 ];
-        settled_early = λ v st. let q = was v st in omega (arith, distance_same v q.0, s.settled_early v q.1);
+        settled_early = λ v st. let q = was v st in omega (arith, distances.1 v q.0, s.settled_early v q.1);
         sink_waits = λ st. s.sink_waits (was 0 st).1;
         reached = λ v l nr near. elim (cases_eq v o.to) [
           | inl e ↦
               let turn : way n t' o.to ≡ d = rw predecessor_here (direction n k d o.to link (sym enters)) in
               rw e (rw turn new_arc)
           | inr ne ↦
-              let it = s.reached v l nr (omega (arith, distance_same v ne)) in
-              let turn : way n t' v ≡ way n t v = rw (predecessor_same v ne) refl in
+              let it = s.reached v l nr (omega (arith, distances.1 v ne)) in
+              let turn : way n t' v ≡ way n t v = rw (predecessors.1 v ne) refl in
               rw turn (old_arc v ne (way n t v) it)
         ];
         root_near = omega (arith, distance_down root, s.root_near);
         some = λ v l near. elim (cases_eq v o.to) [
-          | inl e ↦ rw e (omega (arith, amount_here))
-          | inr ne ↦ omega (arith, amount_same v ne, s.some v l (omega (arith, distance_same v ne)))
+          | inl e ↦ rw e (omega (arith, amounts.0))
+          | inr ne ↦ omega (arith, amounts.1 v ne, s.some v l (omega (arith, distances.1 v ne)))
         ];
         no_more = λ v l near. elim (cases_eq v o.to) [
-          | inl e ↦ rw e (omega (arith, amount_here, s.no_more o.from from-in (omega arith)))
-          | inr ne ↦ omega (arith, amount_same v ne, s.no_more v l (omega (arith, distance_same v ne)))
+          | inl e ↦ rw e (omega (arith, amounts.0, s.no_more o.from from-in (omega arith)))
+          | inr ne ↦ omega (arith, amounts.1 v ne, s.no_more v l (omega (arith, distances.1 v ne)))
         ];
       };
       relaxed = λ j e l wide st look.
           let q = was (from n j e) st in
-          let same = distance_same (from n j e) q.0 in
+          let same = distances.1 (from n j e) q.0 in
           elim (next j e l look) [
             | inl is ↦
-                let there : distance t' (to n j e) ≡ o.distance = rw (is.0, is.1) (rw enters at distance_here) in
+                let there : distance t' (to n j e) ≡ o.distance = rw (is.0, is.1) (rw enters at distances.0) in
                 let here : distance t (from n j e) ≡ distance t o.from = rw (is.0, is.1) (rw leaves refl) in
                 let sum : o.distance + gives n (prices f) j e ≡ distance t o.from + takes n (prices f) j e = rw (is.0, is.1) exact in
                 record { no_farther = omega arith; reached = omega arith }

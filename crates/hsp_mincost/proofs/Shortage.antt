@@ -7,7 +7,7 @@ use Rattle.hsp_mincost.specs.Layout.{LinksOf, IsSmall, base_of, first_of, hosts_
 use Rattle.hsp_mincost.specs.Residual.{Flow, Links, SearchTree, Sound, from, to, width}
 use Rattle.hsp_mincost.specs.Search.{Closed, top}
 use Rattle.hsp_mincost.proofs.Sums.{only_here, only_there, sum_below_same, sum_below_le, sum_below_lt}
-use Rattle.hsp_mincost.proofs.Totals.{by_key, by_host, sum_below_zero, any_at}
+use Rattle.hsp_mincost.proofs.Totals.{by_key, by_host, any_at, only_when}
 use Rattle.hsp_mincost.proofs.Modelling.{server_flow, host_flow, source_flow, arc_room}
 
 node_of : (o : Option ℕ) (h : ℕ) → is_on o h ≡ true → host_node o ≡ 1 + h
@@ -159,17 +159,7 @@ module _ (net : Transport) (whole : IsNetwork net) (small : IsSmall net) (n : Li
       )
 
   sent_part : (i : ℕ) → sent net part i ≡ (if set i then sent net flow i else 0)
-  sent_part i = elim (cases_Bool (set i)) [
-    | inl inside ↦ rw inside (sum_below_same (length net.sources) _ _ (λ k l. elim (cases_eq (slice_index net.sources k) i) [
-      | inl e ↦ let in-set : set (slice_index net.sources k) ≡ true = rw e inside in ap (λ m. only (slice_index net.sources k) i m) (rw in-set refl)
-      | inr ne ↦ only_there (slice_index net.sources k) i (part k) ne ∙ sym (only_there (slice_index net.sources k) i (flow k) ne)
-    ]))
-    | inr outside ↦ rw outside (sum_below_zero (length net.sources) _ (λ k l. elim (cases_eq (slice_index net.sources k) i) [
-      | inl e ↦ let out : set (slice_index net.sources k) ≡ false = rw e outside in
-          only_here (slice_index net.sources k) i (part k) e ∙ rw out refl
-      | inr ne ↦ only_there (slice_index net.sources k) i (part k) ne
-    ]))
-  ]
+  sent_part i = only_when (length net.sources) (λ k. slice_index net.sources k) flow set i
 
   pub is_short : (i : ℕ) → i < length net.demands → root ≡ first_of net + i → 0 < slice_index f.unmet.now root → IsShort net set
   is_short i l e some =

@@ -1,7 +1,6 @@
 -- No flow, with the least cost of a node's links as its price.
 use Rattle.std.proofs.Common.{◌≡◌, ℕ, ◌+◌, ◌*◌, ◌++◌, ◌∷◌, [], ap, length-append, ◌<◌, ◌≤◌, mul-le-mul_right, inl, inr, true, false, List, length, slice_index, refl, ◌∙◌, arith}
-use Rattle.std.proofs.lemmas.Bool.{cases_lt}
-use Rattle.std.proofs.lemmas.List.{get_or_append_left, get_or-append-add}
+use Rattle.hsp_mincost.proofs.Appending.{longer}
 use Rattle.hsp_simplex.specs.Sums.{only}
 use Rattle.hsp_mincost.specs.Sums.{through}
 use Rattle.hsp_mincost.specs.Opening.{FirstPrices, LeastCost}
@@ -43,15 +42,9 @@ pub first_more : (n : ℕ) (tails costs price : List ℕ) (least : ℕ) → Firs
     FirstPrices (n + 1) tails costs (price ++ least ∷ [])
 first_more n tails costs price least prices it = record {
   many = omega (arith, prices.many, length-append price (least ∷ []));
-  each = λ v l. elim (cases_lt v n) [
-    | inl old ↦
-        let same : slice_index (price ++ least ∷ []) v ≡ slice_index price v = get_or_append_left price (least ∷ []) 0 v (omega (arith, old, prices.many)) in
-        rw same (prices.each v old)
-    | inr new ↦
-        let is : v ≡ n = omega (arith, l, new) in
-        let place : n ≡ length price + 0 = omega (arith, prices.many) in
-        let here : slice_index (price ++ least ∷ []) n ≡ least = ap (λ i. slice_index (price ++ least ∷ []) i) place ∙ get_or-append-add price (least ∷ []) 0 0 in
-        rw (is, here) it
+  each = λ v l. elim (longer price least v (omega (arith, l, prices.many, length-append price (least ∷ [])))) [
+    | inl old ↦ rw old.1 (prices.each v (omega (arith, old.0, prices.many)))
+    | inr new ↦ let is : v ≡ n = omega (arith, new.0, prices.many) in rw new.1 (rw is it)
   ];
 }
 

@@ -41,14 +41,6 @@ module _ (ends flows : List ℕ) (e y v : ℕ) (l : e < length flows) where
       let here : f e ≡ only (slice_index ends e) v y = ap (λ n. if slice_index ends e == v then n else 0) (get_or-set_same flows e y 0 l) in
       omega arith
 
-  -- one arc's flow is within what goes through its end
-  pub flow_within : slice_index ends e ≡ v → slice_index flows e ≤ through ends flows v
-  unfolding through
-  flow_within q =
-      let t : slice_index flows e ≡ (if slice_index ends e == v then slice_index flows e else 0) = rw (eq-eqb (slice_index ends e) v q) in
-      let w = term_within (length flows) (λ k. if slice_index ends k == v then slice_index flows k else 0) e l in
-      omega arith
-
 pub only_split : (w v m n : ℕ) → only w v (m + n) ≡ only w v m + only w v n
 only_split w v m n = elim (w == v) as (λ t. (if t then m + n else 0) ≡ (if t then m else 0) + (if t then n else 0)) [ true ↦ refl | false ↦ refl ]
 

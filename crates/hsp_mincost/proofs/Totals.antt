@@ -35,6 +35,20 @@ by_keys outer key f n (suc m) g inside =
 pub by_key : (key f : ℕ → ℕ) (n m : ℕ) → ((k : ℕ) → k < m → key k < n) → sum_below m f ≡ sum_below n (λ v. sum_below m (λ k. only (key k) v (f k)))
 by_key key f n m h = sym (by_keys (λ v. 0) key f n m 0 h)
 
+-- of what is summed by a key, the part of the keys in a set
+pub only_when : (n : ℕ) (key f : ℕ → ℕ) (set : ℕ → Bool) (v : ℕ) →
+    sum_below n (λ k. only (key k) v (if set (key k) then f k else 0)) ≡ (if set v then sum_below n (λ k. only (key k) v (f k)) else 0)
+only_when n key f set v = elim (cases_Bool (set v)) [
+  | inl inside ↦ rw inside (sum_below_same n _ _ (λ k l. elim (cases_eq (key k) v) [
+    | inl e ↦ let in-set : set (key k) ≡ true = rw e inside in ap (only (key k) v) (rw in-set refl)
+    | inr ne ↦ only_there (key k) v (if set (key k) then f k else 0) ne ∙ sym (only_there (key k) v (f k) ne)
+  ]))
+  | inr outside ↦ rw outside (sum_below_zero n _ (λ k l. elim (cases_eq (key k) v) [
+    | inl e ↦ let out : set (key k) ≡ false = rw e outside in ap (only (key k) v) (rw out refl) ∙ only_zero (key k) v
+    | inr ne ↦ only_there (key k) v (if set (key k) then f k else 0) ne
+  ]))
+]
+
 -- servers on no host, and those on each host
 pub by_host : (host : ℕ → Option ℕ) (g : ℕ → ℕ) (n m : ℕ) → ((j h : ℕ) → j < n → host j ≡ Some h → h < m) →
     sum_below n g ≡ sum_below n (λ j. if is_none (host j) then g j else 0) + sum_below m (λ h. sum_below n (λ j. if is_on (host j) h then g j else 0))

@@ -1,6 +1,6 @@
 -- The turns of a search, from its start to its end.
 use Rattle.std.proofs.Common.{◌≡◌, ◌≢◌, ℕ, ◌+◌, ◌*◌, ◌<◌, ◌≤◌, inl, inr, Bool, true, false, length, slice_index, Option, Some, None, if◌then◌else◌, refl, ap, sym, ◌∙◌, arith, add-mul, mul-le-mul_right}
-use Rattle.std.proofs.lemmas.Bool.{cases_eq, cases_lt, cases_Bool}
+use Rattle.std.proofs.lemmas.Bool.{cases_eq, cases_lt}
 use Rattle.std.proofs.lemmas.List.{get_or_past}
 use Rattle.hsp_mincost.specs.Frontier.{Changes, IsLeast}
 use Rattle.hsp_mincost.specs.Residual.{Flow, Links, SearchTree, distance, from, nodes}
@@ -8,7 +8,7 @@ use Rattle.hsp_mincost.specs.Search.{Begun, Covers, Expanding, Running, Settled,
 use Rattle.hsp_mincost.proofs.Sums.{sum_below_lt, all_ones}
 use Rattle.hsp_mincost.proofs.Directions.{from_in}
 use Rattle.hsp_mincost.proofs.Searching.{fewer, taken, cases_option}
-use Rattle.hsp_mincost.proofs.Expansion.{settled_from_test, test_from_settled}
+use Rattle.hsp_mincost.proofs.Expansion.{settled_from_test, still_counted, test_from_settled}
 
 abbrev bit : Bool → ℕ
 bit t = if t then 1 else 0
@@ -97,12 +97,7 @@ module _ (n : Links) (f : Flow) (t : SearchTree) (held : ℕ → Option ℕ) (ro
             settled =
                 let more : settled_count n held t < settled_count n held' t =
                 sum_below_lt (nodes n) _ _ at.node in' (rw (before, after) (omega arith))
-                (λ v l. elim (cases_Bool (settled_test held t v)) [
-                  | inl test ↦
-                      let test' : settled_test held' t v ≡ true = test_from_settled held' t v (still v (settled_from_test held t v test)) in
-                      rw (test, test') (omega arith)
-                  | inr out ↦ rw out (omega arith)
-                ]) in
+                (λ v l. still_counted held held' t t v (still v)) in
                 omega (arith, r.counted.settled);
             depth_low = λ v l q. omega (arith, r.counted.depth_low v l q);
             distance_low = λ v l q. omega (arith, r.counted.distance_low v l q);

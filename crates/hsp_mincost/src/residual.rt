@@ -62,7 +62,7 @@ pub fn capacity(flow: &Flow, link: usize, along: bool) -> u64
     }
 }
 
-/// The cost of a residual arc with capacity, reduced by the prices of its ends.
+/// The reduced cost of a residual arc that has capacity.
 pub fn reduced_cost(links: &Links, flow: &Flow, link: usize, along: bool) -> u64
     requires ready { Ready links.now flow.now }
     requires link_in { link < length links.now.tails.now }

@@ -245,3 +245,31 @@ fn source_without_arcs_is_short(rt: HostRuntime) {
     lacks::<ScanFrontier>(&rt, rt.alloc(), &network, &[false, true]);
     lacks::<HeapFrontier>(&rt, rt.alloc(), &network, &[false, true]);
 }
+
+/// Each source is met by one path, and so by one search.
+#[test]
+fn effort_is_added(rt: HostRuntime) {
+    let network = Network {
+        demands: &[5, 5],
+        capacities: &[5, 5],
+        limits: &[],
+        hosts: &[None, None],
+        sources: &[0, 0, 1],
+        servers: &[0, 1, 0],
+        costs: &[1, 3, 1],
+    };
+    let begun = SearchEffort {
+        searches: 7,
+        settled: 7,
+        augmentations: 7,
+    };
+    let mut effort = begun;
+    let mut outcome = minimum_cost_flow::<HeapFrontier>(rt.alloc(), &network, &mut effort);
+    if outcome.is_err() {
+        effort = begun;
+        outcome = minimum_cost_flow::<HeapFrontier>(rt.alloc(), &network, &mut effort);
+    }
+    assert!(rt; outcome.is_ok());
+    assert_eq!(rt; (effort.searches, effort.augmentations), (9, 9));
+    assert!(rt; effort.settled > 7);
+}

@@ -2,7 +2,7 @@ use Rattle.std.proofs.Common.{ℕ, ◌∙◌, List, length, ap}
 use Rattle.hsp_mincost.specs.Layout.{IsSmall}
 use Rattle.hsp_simplex.specs.Network.{Transport, IsNetwork}
 use Rattle.hsp_flow.proofs.GroupsMet.{grouped_is, grouped_small, of_lists}
-use Rattle.hsp_flow.proofs.NodeCounts.{few_nodes}
+use Rattle.hsp_flow.proofs.Limits.{few_nodes}
 use Rattle.hsp_flow.proofs.planning.solve_groups.Goals as goal
 
 pub invariant_of-network : goal.invariant_of-network
