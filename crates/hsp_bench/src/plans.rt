@@ -80,8 +80,9 @@ enum Way {
 
 fn print_effort<R: Print>(rt: &R, way: &Way, effort: &Effort) -> io::Result<()> {
     let (pivots, proposals) = (effort.pivots, effort.proposals);
-    let (searches, settled) = (effort.searches, effort.settled);
-    let augmentations = effort.augmentations;
+    let searching = &effort.searching;
+    let (searches, settled) = (searching.searches, searching.settled);
+    let augmentations = searching.augmentations;
     match way {
         Way::Proposal => print!(rt; "        {proposals} proposals taken, {pivots} pivots, ")?,
         Way::Searches => print!(rt; "        ")?,

@@ -8,8 +8,6 @@ use Rattle.std.proofs.lemmas.List.{length-map, get_or-map}
 use Rattle.std.proofs.lemmas.Bool.{cases_eq, cases_Bool, and_parts, and_from}
 use Rattle.hsp_cert.specs.declared.use_line.UseLine.{UseLine}
 use Rattle.hsp_check.specs.declared.arc.NetworkArc.{NetworkArc}
-use Rattle.hsp_check.specs.Plan as plans
-use Rattle.hsp_check.specs.Network.{Network}
 use Rattle.hsp_check.specs.Uses.{table}
 use Rattle.hsp_check.proofs.Summing.{sum_below_same, sum_below_zero, sum_below_one, by_place}
 use Rattle.hsp_simplex.specs.Sums.{sum_below, only}
@@ -90,16 +88,3 @@ module _ (arcs : List NetworkArc) (flows : List ℕ) (many : length flows ≡ le
       by_place (λ a. a.cost * table (uses_of arcs flows) a.row a.site) no_arc arcs
       ∙ sum_below_same (length arcs) _ _ (λ k l.
       ap₂ (λ c n. c * n) (sym (get_or-map cost_of arcs k no_arc 0 l)) (planned_is ordered k l))
-
--- the sums of the definitions, written out for the table of uses
-pub served_sum : (n : Network) (uses : List UseLine) (i : ℕ) → plans.served n (table uses) i ≡ sum_by (λ (a : NetworkArc). if a.row == i then table uses a.row a.site else 0) n.arcs
-served_sum n uses i = refl
-
-pub load_sum : (n : Network) (uses : List UseLine) (j : ℕ) → plans.load n (table uses) j ≡ sum_by (λ (a : NetworkArc). if a.server == j then table uses a.row a.site else 0) n.arcs
-load_sum n uses j = refl
-
-pub total_sum : (n : Network) (uses : List UseLine) → plans.total n (table uses) ≡ sum_by (λ (a : NetworkArc). a.cost * table uses a.row a.site) n.arcs
-total_sum n uses = refl
-
-pub planned_at : (uses : List UseLine) (a : NetworkArc) → plans.planned (table uses) a ≡ table uses a.row a.site
-planned_at uses a = refl

@@ -1,5 +1,5 @@
 -- A flow with prices through an instance's network is a valid certificate's plan.
-use Rattle.std.proofs.Common.{◌≡◌, ℕ, zero, suc, ◌+◌, ◌*◌, ◌<◌, ◌≤◌, ◌∙◌, Bool, true, false, List, [], ◌∷◌, length, map, slice_index, if◌then◌else◌, refl, ap, ap₂, sym, inl, inr, arith, eq-eqb, ne_eqb}
+use Rattle.std.proofs.Common.{◌≡◌, ℕ, zero, suc, ◌+◌, ◌*◌, ◌<◌, ◌≤◌, ◌∙◌, Bool, true, false, List, [], ◌∷◌, length, map, slice_index, if◌then◌else◌, refl, ap, sym, inl, inr, arith, eq-eqb, ne_eqb}
 use Rattle.std.specs.Prelude.{◌||◌, Option, Some, None}
 use Rattle.std.specs.List.{AllByRecursion, list_any}
 use Rattle.std.proofs.lemmas.List.Elements.{All-from_get_or, All-from_recursion, recursion_from_All}
@@ -22,11 +22,7 @@ use Rattle.hsp_simplex.specs.Network.{IsFeasible, HasPrices, HasLowPrices, at_ho
 use Rattle.hsp_flow.specs.Ordered.{AreOrdered}
 use Rattle.hsp_flow.specs.Planning.{transport_of, uses_of, row_of, server_of, cost_of}
 use Rattle.hsp_flow.proofs.Ordering.{no_arc, each_weaker, all_ordered}
-use Rattle.hsp_flow.proofs.Bridging.{arc, leads, sum_at, total_at, planned_is, none_planned, served_sum, load_sum, total_sum, planned_at}
-
-pub same_on : (o : Option ℕ) (h : ℕ) → plans.is_on o h ≡ is_on o h
-same_on None h = refl
-same_on (Some g) h = refl
+use Rattle.hsp_flow.proofs.Bridging.{arc, leads, sum_at, total_at, planned_is, none_planned}
 
 same_at : (o : Option ℕ) (q : List ℕ) → at_home o (λ h. slice_index q h) ≡ at_host o q
 same_at None q = refl
@@ -60,17 +56,15 @@ module _ (it : Instance) (is : IsInstance it) (flows u p q : List ℕ) (most : �
   all = many ∙ length-map (arcs_from 0 it.arcs) row_of
 
   load_is : (j : ℕ) → plans.load (network_of it) (table (uses_of (arcs_from 0 it.arcs) flows)) j ≡ load (transport_of it) (λ k. slice_index flows k) j
-  load_is j = load_sum (network_of it) (uses_of (arcs_from 0 it.arcs) flows) j ∙ sum_at (arcs_from 0 it.arcs) flows all (instance_ordered it is) row_of server_of j
+  load_is j = sum_at (arcs_from 0 it.arcs) flows all (instance_ordered it is) row_of server_of j
 
   host_is : (h : ℕ) → plans.host_load (network_of it) (table (uses_of (arcs_from 0 it.arcs) flows)) h ≡ host_load (transport_of it) (λ k. slice_index flows k) h
-  host_is h =
-      sum_below_same (length (map (λ s. s.capacity) it.servers)) _ _
-      (λ j l. ap₂ (λ b n. if b then n else 0) (same_on (host_of (transport_of it) j) h) (load_is j))
+  host_is h = sum_below_same (length (map (λ s. s.capacity) it.servers)) _ _ (λ j l. ap (λ n. if is_on (host_of (transport_of it) j) h then n else 0) (load_is j))
 
   pub plan_feasible : Feasible (network_of it) (table (uses_of (arcs_from 0 it.arcs) flows))
   plan_feasible = record {
     allowed = λ i s none. none_planned (arcs_from 0 it.arcs) flows all i s none;
-    met = λ i l. served_sum (network_of it) (uses_of (arcs_from 0 it.arcs) flows) i ∙ sum_at (arcs_from 0 it.arcs) flows all (instance_ordered it is) row_of row_of i ∙ feasible.met i l;
+    met = λ i l. sum_at (arcs_from 0 it.arcs) flows all (instance_ordered it is) row_of row_of i ∙ feasible.met i l;
     within = λ j l. rw (load_is j) (feasible.within j l);
     hosted = λ h l. rw (host_is h) (feasible.hosted h l);
   }
@@ -96,7 +90,7 @@ module _ (it : Instance) (is : IsInstance it) (flows u p q : List ℕ) (most : �
         (λ k l. rw (price_is (arc (arcs_from 0 it.arcs) k).server) (rw (row_is k l, cost_is k l, server_is k l) at (prices.below k (inside k l))));
     used = All-from_get_or (λ a. 0 < plans.planned (table (uses_of (arcs_from 0 it.arcs) flows)) a → slice_index u a.row ≡ a.cost + priced.price_at (network_of it) p q a.server) (arcs_from 0 it.arcs) no_arc
         (λ k l some. rw (price_is (arc (arcs_from 0 it.arcs) k).server)
-        (rw (row_is k l, cost_is k l, server_is k l) at (prices.used k (inside k l) (rw (sym (planned_at (uses_of (arcs_from 0 it.arcs) flows) (arc (arcs_from 0 it.arcs) k) ∙ planned_is (arcs_from 0 it.arcs) flows all (instance_ordered it is) k l)) some))));
+        (rw (row_is k l, cost_is k l, server_is k l) at (prices.used k (inside k l) (rw (sym (planned_is (arcs_from 0 it.arcs) flows all (instance_ordered it is) k l)) some))));
     idle = λ j l less. prices.idle j l (rw (sym (load_is j)) less);
     idle_host = λ h l less. prices.idle_host h l (rw (sym (host_is h)) less);
   }
@@ -110,7 +104,7 @@ module _ (it : Instance) (is : IsInstance it) (flows u p q : List ℕ) (most : �
         (of_uses (λ i s. is_allowed (network_of it) i s ≡ true) (arcs_from 0 it.arcs) flows
         (recursion_from_All _ _ (All-from_get_or (λ (a : NetworkArc). is_allowed (network_of it) a.row a.site ≡ true) (arcs_from 0 it.arcs) no_arc (λ k l. allowed_at (arcs_from 0 it.arcs) k l))));
     feasible = plan_feasible;
-    cost = sum ∙ sym (total_sum (network_of it) (uses_of (arcs_from 0 it.arcs) flows) ∙ total_at (arcs_from 0 it.arcs) flows all (instance_ordered it is));
+    cost = sum ∙ sym (total_at (arcs_from 0 it.arcs) flows all (instance_ordered it is));
     prices = plan_prices;
     row_prices = (prices.sources_many, are_prices u bounded.sources);
     server_prices = (prices.servers_many, are_prices p bounded.servers);

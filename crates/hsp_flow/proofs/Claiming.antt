@@ -17,9 +17,9 @@ use Rattle.hsp_simplex.specs.Network.{HasLowPrices, capacity_of, demand_of}
 use Rattle.hsp_flow.specs.Planning.{transport_of, uses_of, flagged_from, HasLimitedPrices, row_of, cost_of}
 use Rattle.hsp_simplex.specs.Sums.{sum_below, only}
 use Rattle.hsp_simplex.specs.declared.network.PricedFlow.{PricedFlow}
-use Rattle.hsp_flow.proofs.Sums.{term_within, only_here}
+use Rattle.hsp_mincost.proofs.Sums.{term_within, only_here}
 use Rattle.hsp_flow.proofs.Ordering.{no_arc}
-use Rattle.hsp_flow.proofs.Bridging.{arc, total_sum, total_at}
+use Rattle.hsp_flow.proofs.Bridging.{arc, total_at}
 use Rattle.hsp_flow.proofs.Certifying.{plan_valid, plan_feasible, instance_ordered}
 use Rattle.hsp_flow.proofs.Ranges.{uses_ascend, uses_fit, prices_fit, flags_ascend, flags_fit}
 use Rattle.hsp_flow.proofs.ShortRows.{set_valid}
@@ -31,7 +31,7 @@ module _ (it : Instance) (is : IsInstance it) (plan : PricedFlow) (met : IsMet (
 
   bounded : HasLowPrices plan.source_prices.items plan.server_prices.items plan.host_prices.items limit
   unfolding limit
-  bounded = met.low 1000000 (λ k l. costs_low it is k (omega (arith, l, length-map (arcs_from 0 it.arcs) row_of, length-map (arcs_from 0 it.arcs) cost_of)))
+  bounded = met.low 1000000 (costs_low it is)
 
   limit_low : limit ≤ 1000000000000
   unfolding limit
@@ -42,16 +42,13 @@ module _ (it : Instance) (is : IsInstance it) (plan : PricedFlow) (met : IsMet (
   flow_low k l =
       let inside : k < length (transport_of it).sources = omega (arith, l, length-map (arcs_from 0 it.arcs) row_of) in
       let i = slice_index (transport_of it).sources k in
-      let there : i < length (transport_of it).demands = sources_in k inside in
+      let there : i < length (transport_of it).demands = (network_is it is).sources_in k inside in
       let term : only i i (slice_index plan.flows.items k) ≤ sum_below (length (transport_of it).sources) (λ m. only (slice_index (transport_of it).sources m) i (slice_index plan.flows.items m)) =
       term_within (length (transport_of it).sources) (λ m. only (slice_index (transport_of it).sources m) i (slice_index plan.flows.items m)) k inside in
       omega (arith, term, only_here i i (slice_index plan.flows.items k) refl, met.feasible.met i there, counts_low it is i there)
-    where
-      sources_in : (k : ℕ) → k < length (transport_of it).sources → slice_index (transport_of it).sources k < length (transport_of it).demands
-      sources_in = (network_is it is).sources_in
 
   pub cost_is : total (network_of it) (table (uses_of (arcs_from 0 it.arcs) plan.flows.items)) ≡ sum_below (length (arcs_from 0 it.arcs)) (λ k. slice_index (transport_of it).costs k * slice_index plan.flows.items k)
-  cost_is = total_sum (network_of it) (uses_of (arcs_from 0 it.arcs) plan.flows.items) ∙ total_at (arcs_from 0 it.arcs) plan.flows.items (met.many ∙ length-map (arcs_from 0 it.arcs) row_of) (instance_ordered it is)
+  cost_is = total_at (arcs_from 0 it.arcs) plan.flows.items (met.many ∙ length-map (arcs_from 0 it.arcs) row_of) (instance_ordered it is)
 
   is_feasible : Feasible (network_of it) (table (uses_of (arcs_from 0 it.arcs) plan.flows.items))
   is_feasible = plan_feasible it is plan.flows.items plan.source_prices.items plan.server_prices.items plan.host_prices.items limit met.many limit_low met.feasible met.prices bounded
@@ -59,15 +56,19 @@ module _ (it : Instance) (is : IsInstance it) (plan : PricedFlow) (met : IsMet (
   pub cost_low : sum_below (length (arcs_from 0 it.arcs)) (λ k. slice_index (transport_of it).costs k * slice_index plan.flows.items k) ≤ 8192000000000000
   cost_low = let low = total_low it is (table (uses_of (arcs_from 0 it.arcs) plan.flows.items)) is_feasible in omega (arith, low, cost_is)
 
-  module _ (cost : ℕ) (sum : cost ≡ sum_below (length (arcs_from 0 it.arcs)) (λ k. slice_index (transport_of it).costs k * slice_index plan.flows.items k)) where
-    pub best_valid : IsValidPlan (network_of it) (record { cost = cost; uses = uses_of (arcs_from 0 it.arcs) plan.flows.items; row_prices = plan.source_prices.items; server_prices = plan.server_prices.items; host_prices = plan.host_prices.items })
-    best_valid = plan_valid it is plan.flows.items plan.source_prices.items plan.server_prices.items plan.host_prices.items limit met.many limit_low met.feasible met.prices bounded cost sum
+  module _ (cost : ℕ) (sum : cost ≡ sum_below (length (arcs_from 0 it.arcs)) (λ k. slice_index (transport_of it).costs k * slice_index plan.flows.items k))
+      (uses : List UseLine) (are : uses ≡ uses_of (arcs_from 0 it.arcs) plan.flows.items) where
+    abbrev pub made : Best
+    made = record { cost = cost; uses = uses; row_prices = plan.source_prices.items; server_prices = plan.server_prices.items; host_prices = plan.host_prices.items }
 
-    pub best_is : IsBest (record { cost = cost; uses = uses_of (arcs_from 0 it.arcs) plan.flows.items; row_prices = plan.source_prices.items; server_prices = plan.server_prices.items; host_prices = plan.host_prices.items })
+    pub best_valid : IsValidPlan (network_of it) made
+    best_valid = rw are (plan_valid it is plan.flows.items plan.source_prices.items plan.server_prices.items plan.host_prices.items limit met.many limit_low met.feasible met.prices bounded cost sum)
+
+    pub best_is : IsBest made
     best_is = record {
       cost = omega (arith, sum, cost_low);
-      uses = uses_fit (arcs_from 0 it.arcs) plan.flows.items (small_ends it is) flow_low;
-      order = uses_ascend None (arcs_from 0 it.arcs) plan.flows.items (instance_ordered it is) tt;
+      uses = rw are (uses_fit (arcs_from 0 it.arcs) plan.flows.items (small_ends it is) flow_low);
+      order = rw are (uses_ascend None (arcs_from 0 it.arcs) plan.flows.items (instance_ordered it is) tt);
       row_count = omega (arith, met.prices.sources_many, length-map it.rows (λ (r : Row). r.count), is.rows.few);
       row_prices = prices_fit plan.source_prices.items (λ i l. omega (arith, bounded.sources i l, limit_low));
       server_count = omega (arith, met.prices.servers_many, length-map it.servers (λ (s : Server). s.capacity), is.servers.few);
@@ -76,7 +77,7 @@ module _ (it : Instance) (is : IsInstance it) (plan : PricedFlow) (met : IsMet (
       host_prices = prices_fit plan.host_prices.items (λ i l. omega (arith, bounded.hosts i l, limit_low));
     }
 
-    pub best_low : HasLimitedPrices (network_of it) (best (record { cost = cost; uses = uses_of (arcs_from 0 it.arcs) plan.flows.items; row_prices = plan.source_prices.items; server_prices = plan.server_prices.items; host_prices = plan.host_prices.items }))
+    pub best_low : HasLimitedPrices (network_of it) (best made)
     best_low most within =
         let bounds : BoundsCosts (transport_of it) most = λ k l.
         let inside : k < length (arcs_from 0 it.arcs) = omega (arith, l, length-map (arcs_from 0 it.arcs) row_of) in
@@ -96,31 +97,18 @@ module _ (it : Instance) (is : IsInstance it) (costs : List ℕ) (same : costs �
   costs_few = rw same (omega (arith, length-map (arcs_from 0 it.arcs) cost_of, few_arcs it is))
 
   pub costs_cheap : (k : ℕ) → k < length costs → slice_index costs k ≤ 1000000
-  costs_cheap = rw same (costs_low it is)
+  costs_cheap = rw same (λ k l. costs_low it is k (omega (arith, l, length-map (arcs_from 0 it.arcs) row_of, length-map (arcs_from 0 it.arcs) cost_of)))
 
   module _ (plan : PricedFlow) (met : IsMet (transport_of it) plan) (total : ℕ) (sum : total ≡ sum_below (length costs) (λ k. slice_index costs k * slice_index plan.flows.items k)) where
     many : length costs ≡ length (arcs_from 0 it.arcs)
     many = ap (λ (xs : List ℕ). length xs) same ∙ length-map (arcs_from 0 it.arcs) cost_of
 
-    by_arcs : total ≡ sum_below (length (arcs_from 0 it.arcs)) (λ k. slice_index (transport_of it).costs k * slice_index plan.flows.items k)
+    pub by_arcs : total ≡ sum_below (length (arcs_from 0 it.arcs)) (λ k. slice_index (transport_of it).costs k * slice_index plan.flows.items k)
     by_arcs = sum ∙ ap (λ n. sum_below n (λ k. slice_index costs k * slice_index plan.flows.items k)) many
         ∙ ap (λ (xs : List ℕ). sum_below (length (arcs_from 0 it.arcs)) (λ k. slice_index xs k * slice_index plan.flows.items k)) same
 
     pub total_small : total ≤ 8192000000000000
     total_small = omega (arith, by_arcs, cost_low it is plan met)
-
-    module _ (uses : List UseLine) (are : uses ≡ uses_of (arcs_from 0 it.arcs) plan.flows.items) where
-      abbrev pub made : Best
-      made = record { cost = total; uses = uses; row_prices = plan.source_prices.items; server_prices = plan.server_prices.items; host_prices = plan.host_prices.items }
-
-      pub made_is : IsBest made
-      made_is = rw are (best_is it is plan met total by_arcs)
-
-      pub made_valid : IsValidPlan (network_of it) made
-      made_valid = rw are (best_valid it is plan met total by_arcs)
-
-      pub made_low : HasLimitedPrices (network_of it) (best made)
-      made_low = best_low it is plan met total by_arcs
 
 -- the rows of a short set make a certificate
 pub short_is : (it : Instance) → IsInstance it → (set : List Bool) → IsShortSet (transport_of it) set → (demand capacity : ℕ) → demand ≤ 10000000000000000 → capacity ≤ 10000000000000000 →

@@ -1,19 +1,20 @@
 -- What the arcs of groups have to do with those of their rows.
-use Rattle.std.proofs.Common.{◌≡◌, ℕ, ◌+◌, ◌-◌, ◌<◌, ◌≤◌, ◌∙◌, List, [], ◌∷◌, length, map, slice_index, slice_index_or, ◌++◌, refl, ap, sym, subst, inl, inr, arith, zero-add, length-append}
+use Rattle.std.proofs.Common.{◌≡◌, ℕ, ◌+◌, ◌-◌, ◌<◌, ◌≤◌, ◌∙◌, List, [], ◌∷◌, length, map, slice_index, slice_index_or, ◌++◌, ap, sym, subst, inl, inr, arith, zero-add, length-append}
 use Rattle.std.specs.Prelude.{Some, slice_get, option_map}
 use Rattle.std.specs.List.{AllByRecursion}
-use Rattle.std.proofs.lemmas.List.{length-map, get_or-map, get_or_past, get_or_append_left, get_or-append_right}
+use Rattle.std.proofs.lemmas.List.{length-map, get_or-map, get_or_past}
 use Rattle.std.proofs.lemmas.Option.{slice_get-get_or, get_or_from_slice_get, slice_get-map, slice_get_within}
 use Rattle.std.proofs.lemmas.Bool.{cases_lt}
 use Rattle.hsp_instance.specs.declared.arc.Arc.{Arc}
-use Rattle.hsp_instance.specs.Instance.{Instance, IsInstance, AreArcs, IsAscending}
+use Rattle.hsp_instance.specs.Instance.{Instance, IsInstance, AreArcs}
 use Rattle.hsp_instance.specs.Groups.{Groups, AreGroups, AreAlike}
 use Rattle.hsp_check.specs.declared.arc.NetworkArc.{NetworkArc}
 use Rattle.hsp_check.specs.Instance.{arc_of, arcs_from}
 use Rattle.hsp_flow.specs.Grouping.{group_of, AreFirsts, arcs_at, lists_at, group_arcs, offset, IsRun, AreGroupPlaces}
-use Rattle.hsp_flow.specs.Layout.{Appends}
+use Rattle.hsp_mincost.specs.Layout.{Appends}
+use Rattle.hsp_mincost.proofs.Appending.{longer}
 use Rattle.hsp_flow.specs.Planning.{row_of, server_of, cost_of}
-use Rattle.hsp_flow.proofs.Ordering.{no_arc, each_at, rows_between}
+use Rattle.hsp_flow.proofs.Ordering.{no_arc, each_at, each_weaker}
 use Rattle.hsp_flow.proofs.Bridging.{arc}
 use Rattle.hsp_flow.proofs.Offsets.{no_own, list_at, Stands, at_offset, Comes, from_offset, offset_all, offset_none, offset_more, offset_rises}
 
@@ -117,15 +118,19 @@ module _ (it : Instance) (is : IsInstance it) (gs : Groups) (ag : AreGroups it g
 
 -- ---- one group or row more
 
-arcs_low : (it : Instance) → IsInstance it → (r : ℕ) → length (arcs_at it r) ≤ 32
-arcs_low it is r = elim (cases_lt r (length it.arcs)) [
-  | inl inside ↦ (each_at (AreArcs it.servers) it.arcs r [] inside is.arcs).few
-  | inr past ↦ let none : arcs_at it r ≡ [] = get_or_past it.arcs r [] (omega arith) in omega (arith, ap (λ (xs : List Arc). length xs) none)
-]
+-- the groups' arcs are those of rows
+pub lists_are : (it : Instance) → IsInstance it → (firsts : List ℕ) → AllByRecursion (AreArcs it.servers) (lists_at it firsts)
+lists_are it is [] = tt
+lists_are it is (r ∷ firsts) = (own, lists_are it is firsts)
+  where
+    own : AreArcs it.servers (arcs_at it r)
+    own = elim (cases_lt r (length it.arcs)) [
+      | inl inside ↦ each_at (AreArcs it.servers) it.arcs r [] inside is.arcs
+      | inr past ↦ subst (AreArcs it.servers) (sym (get_or_past it.arcs r [] (omega arith))) (record { few = omega arith; each = tt; ascending = tt })
+    ]
 
 pub lists_low : (it : Instance) → IsInstance it → (firsts : List ℕ) → AllByRecursion (λ arcs. length arcs ≤ 32) (lists_at it firsts)
-lists_low it is [] = tt
-lists_low it is (r ∷ firsts) = (arcs_low it is r, lists_low it is firsts)
+lists_low it is firsts = each_weaker (AreArcs it.servers) (λ arcs. length arcs ≤ 32) (lists_at it firsts) (λ arcs h. h.few) (lists_are it is firsts)
 
 -- the arcs of a group, as they were read
 pub group_read : (it : Instance) (firsts : List ℕ) (g : ℕ) (arcs : List Arc) → g < length firsts → slice_get it.arcs (slice_index firsts g) ≡ Some arcs → slice_get (lists_at it firsts) g ≡ Some arcs
@@ -178,21 +183,12 @@ module _ (it : Instance) (gs : Groups) (ag : AreGroups it gs) (row g : ℕ) (fir
   ]
 
   pub first_there : (k : ℕ) → k < length (firsts ++ row ∷ []) → slice_index (firsts ++ row ∷ []) k < row + 1
-  first_there k l = elim (cases_lt k (length firsts)) [
-    | inl old ↦ omega (arith, get_or_append_left firsts (row ∷ []) 0 k old, there k old)
-    | inr new ↦
-        let at : k - length firsts ≡ 0 = omega (arith, l, new, length-append firsts (row ∷ [])) in
-        omega (arith, get_or-append_right firsts (row ∷ []) (length firsts) k 0 refl new, ap (λ (m : ℕ). slice_index (row ∷ []) m) at)
-  ]
+  first_there k l = elim (longer firsts row k l) [ inl old ↦ omega (arith, old.1, there k old.0) | inr new ↦ omega (arith, new.1) ]
 
   pub first_own : g ≡ length firsts → (k : ℕ) → k < length (firsts ++ row ∷ []) → group_of gs (slice_index (firsts ++ row ∷ []) k) ≡ k
-  first_own is k l = elim (cases_lt k (length firsts)) [
-    | inl old ↦ ap (group_of gs) (get_or_append_left firsts (row ∷ []) 0 k old) ∙ own k old
-    | inr new ↦
-        let at : k - length firsts ≡ 0 = omega (arith, l, new, length-append firsts (row ∷ [])) in
-        let here : slice_index (firsts ++ row ∷ []) k ≡ row = get_or-append_right firsts (row ∷ []) (length firsts) k 0 refl new ∙ ap (λ (m : ℕ). slice_index (row ∷ []) m) at in
-        let last : length firsts ≡ k = omega (arith, l, new, length-append firsts (row ∷ [])) in
-        ap (group_of gs) here ∙ group_is ∙ is ∙ last
+  first_own is k l = elim (longer firsts row k l) [
+    | inl old ↦ ap (group_of gs) old.1 ∙ own k old.0
+    | inr new ↦ ap (group_of gs) new.1 ∙ group_is ∙ is ∙ sym new.0
   ]
 
   pub seen_new : g ≡ length firsts → (i : ℕ) → i < row + 1 → group_of gs i < length (firsts ++ row ∷ [])
@@ -232,25 +228,4 @@ firsts_done it gs ag row firsts all few there own seen = record {
             absurd (omega (arith, low, own gs.count more))
         | inr not-more ↦ omega arith
       ]
-    ]
-
--- ---- limits of the groups' network
-
-pub firsts_few : (it : Instance) → IsInstance it → (gs : Groups) → AreGroups it gs → (firsts : List ℕ) → AreFirsts gs firsts → length firsts ≤ 8192
-firsts_few it is gs ag firsts af = omega (arith, af.many, af.few, ag.one_a_row, is.rows.few)
-
-pub ends_in : (it : Instance) (gs : Groups) (firsts : List ℕ) → AreFirsts gs firsts → (e : ℕ) → e < length (group_arcs it firsts) → slice_index (map row_of (group_arcs it firsts)) e < gs.count
-ends_in it gs firsts af e l =
-    let at : slice_index (map row_of (group_arcs it firsts)) e ≡ (arc (group_arcs it firsts) e).row = get_or-map row_of (group_arcs it firsts) e no_arc 0 l in
-    let between = each_at (λ (a : NetworkArc). (0 ≤ a.row) × (a.row < 0 + length (lists_at it firsts))) (group_arcs it firsts) e no_arc l (rows_between 0 (lists_at it firsts)) in
-    omega (arith, at, between.1, length-map firsts (arcs_at it), af.many)
-
-pub lists_ascend : (it : Instance) → IsInstance it → (firsts : List ℕ) → AllByRecursion IsAscending (lists_at it firsts)
-lists_ascend it is [] = tt
-lists_ascend it is (r ∷ firsts) = (row_ascends r, lists_ascend it is firsts)
-  where
-    row_ascends : (r : ℕ) → IsAscending (arcs_at it r)
-    row_ascends r = elim (cases_lt r (length it.arcs)) [
-      | inl inside ↦ (each_at (AreArcs it.servers) it.arcs r [] inside is.arcs).ascending
-      | inr past ↦ let none : arcs_at it r ≡ [] = get_or_past it.arcs r [] (omega arith) in subst IsAscending (sym none) tt
     ]

@@ -1,10 +1,10 @@
 -- A flow that meets the groups meets their rows when it is spread; groups that are short have rows that are.
-use Rattle.std.proofs.Common.{◌≡◌, ℕ, zero, suc, ◌+◌, ◌*◌, ◌<◌, ◌≤◌, ◌==◌, ◌∙◌, Bool, true, false, List, length, map, slice_index, slice_index_or, if◌then◌else◌, refl, ap, ap₂, sym, inl, inr, arith}
-use Rattle.std.specs.Prelude.{Option, ◌&&◌, ◌||◌, is_none, min}
-use Rattle.std.proofs.Math.Nat.{le_trans, mul-le-mul_right}
+use Rattle.std.proofs.Common.{◌≡◌, ℕ, ◌+◌, ◌*◌, ◌<◌, ◌≤◌, ◌==◌, ◌∙◌, Bool, false, List, length, map, slice_index, slice_index_or, if◌then◌else◌, ap, ap₂, sym, inl, inr, arith}
+use Rattle.std.specs.Prelude.{Option, ◌&&◌, is_none, min}
+use Rattle.std.proofs.Math.Nat.{mul-le-mul_right}
 use Rattle.std.proofs.lemmas.List.{length-map, get_or-map}
-use Rattle.std.proofs.lemmas.Bool.{cases_Bool, cases_eq}
-use Rattle.hsp_instance.specs.Instance.{Instance, Row, Server, Host, IsInstance}
+use Rattle.std.proofs.lemmas.Bool.{cases_eq}
+use Rattle.hsp_instance.specs.Instance.{Instance, Row, IsInstance}
 use Rattle.hsp_instance.specs.Groups.{Groups, AreGroups}
 use Rattle.hsp_check.specs.Instance.{arcs_from}
 use Rattle.hsp_simplex.specs.Answer.{IsMet, IsShortSet, BoundsCosts}
@@ -12,17 +12,16 @@ use Rattle.hsp_flow.specs.Grouping.{group_of, group_demand, grouped, AreFirsts, 
 use Rattle.hsp_simplex.specs.Network.{Transport, IsNetwork, HasLowPrices, load, host_load, is_on, host_of, reaches, reached_capacity, capacity_of, demand_of}
 use Rattle.hsp_flow.specs.Planning.{transport_of, row_of, server_of, cost_of}
 use Rattle.hsp_flow.specs.Spreads.{Spread}
-use Rattle.hsp_simplex.specs.Sums.{sum_below, only, any_below}
+use Rattle.hsp_simplex.specs.Sums.{sum_below, only}
 use Rattle.hsp_simplex.specs.declared.network.PricedFlow.{PricedFlow}
-use Rattle.hsp_flow.proofs.Sums.{sum_below_same, only_here, only_there}
-use Rattle.hsp_flow.proofs.Totals.{sum_below_zero, by_key}
+use Rattle.hsp_mincost.proofs.Sums.{sum_below_low, sum_below_same, only_here, only_there}
+use Rattle.hsp_mincost.proofs.Totals.{any_alike, by_key, only_when}
 use Rattle.hsp_flow.proofs.SpreadFlows as spread
-use Rattle.hsp_flow.specs.Layout.{IsSmall}
+use Rattle.hsp_mincost.specs.Layout.{IsSmall}
 use Rattle.hsp_flow.specs.declared.group_lists.GroupLists.{GroupLists}
-use Rattle.hsp_flow.proofs.Ordering.{no_arc, all_ordered, rows_ordered, arcs_many}
-use Rattle.hsp_flow.proofs.Bridging.{arc}
-use Rattle.hsp_flow.proofs.Limits.{network_is, small_is, costs_low, counts_low}
-use Rattle.hsp_flow.proofs.GroupFacts.{group_in, first_in, group_places_are, ends_in, firsts_few, lists_low, lists_ascend}
+use Rattle.hsp_flow.proofs.Ordering.{no_arc}
+use Rattle.hsp_flow.proofs.Limits.{network_is, over_is, over_small, row_at, counts_low}
+use Rattle.hsp_flow.proofs.GroupFacts.{group_in, first_in, group_places_are, lists_are}
 
 module _ (it : Instance) (is : IsInstance it) (gs : Groups) (ag : AreGroups it gs) (firsts : List ℕ) (af : AreFirsts gs firsts)
     (demands : List ℕ) (dm : length demands ≡ gs.count) (dd : (g : ℕ) → g < gs.count → slice_index demands g ≡ group_demand it gs g)
@@ -151,48 +150,14 @@ module _ (it : Instance) (is : IsInstance it) (gs : Groups) (ag : AreGroups it g
     abbrev groups : ℕ → Bool
     groups g = slice_index_or set g false
 
-    when_flagged : (b : Bool) (g i n : ℕ) → (if b then only g i n else 0) ≡ only g i (if b then n else 0)
-    when_flagged true g i n = refl
-    when_flagged false g i n = sym (none g i)
-      where
-        none : (g i : ℕ) → only g i 0 ≡ 0
-        none g i = elim (cases_eq g i) [
-          | inl e ↦ only_here g i 0 e
-          | inr ne ↦ only_there g i 0 ne
-        ]
-
-    sum_when : (b : Bool) (n : ℕ) (f : ℕ → ℕ) → (if b then sum_below n f else 0) ≡ sum_below n (λ i. if b then f i else 0)
-    sum_when true n f = refl
-    sum_when false n f = sym (sum_below_zero n (λ i. 0) (λ i l. refl))
-
     demand_is : demand_of rows chosen ≡ demand_of net groups
     demand_is =
         sum_below_same (length rows.demands) _ (λ i. if groups (group_of gs i) then slice_index rows.demands i else 0) (λ i l. ap (λ b. if b then slice_index rows.demands i else 0) (same i (omega (arith, l, rows_many))))
         ∙ by_key (group_of gs) (λ i. if groups (group_of gs i) then slice_index rows.demands i else 0) gs.count (length rows.demands) (λ i l. group_in it is gs ag firsts af i (omega (arith, l, rows_many)))
         ∙ sum_below_same gs.count _ (λ g. if groups g then slice_index demands g else 0) (λ g l.
-        sum_below_same (length rows.demands) _ (λ i. if groups g then only (group_of gs i) g (slice_index rows.demands i) else 0)
-        (λ i m. elim (cases_eq (group_of gs i) g) [
-          | inl e ↦ ap (λ (v : ℕ). only (group_of gs i) g (if groups v then slice_index rows.demands i else 0)) e ∙ sym (when_flagged (groups g) (group_of gs i) g (slice_index rows.demands i))
-          | inr ne ↦ only_there (group_of gs i) g (if groups (group_of gs i) then slice_index rows.demands i else 0) ne ∙ sym (when_flagged (groups g) (group_of gs i) g (slice_index rows.demands i) ∙ only_there (group_of gs i) g (if groups g then slice_index rows.demands i else 0) ne)
-        ])
-        ∙ sym (sum_when (groups g) (length rows.demands) (λ i. only (group_of gs i) g (slice_index rows.demands i)))
+        only_when (length rows.demands) (group_of gs) (λ i. slice_index rows.demands i) groups g
         ∙ ap (λ n. if groups g then n else 0) (ap (λ n. sum_below n (λ i. only (group_of gs i) g (slice_index rows.demands i))) rows_many ∙ sym (dd g l)))
         ∙ ap (λ n. sum_below n (λ g. if groups g then slice_index demands g else 0)) (sym dm)
-
-    any_at : (n : ℕ) (test : ℕ → Bool) (k : ℕ) → k < n → test k ≡ true → any_below n test ≡ true
-    any_at zero test k l e = absurd (omega arith)
-    any_at (suc n) test k l e = elim (cases_eq k n) [
-      | inl last ↦ let here : test n ≡ true = ap test (sym last) ∙ e in rw here (or_true (any_below n test))
-      | inr earlier ↦ rw (any_at n test k (omega arith) e) refl
-    ]
-      where
-        or_true : (b : Bool) → (b || true) ≡ true
-        or_true true = refl
-        or_true false = refl
-
-    any_none : (n : ℕ) (test : ℕ → Bool) → ((k : ℕ) → k < n → test k ≡ false) → any_below n test ≡ false
-    any_none zero test h = refl
-    any_none (suc n) test h = rw (any_none n test (λ k l. h k (omega arith)), h n (omega arith)) refl
 
     test_is : (j k : ℕ) → k < length rows.sources →
         (chosen (slice_index rows.sources k) && (slice_index rows.servers k == j)) ≡ (groups (slice_index net.sources (slice_index group_places k)) && (slice_index net.servers (slice_index group_places k) == j))
@@ -200,31 +165,9 @@ module _ (it : Instance) (is : IsInstance it) (gs : Groups) (ag : AreGroups it g
         ap₂ (λ b s. b && (s == j)) (same (slice_index rows.sources k) (omega (arith, row_in k l, rows_many)) ∙ ap groups (sym (group_place_row k l))) (sym (ah.server k (omega (arith, l, row_arcs_many))))
 
     reach_is : (j : ℕ) → reaches rows chosen j ≡ reaches net groups j
-    reach_is j = elim (cases_Bool (reaches net groups j)) [
-      | inl yes' ↦ reach_up yes' (length net.sources) (omega arith) yes'
-      | inr no' ↦
-          any_none (length rows.sources) _ (λ k l. test_is j k l ∙ none_of (length net.sources) (λ e. groups (slice_index net.sources e) && (slice_index net.servers e == j)) no' (slice_index group_places k) (group_place_in k l)) ∙ sym no'
-    ]
-      where
-        none_of : (n : ℕ) (test : ℕ → Bool) → any_below n test ≡ false → (k : ℕ) → k < n → test k ≡ false
-        none_of n test none k l = elim (cases_Bool (test k)) [
-          | inl yes' ↦ absurd (let both : true ≡ false = sym (any_at n test k l yes') ∙ none in cc)
-          | inr no' ↦ no'
-        ]
-
-        reach_up : reaches net groups j ≡ true → (n : ℕ) → n ≤ length net.sources → any_below n (λ e. groups (slice_index net.sources e) && (slice_index net.servers e == j)) ≡ true → reaches rows chosen j ≡ reaches net groups j
-        reach_up all zero le some = absurd cc
-        reach_up all (suc n) le some = elim (cases_Bool (groups (slice_index net.sources n) && (slice_index net.servers n == j))) [
-          | inl here ↦
-              let r = reached n (omega arith) in
-              let at : (groups (slice_index net.sources (slice_index group_places r.0)) && (slice_index net.servers (slice_index group_places r.0) == j)) ≡ true = rw r.2 here in
-              any_at (length rows.sources) (λ k. chosen (slice_index rows.sources k) && (slice_index rows.servers k == j)) r.0 r.1 (test_is j r.0 r.1 ∙ at) ∙ sym all
-          | inr not-here ↦ reach_up all n (omega arith) (drop_last (any_below n (λ e. groups (slice_index net.sources e) && (slice_index net.servers e == j))) (groups (slice_index net.sources n) && (slice_index net.servers n == j)) not-here some)
-        ]
-          where
-            drop_last : (a b : Bool) → b ≡ false → (a || b) ≡ true → a ≡ true
-            drop_last true b e h = refl
-            drop_last false b e h = absurd (let both : false ≡ true = sym e ∙ h in cc)
+    reach_is j = any_alike (length rows.sources) (length net.sources) _ _
+        (λ k l t. (slice_index group_places k, group_place_in k l, sym (test_is j k l) ∙ t))
+        (λ e l t. let r = reached e l in (r.0, r.1, test_is j r.0 r.1 ∙ rw r.2 t))
 
     room_is : (j : ℕ) → reached_capacity rows chosen j ≡ reached_capacity net groups j
     room_is j = ap (λ b. if b then slice_index rows.capacities j else 0) (reach_is j)
@@ -241,6 +184,10 @@ module _ (it : Instance) (is : IsInstance it) (gs : Groups) (ag : AreGroups it g
 
 -- ---- the same for lists that are equal to those
 
+ends_in : (it : Instance) → IsInstance it → (gs : Groups) (firsts : List ℕ) → AreFirsts gs firsts → (e : ℕ) → e < length (group_arcs it firsts) → slice_index (map row_of (group_arcs it firsts)) e < gs.count
+ends_in it is gs firsts af e l =
+    omega (arith, get_or-map row_of (group_arcs it firsts) e no_arc 0 l, row_at it is (lists_at it firsts) (lists_are it is firsts) e l, length-map firsts (arcs_at it), af.many)
+
 module _ (it : Instance) (is : IsInstance it) (gs : Groups) (ag : AreGroups it gs) (firsts : List ℕ) (af : AreFirsts gs firsts) (lists : GroupLists) (al : AreGroupLists it gs firsts lists) where
   group_places_hold : AreGroupPlaces it gs (arcs_from 0 it.arcs) (group_arcs it firsts) lists.group_places.items
   group_places_hold = group_places_are it is gs ag firsts af lists.group_places.items al.group_places
@@ -255,81 +202,37 @@ module _ (it : Instance) (is : IsInstance it) (gs : Groups) (ag : AreGroups it g
   group_places_low plan met sources s k l =
       omega (arith, group_places_hold.inside k (omega (arith, l, ap (λ (xs : List ℕ). length xs) s, length-map (arcs_from 0 it.arcs) row_of)), met.many, length-map (group_arcs it firsts) row_of)
 
-  spread_at : (plan : PricedFlow) (met : IsMet (grouped it firsts lists.demands.items) plan) (flows u : List ℕ) → length flows ≡ length (transport_of it).sources →
-      ((need : List ℕ) × (left : List ℕ) × Spread (length (transport_of it).demands) (length (transport_of it).sources) (length plan.flows.items) (λ i. slice_index (transport_of it).demands i) (λ k. slice_index (transport_of it).sources k) (λ k. slice_index lists.group_places.items k)
-      (λ k. slice_index flows k) (λ e. slice_index plan.flows.items e) (λ i. slice_index need i) (λ e. slice_index left e)) →
-      length u ≡ length it.rows → ((i : ℕ) → i < length it.rows → slice_index u i ≡ slice_index plan.source_prices.items (group_of gs i)) →
-      (made : PricedFlow) → made.flows.items ≡ flows → made.source_prices.items ≡ u → made.server_prices.items ≡ plan.server_prices.items → made.host_prices.items ≡ plan.host_prices.items → IsMet (transport_of it) made
-  spread_at plan met flows u many s u_many prices made f a b c =
-      met_rows it is gs ag firsts af lists.demands.items al.demands_many al.demands lists.group_places.items group_places_hold (ends_in it gs firsts af) plan met (λ i. slice_index s.0 i) (λ e. slice_index s.1 e) flows u many
-      (rw met.many at s.2) u_many prices made f a b c
-
   pub spread_met : (plan : PricedFlow) (met : IsMet (grouped it firsts lists.demands.items) plan) (counts sources group_places of_groups flows u : List ℕ) → counts ≡ (transport_of it).demands → sources ≡ (transport_of it).sources →
       group_places ≡ lists.group_places.items → of_groups ≡ plan.flows.items → length flows ≡ length sources →
       ((need : List ℕ) × (left : List ℕ) × Spread (length counts) (length sources) (length of_groups) (λ i. slice_index counts i) (λ k. slice_index sources k) (λ k. slice_index group_places k)
       (λ k. slice_index flows k) (λ e. slice_index of_groups e) (λ i. slice_index need i) (λ e. slice_index left e)) →
       length u ≡ length it.rows → ((i : ℕ) → i < length it.rows → slice_index u i ≡ slice_index plan.source_prices.items (group_of gs i)) →
       (made : PricedFlow) → made.flows.items ≡ flows → made.source_prices.items ≡ u → made.server_prices.items ≡ plan.server_prices.items → made.host_prices.items ≡ plan.host_prices.items → IsMet (transport_of it) made
-  spread_met plan met counts sources group_places of_groups flows u d r h g many s = spread_at plan met flows u (many ∙ ap (λ (xs : List ℕ). length xs) r) (rw (d, r, h, g) at s)
+  spread_met plan met counts sources group_places of_groups flows u d r h g many s u_many prices made f a b c =
+      let spread = rw (d, r, h, g) at s in
+      met_rows it is gs ag firsts af lists.demands.items al.demands_many al.demands lists.group_places.items group_places_hold (ends_in it is gs firsts af) plan met (λ i. slice_index spread.0 i) (λ e. slice_index spread.1 e) flows u
+      (many ∙ ap (λ (xs : List ℕ). length xs) r) (rw met.many at spread.2) u_many prices made f a b c
 
   pub short_spread : (set flags : List Bool) → IsShortSet (grouped it firsts lists.demands.items) set → length flags ≡ length it.rows →
       ((i : ℕ) → i < length it.rows → slice_index_or flags i false ≡ slice_index_or set (group_of gs i) false) → IsShortSet (transport_of it) flags
   short_spread set flags short many same =
-      short_rows it is gs ag firsts af lists.demands.items al.demands_many al.demands lists.group_places.items group_places_hold (ends_in it gs firsts af) set flags short many same
+      short_rows it is gs ag firsts af lists.demands.items al.demands_many al.demands lists.group_places.items group_places_hold (ends_in it is gs firsts af) set flags short many same
 
-  -- the groups' network is one
+  -- the groups' network is one, with room for its numbers
+  lists_many : length lists.demands.items ≡ length (lists_at it firsts)
+  lists_many = omega (arith, al.demands_many, length-map firsts (arcs_at it), af.many)
+
   pub grouped_is : IsNetwork (grouped it firsts lists.demands.items)
-  grouped_is = record {
-    hosts_many = (network_is it is).hosts_many;
-    servers_many = length-map (group_arcs it firsts) server_of ∙ sym (length-map (group_arcs it firsts) row_of);
-    costs_many = length-map (group_arcs it firsts) cost_of ∙ sym (length-map (group_arcs it firsts) row_of);
-    sources_in = λ e l. omega (arith, ends_in it gs firsts af e (omega (arith, l, length-map (group_arcs it firsts) row_of)), al.demands_many);
-    servers_in = λ e l.
-        let r = reached it is gs ag firsts af lists.demands.items al.demands_many al.demands lists.group_places.items group_places_hold (ends_in it gs firsts af) e l in
-        let at : slice_index (map server_of (group_arcs it firsts)) e ≡ slice_index (transport_of it).servers r.0 =
-        ap (λ (m : ℕ). slice_index (map server_of (group_arcs it firsts)) m) (sym r.2) ∙ group_places_hold.server r.0 (omega (arith, r.1, length-map (arcs_from 0 it.arcs) row_of)) in
-        omega (arith, at, (network_is it is).servers_in r.0 r.1);
-    hosts_in = (network_is it is).hosts_in;
-    ordered = λ j k le l.
-        let inside : k < length (group_arcs it firsts) = omega (arith, l, length-map (group_arcs it firsts) row_of) in
-        let first : slice_index (map row_of (group_arcs it firsts)) j ≡ (arc (group_arcs it firsts) j).row = get_or-map row_of (group_arcs it firsts) j no_arc 0 (omega (arith, le, inside)) in
-        let second : slice_index (map row_of (group_arcs it firsts)) k ≡ (arc (group_arcs it firsts) k).row = get_or-map row_of (group_arcs it firsts) k no_arc 0 inside in
-        omega (arith, first, second, rows_ordered (group_arcs it firsts) (all_ordered 0 (lists_at it firsts) (lists_ascend it is firsts)) j k le inside);
-  }
+  grouped_is = over_is it is (lists_at it firsts) (lists_are it is firsts) lists.demands.items lists_many
 
   pub grouped_small : IsSmall (grouped it firsts lists.demands.items)
   grouped_small =
-      let small = small_is it is in
-      let few = lists_low it is firsts in
-      let many = arcs_many 0 (lists_at it firsts) few in
-      let groups = firsts_few it is gs ag firsts af in
-      let hosts = length-map it.hosts (λ (h : Host). h.limit) in
-      let servers = length-map it.servers (λ (s : Server). s.capacity) in
-      let arcs = length-map (group_arcs it firsts) row_of in
-      let n = 1 + length (transport_of it).limits + length (transport_of it).capacities + length lists.demands.items + 1 in
-      let nodes : n ≤ 10242 = omega (arith, hosts, servers, is.hosts.few, is.servers.few, groups, al.demands_many, af.many) in
-      record {
-        few = omega (arith, nodes);
-        few_links = omega (arith, hosts, servers, is.hosts.few, is.servers.few, arcs, many, groups, length-map firsts (arcs_at it));
-        cheap = λ e l.
-            let r = reached it is gs ag firsts af lists.demands.items al.demands_many al.demands lists.group_places.items group_places_hold (ends_in it gs firsts af) e l in
-            let inside : r.0 < length (arcs_from 0 it.arcs) = omega (arith, r.1, length-map (arcs_from 0 it.arcs) row_of) in
-            let at : slice_index (map cost_of (group_arcs it firsts)) e ≡ slice_index (transport_of it).costs r.0 =
-            ap (λ (m : ℕ). slice_index (map cost_of (group_arcs it firsts)) m) (sym r.2) ∙ group_places_hold.cost r.0 inside in
-            let low = costs_low it is r.0 (omega (arith, inside, length-map (arcs_from 0 it.arcs) cost_of)) in
-            let one : n * slice_index (map cost_of (group_arcs it firsts)) e ≤ 10242000000 = le_trans (mul-le-mul_right (slice_index (map cost_of (group_arcs it firsts)) e) nodes) (omega (arith, at, low)) in
-            let two : n * (n * slice_index (map cost_of (group_arcs it firsts)) e) ≤ 10242 * (n * slice_index (map cost_of (group_arcs it firsts)) e) = mul-le-mul_right (n * slice_index (map cost_of (group_arcs it firsts)) e) nodes in
-            omega (arith, one, two);
-        low = λ g l.
-            let inside : g < gs.count = omega (arith, l, al.demands_many) in
-            let sum = counts_sum (length it.rows) (λ i. only (group_of gs i) g (slice_index (transport_of it).demands i)) (λ i m. one_low g i (omega (arith, m))) in
-            omega (arith, al.demands g inside, sum, is.rows.few);
-      }
+      over_small it is (lists_at it firsts) (lists_are it is firsts) lists.demands.items lists_many
+      (omega (arith, length-map firsts (arcs_at it), af.many, af.few, ag.one_a_row, is.rows.few))
+      (λ g l.
+      let sum = sum_below_low (length it.rows) (λ i. only (group_of gs i) g (slice_index (transport_of it).demands i)) 1000000 (one_low g) in
+      omega (arith, al.demands g (omega (arith, l, al.demands_many)), sum, is.rows.few))
     where
-      counts_sum : (n : ℕ) (f : ℕ → ℕ) → ((k : ℕ) → k < n → f k ≤ 1000000) → sum_below n f ≤ n * 1000000
-      counts_sum zero f h = omega arith
-      counts_sum (suc n) f h = omega (arith, counts_sum n f (λ k l. h k (omega arith)), h n (omega arith))
-
       one_low : (g i : ℕ) → i < length it.rows → only (group_of gs i) g (slice_index (transport_of it).demands i) ≤ 1000000
       one_low g i l = elim (cases_eq (group_of gs i) g) [
         | inl e ↦ omega (arith, only_here (group_of gs i) g (slice_index (transport_of it).demands i) e, counts_low it is i (omega (arith, l, length-map it.rows (λ (r : Row). r.count))))
@@ -341,8 +244,3 @@ module _ (it : Instance) (is : IsInstance it) (gs : Groups) (ag : AreGroups it g
       s ≡ map row_of (group_arcs it firsts) → v ≡ map server_of (group_arcs it firsts) → k ≡ map cost_of (group_arcs it firsts) → (P : Transport → Type 0) → P (grouped it firsts lists.demands.items) →
       P (record { demands = d; capacities = c; limits = l; hosts = h; sources = s; servers = v; costs = k })
   of_lists d c l h s v k a b e f g i j P p = rw (a, b, e, f, g, i, j) p
-
-  pub to_lists : (d c l : List ℕ) (h : List (Option ℕ)) (s v k : List ℕ) → d ≡ lists.demands.items → c ≡ (transport_of it).capacities → l ≡ (transport_of it).limits → h ≡ (transport_of it).hosts →
-      s ≡ map row_of (group_arcs it firsts) → v ≡ map server_of (group_arcs it firsts) → k ≡ map cost_of (group_arcs it firsts) → (P : Transport → Type 0) →
-      P (record { demands = d; capacities = c; limits = l; hosts = h; sources = s; servers = v; costs = k }) → P (grouped it firsts lists.demands.items)
-  to_lists d c l h s v k a b e f g i j P p = rw (a, b, e, f, g, i, j) at p

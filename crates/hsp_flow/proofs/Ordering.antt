@@ -72,15 +72,9 @@ later_at (a ∷ arcs) h (suc j) (suc k) less l = later_at arcs h.1 j k (omega ar
 pub one_place : (arcs : List NetworkArc) → AreOrdered arcs → (j k : ℕ) → j < length arcs → k < length arcs →
     (slice_index_or arcs j no_arc).row ≡ (slice_index_or arcs k no_arc).row → (slice_index_or arcs j no_arc).site ≡ (slice_index_or arcs k no_arc).site → j ≡ k
 one_place arcs h j k l m row site = elim (cases_lt j k) [
-  | inl less ↦ elim (later_at arcs h j k less m) [
-    | inl up ↦ absurd (omega (arith, up, row))
-    | inr same ↦ absurd (omega (arith, same.1, site))
-  ]
+  | inl less ↦ elim (later_at arcs h j k less m) [ inl up ↦ absurd (omega (arith, up, row)) | inr same ↦ absurd (omega (arith, same.1, site)) ]
   | inr rest ↦ elim (cases_lt k j) [
-    | inl more ↦ elim (later_at arcs h k j more l) [
-      | inl up ↦ absurd (omega (arith, up, row))
-      | inr same ↦ absurd (omega (arith, same.1, site))
-    ]
+    | inl more ↦ elim (later_at arcs h k j more l) [ inl up ↦ absurd (omega (arith, up, row)) | inr same ↦ absurd (omega (arith, same.1, site)) ]
     | inr equal ↦ omega arith
   ]
 ]
@@ -88,10 +82,7 @@ one_place arcs h j k l m row site = elim (cases_lt j k) [
 -- rows don't fall
 pub rows_ordered : (arcs : List NetworkArc) → AreOrdered arcs → (j k : ℕ) → j ≤ k → k < length arcs → (slice_index_or arcs j no_arc).row ≤ (slice_index_or arcs k no_arc).row
 rows_ordered arcs h j k le m = elim (cases_lt j k) [
-  | inl less ↦ elim (later_at arcs h j k less m) [
-    | inl up ↦ omega (arith, up)
-    | inr same ↦ omega (arith, same.0)
-  ]
+  | inl less ↦ elim (later_at arcs h j k less m) [ inl up ↦ omega (arith, up) | inr same ↦ omega (arith, same.0) ]
   | inr rest ↦ let e : j ≡ k = omega arith in let r : (slice_index_or arcs j no_arc).row ≡ (slice_index_or arcs k no_arc).row = ap (λ n. (slice_index_or arcs n no_arc).row) e in omega arith
 ]
 

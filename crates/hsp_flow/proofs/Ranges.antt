@@ -1,10 +1,9 @@
 -- The numbers of a feasible plan of an instance are within the ranges of a certificate.
-use Rattle.std.proofs.Common.{◌≡◌, ◌≢◌, ℕ, zero, suc, ◌+◌, ◌*◌, ◌<◌, ◌≤◌, ◌==◌, ◌⊎◌, Bool, true, false, List, [], ◌∷◌, length, slice_index, refl, inl, inr, arith, ne_eqb}
+use Rattle.std.proofs.Common.{◌≡◌, ◌≢◌, ℕ, suc, ◌+◌, ◌<◌, ◌≤◌, ◌==◌, ◌⊎◌, Bool, true, false, List, [], ◌∷◌, length, slice_index, refl, inl, inr, arith, ne_eqb}
 use Rattle.std.specs.Prelude.{◌&&◌, ◌||◌, Option, Some, None, nat_lt}
 use Rattle.std.specs.List.{AllByRecursion, list_all}
 use Rattle.std.proofs.lemmas.Bool.{cases_eq, and_from}
 use Rattle.std.proofs.lemmas.Bool.Decides.{nat_tests}
-use Rattle.hsp_simplex.specs.Sums.{sum_below}
 use Rattle.hsp_cert.specs.declared.use_line.UseLine.{UseLine}
 use Rattle.hsp_cert.specs.Certificate.{is_use, is_before, is_price, is_row, goes_on_from, ascends_from, ascends}
 use Rattle.hsp_instance.specs.Instance.{Instance}
@@ -92,12 +91,3 @@ pub flags_fit : (j : ℕ) (flags : List Bool) → j + length flags ≤ 8192 → 
 flags_fit j [] few = refl
 flags_fit j (true ∷ flags) few = let here : is_row j ≡ true = grind (arith, nat_tests) in and_from _ _ here (flags_fit (j + 1) flags (omega arith))
 flags_fit j (false ∷ flags) few = flags_fit (j + 1) flags (omega arith)
-
--- ---- sums
-
-pub sum_below_low : (n : ℕ) (f : ℕ → ℕ) (most : ℕ) → ((k : ℕ) → k < n → f k ≤ most) → sum_below n f ≤ n * most
-sum_below_low zero f most low = omega arith
-sum_below_low (suc n) f most low =
-    let rest = sum_below_low n f most (λ k l. low k (omega arith)) in
-    let here = low n (omega arith) in
-    omega arith

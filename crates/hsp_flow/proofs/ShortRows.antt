@@ -13,13 +13,11 @@ use Rattle.hsp_check.specs.Short as shorts
 use Rattle.hsp_check.specs.Verdict.{is_one_of}
 use Rattle.hsp_check.specs.Valid.{IsValidSet}
 use Rattle.hsp_check.proofs.Summing.{sum_below_same}
-use Rattle.hsp_simplex.specs.Sums.{sum_below, any_below}
-use Rattle.hsp_simplex.specs.Network.{Transport, IsShort, reaches, reached_capacity, capacity_of, demand_of, on_host, is_on, host_of}
+use Rattle.hsp_simplex.specs.Sums.{any_below}
+use Rattle.hsp_simplex.specs.Network.{IsShort, reaches, reached_capacity, capacity_of, demand_of, on_host, is_on, host_of}
 use Rattle.hsp_flow.specs.Planning.{transport_of, flagged_from, row_of, server_of}
 use Rattle.hsp_flow.proofs.Ordering.{no_arc, each_weaker}
 use Rattle.hsp_flow.proofs.Bridging.{arc}
-use Rattle.hsp_flow.proofs.Sums as flow_sums
-use Rattle.hsp_flow.proofs.Certifying.{same_on}
 
 or_assoc : (a b c : Bool) → ((a || b) || c) ≡ (a || (b || c))
 or_assoc true b c = refl
@@ -116,7 +114,7 @@ module _ (it : Instance) (set : List Bool) (many : length set ≡ length it.rows
 
   host_room : (h : ℕ) → plans.on_host (network_of it) (shorts.room_of (network_of it) rows) h ≡ on_host (transport_of it) (λ j. reached_capacity (transport_of it) chosen j) h
   host_room h =
-      sum_below_same (length (transport_of it).capacities) _ _ (λ j l. ap₂ (λ b n. if b then n else 0) (same_on (host_of (transport_of it) j) h) (room_is j))
+      sum_below_same (length (transport_of it).capacities) _ _ (λ j l. ap (λ n. if is_on (host_of (transport_of it) j) h then n else 0) (room_is j))
 
   pub capacity_is : shorts.capacity_of (network_of it) rows ≡ capacity_of (transport_of it) chosen
   capacity_is =
@@ -132,17 +130,3 @@ module _ (it : Instance) (set : List Bool) (many : length set ≡ length it.rows
     demand = d ∙ sym demand_is;
     capacity = c ∙ sym capacity_is;
   }
-
--- what the reached servers can take, by the flags of those and the rooms of the hosts
-pub capacity_from : (net : Transport) (set : ℕ → Bool) (reached : List Bool) (rooms : List ℕ) (free limited : ℕ) →
-    ((j : ℕ) → j < length net.capacities → slice_index_or reached j false ≡ reaches net set j) →
-    ((h : ℕ) → h < length net.limits → slice_index rooms h ≡ sum_below (length net.capacities) (λ j. if is_on (host_of net j) h then (if slice_index_or reached j false then slice_index net.capacities j else 0) else 0)) →
-    free ≡ sum_below (length net.capacities) (λ j. if is_none (host_of net j) then (if slice_index_or reached j false then slice_index net.capacities j else 0) else 0) →
-    limited ≡ sum_below (length net.limits) (λ h. min (slice_index net.limits h) (slice_index rooms h)) → free + limited ≡ capacity_of net set
-capacity_from net set reached rooms free limited is host_rooms f m =
-    let server = λ (j : ℕ). λ (l : j < length net.capacities). ap (λ b. if b then slice_index net.capacities j else 0) (is j l) in
-    let frees = flow_sums.sum_below_same (length net.capacities) _ (λ j. if is_none (host_of net j) then reached_capacity net set j else 0) (λ j l. ap (λ n. if is_none (host_of net j) then n else 0) (server j l)) in
-    let hosted = flow_sums.sum_below_same (length net.limits) _ (λ h. min (slice_index net.limits h) (on_host net (λ j. reached_capacity net set j) h))
-    (λ h l. ap (λ n. min (slice_index net.limits h) n)
-    (host_rooms h l ∙ flow_sums.sum_below_same (length net.capacities) _ (λ j. if is_on (host_of net j) h then reached_capacity net set j else 0) (λ j m'. ap (λ n. if is_on (host_of net j) h then n else 0) (server j m')))) in
-    ap₂ (λ a b. a + b) (f ∙ frees) (m ∙ hosted)

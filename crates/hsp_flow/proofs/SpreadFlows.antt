@@ -1,30 +1,10 @@
 -- Flows of groups, spread over their rows.
-use Rattle.std.proofs.Common.{◌≡◌, ℕ, zero, suc, ◌+◌, ◌-◌, ◌<◌, ◌≤◌, ◌⊎◌, ◌∙◌, List, length, slice_index, refl, ap, ap₂, sym, inl, inr, arith, slice_set, get_or-set_same, get_or-set_other}
+use Rattle.std.proofs.Common.{◌≡◌, ℕ, suc, ◌+◌, ◌-◌, ◌<◌, ◌≤◌, ◌⊎◌, ◌∙◌, List, length, slice_index, refl, ap, sym, inl, inr, arith, slice_set, get_or-set_same, get_or-set_other}
 use Rattle.std.proofs.lemmas.Bool.{cases_eq}
 use Rattle.hsp_simplex.specs.Sums.{sum_below, only}
 use Rattle.hsp_flow.specs.Spreads.{Spread}
-use Rattle.hsp_flow.proofs.Sums.{sum_below_same, term_within, only_here, only_there, only_split}
-use Rattle.hsp_flow.proofs.Totals.{sum_below_zero, sum_below_one, sum_below_add}
-
-only_zero : (w v : ℕ) → only w v 0 ≡ 0
-only_zero w v = elim (cases_eq w v) [
-  | inl e ↦ only_here w v 0 e
-  | inr ne ↦ only_there w v 0 ne
-]
-
--- what is summed by a key, summed again by a key of the key
-pub by_keys : (outer key f : ℕ → ℕ) (n m g : ℕ) → ((k : ℕ) → k < m → key k < n) →
-    sum_below n (λ v. only (outer v) g (sum_below m (λ k. only (key k) v (f k)))) ≡ sum_below m (λ k. only (outer (key k)) g (f k))
-by_keys outer key f n zero g inside = sum_below_zero n (λ v. only (outer v) g 0) (λ v l. only_zero (outer v) g)
-by_keys outer key f n (suc m) g inside =
-    let rest = by_keys outer key f n m g (λ k l. inside k (omega arith)) in
-    let term : sum_below n (λ v. only (outer v) g (only (key m) v (f m))) ≡ only (outer (key m)) g (only (key m) (key m) (f m)) =
-    sum_below_one n (λ v. only (outer v) g (only (key m) v (f m))) (key m) (inside m (omega arith))
-    (λ v l ne. ap (only (outer v) g) (only_there (key m) v (f m) (λ e. ne (sym e))) ∙ only_zero (outer v) g) in
-    let here : only (outer (key m)) g (only (key m) (key m) (f m)) ≡ only (outer (key m)) g (f m) = ap (only (outer (key m)) g) (only_here (key m) (key m) (f m) refl) in
-    let split : sum_below n (λ v. only (outer v) g (sum_below (suc m) (λ k. only (key k) v (f k)))) ≡ sum_below n (λ v. only (outer v) g (sum_below m (λ k. only (key k) v (f k))) + only (outer v) g (only (key m) v (f m))) =
-    sum_below_same n _ _ (λ v l. only_split (outer v) g (sum_below m (λ k. only (key k) v (f k))) (only (key m) v (f m))) in
-    split ∙ sum_below_add n (λ v. only (outer v) g (sum_below m (λ k. only (key k) v (f k)))) (λ v. only (outer v) g (only (key m) v (f m))) ∙ ap₂ (λ a b. a + b) rest (term ∙ here)
+use Rattle.hsp_mincost.proofs.Sums.{sum_below_same, term_within, only_here, only_there, only_split, only_zero}
+use Rattle.hsp_mincost.proofs.Totals.{by_keys, sum_below_zero, sum_below_add}
 
 -- a sum that is 0 has no other terms
 pub none_left : (n : ℕ) (f : ℕ → ℕ) → sum_below n f ≡ 0 → (k : ℕ) → k < n → f k ≡ 0

@@ -1,12 +1,3 @@
-pub mod Frontier
-pub mod Index
-pub mod Layout
-pub mod Problem
-pub mod Residual
-pub mod Search
-pub mod Graph
-pub mod Sums
-pub mod Opening
 pub mod Planning
 pub mod Ordered
 pub mod Lists

@@ -6,7 +6,7 @@ ghost use Rattle.hsp_instance.specs.Groups.{AreGroups};
 ghost use Rattle.hsp_instance.specs.Instance.{IsInstance};
 ghost use Rattle.hsp_check.specs.Instance.{arcs_from};
 ghost use Rattle.hsp_flow.specs.Grouping.{AreFirsts, BeginAt, IsRun, group_arcs, group_demand, lists_at};
-ghost use Rattle.hsp_flow.specs.Layout.{Appends};
+ghost use Rattle.hsp_mincost.specs.Layout.{Appends};
 
 use crate::arcs::push_arcs;
 use hsp_check::NetworkArc;

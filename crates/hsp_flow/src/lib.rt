@@ -1,38 +1,15 @@
-// The planner: for every instance a certificate that is valid, a cheapest plan with prices or a short set of rows. It solves
-// transportation networks with hosts by successive shortest paths over residual arcs (Ahuja, Magnanti and Orlin, Network
-// Flows, chapter 9, section 9.7).
+// The planner: for every instance a certificate that is valid, a cheapest plan with prices or a short set of rows. Its rows are
+// the sources of a transportation network; the outcome is one that was proposed and accepted, or else that of the searches.
 #![tactic(auto)]
 
 mod amounts;
-mod answer;
 mod arcs;
-mod augment;
 mod certify;
-mod expand;
-mod frontier;
 mod group_lists;
 mod grouping;
-mod heap;
-mod index;
-mod links;
-mod opening;
-mod phase;
 mod planning;
-mod raise;
-mod relax;
-mod scan;
-mod search;
-mod send;
 mod shortfall;
-mod solving;
 mod spreading;
-mod tables;
 
-pub use frontier::Frontier;
-pub use heap::HeapFrontier;
-pub use links::Effort;
-pub use planning::{solve, solve_counted, solve_proposed, solve_with};
-pub use scan::ScanFrontier;
-
-#[cfg(test)]
-mod tests;
+pub use hsp_mincost::{Frontier, HeapFrontier, ScanFrontier, SearchEffort};
+pub use planning::{Effort, solve, solve_counted, solve_proposed, solve_with};

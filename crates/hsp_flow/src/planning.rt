@@ -7,27 +7,33 @@ ghost use Rattle.hsp_check.specs.Instance.{arcs_from, network_of};
 ghost use Rattle.hsp_check.specs.Valid.{IsValid};
 ghost use Rattle.hsp_simplex.specs.Answer.{Answers, IsMet, IsShortSet};
 ghost use Rattle.hsp_simplex.specs.Problem.{problem_of};
+ghost use Rattle.hsp_mincost.specs.Nodes.{MayHaveUpTo};
 ghost use Rattle.hsp_flow.specs.Grouped.{IsGrouping, nodes_with, transport_by};
 ghost use Rattle.hsp_flow.specs.Lists.{transport_in};
-ghost use Rattle.hsp_flow.specs.Nodes.{MayHaveNodesOf, MayHaveUpTo, nodes_by};
+ghost use Rattle.hsp_flow.specs.Nodes.{MayHaveNodesOf, nodes_by};
 ghost use Rattle.hsp_flow.specs.Planning.{HasLimitedPrices, transport_of};
 
 use crate::amounts::{TransportLists, lists_of};
 use crate::arcs::arcs_of;
 use crate::certify::plan_certificate;
-use crate::frontier::Frontier;
 use crate::group_lists::{Grouping, group_lists};
 use crate::grouping::firsts_of;
-use crate::heap::HeapFrontier;
-use crate::links::Effort;
 use crate::shortfall::short_certificate;
-use crate::solving::solve_network;
 use crate::spreading::{spread_flags, spread_flows, spread_prices};
 use hsp_cert::Certificate;
 use hsp_check::NetworkArc;
 use hsp_instance::{Groups, Instance, groups};
+use hsp_mincost::{Frontier, HeapFrontier, SearchEffort, minimum_cost_flow};
 use hsp_simplex::{Network, Outcome, PricedFlow, SimplexEffort, accepts, propose_counted};
 use std::alloc::{AllocError, Global};
+
+/// How much work a run took: its searches, the proposals that were accepted, and the pivots of all that were made.
+#[derive(Clone, Copy, Default)]
+pub struct Effort {
+    pub searching: SearchEffort,
+    pub proposals: u64,
+    pub pivots: u64,
+}
 
 // The network whose sources are the rows.
 fn row_network<'a>(instance: &Instance, rows: &'a TransportLists) -> Network<'a>
@@ -51,7 +57,7 @@ fn row_network<'a>(instance: &Instance, rows: &'a TransportLists) -> Network<'a>
 fn solve_groups<F: Frontier>(
     alloc: Global,
     grouping: &Grouping,
-    effort: &mut Effort,
+    effort: &mut SearchEffort,
 ) -> Result<Outcome, AllocError>
     requires grouping { IsGrouping grouping.now }
     requires nodes { MayHaveUpTo F.may_have (nodes_with grouping.now) }
@@ -66,7 +72,7 @@ fn solve_groups<F: Frontier>(
         servers: &grouping.lists.servers,
         costs: &grouping.lists.costs,
     };
-    solve_network::<F>(alloc, &network, effort)
+    minimum_cost_flow::<F>(alloc, &network, effort)
 }
 
 // The plan of the groups, spread over their rows.
@@ -128,7 +134,7 @@ fn short_rows(alloc: Global, grouping: &Grouping, set: &[bool]) -> Result<Vec<bo
 fn solve_spread<F: Frontier>(
     alloc: Global,
     grouping: &Grouping,
-    effort: &mut Effort,
+    effort: &mut SearchEffort,
 ) -> Result<Outcome, AllocError>
     requires grouping { IsGrouping grouping.now }
     requires nodes { MayHaveUpTo F.may_have (nodes_with grouping.now) }
@@ -146,7 +152,7 @@ fn solve_grouped<F: Frontier>(
     instance: &Instance,
     groups: &Groups,
     rows: &TransportLists,
-    effort: &mut Effort,
+    effort: &mut SearchEffort,
 ) -> Result<Outcome, AllocError>
     requires within { IsInstance instance.now }
     requires groups { AreGroups instance.now groups.now }
@@ -171,7 +177,7 @@ fn solve_rows<F: Frontier>(
     alloc: Global,
     instance: &Instance,
     rows: &TransportLists,
-    effort: &mut Effort,
+    effort: &mut SearchEffort,
 ) -> Result<Outcome, AllocError>
     requires within { IsInstance instance.now }
     requires rows { transport_in rows.now ≡ transport_of instance.now }
@@ -179,7 +185,7 @@ fn solve_rows<F: Frontier>(
     ensures { IfOk result (Answers (transport_of instance.now)) }
 {
     let network = row_network(instance, rows);
-    solve_network::<F>(alloc, &network, effort)
+    minimum_cost_flow::<F>(alloc, &network, effort)
 }
 
 // What becomes of the rows' network, by the loop of searches.
@@ -187,7 +193,7 @@ fn solve_by_searches<F: Frontier>(
     alloc: Global,
     instance: &Instance,
     rows: &TransportLists,
-    effort: &mut Effort,
+    effort: &mut SearchEffort,
 ) -> Result<Outcome, AllocError>
     requires within { IsInstance instance.now }
     requires rows { transport_in rows.now ≡ transport_of instance.now }
@@ -237,7 +243,10 @@ fn solve_proposed_rows(
     let network = row_network(instance, rows);
     match accepted_proposal(alloc, &network, effort)? {
         Some(outcome) => Ok(outcome),
-        None => solve_by_searches::<HeapFrontier>(alloc, instance, rows, effort),
+        None => {
+            let searching = &mut effort.searching;
+            solve_by_searches::<HeapFrontier>(alloc, instance, rows, searching)
+        },
     }
 }
 
@@ -274,7 +283,7 @@ pub fn solve_counted<F: Frontier>(
 {
     let arcs = arcs_of(alloc, instance)?;
     let rows = lists_of(alloc, instance, &arcs)?;
-    let outcome = solve_by_searches::<F>(alloc, instance, &rows, effort)?;
+    let outcome = solve_by_searches::<F>(alloc, instance, &rows, &mut effort.searching)?;
     certify(alloc, instance, &arcs, &rows, outcome)
 }
 

@@ -1,5 +1,5 @@
 use Rattle.std.proofs.Common.{arith}
-use Rattle.hsp_flow.proofs.Claiming.{costs_few, costs_cheap, total_small, made_is, made_valid, made_low}
+use Rattle.hsp_flow.proofs.Claiming.{best_is, best_low, best_valid, by_arcs, costs_few, costs_cheap, total_small}
 use Rattle.hsp_flow.proofs.certify.plan_certificate.Goals as goal
 
 pub total_of-cost-requires-clause-few : goal.total_of-cost-requires-clause-few
@@ -15,17 +15,17 @@ overflow_cast-cost c =
 
 pub certificate_of-requires : goal.certificate_of-requires
 certificate_of-requires c =
-    made_is c.args.instance.now c.requires.within c.args.costs.now c.requires.costs c.args.plan c.requires.met c.total_of-cost.result (rw c.deref-2.ensures.value at c.total_of-cost.ensures)
+    best_is c.args.instance.now c.requires.within c.args.plan c.requires.met c.total_of-cost.result (by_arcs c.args.instance.now c.requires.within c.args.costs.now c.requires.costs c.args.plan c.requires.met c.total_of-cost.result (rw c.deref-2.ensures.value at c.total_of-cost.ensures))
     c.in_ok-uses.uses.items (rw (c.requires.arcs, c.deref.ensures.value) at c.in_ok-uses.ensures)
 
 pub returns-clause-valid : goal.returns-clause-valid
 returns-clause-valid c =
     rw c.certificate_of.ensures
-    (made_valid c.args.instance.now c.requires.within c.args.costs.now c.requires.costs c.args.plan c.requires.met c.total_of-cost.result (rw c.deref-2.ensures.value at c.total_of-cost.ensures)
+    (best_valid c.args.instance.now c.requires.within c.args.plan c.requires.met c.total_of-cost.result (by_arcs c.args.instance.now c.requires.within c.args.costs.now c.requires.costs c.args.plan c.requires.met c.total_of-cost.result (rw c.deref-2.ensures.value at c.total_of-cost.ensures))
     c.in_ok-uses.uses.items (rw (c.requires.arcs, c.deref.ensures.value) at c.in_ok-uses.ensures))
 
 pub returns-clause-low : goal.returns-clause-low
 returns-clause-low c =
     rw c.certificate_of.ensures
-    (made_low c.args.instance.now c.requires.within c.args.costs.now c.requires.costs c.args.plan c.requires.met c.total_of-cost.result (rw c.deref-2.ensures.value at c.total_of-cost.ensures)
+    (best_low c.args.instance.now c.requires.within c.args.plan c.requires.met c.total_of-cost.result (by_arcs c.args.instance.now c.requires.within c.args.costs.now c.requires.costs c.args.plan c.requires.met c.total_of-cost.result (rw c.deref-2.ensures.value at c.total_of-cost.ensures))
     c.in_ok-uses.uses.items (rw (c.requires.arcs, c.deref.ensures.value) at c.in_ok-uses.ensures))

@@ -1,5 +1,5 @@
 use Rattle.std.proofs.Common.{refl}
-use Rattle.hsp_flow.proofs.Appending.{appends_none, appends_one}
+use Rattle.hsp_mincost.proofs.Appending.{appends_none, appends_one}
 use Rattle.hsp_flow.proofs.grouping.push_run.Goals as goal
 
 pub loop-place-init : goal.loop-place-init

@@ -1,5 +1,5 @@
 use Rattle.std.proofs.Common.{◌+◌}
-use Rattle.hsp_flow.specs.Layout.{Appends}
+use Rattle.hsp_mincost.specs.Layout.{Appends}
 use Rattle.hsp_flow.proofs.grouping.push_run.Given as goal
 
 abbrev pub invariant-loop-place : goal.invariant-loop-place

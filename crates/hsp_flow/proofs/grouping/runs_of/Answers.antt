@@ -1,6 +1,6 @@
-use Rattle.std.proofs.Common.{◌≡◌, ◌+◌, ◌-◌, ◌∷◌, [], ap, inl, inr, length, slice_index, refl, arith, length-append}
-use Rattle.std.proofs.lemmas.Bool.{cases_lt}
-use Rattle.std.proofs.lemmas.List.{length-map, get_or_append_left, get_or-append_right}
+use Rattle.std.proofs.Common.{◌≡◌, ◌+◌, ◌∷◌, [], ap, inl, inr, length, slice_index, refl, arith, length-append}
+use Rattle.std.proofs.lemmas.List.{length-map}
+use Rattle.hsp_mincost.proofs.Appending.{longer}
 use Rattle.std.proofs.lemmas.Option.{get_or_from_slice_get}
 use Rattle.hsp_instance.specs.Instance.{AreArcs}
 use Rattle.hsp_instance.specs.declared.arc.Arc.{Arc}
@@ -36,11 +36,8 @@ loop-group-preserved c =
       many = omega (arith, i.many, length-append c.loop-group.runs ((c.loop-group.next + length c.arcs.result.now) ∷ []));
       small = omega (arith, i.small, row.few);
       next = next;
-      at = λ g l. elim (cases_lt g (c.loop-group.group + 1)) [
-        | inl old ↦ omega (arith, get_or_append_left c.loop-group.runs ((c.loop-group.next + length c.arcs.result.now) ∷ []) 0 g (omega (arith, old, i.many)), i.at g (omega arith))
-        | inr new ↦
-            let place : g - length c.loop-group.runs ≡ 0 = omega (arith, l, new, i.many) in
-            let last : g ≡ c.loop-group.group + 1 = omega (arith, l, new) in
-            omega (arith, get_or-append_right c.loop-group.runs ((c.loop-group.next + length c.arcs.result.now) ∷ []) (length c.loop-group.runs) g 0 refl (omega (arith, new, i.many)), ap (λ m. slice_index ((c.loop-group.next + length c.arcs.result.now) ∷ []) m) place, next, ap (offset gl) last)
+      at = λ g l. elim (longer c.loop-group.runs (c.loop-group.next + length c.arcs.result.now) g (omega (arith, l, i.many, length-append c.loop-group.runs ((c.loop-group.next + length c.arcs.result.now) ∷ [])))) [
+        | inl old ↦ omega (arith, old.0, old.1, i.many, i.at g (omega (arith, old.0, i.many)))
+        | inr new ↦ let last : g ≡ c.loop-group.group + 1 = omega (arith, new.0, i.many) in omega (arith, new.1, next, ap (offset gl) last)
       ];
     })

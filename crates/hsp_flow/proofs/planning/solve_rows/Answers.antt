@@ -2,12 +2,11 @@ use Rattle.std.proofs.Common.{◌∙◌, length, ap}
 use Rattle.std.proofs.lemmas.List.{length-map}
 use Rattle.hsp_instance.specs.Instance.{Row}
 use Rattle.hsp_simplex.specs.Network.{Transport}
-use Rattle.hsp_flow.proofs.Limits.{small_is}
-use Rattle.hsp_flow.proofs.NodeCounts.{few_nodes}
+use Rattle.hsp_flow.proofs.Limits.{few_nodes, small_is}
 use Rattle.hsp_flow.proofs.planning.solve_rows.Goals as goal
 
-pub solve_network-requires : goal.solve_network-requires
-solve_network-requires g c = record {
+pub minimum_cost_flow-requires : goal.minimum_cost_flow-requires
+minimum_cost_flow-requires g c = record {
   small = rw c.row_network-network.ensures (small_is c.args.instance.now c.requires.within);
   nodes = λ n l. c.requires.nodes n
       (few_nodes c.args.instance.now (length c.args.instance.now.rows) _ _ _

@@ -1,0 +1,22 @@
+use Rattle.std.proofs.Common.{◌≡◌, ℕ, ◌+◌, ◌-◌, ◌<◌, false, length, nat_lt, slice_index, slice_index_or, ap, sym, ◌∙◌, arith, lt-ltb, ltb-true}
+use Rattle.hsp_mincost.specs.Layout.{first_of}
+use Rattle.hsp_simplex.specs.Problem.{problem_of}
+use Rattle.hsp_mincost.proofs.Shortage.{is_short}
+use Rattle.hsp_mincost.proofs.answer.short_set.Goals as goal
+
+pub returns : goal.returns
+returns c =
+    let links = c.requires.links_of.lists in
+    let nodes = links.supplies.many in
+    let done : c.loop-node.node ≡ length c.args.tree.now.distance.now = omega (arith, c.loop-node-test.false, c.loop-node.auto.node-end, c.requires.stuck.stuck.many, c.requires.links_of.first) in
+    let set-is : (i : ℕ) → i < length c.args.network.now.demands.now →
+    slice_index_or c.loop-node.reached.items i false ≡ nat_lt (slice_index c.args.tree.now.distance.now (first_of (problem_of c.args.network.now) + i)) 18446744073709551615 = λ i l.
+    c.loop-node.invariant.1 i (omega (arith, c.requires.stuck.stuck.many, c.requires.links_of.first))
+    ∙ ap (λ n. nat_lt (slice_index c.args.tree.now.distance.now (n + i)) 18446744073709551615) c.requires.links_of.first in
+    record {
+      many = omega (arith, c.loop-node.invariant.0, c.requires.stuck.stuck.many, c.requires.links_of.first);
+      short = is_short (problem_of c.args.network.now) c.args.network.now.ends c.requires.small _ _ links c.requires.ready.sound
+          _ _ c.requires.stuck.stuck.closed (λ i. slice_index_or c.loop-node.reached.items i false)
+          (λ i l inside. ltb-true _ _ (sym (set-is i l) ∙ inside)) (λ i l near. set-is i l ∙ lt-ltb _ _ near)
+          (c.requires.stuck.root - c.args.links.now.first) (omega (arith, c.requires.stuck.inside, c.requires.links_of.first, c.requires.stuck.from)) (omega (arith, c.requires.stuck.from, c.requires.links_of.first)) c.requires.stuck.stuck.unmet;
+    }

@@ -1,0 +1,97 @@
+ghost use Rattle.std.specs.Prelude.{◌≡◌, ℕ, ◌+◌, ◌-◌, ◌<◌, ◌≤◌, IfOk, length, slice_index};
+ghost use Rattle.hsp_simplex.specs.Answer.{IsMet, IsShortSet};
+ghost use Rattle.hsp_mincost.specs.Layout.{IsSmall};
+ghost use Rattle.hsp_simplex.specs.Problem.{problem_of};
+ghost use Rattle.hsp_mincost.specs.Problem.{IsLinksOf};
+ghost use Rattle.hsp_mincost.specs.Residual.{nodes, prices};
+ghost use Rattle.hsp_mincost.specs.Search.{AreAllMet, HasStuckSource, Ready};
+
+use crate::links::{Flow, Links, SearchTree};
+use hsp_simplex::{Network, PricedFlow};
+use std::alloc::{AllocError, Global};
+
+/// By how much the price at the tail of each link from `start` up to `end` is above that at its head.
+pub fn link_prices(
+    alloc: Global,
+    links: &Links,
+    price: &[u64],
+    start: usize,
+    end: usize,
+) -> Result<Vec<u64>, AllocError>
+    requires rising { start ≤ end }
+    requires end_in { end ≤ length links.now.tails.now }
+    requires many { length price.now ≡ nodes links.now }
+    ensures many { IfOk result (λ prices. length prices.items ≡ end - start) }
+    ensures each { IfOk result (λ prices.
+        (j : ℕ) → j < end - start → slice_index prices.items j
+        ≡ slice_index price.now (slice_index links.now.tails.now (start + j)) - slice_index
+        price.now (slice_index links.now.heads.now (start + j))) }
+{
+    let mut prices = Vec::new(alloc);
+    for link in start..end {
+        let tail = price[links.tails[link] as usize];
+        let head = price[links.heads[link] as usize];
+        prices.push(tail.saturating_sub(head))?;
+    }
+    Ok(prices)
+}
+
+/// The numbers from the place `start` up to `end`.
+pub fn copy_range(
+    alloc: Global,
+    numbers: &[u64],
+    start: usize,
+    end: usize,
+) -> Result<Vec<u64>, AllocError>
+    requires rising { start ≤ end }
+    requires end_in { end ≤ length numbers.now }
+    ensures many { IfOk result (λ copy. length copy.items ≡ end - start) }
+    ensures each { IfOk result (λ copy. (k : ℕ) → k < end - start → slice_index copy.items k
+        ≡ slice_index numbers.now (start + k)) }
+{
+    numbers[start..end].to_vec(alloc)
+}
+
+/// The flow that meets every source, with its prices.
+pub fn priced_flow(
+    alloc: Global,
+    network: &Network,
+    links: &Links,
+    flow: &Flow,
+) -> Result<PricedFlow, AllocError>
+    requires links_of { IsLinksOf network.now links.now }
+    requires small { IsSmall (problem_of network.now) }
+    requires ready { Ready links.now flow.now }
+    requires met { AreAllMet links.now flow.now }
+    ensures { IfOk result (λ plan. IsMet (problem_of network.now) plan) }
+{
+    let hosts = network.limits.len();
+    let base = hosts + network.capacities.len();
+    Ok(PricedFlow {
+        flows: copy_range(alloc, flow.flows, base, flow.flows.len())?,
+        source_prices: copy_range(alloc, flow.price, base + 1, flow.price.len())?,
+        server_prices: link_prices(alloc, links, flow.price, hosts, base)?,
+        host_prices: copy_range(alloc, flow.price, 1, hosts + 1)?,
+    })
+}
+
+/// The sources that a search reached that didn't come to the sink.
+pub fn short_set(
+    alloc: Global,
+    network: &Network,
+    links: &Links,
+    flow: &Flow,
+    tree: &SearchTree,
+) -> Result<Vec<bool>, AllocError>
+    requires links_of { IsLinksOf network.now links.now }
+    requires small { IsSmall (problem_of network.now) }
+    requires ready { Ready links.now flow.now }
+    requires stuck { HasStuckSource links.now flow.now tree.now }
+    ensures { IfOk result (λ set. IsShortSet (problem_of network.now) set.items) }
+{
+    let mut reached = Vec::new(alloc);
+    for node in links.first as usize..tree.distance.len() {
+        reached.push(tree.distance[node] < u64::MAX)?;
+    }
+    Ok(reached)
+}

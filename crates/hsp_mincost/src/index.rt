@@ -1,0 +1,27 @@
+ghost use Rattle.std.specs.Prelude.{◌≡◌, ℕ, ◌<◌, IfOk, length, slice_index};
+ghost use Rattle.hsp_mincost.specs.Index.{AreChains};
+
+use std::alloc::{AllocError, Global};
+
+/// The lists of the chains of links.
+#[derive(Drop)]
+pub struct ChainLists {
+    pub lasts: Vec<usize>,
+    pub before: Vec<usize>,
+}
+
+/// Chains the links that have an end in common: from the last of them each leads to the one before.
+pub fn chain_links(alloc: Global, ends: &[u32], nodes: usize) -> Result<ChainLists, AllocError>
+    requires few { length ends.now < 4294967296 }
+    requires inside { (k : ℕ) → k < length ends.now → slice_index ends.now k < nodes }
+    ensures { IfOk result (λ made. AreChains nodes ends.now made.lasts.items made.before.items) }
+{
+    let mut lasts = vec![in alloc; 0; nodes]?;
+    let mut before = vec![in alloc; 0; ends.len()]?;
+    for link in 0..ends.len() {
+        let end = ends[link] as usize;
+        before[link] = lasts[end];
+        lasts[end] = link + 1;
+    }
+    Ok(ChainLists { lasts, before })
+}

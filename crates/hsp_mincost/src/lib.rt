@@ -1,0 +1,31 @@
+// Minimum-cost flow on transportation networks with hosts, by successive shortest paths with node potentials (Ahuja, Magnanti
+// and Orlin, Network Flows, section 9.7): a flow that meets every source at the least cost, with prices that show it, or a
+// set of sources that is short. Nothing is asked of the order in which nodes wait but the law of a priority queue.
+#![tactic(auto)]
+
+mod answer;
+mod augment;
+mod expand;
+mod frontier;
+mod heap;
+mod index;
+mod links;
+mod opening;
+mod phase;
+mod raise;
+mod relax;
+mod residual;
+mod scan;
+mod search;
+mod send;
+mod solving;
+mod tables;
+
+pub use frontier::Frontier;
+pub use heap::HeapFrontier;
+pub use links::SearchEffort;
+pub use scan::ScanFrontier;
+pub use solving::minimum_cost_flow;
+
+#[cfg(test)]
+mod tests;
