@@ -126,11 +126,26 @@ fn put_shortage(out: &mut Vec<u8>, set: &ShortSet) -> Result<(), AllocError>
     Ok(())
 }
 
+// Room for a text: what its lines take but for the longest prices. No clause speaks of it.
+fn room_of(shown: &Shown) -> usize {
+    const LINE: usize = 24;
+    let lines = match shown {
+        Shown::Plan(plan) => plan
+            .uses
+            .len()
+            .saturating_add(plan.row_prices.len())
+            .saturating_add(plan.server_prices.len())
+            .saturating_add(plan.host_prices.len()),
+        Shown::Shortage(set) => set.rows.len(),
+    };
+    lines.saturating_add(5).saturating_mul(LINE)
+}
+
 /// The text of a certificate.
 pub fn write_cert(alloc: Global, certificate: &Certificate) -> Result<Vec<u8>, AllocError>
     ensures { IfOk result (λ text. text.items ≡ text_of certificate.now) }
 {
-    let mut out = Vec::new(alloc);
+    let mut out = Vec::with_capacity(alloc, room_of(&certificate.shown))?;
     match &certificate.shown {
         Shown::Plan(plan) => put_plan(&mut out, plan)?,
         Shown::Shortage(set) => put_shortage(&mut out, set)?,

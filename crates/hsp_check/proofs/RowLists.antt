@@ -22,6 +22,13 @@ arcs_more i (suc k) (first ∷ rest) l =
     rw (next, add-one k) at (arcs_more (i + 1) k rest (omega arith)) in
     rw (add-one (suc k)) (ap (λ xs. map (arc_of i) first ++ xs) before ∙ sym (append_assoc (map (arc_of i) first) (arcs_from (i + 1) (take k rest)) (map (arc_of (i + suc k)) (slice_index_or rest k []))))
 
+-- how many arcs there are, with those of a row more
+pub count_more : (lists : List (List Arc)) (k : ℕ) (arcs : List Arc) → slice_get lists k ≡ Some arcs → length (arcs_from 0 (take (k + 1) lists)) ≡ length (arcs_from 0 (take k lists)) + length arcs
+count_more lists k arcs read =
+    let one : slice_index_or lists k [] ≡ arcs = get_or_from_slice_get lists k arcs [] read in
+    let grown : arcs_from 0 (take (k + 1) lists) ≡ arcs_from 0 (take k lists) ++ map (arc_of k) arcs = rw (zero-add k, one) at (arcs_more 0 k lists (slice_get_within lists k arcs read)) in
+    omega (arith, ap (λ (xs : List NetworkArc). length xs) grown, length-append (arcs_from 0 (take k lists)) (map (arc_of k) arcs), length-map arcs (arc_of k))
+
 no_row : Arc
 no_row = record { site = 0; server = 0; cost = 0 }
 

@@ -3,6 +3,7 @@
 ghost use Rattle.std.specs.Prelude.{◌≡◌, ◌≤◌, ◌++◌, ◌*◌, IfOk, OnOk, length, map};
 ghost use Rattle.hsp_instance.specs.Instance.{IsInstance};
 ghost use Rattle.hsp_check.specs.Index.{IsIndexed, bare_arc};
+ghost use Rattle.hsp_check.specs.Instance.{arcs_from};
 
 use crate::arc::NetworkArc;
 use crate::sums::LaidArc;
@@ -32,13 +33,24 @@ fn push_arcs(laid: &mut Vec<LaidArc>, row: u32, arcs: &[Arc]) -> Result<(), Allo
     Ok(())
 }
 
+// How many arcs all rows have together.
+fn arc_count(instance: &Instance) -> usize
+    ensures { result ≡ length (arcs_from 0 instance.now.arcs) }
+{
+    let mut count: usize = 0;
+    for row in 0..instance.rows() {
+        count += instance.arcs(row).len();
+    }
+    count
+}
+
 /// The arcs of all rows in turn.
 pub(crate) fn arcs_of(alloc: Global, instance: &Instance) -> Result<IndexedArcs, AllocError>
     ensures arcs { IfOk result (λ arcs. IsIndexed instance.now.arcs arcs.laid.items arcs.runs) }
     // The instance is within its limits.
     ensures within { IfOk result (λ _. IsInstance instance.now) }
 {
-    let mut laid = Vec::new(alloc);
+    let mut laid = Vec::with_capacity(alloc, arc_count(instance))?;
     let mut runs = Runs::new(alloc)?;
     for row in 0..instance.rows() {
         push_arcs(&mut laid, row, instance.arcs(row))?;

@@ -3,6 +3,7 @@ pub mod Certifying
 pub mod Claiming
 pub mod GroupFacts
 pub mod GroupsMet
+pub mod InColumns
 pub mod Laying
 pub mod Limits
 pub mod Offsets

@@ -8,7 +8,7 @@ use Rattle.hsp_check.specs.Instance.{arc_of, arcs_from}
 use Rattle.hsp_flow.specs.Grouping.{offset}
 use Rattle.hsp_flow.proofs.Ordering.{no_arc}
 
-pub no_own : Arc
+abbrev pub no_own : Arc
 no_own = record { site = 0; server = 0; cost = 0 }
 
 abbrev pub list_at : List (List Arc) → ℕ → List Arc

@@ -7,6 +7,7 @@ use Rattle.hsp_check.specs.declared.arc.NetworkArc.{NetworkArc}
 use Rattle.hsp_check.specs.Instance.{arcs_from}
 use Rattle.hsp_flow.specs.declared.group_lists.GroupLists.{GroupLists}
 use Rattle.hsp_simplex.specs.Network.{Transport}
+use Rattle.hsp_flow.specs.Columns.{AreColumns}
 use Rattle.hsp_flow.specs.Planning.{row_of, server_of, cost_of}
 use Rattle.hsp_simplex.specs.Sums.{only, sum_below}
 
@@ -80,6 +81,4 @@ pub record AreGroupLists (it : Instance) (groups : Groups) (firsts : List ℕ) (
   pub demands_many : length lists.demands.items ≡ groups.count
   pub demands : (g : ℕ) → g < groups.count → slice_index lists.demands.items g ≡ group_demand it groups g
   pub group_places : IsRun it.arcs (lists_at it firsts) groups (length it.rows) lists.group_places.items
-  pub sources : lists.sources.items ≡ map row_of (group_arcs it firsts)
-  pub servers : lists.servers.items ≡ map server_of (group_arcs it firsts)
-  pub costs : lists.costs.items ≡ map cost_of (group_arcs it firsts)
+  pub arcs : AreColumns (group_arcs it firsts) lists.arcs

@@ -1,5 +1,6 @@
 pub mod Planning
 pub mod Ordered
+pub mod Columns
 pub mod Lists
 pub mod Grouping
 pub mod Grouped

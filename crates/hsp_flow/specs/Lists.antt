@@ -9,7 +9,7 @@ transport_in lists = record {
   capacities = lists.capacities.items;
   limits = lists.limits.items;
   hosts = lists.hosts.items;
-  sources = lists.sources.items;
-  servers = lists.servers.items;
-  costs = lists.costs.items;
+  sources = lists.arcs.sources.items;
+  servers = lists.arcs.servers.items;
+  costs = lists.arcs.costs.items;
 }

@@ -1,12 +1,11 @@
 // What rows ask for, what servers and hosts take, and the lists of a network.
 
 ghost use Rattle.std.specs.Prelude.{◌≡◌, IfOk};
-ghost use Rattle.hsp_check.specs.Instance.{arcs_from};
+ghost use Rattle.hsp_instance.specs.Instance.{IsInstance};
 ghost use Rattle.hsp_flow.specs.Lists.{transport_in};
 ghost use Rattle.hsp_flow.specs.Planning.{transport_of};
 
-use crate::arcs::{costs_of, rows_of, servers_of};
-use hsp_check::NetworkArc;
+use crate::arcs::{ArcColumns, row_columns};
 use hsp_instance::{Instance, capacities_of, counts_of, homes_of, limits_of};
 use std::alloc::{AllocError, Global};
 
@@ -17,27 +16,20 @@ pub(crate) struct TransportLists {
     pub(crate) capacities: Vec<u64>,
     pub(crate) limits: Vec<u64>,
     pub(crate) hosts: Vec<Option<u32>>,
-    pub(crate) sources: Vec<u32>,
-    pub(crate) servers: Vec<u32>,
-    pub(crate) costs: Vec<u64>,
+    pub(crate) arcs: ArcColumns,
 }
 
 /// The lists of an instance's network.
-pub(crate) fn lists_of(
-    alloc: Global,
-    instance: &Instance,
-    arcs: &[NetworkArc],
-) -> Result<TransportLists, AllocError>
-    requires { arcs.now ≡ arcs_from 0 instance.now.arcs }
-    ensures { IfOk result (λ lists. transport_in lists ≡ transport_of instance.now) }
+pub(crate) fn lists_of(alloc: Global, instance: &Instance) -> Result<TransportLists, AllocError>
+    ensures lists { IfOk result (λ lists. transport_in lists ≡ transport_of instance.now) }
+    // The instance is within its limits.
+    ensures within { IfOk result (λ _. IsInstance instance.now) }
 {
     Ok(TransportLists {
         demands: counts_of(alloc, instance)?,
         capacities: capacities_of(alloc, instance)?,
         limits: limits_of(alloc, instance)?,
         hosts: homes_of(alloc, instance)?,
-        sources: rows_of(alloc, arcs)?,
-        servers: servers_of(alloc, arcs)?,
-        costs: costs_of(alloc, arcs)?,
+        arcs: row_columns(alloc, instance)?,
     })
 }

@@ -1,38 +1,59 @@
 // The certificate of a flow that meets every row.
 
-ghost use Rattle.std.specs.Prelude.{◌≡◌, ℕ, ◌+◌, ◌*◌, ◌<◌, ◌≤◌, ◌^◌, IfOk, length, map, slice_index};
+ghost use Rattle.std.specs.Prelude.{◌≡◌, ℕ, ◌+◌, ◌*◌, ◌<◌, ◌≤◌, ◌^◌, ◌++◌, IfOk, OnOk, length, map, slice_index};
 ghost use Rattle.hsp_text.specs.declared.limits.TheConstants.{GREATEST_COST};
 ghost use Rattle.hsp_cert.specs.Certificate.{IsBest};
 ghost use Rattle.hsp_cert.specs.Certificate.Claim.{best};
 ghost use Rattle.hsp_instance.specs.Instance.{IsInstance};
-ghost use Rattle.hsp_check.specs.Instance.{arcs_from, network_of};
+ghost use Rattle.hsp_check.specs.Instance.{arc_of, arcs_from, network_of};
 ghost use Rattle.hsp_check.specs.Valid.{IsValid};
 ghost use Rattle.hsp_simplex.specs.Answer.{IsMet};
 ghost use Rattle.hsp_flow.specs.Planning.{HasLimitedPrices, cost_of, transport_of, uses_of};
 ghost use Rattle.hsp_simplex.specs.Sums.{sum_below};
 
 use hsp_cert::{Certificate, UseLine};
-use hsp_check::NetworkArc;
-use hsp_instance::Instance;
+use hsp_instance::{Arc, Instance};
 use hsp_simplex::PricedFlow;
 use std::alloc::{AllocError, Global};
 
-/// The uses of the arcs that have flow.
-fn uses_of(alloc: Global, arcs: &[NetworkArc], flows: &[u64]) -> Result<Vec<UseLine>, AllocError>
+// Appends the uses of the arcs of a row.
+fn push_uses(
+    uses: &mut Vec<UseLine>,
+    row: u32,
+    arcs: &[Arc],
+    flows: &[u64],
+) -> Result<(), AllocError>
     requires many { length flows.now ≡ length arcs.now }
-    ensures { IfOk result (λ uses. uses.items ≡ uses_of arcs.now flows.now) }
+    ensures { OnOk result
+        (uses.new.items ≡ uses.old.items ++ uses_of (map (arc_of row) arcs.now) flows.now) }
 {
-    let mut uses = Vec::new(alloc);
     for place in 0..arcs.len() {
-        let arc = arcs[place];
         let count = flows[place];
         if count != 0 {
             uses.push(UseLine {
-                row: arc.row,
-                site: arc.site,
+                row,
+                site: arcs[place].site,
                 count,
             })?;
         }
+    }
+    Ok(())
+}
+
+// The uses of the arcs that have flow.
+fn uses_of(alloc: Global, instance: &Instance, flows: &[u64]) -> Result<Vec<UseLine>, AllocError>
+    requires many { length flows.now ≡ length (arcs_from 0 instance.now.arcs) }
+    ensures { IfOk result
+        (λ uses. uses.items ≡ uses_of (arcs_from 0 instance.now.arcs) flows.now) }
+{
+    let used = flows.iter().filter(|flow| **flow != 0).count();
+    let mut uses = Vec::with_capacity(alloc, used)?;
+    let mut rest = flows;
+    for row in 0..instance.rows() {
+        let arcs = instance.arcs(row);
+        let (own, more) = rest.split_at(arcs.len());
+        push_uses(&mut uses, row, arcs, own)?;
+        rest = more;
     }
     Ok(uses)
 }
@@ -91,18 +112,16 @@ fn certificate_of(
 pub(crate) fn plan_certificate(
     alloc: Global,
     instance: &Instance,
-    arcs: &[NetworkArc],
     costs: &[u64],
     plan: PricedFlow,
 ) -> Result<Certificate, AllocError>
-    requires arcs { arcs.now ≡ arcs_from 0 instance.now.arcs }
     requires costs { costs.now ≡ map cost_of (arcs_from 0 instance.now.arcs) }
     requires within { IsInstance instance.now }
     requires met { IsMet (transport_of instance.now) plan }
     ensures valid { IfOk result (IsValid (network_of instance.now)) }
     ensures low { IfOk result (HasLimitedPrices (network_of instance.now)) }
 {
-    let uses = uses_of(alloc, arcs, &plan.flows)?;
+    let uses = uses_of(alloc, instance, &plan.flows)?;
     let cost = total_of(costs, &plan.flows) as u64;
     Ok(certificate_of(
         cost,

@@ -6,8 +6,8 @@ ghost use Rattle.hsp_instance.specs.Instance.{IsInstance};
 ghost use Rattle.hsp_flow.specs.Grouping.{AreFirsts, AreGroupLists};
 
 use crate::amounts::TransportLists;
-use crate::arcs::{costs_of, rows_of, servers_of};
-use crate::grouping::{group_arcs_of, group_demands, group_places_of, runs_of};
+use crate::arcs::{ArcColumns, group_columns};
+use crate::grouping::{group_demands, group_places_of, runs_of};
 use hsp_instance::{Groups, Instance};
 use std::alloc::{AllocError, Global};
 
@@ -15,9 +15,7 @@ use std::alloc::{AllocError, Global};
 #[derive(Drop)]
 pub(crate) struct GroupLists {
     pub(crate) demands: Vec<u64>,
-    pub(crate) sources: Vec<u32>,
-    pub(crate) servers: Vec<u32>,
-    pub(crate) costs: Vec<u64>,
+    pub(crate) arcs: ArcColumns,
     pub(crate) group_places: Vec<usize>,
 }
 
@@ -43,14 +41,11 @@ pub(crate) fn group_lists(
     requires firsts { AreFirsts groups.now firsts.now }
     ensures { IfOk result (AreGroupLists instance.now groups.now firsts.now) }
 {
-    let arcs = group_arcs_of(alloc, instance, firsts)?;
     let runs = runs_of(alloc, instance, firsts)?;
     let group_places = group_places_of(alloc, instance, groups, firsts, &runs)?;
     Ok(GroupLists {
         demands: group_demands(alloc, instance, groups)?,
-        sources: rows_of(alloc, &arcs)?,
-        servers: servers_of(alloc, &arcs)?,
-        costs: costs_of(alloc, &arcs)?,
+        arcs: group_columns(alloc, instance, firsts, &runs)?,
         group_places,
     })
 }

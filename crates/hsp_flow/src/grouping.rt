@@ -4,12 +4,9 @@ ghost use Rattle.std.specs.Prelude.{◌≡◌, ℕ, ◌+◌, ◌<◌, ◌≤◌,
 ghost use Rattle.hsp_text.specs.declared.limits.TheConstants.{MOST_DEMAND_ROWS};
 ghost use Rattle.hsp_instance.specs.Groups.{AreGroups};
 ghost use Rattle.hsp_instance.specs.Instance.{IsInstance};
-ghost use Rattle.hsp_check.specs.Instance.{arcs_from};
-ghost use Rattle.hsp_flow.specs.Grouping.{AreFirsts, BeginAt, IsRun, group_arcs, group_demand, lists_at};
+ghost use Rattle.hsp_flow.specs.Grouping.{AreFirsts, BeginAt, IsRun, group_demand, lists_at};
 ghost use Rattle.hsp_mincost.specs.Layout.{Appends};
 
-use crate::arcs::push_arcs;
-use hsp_check::NetworkArc;
 use hsp_instance::{Groups, Instance, Runs};
 use std::alloc::{AllocError, Global};
 
@@ -29,24 +26,6 @@ pub(crate) fn firsts_of(
         }
     }
     Ok(firsts)
-}
-
-/// The arcs of the groups in turn, each group's those of its first row.
-pub(crate) fn group_arcs_of(
-    alloc: Global,
-    instance: &Instance,
-    firsts: &[u32],
-) -> Result<Vec<NetworkArc>, AllocError>
-    requires many { length firsts.now ≤ MOST_DEMAND_ROWS }
-    requires there { (g : ℕ) → g < length firsts.now → slice_index firsts.now g
-        < length instance.now.rows }
-    ensures { IfOk result (λ arcs. arcs.items ≡ group_arcs instance.now firsts.now) }
-{
-    let mut all = Vec::new(alloc);
-    for group in 0..firsts.len() {
-        push_arcs(&mut all, group as u32, instance.arcs(firsts[group]))?;
-    }
-    Ok(all)
 }
 
 /// The run of each group among the arcs of the groups.

@@ -3,7 +3,7 @@
 ghost use Rattle.std.specs.Prelude.{◌≡◌, IfOk, IfSome, length};
 ghost use Rattle.hsp_instance.specs.Groups.{AreGroups};
 ghost use Rattle.hsp_instance.specs.Instance.{IsInstance};
-ghost use Rattle.hsp_check.specs.Instance.{arcs_from, network_of};
+ghost use Rattle.hsp_check.specs.Instance.{network_of};
 ghost use Rattle.hsp_check.specs.Valid.{IsValid};
 ghost use Rattle.hsp_simplex.specs.Answer.{Answers, IsMet, IsShortSet};
 ghost use Rattle.hsp_simplex.specs.Problem.{problem_of};
@@ -14,14 +14,12 @@ ghost use Rattle.hsp_flow.specs.Nodes.{MayHaveNodesOf, nodes_by};
 ghost use Rattle.hsp_flow.specs.Planning.{HasLimitedPrices, transport_of};
 
 use crate::amounts::{TransportLists, lists_of};
-use crate::arcs::arcs_of;
 use crate::certify::plan_certificate;
 use crate::group_lists::{Grouping, group_lists};
 use crate::grouping::firsts_of;
 use crate::shortfall::short_certificate;
 use crate::spreading::{spread_flags, spread_flows, spread_prices};
 use hsp_cert::Certificate;
-use hsp_check::NetworkArc;
 use hsp_instance::{Groups, Instance, groups};
 use hsp_mincost::{Frontier, HeapFrontier, SearchEffort, minimum_cost_flow};
 use hsp_simplex::{Network, Outcome, PricedFlow, SimplexEffort, accepts, propose_counted};
@@ -47,9 +45,9 @@ fn row_network<'a>(instance: &Instance, rows: &'a TransportLists) -> Network<'a>
         capacities: &rows.capacities,
         limits: &rows.limits,
         hosts: &rows.hosts,
-        sources: &rows.sources,
-        servers: &rows.servers,
-        costs: &rows.costs,
+        sources: &rows.arcs.sources,
+        servers: &rows.arcs.servers,
+        costs: &rows.arcs.costs,
     }
 }
 
@@ -68,9 +66,9 @@ fn solve_groups<F: Frontier>(
         capacities: &grouping.rows.capacities,
         limits: &grouping.rows.limits,
         hosts: &grouping.rows.hosts,
-        sources: &grouping.lists.sources,
-        servers: &grouping.lists.servers,
-        costs: &grouping.lists.costs,
+        sources: &grouping.lists.arcs.sources,
+        servers: &grouping.lists.arcs.servers,
+        costs: &grouping.lists.arcs.costs,
     };
     minimum_cost_flow::<F>(alloc, &network, effort)
 }
@@ -88,7 +86,7 @@ fn spread_plan(
     let flows = spread_flows(
         alloc,
         &grouping.rows.demands,
-        &grouping.rows.sources,
+        &grouping.rows.arcs.sources,
         &grouping.lists.group_places,
         &plan.flows,
     )?;
@@ -254,19 +252,17 @@ fn solve_proposed_rows(
 fn certify(
     alloc: Global,
     instance: &Instance,
-    arcs: &[NetworkArc],
     rows: &TransportLists,
     outcome: Outcome,
 ) -> Result<Certificate, AllocError>
     requires within { IsInstance instance.now }
-    requires arcs { arcs.now ≡ arcs_from 0 instance.now.arcs }
     requires rows { transport_in rows.now ≡ transport_of instance.now }
     requires answers { Answers (transport_of instance.now) outcome }
     ensures valid { IfOk result (IsValid (network_of instance.now)) }
     ensures low { IfOk result (HasLimitedPrices (network_of instance.now)) }
 {
     match outcome {
-        Outcome::Met(plan) => plan_certificate(alloc, instance, arcs, &rows.costs, plan),
+        Outcome::Met(plan) => plan_certificate(alloc, instance, &rows.arcs.costs, plan),
         Outcome::Short(set) => certify_short(alloc, instance, rows, &set),
     }
 }
@@ -281,10 +277,9 @@ pub fn solve_counted<F: Frontier>(
     ensures valid { IfOk result (IsValid (network_of instance.now)) }
     ensures low { IfOk result (HasLimitedPrices (network_of instance.now)) }
 {
-    let arcs = arcs_of(alloc, instance)?;
-    let rows = lists_of(alloc, instance, &arcs)?;
+    let rows = lists_of(alloc, instance)?;
     let outcome = solve_by_searches::<F>(alloc, instance, &rows, &mut effort.searching)?;
-    certify(alloc, instance, &arcs, &rows, outcome)
+    certify(alloc, instance, &rows, outcome)
 }
 
 /// A valid certificate for the instance: a plan that meets every row within all capacities and limits at the least cost, with
@@ -313,10 +308,9 @@ pub fn solve_proposed(
     ensures valid { IfOk result (IsValid (network_of instance.now)) }
     ensures low { IfOk result (HasLimitedPrices (network_of instance.now)) }
 {
-    let arcs = arcs_of(alloc, instance)?;
-    let rows = lists_of(alloc, instance, &arcs)?;
+    let rows = lists_of(alloc, instance)?;
     let outcome = solve_proposed_rows(alloc, instance, &rows, effort)?;
-    certify(alloc, instance, &arcs, &rows, outcome)
+    certify(alloc, instance, &rows, outcome)
 }
 
 /// As [`solve_with`] with [`HeapFrontier`], but takes what the network simplex method proposes where the test accepts it.

@@ -16,16 +16,16 @@ overflow_cast-cost c =
 pub certificate_of-requires : goal.certificate_of-requires
 certificate_of-requires c =
     best_is c.args.instance.now c.requires.within c.args.plan c.requires.met c.total_of-cost.result (by_arcs c.args.instance.now c.requires.within c.args.costs.now c.requires.costs c.args.plan c.requires.met c.total_of-cost.result (rw c.deref-2.ensures.value at c.total_of-cost.ensures))
-    c.in_ok-uses.uses.items (rw (c.requires.arcs, c.deref.ensures.value) at c.in_ok-uses.ensures)
+    c.in_ok-uses.uses.items (rw c.deref.ensures.value at c.in_ok-uses.ensures)
 
 pub returns-clause-valid : goal.returns-clause-valid
 returns-clause-valid c =
     rw c.certificate_of.ensures
     (best_valid c.args.instance.now c.requires.within c.args.plan c.requires.met c.total_of-cost.result (by_arcs c.args.instance.now c.requires.within c.args.costs.now c.requires.costs c.args.plan c.requires.met c.total_of-cost.result (rw c.deref-2.ensures.value at c.total_of-cost.ensures))
-    c.in_ok-uses.uses.items (rw (c.requires.arcs, c.deref.ensures.value) at c.in_ok-uses.ensures))
+    c.in_ok-uses.uses.items (rw c.deref.ensures.value at c.in_ok-uses.ensures))
 
 pub returns-clause-low : goal.returns-clause-low
 returns-clause-low c =
     rw c.certificate_of.ensures
     (best_low c.args.instance.now c.requires.within c.args.plan c.requires.met c.total_of-cost.result (by_arcs c.args.instance.now c.requires.within c.args.costs.now c.requires.costs c.args.plan c.requires.met c.total_of-cost.result (rw c.deref-2.ensures.value at c.total_of-cost.ensures))
-    c.in_ok-uses.uses.items (rw (c.requires.arcs, c.deref.ensures.value) at c.in_ok-uses.ensures))
+    c.in_ok-uses.uses.items (rw c.deref.ensures.value at c.in_ok-uses.ensures))

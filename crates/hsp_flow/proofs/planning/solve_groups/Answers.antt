@@ -10,7 +10,7 @@ invariant_of-network g c = record {
   ends = of_lists c.args.grouping.now.instance.now c.requires.grouping.within c.args.grouping.now.groups.now c.requires.grouping.are_groups c.args.grouping.now.firsts.now c.requires.grouping.are_firsts c.args.grouping.now.lists.now c.requires.grouping.of_groups
       c.deref.result.now c.deref-2.result.now c.deref-3.result.now c.deref-4.result.now c.deref-5.result.now c.deref-6.result.now c.deref-7.result.now
       c.deref.ensures.value (c.deref-2.ensures.value ∙ ap (λ (n : Transport). n.capacities) c.requires.grouping.of_rows) (c.deref-3.ensures.value ∙ ap (λ (n : Transport). n.limits) c.requires.grouping.of_rows) (c.deref-4.ensures.value ∙ ap (λ (n : Transport). n.hosts) c.requires.grouping.of_rows)
-      (c.deref-5.ensures.value ∙ c.requires.grouping.of_groups.sources) (c.deref-6.ensures.value ∙ c.requires.grouping.of_groups.servers) (c.deref-7.ensures.value ∙ c.requires.grouping.of_groups.costs) IsNetwork
+      (c.deref-5.ensures.value ∙ c.requires.grouping.of_groups.arcs.sources) (c.deref-6.ensures.value ∙ c.requires.grouping.of_groups.arcs.servers) (c.deref-7.ensures.value ∙ c.requires.grouping.of_groups.arcs.costs) IsNetwork
       (grouped_is c.args.grouping.now.instance.now c.requires.grouping.within c.args.grouping.now.groups.now c.requires.grouping.are_groups c.args.grouping.now.firsts.now c.requires.grouping.are_firsts c.args.grouping.now.lists.now c.requires.grouping.of_groups);
 }
 
@@ -19,7 +19,7 @@ minimum_cost_flow-requires g c = record {
   small = of_lists c.args.grouping.now.instance.now c.requires.grouping.within c.args.grouping.now.groups.now c.requires.grouping.are_groups c.args.grouping.now.firsts.now c.requires.grouping.are_firsts c.args.grouping.now.lists.now c.requires.grouping.of_groups
       c.deref.result.now c.deref-2.result.now c.deref-3.result.now c.deref-4.result.now c.deref-5.result.now c.deref-6.result.now c.deref-7.result.now
       c.deref.ensures.value (c.deref-2.ensures.value ∙ ap (λ (n : Transport). n.capacities) c.requires.grouping.of_rows) (c.deref-3.ensures.value ∙ ap (λ (n : Transport). n.limits) c.requires.grouping.of_rows) (c.deref-4.ensures.value ∙ ap (λ (n : Transport). n.hosts) c.requires.grouping.of_rows)
-      (c.deref-5.ensures.value ∙ c.requires.grouping.of_groups.sources) (c.deref-6.ensures.value ∙ c.requires.grouping.of_groups.servers) (c.deref-7.ensures.value ∙ c.requires.grouping.of_groups.costs) IsSmall
+      (c.deref-5.ensures.value ∙ c.requires.grouping.of_groups.arcs.sources) (c.deref-6.ensures.value ∙ c.requires.grouping.of_groups.arcs.servers) (c.deref-7.ensures.value ∙ c.requires.grouping.of_groups.arcs.costs) IsSmall
       (grouped_small c.args.grouping.now.instance.now c.requires.grouping.within c.args.grouping.now.groups.now c.requires.grouping.are_groups c.args.grouping.now.firsts.now c.requires.grouping.are_firsts c.args.grouping.now.lists.now c.requires.grouping.of_groups);
   nodes = λ n l. c.requires.nodes n
       (few_nodes c.args.grouping.now.instance.now c.args.grouping.now.groups.now.count c.deref.result.now c.deref-2.result.now c.deref-3.result.now
