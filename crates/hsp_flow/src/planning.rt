@@ -53,6 +53,22 @@ fn row_network<'a>(instance: &Instance, rows: &'a TransportLists) -> Network<'a>
     }
 }
 
+// The network whose sources are the groups.
+fn group_network<'a>(grouping: &Grouping<'a>) -> Network<'a>
+    requires { IsGrouping grouping.now }
+    ensures { problem_of result ≡ transport_by grouping.now }
+{
+    Network {
+        demands: &grouping.lists.demands,
+        capacities: &grouping.rows.capacities,
+        limits: &grouping.rows.limits,
+        hosts: &grouping.rows.hosts,
+        sources: &grouping.lists.sources,
+        servers: &grouping.lists.servers,
+        costs: &grouping.lists.costs,
+    }
+}
+
 // What becomes of the groups' network.
 fn solve_groups<F: Frontier>(
     alloc: Global,
@@ -63,15 +79,7 @@ fn solve_groups<F: Frontier>(
     requires nodes { MayHaveUpTo F.may_have (nodes_with grouping.now) }
     ensures { IfOk result (Answers (transport_by grouping.now)) }
 {
-    let network = Network {
-        demands: &grouping.lists.demands,
-        capacities: &grouping.rows.capacities,
-        limits: &grouping.rows.limits,
-        hosts: &grouping.rows.hosts,
-        sources: &grouping.lists.sources,
-        servers: &grouping.lists.servers,
-        costs: &grouping.lists.costs,
-    };
+    let network = group_network(grouping);
     minimum_cost_flow::<F>(alloc, &network, effort)
 }
 
