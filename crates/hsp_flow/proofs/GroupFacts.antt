@@ -6,14 +6,14 @@ use Rattle.std.proofs.lemmas.List.{length-map, get_or-map, get_or_past}
 use Rattle.std.proofs.lemmas.Option.{slice_get-get_or, get_or_from_slice_get, slice_get-map, slice_get_within}
 use Rattle.std.proofs.lemmas.Bool.{cases_lt}
 use Rattle.hsp_instance.specs.declared.arc.Arc.{Arc}
-use Rattle.hsp_instance.specs.Instance.{Instance, IsInstance, AreArcs}
+use Rattle.hsp_instance.specs.Instance.{Instance, Row, IsInstance, AreArcs}
 use Rattle.hsp_instance.specs.Groups.{Groups, AreGroups, AreAlike}
 use Rattle.hsp_check.specs.declared.arc.NetworkArc.{NetworkArc}
 use Rattle.hsp_check.specs.Instance.{arc_of, arcs_from}
-use Rattle.hsp_flow.specs.Grouping.{group_of, AreFirsts, arcs_at, lists_at, group_arcs, offset, IsRun, AreGroupPlaces}
+use Rattle.hsp_flow.specs.Grouping.{group_of, AreFirsts, arcs_at, lists_at, group_arcs, grouped, offset, IsRun, AreGroupPlaces}
 use Rattle.hsp_mincost.specs.Layout.{Appends}
 use Rattle.hsp_mincost.proofs.Appending.{longer}
-use Rattle.hsp_flow.specs.Planning.{row_of, server_of, cost_of}
+use Rattle.hsp_flow.specs.Planning.{transport_of, row_of, server_of, cost_of}
 use Rattle.hsp_flow.proofs.Ordering.{no_arc, each_at, each_weaker}
 use Rattle.hsp_flow.proofs.Bridging.{arc}
 use Rattle.hsp_flow.proofs.Offsets.{no_own, list_at, Stands, at_offset, Comes, from_offset, offset_all, offset_none, offset_more, offset_rises}
@@ -41,80 +41,61 @@ module _ (it : Instance) (is : IsInstance it) (gs : Groups) (ag : AreGroups it g
       let arcs : slice_get it.arcs i ≡ Some (list_at it.arcs i) = slice_get-get_or it.arcs i [] (omega (arith, l, is.one_list_a_row)) in
       first ∙ get_or_from_slice_get it.arcs r (list_at it.arcs i) [] (alike.arcs ∙ arcs)
 
-  module _ (group_places : List ℕ) (run : IsRun it.arcs (lists_at it firsts) gs (length it.rows) group_places) where
-    -- an arc of a row and its group's
-    record Paired (k : ℕ) : Type 0 where
-      row : ℕ
-      own : Arc
-      row_in : row < length it.rows
+  module _ (demands group_places : List ℕ) (run : IsRun it.arcs (lists_at it firsts) gs (length it.rows) group_places) where
+    -- an arc as one of its row's group
+    abbrev grouped_arc : NetworkArc → NetworkArc
+    grouped_arc a = record { row = group_of gs a.row; site = a.site; server = a.server; cost = a.cost }
+
+    -- an arc of a row is at its place one of its group
+    record IsPlaced (k : ℕ) : Type 0 where
       inside : slice_index group_places k < length (group_arcs it firsts)
-      arc_is : arc (arcs_from 0 it.arcs) k ≡ arc_of row own
-      group_place_is : arc (group_arcs it firsts) (slice_index group_places k) ≡ arc_of (group_of gs row) own
+      alike : arc (group_arcs it firsts) (slice_index group_places k) ≡ grouped_arc (arc (arcs_from 0 it.arcs) k)
 
-    pair : (i m : ℕ) → i < length it.rows → m < length (list_at it.arcs i) → Paired (offset it.arcs i + m)
-    pair i m l n =
-        let g = group_of gs i in
-        let same = alike_lists i l in
-        let rows : i < length it.arcs = omega (arith, l, is.one_list_a_row) in
-        let groups : g < length (lists_at it firsts) = omega (arith, group_in i l, af.many, length-map firsts (arcs_at it)) in
-        let at_row : Stands 0 it.arcs i m = at_offset 0 it.arcs i m rows n in
-        let place : m < length (list_at (lists_at it firsts) g) = rw same n in
-        let at_group : Stands 0 (lists_at it firsts) g m = at_offset 0 (lists_at it firsts) g m groups place in
-        let group_place : slice_index group_places (offset it.arcs i + m) ≡ offset (lists_at it firsts) g + m = run.at i m l n in
-        record {
-          row = i;
-          own = slice_index_or (list_at it.arcs i) m no_own;
-          row_in = l;
-          inside = rw group_place at_group.inside;
-          arc_is = at_row.is ∙ ap (λ r. arc_of r (slice_index_or (list_at it.arcs i) m no_own)) (zero-add i);
-          group_place_is =
-              ap (λ e. arc (group_arcs it firsts) e) group_place ∙ at_group.is ∙ ap (λ r. arc_of r (slice_index_or (list_at (lists_at it firsts) g) m no_own)) (zero-add g)
-              ∙ ap (λ (xs : List Arc). arc_of g (slice_index_or xs m no_own)) same;
-        }
-
-    paired : (k : ℕ) → k < length (arcs_from 0 it.arcs) → Paired k
-    paired k l =
+    placed : (k : ℕ) → k < length (arcs_from 0 it.arcs) → IsPlaced k
+    placed k l =
         let c : Comes it.arcs k = from_offset 0 it.arcs k l in
-        subst Paired (sym c.is) (pair c.list c.place (omega (arith, c.list_in, is.one_list_a_row)) c.place_in)
+        let there : c.list < length it.rows = omega (arith, c.list_in, is.one_list_a_row) in
+        let same = alike_lists c.list there in
+        let row : Stands 0 it.arcs c.list c.place = at_offset 0 it.arcs c.list c.place c.list_in c.place_in in
+        let group : Stands 0 (lists_at it firsts) (group_of gs c.list) c.place =
+        at_offset 0 (lists_at it firsts) (group_of gs c.list) c.place (omega (arith, group_in c.list there, af.many, length-map firsts (arcs_at it))) (rw same c.place_in) in
+        let place = run.at c.list c.place there c.place_in in
+        let own : slice_index_or (arcs_from 0 it.arcs) (offset it.arcs c.list + c.place) no_arc ≡ arc_of c.list (slice_index_or (list_at it.arcs c.list) c.place no_own) = rw zero-add at row.is in
+        subst IsPlaced (sym c.is) (record {
+          inside = rw place group.inside;
+          alike = ap (arc (group_arcs it firsts)) place ∙ rw (zero-add, same) at group.is ∙ sym (ap grouped_arc own);
+        })
 
-    row_at : (k : ℕ) → k < length (arcs_from 0 it.arcs) → slice_index (map row_of (arcs_from 0 it.arcs)) k ≡ (arc (arcs_from 0 it.arcs) k).row
-    row_at k l = get_or-map row_of (arcs_from 0 it.arcs) k no_arc 0 l
+    inside : (k : ℕ) → k < length (map row_of (arcs_from 0 it.arcs)) → k < length (arcs_from 0 it.arcs)
+    inside k l = omega (arith, l, length-map (arcs_from 0 it.arcs) row_of)
 
-    pub group_places_are : AreGroupPlaces it gs (arcs_from 0 it.arcs) (group_arcs it firsts) group_places
+    part : (p : NetworkArc → ℕ) (k : ℕ) → k < length (map row_of (arcs_from 0 it.arcs)) → slice_index (map p (arcs_from 0 it.arcs)) k ≡ p (arc (arcs_from 0 it.arcs) k)
+    part p k l = get_or-map p (arcs_from 0 it.arcs) k no_arc 0 (inside k l)
+
+    group_part : (p : NetworkArc → ℕ) (k : ℕ) → k < length (map row_of (arcs_from 0 it.arcs)) →
+        slice_index (map p (group_arcs it firsts)) (slice_index group_places k) ≡ p (grouped_arc (arc (arcs_from 0 it.arcs) k))
+    group_part p k l = let q = placed k (inside k l) in get_or-map p (group_arcs it firsts) (slice_index group_places k) no_arc 0 q.inside ∙ ap p q.alike
+
+    pub group_places_are : AreGroupPlaces gs (transport_of it) (grouped it firsts demands) group_places
     group_places_are = record {
-      many = run.many ∙ ap (λ n. offset it.arcs n) (sym is.one_list_a_row) ∙ offset_all 0 it.arcs;
-      inside = λ k l. (paired k l).inside;
-      row = λ k l.
-          let p = paired k l in
-          get_or-map row_of (group_arcs it firsts) (slice_index group_places k) no_arc 0 p.inside ∙ ap (λ (a : NetworkArc). a.row) p.group_place_is
-          ∙ ap (group_of gs) (sym (ap (λ (a : NetworkArc). a.row) p.arc_is) ∙ sym (row_at k l));
-      server = λ k l.
-          let p = paired k l in
-          get_or-map server_of (group_arcs it firsts) (slice_index group_places k) no_arc 0 p.inside ∙ ap (λ (a : NetworkArc). a.server) p.group_place_is
-          ∙ sym (ap (λ (a : NetworkArc). a.server) p.arc_is) ∙ sym (get_or-map server_of (arcs_from 0 it.arcs) k no_arc 0 l);
-      cost = λ k l.
-          let p = paired k l in
-          get_or-map cost_of (group_arcs it firsts) (slice_index group_places k) no_arc 0 p.inside ∙ ap (λ (a : NetworkArc). a.cost) p.group_place_is
-          ∙ sym (ap (λ (a : NetworkArc). a.cost) p.arc_is) ∙ sym (get_or-map cost_of (arcs_from 0 it.arcs) k no_arc 0 l);
-      covered = cover;
+      many = run.many ∙ ap (offset it.arcs) (sym is.one_list_a_row) ∙ offset_all 0 it.arcs ∙ sym (length-map (arcs_from 0 it.arcs) row_of);
+      inside = λ k l. omega (arith, (placed k (inside k l)).inside, length-map (group_arcs it firsts) row_of);
+      source = λ k l. group_part row_of k l ∙ ap (group_of gs) (sym (part row_of k l));
+      server = λ k l. group_part server_of k l ∙ sym (part server_of k l);
+      cost = λ k l. group_part cost_of k l ∙ sym (part cost_of k l);
+      covered = λ i e l m same.
+          let row_in : i < length it.rows = omega (arith, l, length-map it.rows (λ (r : Row). r.count)) in
+          let arc_in : e < length (group_arcs it firsts) = omega (arith, m, length-map (group_arcs it firsts) row_of) in
+          let c : Comes (lists_at it firsts) e = from_offset 0 (lists_at it firsts) e arc_in in
+          let s : Stands 0 (lists_at it firsts) c.list c.place = at_offset 0 (lists_at it firsts) c.list c.place c.list_in c.place_in in
+          let group : group_of gs i ≡ c.list =
+          sym same ∙ get_or-map row_of (group_arcs it firsts) e no_arc 0 arc_in ∙ ap (λ (k : ℕ). (arc (group_arcs it firsts) k).row) c.is ∙ ap row_of s.is ∙ zero-add c.list in
+          let place : c.place < length (list_at it.arcs i) = rw (sym (alike_lists i row_in), group) c.place_in in
+          let there : Stands 0 it.arcs i c.place = at_offset 0 it.arcs i c.place (omega (arith, row_in, is.one_list_a_row)) place in
+          let k = offset it.arcs i + c.place in
+          let k_in : k < length (map row_of (arcs_from 0 it.arcs)) = omega (arith, there.inside, length-map (arcs_from 0 it.arcs) row_of) in
+          (k, k_in, part row_of k k_in ∙ ap row_of there.is ∙ zero-add i, run.at i c.place row_in place ∙ ap (λ (g : ℕ). offset (lists_at it firsts) g + c.place) group ∙ sym c.is);
     }
-      where
-        cover : (i e : ℕ) → i < length it.rows → e < length (group_arcs it firsts) → slice_index (map row_of (group_arcs it firsts)) e ≡ group_of gs i →
-            (k : ℕ) × (k < length (arcs_from 0 it.arcs)) × (slice_index (map row_of (arcs_from 0 it.arcs)) k ≡ i) × (slice_index group_places k ≡ e)
-        cover i e l m same =
-            let c : Comes (lists_at it firsts) e = from_offset 0 (lists_at it firsts) e m in
-            let s : Stands 0 (lists_at it firsts) c.list c.place = at_offset 0 (lists_at it firsts) c.list c.place c.list_in c.place_in in
-            let row : slice_index (map row_of (group_arcs it firsts)) e ≡ c.list =
-            get_or-map row_of (group_arcs it firsts) e no_arc 0 m ∙ ap (λ (k : ℕ). (arc (group_arcs it firsts) k).row) c.is ∙ ap (λ (a : NetworkArc). a.row) s.is ∙ zero-add c.list in
-            let group : c.list ≡ group_of gs i = sym row ∙ same in
-            let place : c.place < length (list_at it.arcs i) = rw (sym (alike_lists i l)) (subst (λ (g : ℕ). c.place < length (list_at (lists_at it firsts) g)) group c.place_in) in
-            let k = offset it.arcs i + c.place in
-            let there : Stands 0 it.arcs i c.place = at_offset 0 it.arcs i c.place (omega (arith, l, is.one_list_a_row)) place in (
-              k,
-              there.inside,
-              row_at k there.inside ∙ ap (λ (a : NetworkArc). a.row) there.is ∙ zero-add i,
-              run.at i c.place l place ∙ ap (λ (g : ℕ). offset (lists_at it firsts) g + c.place) (sym group) ∙ sym c.is,
-            )
 
 -- ---- one group or row more
 

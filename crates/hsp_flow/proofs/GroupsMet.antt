@@ -1,176 +1,234 @@
 -- A flow that meets the groups meets their rows when it is spread; groups that are short have rows that are.
-use Rattle.std.proofs.Common.{◌≡◌, ℕ, ◌+◌, ◌*◌, ◌<◌, ◌≤◌, ◌==◌, ◌∙◌, Bool, false, List, length, map, slice_index, slice_index_or, if◌then◌else◌, ap, ap₂, sym, inl, inr, arith}
-use Rattle.std.specs.Prelude.{Option, ◌&&◌, is_none, min}
+use Rattle.std.proofs.Common.{◌≡◌, ℕ, ◌+◌, ◌*◌, ◌<◌, ◌≤◌, ◌==◌, ◌∙◌, Bool, false, List, length, slice_index, slice_index_or, if◌then◌else◌, refl, ap, ap₂, sym, inl, inr, arith}
+use Rattle.std.specs.Prelude.{◌&&◌, is_none, min}
 use Rattle.std.proofs.Math.Nat.{mul-le-mul_right}
-use Rattle.std.proofs.lemmas.List.{length-map, get_or-map}
+use Rattle.std.proofs.lemmas.List.{length-map}
 use Rattle.std.proofs.lemmas.Bool.{cases_eq}
-use Rattle.hsp_instance.specs.Instance.{Instance, Row, IsInstance}
-use Rattle.hsp_instance.specs.Groups.{Groups, AreGroups}
-use Rattle.hsp_check.specs.Instance.{arcs_from}
+use Rattle.hsp_instance.specs.Instance.{Row}
 use Rattle.hsp_simplex.specs.Answer.{IsMet, IsShortSet, BoundsCosts}
-use Rattle.hsp_flow.specs.Grouping.{group_of, group_demand, grouped, AreFirsts, AreGroupPlaces, AreGroupLists, group_arcs, arcs_at, lists_at}
-use Rattle.hsp_simplex.specs.Network.{Transport, IsNetwork, HasLowPrices, load, host_load, is_on, host_of, reaches, reached_capacity, capacity_of, demand_of}
-use Rattle.hsp_flow.specs.Planning.{transport_of, row_of, server_of, cost_of}
-use Rattle.hsp_flow.specs.Spreads.{Spread}
+use Rattle.hsp_simplex.specs.Network.{Transport, IsNetwork, load, host_load, is_on, host_of, reached_capacity, capacity_of, demand_of}
 use Rattle.hsp_simplex.specs.Sums.{sum_below, only}
 use Rattle.hsp_simplex.specs.declared.network.PricedFlow.{PricedFlow}
-use Rattle.hsp_mincost.proofs.Sums.{sum_below_low, sum_below_same, only_here, only_there}
-use Rattle.hsp_mincost.proofs.Totals.{any_alike, by_key, only_when}
-use Rattle.hsp_flow.proofs.SpreadFlows as spread
 use Rattle.hsp_mincost.specs.Layout.{IsSmall}
-use Rattle.hsp_flow.specs.declared.group_lists.GroupLists.{GroupLists}
-use Rattle.hsp_flow.proofs.Ordering.{no_arc}
-use Rattle.hsp_flow.proofs.Limits.{network_is, over_is, over_small, row_at, counts_low}
+use Rattle.hsp_mincost.specs.Sums.{through}
+use Rattle.hsp_mincost.proofs.Sums.{sum_below_low, sum_below_same, term_within, only_here, only_there, only_zero}
+use Rattle.hsp_mincost.proofs.Totals.{any_alike, by_key, only_when, sum_below_zero, through_is}
+use Rattle.hsp_flow.specs.Grouped.{IsGrouping, transport_by}
+use Rattle.hsp_flow.specs.Grouping.{group_of, AreGroupPlaces, arcs_at, lists_at}
+use Rattle.hsp_flow.specs.Planning.{transport_of}
+use Rattle.hsp_flow.specs.Spreads.{Spread}
+use Rattle.hsp_flow.specs.declared.group_lists.Grouping.{Grouping}
+use Rattle.hsp_flow.proofs.Limits.{network_is, over_is, over_small, counts_low}
 use Rattle.hsp_flow.proofs.GroupFacts.{group_in, first_in, group_places_are, lists_are}
+use Rattle.hsp_flow.proofs.SpreadFlows.{regrouped}
 
-module _ (it : Instance) (is : IsInstance it) (gs : Groups) (ag : AreGroups it gs) (firsts : List ℕ) (af : AreFirsts gs firsts)
-    (demands : List ℕ) (dm : length demands ≡ gs.count) (dd : (g : ℕ) → g < gs.count → slice_index demands g ≡ group_demand it gs g)
-    (group_places : List ℕ) (ah : AreGroupPlaces it gs (arcs_from 0 it.arcs) (group_arcs it firsts) group_places)
-    (ends : (e : ℕ) → e < length (group_arcs it firsts) → slice_index (map row_of (group_arcs it firsts)) e < gs.count) where
-  abbrev net : Transport
-  net = grouped it firsts demands
-
+module _ (g : Grouping) (is : IsGrouping g) where
   abbrev rows : Transport
-  rows = transport_of it
+  rows = transport_of g.instance.now
 
-  rows_many : length rows.demands ≡ length it.rows
-  rows_many = length-map it.rows (λ (r : Row). r.count)
+  abbrev net : Transport
+  net = transport_by g
 
-  row_arcs_many : length rows.sources ≡ length (arcs_from 0 it.arcs)
-  row_arcs_many = length-map (arcs_from 0 it.arcs) row_of
+  abbrev group : ℕ → ℕ
+  group i = group_of g.groups.now i
 
-  groups_many : length net.sources ≡ length (group_arcs it firsts)
-  groups_many = length-map (group_arcs it firsts) row_of
+  abbrev place : ℕ → ℕ
+  place k = slice_index g.lists.now.group_places.items k
 
-  row_in : (k : ℕ) → k < length rows.sources → slice_index rows.sources k < length rows.demands
-  row_in k l = (network_is it is).sources_in k l
+  pub places : AreGroupPlaces g.groups.now rows net g.lists.now.group_places.items
+  places = group_places_are g.instance.now is.within g.groups.now is.are_groups g.firsts.now is.are_firsts g.lists.now.demands.items g.lists.now.group_places.items is.of_groups.group_places
 
-  group_place_in : (k : ℕ) → k < length rows.sources → slice_index group_places k < length net.sources
-  group_place_in k l = omega (arith, ah.inside k (omega (arith, l, row_arcs_many)), groups_many)
+  pub rows_are : IsNetwork rows
+  rows_are = network_is g.instance.now is.within
 
-  group_place_row : (k : ℕ) → k < length rows.sources → slice_index net.sources (slice_index group_places k) ≡ group_of gs (slice_index rows.sources k)
-  group_place_row k l = ah.row k (omega (arith, l, row_arcs_many))
+  rows_many : length rows.demands ≡ length g.instance.now.rows
+  rows_many = length-map g.instance.now.rows (λ (r : Row). r.count)
 
-  covered : (i e : ℕ) → i < length rows.demands → e < length net.sources → slice_index net.sources e ≡ group_of gs i →
-      (k : ℕ) × (k < length rows.sources) × (slice_index rows.sources k ≡ i) × (slice_index group_places k ≡ e)
-  covered i e l m same =
-      let c = ah.covered i e (omega (arith, l, rows_many)) (omega (arith, m, groups_many)) same in
-      (c.0, omega (arith, c.1, row_arcs_many), c.2, c.3)
+  lists_many : length net.demands ≡ length (lists_at g.instance.now g.firsts.now)
+  lists_many = omega (arith, is.of_groups.demands_many, length-map g.firsts.now (arcs_at g.instance.now), is.are_firsts.many)
+
+  group_low : (i : ℕ) → i < length rows.demands → group i < length net.demands
+  group_low i l = omega (arith, group_in g.instance.now is.within g.groups.now is.are_groups g.firsts.now is.are_firsts i (omega (arith, l, rows_many)), is.of_groups.demands_many)
+
+  demand_of_group : (v : ℕ) → v < length net.demands → slice_index net.demands v ≡ sum_below (length rows.demands) (λ i. only (group i) v (slice_index rows.demands i))
+  demand_of_group v l =
+      is.of_groups.demands v (omega (arith, l, is.of_groups.demands_many)) ∙ ap (λ n. sum_below n (λ i. only (group i) v (slice_index rows.demands i))) (sym rows_many)
+
+  -- the groups' network is one, with room for its numbers
+  pub groups_are : IsNetwork net
+  groups_are = over_is g.instance.now is.within (lists_at g.instance.now g.firsts.now) (lists_are g.instance.now is.within g.firsts.now) g.lists.now.demands.items lists_many
+
+  pub groups_small : IsSmall net
+  groups_small =
+      over_small g.instance.now is.within (lists_at g.instance.now g.firsts.now) (lists_are g.instance.now is.within g.firsts.now) g.lists.now.demands.items lists_many
+      (omega (arith, length-map g.firsts.now (arcs_at g.instance.now), is.are_firsts.many, is.are_firsts.few, is.are_groups.one_a_row, is.within.rows.few))
+      (λ v l.
+      let sum = sum_below_low (length rows.demands) (λ i. only (group i) v (slice_index rows.demands i)) 1000000 (one_low v) in
+      omega (arith, demand_of_group v l, sum, rows_many, is.within.rows.few))
+    where
+      one_low : (v i : ℕ) → i < length rows.demands → only (group i) v (slice_index rows.demands i) ≤ 1000000
+      one_low v i l = elim (cases_eq (group i) v) [
+        | inl e ↦ omega (arith, only_here (group i) v (slice_index rows.demands i) e, counts_low g.instance.now is.within i l)
+        | inr ne ↦ omega (arith, only_there (group i) v (slice_index rows.demands i) ne)
+      ]
 
   -- each arc of a group is that of one of its first row's
-  pub reached : (e : ℕ) → e < length net.sources → (k : ℕ) × (k < length rows.sources) × (slice_index group_places k ≡ e)
+  reached : (e : ℕ) → e < length net.sources → (k : ℕ) × (k < length rows.sources) × (place k ≡ e)
   reached e l =
-      let g = slice_index net.sources e in
-      let there : g < gs.count = ends e (omega (arith, l, groups_many)) in
-      let first = first_in it is gs ag firsts af g there in
-      let c = covered (slice_index firsts g) e (omega (arith, first, rows_many)) l (sym (af.own g there)) in
+      let there : slice_index net.sources e < g.groups.now.count = omega (arith, groups_are.sources_in e l, is.of_groups.demands_many) in
+      let first = first_in g.instance.now is.within g.groups.now is.are_groups g.firsts.now is.are_firsts (slice_index net.sources e) there in
+      let c = places.covered (slice_index g.firsts.now (slice_index net.sources e)) e (omega (arith, first, rows_many)) l (sym (is.are_firsts.own _ there)) in
       (c.0, c.1, c.3)
 
-  module _ (plan : PricedFlow) (met : IsMet net plan) (need left : ℕ → ℕ) (flows u : List ℕ) (flows_many : length flows ≡ length rows.sources)
-      (s : Spread (length rows.demands) (length rows.sources) (length net.sources) (λ i. slice_index rows.demands i) (λ k. slice_index rows.sources k) (λ k. slice_index group_places k)
-      (λ k. slice_index flows k) (λ e. slice_index plan.flows.items e) need left)
-      (u_many : length u ≡ length it.rows) (prices : (i : ℕ) → i < length it.rows → slice_index u i ≡ slice_index plan.source_prices.items (group_of gs i)) where
-    balanced : (g : ℕ) → g < gs.count → sum_below (length net.sources) (λ e. only (slice_index net.sources e) g (slice_index plan.flows.items e)) ≡ sum_below (length rows.demands) (λ i. only (group_of gs i) g (slice_index rows.demands i))
-    balanced g l = met.feasible.met g (omega (arith, l, dm)) ∙ dd g l ∙ ap (λ n. sum_below n (λ i. only (group_of gs i) g (slice_index rows.demands i))) (sym rows_many)
+  module _ (plan made : PricedFlow) (met : IsMet net plan) (need left : List ℕ) (many : length made.flows.items ≡ length rows.sources)
+      (s : Spread rows.demands rows.sources g.lists.now.group_places.items plan.flows.items made.flows.items need left)
+      (prices_many : length made.source_prices.items ≡ length rows.demands)
+      (prices : (i : ℕ) → i < length rows.demands → slice_index made.source_prices.items i ≡ slice_index plan.source_prices.items (group i))
+      (servers : made.server_prices.items ≡ plan.server_prices.items) (hosts : made.host_prices.items ≡ plan.host_prices.items) where
+    abbrev flow : ℕ → ℕ
+    flow k = slice_index made.flows.items k
 
-    of_group : (i : ℕ) → i < length rows.demands → group_of gs i < gs.count
-    of_group i l = group_in it is gs ag firsts af i (omega (arith, l, rows_many))
+    abbrev group_flow : ℕ → ℕ
+    group_flow e = slice_index plan.flows.items e
 
-    of_end : (e : ℕ) → e < length net.sources → slice_index net.sources e < gs.count
-    of_end e l = ends e (omega (arith, l, groups_many))
+    left_is : (e : ℕ) → e < length net.sources → slice_index left e + through g.lists.now.group_places.items made.flows.items e ≡ group_flow e
+    left_is e l = s.flow e (omega (arith, l, met.many))
 
-    load_is : (j : ℕ) → load rows (λ k. slice_index flows k) j ≡ load net (λ e. slice_index plan.flows.items e) j
+    place_in : (k : ℕ) → k < length made.flows.items → place k < length net.sources
+    place_in k l = places.inside k (omega (arith, l, many))
+
+    -- what is left of a group's flow is what its rows still need
+    even : (v : ℕ) → v < length net.demands →
+        sum_below (length net.sources) (λ e. only (slice_index net.sources e) v (slice_index left e)) ≡ sum_below (length rows.demands) (λ i. only (group i) v (slice_index need i))
+    even v l =
+        let alike : sum_below (length made.flows.items) (λ k. only (slice_index net.sources (place k)) v (flow k)) ≡ sum_below (length made.flows.items) (λ k. only (group (slice_index rows.sources k)) v (flow k)) =
+        sum_below_same (length made.flows.items) _ _ (λ k m. ap (λ (w : ℕ). only w v (flow k)) (places.source k (omega (arith, m, many)))) in
+        omega (
+          arith,
+          regrouped (length net.sources) (λ e. slice_index net.sources e) g.lists.now.group_places.items plan.flows.items left made.flows.items v left_is place_in,
+          regrouped (length rows.demands) group rows.sources rows.demands need made.flows.items v s.needs (λ k m. rows_are.sources_in k (omega (arith, m, many))),
+          alike,
+          met.feasible.met v l,
+          demand_of_group v l,
+        )
+
+    -- no row needs more
+    all_met : (i : ℕ) → i < length rows.demands → slice_index need i ≡ 0
+    all_met i l = elim (cases_eq (slice_index need i) 0) [
+      | inl met ↦ met
+      | inr unmet ↦
+          let spent : sum_below (length net.sources) (λ e. only (slice_index net.sources e) (group i) (slice_index left e)) ≡ 0 =
+          sum_below_zero (length net.sources) _ (λ e m. elim (cases_eq (slice_index net.sources e) (group i)) [
+            | inl at ↦
+                let c = places.covered i e l m at in
+                let none : slice_index left e ≡ 0 = elim (s.greedy c.0 (omega (arith, c.1, many))) [
+                  | inl met ↦ absurd (unmet (ap (λ r. slice_index need r) (sym c.2) ∙ met))
+                  | inr gone ↦ ap (λ p. slice_index left p) (sym c.3) ∙ gone
+                ] in
+                ap (only (slice_index net.sources e) (group i)) none ∙ only_zero (slice_index net.sources e) (group i)
+            | inr other ↦ only_there (slice_index net.sources e) (group i) (slice_index left e) other
+          ]) in
+          let term = term_within (length rows.demands) (λ k. only (group k) (group i) (slice_index need k)) i l in
+          absurd (unmet (omega (arith, even (group i) (group_low i l), spent, term, only_here (group i) (group i) (slice_index need i) refl)))
+    ]
+
+    -- and nothing is left
+    all_spent : (e : ℕ) → e < length net.sources → slice_index left e ≡ 0
+    all_spent e l =
+        let v = slice_index net.sources e in
+        let none : sum_below (length rows.demands) (λ i. only (group i) v (slice_index need i)) ≡ 0 =
+        sum_below_zero (length rows.demands) _ (λ i m. ap (only (group i) v) (all_met i m) ∙ only_zero (group i) v) in
+        let term = term_within (length net.sources) (λ k. only (slice_index net.sources k) v (slice_index left k)) e l in
+        omega (arith, even v (groups_are.sources_in e l), none, term, only_here v v (slice_index left e) refl)
+
+    load_is : (j : ℕ) → load rows flow j ≡ load net group_flow j
     load_is j =
-        spread.spread_sum (length rows.demands) (length rows.sources) (length net.sources) gs.count (λ i. slice_index rows.demands i) (λ k. slice_index rows.sources k) (λ k. slice_index group_places k)
-        (λ k. slice_index flows k) (λ e. slice_index plan.flows.items e) need left (group_of gs) (λ e. slice_index net.sources e) s of_group of_end row_in group_place_in group_place_row balanced covered
-        (λ k. slice_index rows.servers k) (λ e. slice_index net.servers e) (λ k l. ah.server k (omega (arith, l, row_arcs_many))) j
+        let none = sum_below_zero (length net.sources) (λ e. only (slice_index net.servers e) j (slice_index left e))
+        (λ e l. ap (only (slice_index net.servers e) j) (all_spent e l) ∙ only_zero (slice_index net.servers e) j) in
+        let same : load rows flow j ≡ sum_below (length made.flows.items) (λ k. only (slice_index net.servers (place k)) j (flow k)) =
+        sum_below_same (length rows.sources) _ _ (λ k l. ap (λ (w : ℕ). only w j (flow k)) (sym (places.server k l)))
+        ∙ ap (λ n. sum_below n (λ k. only (slice_index net.servers (place k)) j (flow k))) (sym many) in
+        omega (arith, none, same, regrouped (length net.sources) (λ e. slice_index net.servers e) g.lists.now.group_places.items plan.flows.items left made.flows.items j left_is place_in)
 
-    host_is : (h : ℕ) → host_load rows (λ k. slice_index flows k) h ≡ host_load net (λ e. slice_index plan.flows.items e) h
+    host_is : (h : ℕ) → host_load rows flow h ≡ host_load net group_flow h
     host_is h = sum_below_same (length rows.capacities) _ _ (λ j l. ap (λ n. if is_on (host_of rows j) h then n else 0) (load_is j))
 
-    price_is : (k : ℕ) → k < length rows.sources → slice_index u (slice_index rows.sources k) ≡ slice_index plan.source_prices.items (slice_index net.sources (slice_index group_places k))
-    price_is k l = prices (slice_index rows.sources k) (omega (arith, row_in k l, rows_many)) ∙ ap (λ g. slice_index plan.source_prices.items g) (sym (group_place_row k l))
+    price_is : (k : ℕ) → k < length rows.sources → slice_index made.source_prices.items (slice_index rows.sources k) ≡ slice_index plan.source_prices.items (slice_index net.sources (place k))
+    price_is k l = prices (slice_index rows.sources k) (rows_are.sources_in k l) ∙ ap (λ v. slice_index plan.source_prices.items v) (sym (places.source k l))
 
-    server_is : (k : ℕ) → k < length rows.sources → slice_index net.servers (slice_index group_places k) ≡ slice_index rows.servers k
-    server_is k l = ah.server k (omega (arith, l, row_arcs_many))
+    -- where an arc of a row has flow, that of its group has
+    used : (k : ℕ) → k < length rows.sources → 0 < flow k → 0 < group_flow (place k)
+    used k l some =
+        let term = term_within (length made.flows.items) (λ m. only (place m) (place k) (flow m)) k (omega (arith, l, many)) in
+        omega (arith, some, term, only_here (place k) (place k) (flow k) refl, through_is g.lists.now.group_places.items made.flows.items (place k), left_is (place k) (places.inside k l))
 
-    cost_is : (k : ℕ) → k < length rows.sources → slice_index net.costs (slice_index group_places k) ≡ slice_index rows.costs k
-    cost_is k l = ah.cost k (omega (arith, l, row_arcs_many))
+    groups_low : (most : ℕ) → BoundsCosts rows most → BoundsCosts net most
+    groups_low most bounds = λ e l.
+        let r = reached e l in
+        let at : slice_index net.costs (place r.0) ≡ slice_index net.costs e = ap (λ (m : ℕ). slice_index net.costs m) r.2 in
+        omega (arith, at, places.cost r.0 r.1, bounds r.0 r.1)
 
     -- the bound on the groups' prices is within that on the rows'
     limit_rises : (most : ℕ) → (length net.demands + length net.capacities + length net.limits + 1) * most ≤ (length rows.demands + length rows.capacities + length rows.limits + 1) * most
-    limit_rises most = mul-le-mul_right most (omega (arith, dm, af.few, ag.one_a_row, rows_many))
+    limit_rises most = mul-le-mul_right most (omega (arith, is.of_groups.demands_many, is.are_firsts.few, is.are_groups.one_a_row, rows_many))
 
-    low : (most : ℕ) → BoundsCosts rows most → HasLowPrices u plan.server_prices.items plan.host_prices.items ((length rows.demands + length rows.capacities + length rows.limits + 1) * most)
-    low most bounds =
-        let groups_low : BoundsCosts net most = λ e l.
-        let r = reached e l in
-        let at : slice_index net.costs e ≡ slice_index rows.costs r.0 = ap (λ (m : ℕ). slice_index net.costs m) (sym r.2) ∙ cost_is r.0 r.1 in
-        omega (arith, at, bounds r.0 r.1) in
-        let h = met.low most groups_low in
-        record {
-          sources = λ i l.
-              let inside : i < length it.rows = omega (arith, l, u_many) in
-              let one = h.sources (group_of gs i) (omega (arith, group_in it is gs ag firsts af i inside, met.prices.sources_many, dm)) in
-              omega (arith, prices i inside, one, limit_rises most);
-          servers = λ j l. omega (arith, h.servers j l, limit_rises most);
-          hosts = λ j l. omega (arith, h.hosts j l, limit_rises most);
-        }
-
-    pub met_rows : (made : PricedFlow) → made.flows.items ≡ flows → made.source_prices.items ≡ u → made.server_prices.items ≡ plan.server_prices.items → made.host_prices.items ≡ plan.host_prices.items → IsMet rows made
-    met_rows made f a b c = record {
-      many = ap (λ (xs : List ℕ). length xs) f ∙ flows_many;
-      feasible = rw f (record {
-        met = λ i l.
-            spread.spread_needs (length rows.demands) (length rows.sources) (length net.sources) gs.count (λ i. slice_index rows.demands i) (λ k. slice_index rows.sources k) (λ k. slice_index group_places k)
-            (λ k. slice_index flows k) (λ e. slice_index plan.flows.items e) need left (group_of gs) (λ e. slice_index net.sources e) s of_group of_end row_in group_place_in group_place_row balanced covered i l;
+    pub met_rows : IsMet rows made
+    met_rows = record {
+      many = many;
+      feasible = record {
+        met = λ i l. omega (
+          arith,
+          s.needs i l,
+          all_met i l,
+          through_is rows.sources made.flows.items i,
+          ap (λ n. sum_below n (λ k. only (slice_index rows.sources k) i (flow k))) many,
+        );
         within = λ j l. rw (load_is j) (met.feasible.within j l);
         hosted = λ h l. rw (host_is h) (met.feasible.hosted h l);
-      });
-      prices = rw (f, a, b, c) (record {
-        sources_many = u_many ∙ sym rows_many;
+      };
+      prices = rw (servers, hosts) (record {
+        sources_many = prices_many;
         servers_many = met.prices.servers_many;
         hosts_many = met.prices.hosts_many;
-        below = λ k l. rw (price_is k l, sym (cost_is k l), sym (server_is k l)) (met.prices.below (slice_index group_places k) (group_place_in k l));
-        used = λ k l some. rw (price_is k l, sym (cost_is k l), sym (server_is k l))
-            (met.prices.used (slice_index group_places k) (group_place_in k l)
-            (spread.spread_used (length rows.demands) (length rows.sources) (length net.sources) gs.count (λ i. slice_index rows.demands i) (λ k. slice_index rows.sources k) (λ k. slice_index group_places k)
-            (λ k. slice_index flows k) (λ e. slice_index plan.flows.items e) need left (group_of gs) (λ e. slice_index net.sources e) s of_group of_end row_in group_place_in group_place_row balanced covered k l some));
+        below = λ k l. rw (price_is k l, sym (places.cost k l), sym (places.server k l)) (met.prices.below (place k) (places.inside k l));
+        used = λ k l some. rw (price_is k l, sym (places.cost k l), sym (places.server k l)) (met.prices.used (place k) (places.inside k l) (used k l some));
         idle = λ j l less. met.prices.idle j l (rw (sym (load_is j)) less);
         idle_host = λ h l less. met.prices.idle_host h l (rw (sym (host_is h)) less);
       });
-      low = λ most bounds. rw (a, b, c) (low most bounds);
+      low = λ most bounds.
+          let h = met.low most (groups_low most bounds) in
+          rw (servers, hosts) (record {
+            sources = λ i l.
+                let inside : i < length rows.demands = omega (arith, l, prices_many) in
+                omega (arith, prices i inside, h.sources (group i) (omega (arith, group_low i inside, met.prices.sources_many)), limit_rises most);
+            servers = λ j l. omega (arith, h.servers j l, limit_rises most);
+            hosts = λ j l. omega (arith, h.hosts j l, limit_rises most);
+          });
     }
 
-  module _ (set flags : List Bool) (short : IsShortSet net set) (many : length flags ≡ length it.rows)
-      (same : (i : ℕ) → i < length it.rows → slice_index_or flags i false ≡ slice_index_or set (group_of gs i) false) where
+  module _ (set flags : List Bool) (short : IsShortSet net set) (many : length flags ≡ length rows.demands)
+      (same : (i : ℕ) → i < length rows.demands → slice_index_or flags i false ≡ slice_index_or set (group i) false) where
     abbrev chosen : ℕ → Bool
     chosen i = slice_index_or flags i false
 
     abbrev groups : ℕ → Bool
-    groups g = slice_index_or set g false
+    groups v = slice_index_or set v false
 
     demand_is : demand_of rows chosen ≡ demand_of net groups
     demand_is =
-        sum_below_same (length rows.demands) _ (λ i. if groups (group_of gs i) then slice_index rows.demands i else 0) (λ i l. ap (λ b. if b then slice_index rows.demands i else 0) (same i (omega (arith, l, rows_many))))
-        ∙ by_key (group_of gs) (λ i. if groups (group_of gs i) then slice_index rows.demands i else 0) gs.count (length rows.demands) (λ i l. group_in it is gs ag firsts af i (omega (arith, l, rows_many)))
-        ∙ sum_below_same gs.count _ (λ g. if groups g then slice_index demands g else 0) (λ g l.
-        only_when (length rows.demands) (group_of gs) (λ i. slice_index rows.demands i) groups g
-        ∙ ap (λ n. if groups g then n else 0) (ap (λ n. sum_below n (λ i. only (group_of gs i) g (slice_index rows.demands i))) rows_many ∙ sym (dd g l)))
-        ∙ ap (λ n. sum_below n (λ g. if groups g then slice_index demands g else 0)) (sym dm)
+        sum_below_same (length rows.demands) _ (λ i. if groups (group i) then slice_index rows.demands i else 0) (λ i l. ap (λ b. if b then slice_index rows.demands i else 0) (same i l))
+        ∙ by_key group (λ i. if groups (group i) then slice_index rows.demands i else 0) (length net.demands) (length rows.demands) group_low
+        ∙ sum_below_same (length net.demands) _ (λ v. if groups v then slice_index net.demands v else 0) (λ v l.
+        only_when (length rows.demands) group (λ i. slice_index rows.demands i) groups v ∙ ap (λ n. if groups v then n else 0) (sym (demand_of_group v l)))
 
     test_is : (j k : ℕ) → k < length rows.sources →
-        (chosen (slice_index rows.sources k) && (slice_index rows.servers k == j)) ≡ (groups (slice_index net.sources (slice_index group_places k)) && (slice_index net.servers (slice_index group_places k) == j))
-    test_is j k l =
-        ap₂ (λ b s. b && (s == j)) (same (slice_index rows.sources k) (omega (arith, row_in k l, rows_many)) ∙ ap groups (sym (group_place_row k l))) (sym (ah.server k (omega (arith, l, row_arcs_many))))
-
-    reach_is : (j : ℕ) → reaches rows chosen j ≡ reaches net groups j
-    reach_is j = any_alike (length rows.sources) (length net.sources) _ _
-        (λ k l t. (slice_index group_places k, group_place_in k l, sym (test_is j k l) ∙ t))
-        (λ e l t. let r = reached e l in (r.0, r.1, test_is j r.0 r.1 ∙ rw r.2 t))
+        (chosen (slice_index rows.sources k) && (slice_index rows.servers k == j)) ≡ (groups (slice_index net.sources (place k)) && (slice_index net.servers (place k) == j))
+    test_is j k l = ap₂ (λ b s. b && (s == j)) (same (slice_index rows.sources k) (rows_are.sources_in k l) ∙ ap groups (sym (places.source k l))) (sym (places.server k l))
 
     room_is : (j : ℕ) → reached_capacity rows chosen j ≡ reached_capacity net groups j
-    room_is j = ap (λ b. if b then slice_index rows.capacities j else 0) (reach_is j)
+    room_is j = ap (λ b. if b then slice_index rows.capacities j else 0) (any_alike (length rows.sources) (length net.sources) _ _
+        (λ k l t. (place k, places.inside k l, sym (test_is j k l) ∙ t))
+        (λ e l t. let r = reached e l in (r.0, r.1, test_is j r.0 r.1 ∙ rw r.2 t)))
 
     capacity_is : capacity_of rows chosen ≡ capacity_of net groups
     capacity_is =
@@ -180,67 +238,4 @@ module _ (it : Instance) (is : IsInstance it) (gs : Groups) (ag : AreGroups it g
         (sum_below_same (length rows.capacities) _ _ (λ j m. ap (λ n. if is_on (host_of rows j) h then n else 0) (room_is j)))))
 
     pub short_rows : IsShortSet rows flags
-    short_rows = record { many = many ∙ sym rows_many; short = rw (capacity_is, demand_is) short.short }
-
--- ---- the same for lists that are equal to those
-
-ends_in : (it : Instance) → IsInstance it → (gs : Groups) (firsts : List ℕ) → AreFirsts gs firsts → (e : ℕ) → e < length (group_arcs it firsts) → slice_index (map row_of (group_arcs it firsts)) e < gs.count
-ends_in it is gs firsts af e l =
-    omega (arith, get_or-map row_of (group_arcs it firsts) e no_arc 0 l, row_at it is (lists_at it firsts) (lists_are it is firsts) e l, length-map firsts (arcs_at it), af.many)
-
-module _ (it : Instance) (is : IsInstance it) (gs : Groups) (ag : AreGroups it gs) (firsts : List ℕ) (af : AreFirsts gs firsts) (lists : GroupLists) (al : AreGroupLists it gs firsts lists) where
-  group_places_hold : AreGroupPlaces it gs (arcs_from 0 it.arcs) (group_arcs it firsts) lists.group_places.items
-  group_places_hold = group_places_are it is gs ag firsts af lists.group_places.items al.group_places
-
-  pub group_places_many : (sources : List ℕ) → sources ≡ (transport_of it).sources → length lists.group_places.items ≡ length sources
-  group_places_many sources same = group_places_hold.many ∙ sym (ap (λ (xs : List ℕ). length xs) same ∙ length-map (arcs_from 0 it.arcs) row_of)
-
-  pub sources_low : (sources demands : List ℕ) → sources ≡ (transport_of it).sources → demands ≡ (transport_of it).demands → (k : ℕ) → k < length sources → slice_index sources k < length demands
-  sources_low sources demands s d = rw (s, d) ((network_is it is).sources_in)
-
-  pub group_places_low : (plan : PricedFlow) → IsMet (grouped it firsts lists.demands.items) plan → (sources : List ℕ) → sources ≡ (transport_of it).sources → (k : ℕ) → k < length sources → slice_index lists.group_places.items k < length plan.flows.items
-  group_places_low plan met sources s k l =
-      omega (arith, group_places_hold.inside k (omega (arith, l, ap (λ (xs : List ℕ). length xs) s, length-map (arcs_from 0 it.arcs) row_of)), met.many, length-map (group_arcs it firsts) row_of)
-
-  pub spread_met : (plan : PricedFlow) (met : IsMet (grouped it firsts lists.demands.items) plan) (counts sources group_places of_groups flows u : List ℕ) → counts ≡ (transport_of it).demands → sources ≡ (transport_of it).sources →
-      group_places ≡ lists.group_places.items → of_groups ≡ plan.flows.items → length flows ≡ length sources →
-      ((need : List ℕ) × (left : List ℕ) × Spread (length counts) (length sources) (length of_groups) (λ i. slice_index counts i) (λ k. slice_index sources k) (λ k. slice_index group_places k)
-      (λ k. slice_index flows k) (λ e. slice_index of_groups e) (λ i. slice_index need i) (λ e. slice_index left e)) →
-      length u ≡ length it.rows → ((i : ℕ) → i < length it.rows → slice_index u i ≡ slice_index plan.source_prices.items (group_of gs i)) →
-      (made : PricedFlow) → made.flows.items ≡ flows → made.source_prices.items ≡ u → made.server_prices.items ≡ plan.server_prices.items → made.host_prices.items ≡ plan.host_prices.items → IsMet (transport_of it) made
-  spread_met plan met counts sources group_places of_groups flows u d r h g many s u_many prices made f a b c =
-      let spread = rw (d, r, h, g) at s in
-      met_rows it is gs ag firsts af lists.demands.items al.demands_many al.demands lists.group_places.items group_places_hold (ends_in it is gs firsts af) plan met (λ i. slice_index spread.0 i) (λ e. slice_index spread.1 e) flows u
-      (many ∙ ap (λ (xs : List ℕ). length xs) r) (rw met.many at spread.2) u_many prices made f a b c
-
-  pub short_spread : (set flags : List Bool) → IsShortSet (grouped it firsts lists.demands.items) set → length flags ≡ length it.rows →
-      ((i : ℕ) → i < length it.rows → slice_index_or flags i false ≡ slice_index_or set (group_of gs i) false) → IsShortSet (transport_of it) flags
-  short_spread set flags short many same =
-      short_rows it is gs ag firsts af lists.demands.items al.demands_many al.demands lists.group_places.items group_places_hold (ends_in it is gs firsts af) set flags short many same
-
-  -- the groups' network is one, with room for its numbers
-  lists_many : length lists.demands.items ≡ length (lists_at it firsts)
-  lists_many = omega (arith, al.demands_many, length-map firsts (arcs_at it), af.many)
-
-  pub grouped_is : IsNetwork (grouped it firsts lists.demands.items)
-  grouped_is = over_is it is (lists_at it firsts) (lists_are it is firsts) lists.demands.items lists_many
-
-  pub grouped_small : IsSmall (grouped it firsts lists.demands.items)
-  grouped_small =
-      over_small it is (lists_at it firsts) (lists_are it is firsts) lists.demands.items lists_many
-      (omega (arith, length-map firsts (arcs_at it), af.many, af.few, ag.one_a_row, is.rows.few))
-      (λ g l.
-      let sum = sum_below_low (length it.rows) (λ i. only (group_of gs i) g (slice_index (transport_of it).demands i)) 1000000 (one_low g) in
-      omega (arith, al.demands g (omega (arith, l, al.demands_many)), sum, is.rows.few))
-    where
-      one_low : (g i : ℕ) → i < length it.rows → only (group_of gs i) g (slice_index (transport_of it).demands i) ≤ 1000000
-      one_low g i l = elim (cases_eq (group_of gs i) g) [
-        | inl e ↦ omega (arith, only_here (group_of gs i) g (slice_index (transport_of it).demands i) e, counts_low it is i (omega (arith, l, length-map it.rows (λ (r : Row). r.count))))
-        | inr ne ↦ omega (arith, only_there (group_of gs i) g (slice_index (transport_of it).demands i) ne)
-      ]
-
-  -- what holds of the groups' network holds of lists that are equal to its own
-  pub of_lists : (d c l : List ℕ) (h : List (Option ℕ)) (s v k : List ℕ) → d ≡ lists.demands.items → c ≡ (transport_of it).capacities → l ≡ (transport_of it).limits → h ≡ (transport_of it).hosts →
-      s ≡ map row_of (group_arcs it firsts) → v ≡ map server_of (group_arcs it firsts) → k ≡ map cost_of (group_arcs it firsts) → (P : Transport → Type 0) → P (grouped it firsts lists.demands.items) →
-      P (record { demands = d; capacities = c; limits = l; hosts = h; sources = s; servers = v; costs = k })
-  of_lists d c l h s v k a b e f g i j P p = rw (a, b, e, f, g, i, j) p
+    short_rows = record { many = many; short = rw (capacity_is, demand_is) short.short }

@@ -61,14 +61,14 @@ grouped it firsts demands = record {
 }
 
 -- Each arc of a row has its arc of the row's group, with the same server and cost, and each arc of the group is that of one of the row.
-pub record AreGroupPlaces (it : Instance) (groups : Groups) (arcs of_groups : List NetworkArc) (group_places : List ℕ) : Type 0 where
-  pub many : length group_places ≡ length arcs
-  pub inside : (k : ℕ) → k < length arcs → slice_index group_places k < length of_groups
-  pub row : (k : ℕ) → k < length arcs → slice_index (map row_of of_groups) (slice_index group_places k) ≡ group_of groups (slice_index (map row_of arcs) k)
-  pub server : (k : ℕ) → k < length arcs → slice_index (map server_of of_groups) (slice_index group_places k) ≡ slice_index (map server_of arcs) k
-  pub cost : (k : ℕ) → k < length arcs → slice_index (map cost_of of_groups) (slice_index group_places k) ≡ slice_index (map cost_of arcs) k
-  pub covered : (i e : ℕ) → i < length it.rows → e < length of_groups → slice_index (map row_of of_groups) e ≡ group_of groups i →
-      (k : ℕ) × (k < length arcs) × (slice_index (map row_of arcs) k ≡ i) × (slice_index group_places k ≡ e)
+pub record AreGroupPlaces (groups : Groups) (rows net : Transport) (group_places : List ℕ) : Type 0 where
+  pub many : length group_places ≡ length rows.sources
+  pub inside : (k : ℕ) → k < length rows.sources → slice_index group_places k < length net.sources
+  pub source : (k : ℕ) → k < length rows.sources → slice_index net.sources (slice_index group_places k) ≡ group_of groups (slice_index rows.sources k)
+  pub server : (k : ℕ) → k < length rows.sources → slice_index net.servers (slice_index group_places k) ≡ slice_index rows.servers k
+  pub cost : (k : ℕ) → k < length rows.sources → slice_index net.costs (slice_index group_places k) ≡ slice_index rows.costs k
+  pub covered : (i e : ℕ) → i < length rows.demands → e < length net.sources → slice_index net.sources e ≡ group_of groups i →
+      (k : ℕ) × (k < length rows.sources) × (slice_index rows.sources k ≡ i) × (slice_index group_places k ≡ e)
 
 -- the places of the groups' arcs for the arcs of the rows before row `end`: an arc at a place of its row has the arc at that place
 -- of its row's group

@@ -51,6 +51,22 @@ fn row_network<'a>(instance: &Instance, rows: &'a TransportLists) -> Network<'a>
     }
 }
 
+// The network whose sources are the groups.
+fn group_network<'a>(grouping: &Grouping<'a>) -> Network<'a>
+    requires { IsGrouping grouping.now }
+    ensures { problem_of result ≡ transport_by grouping.now }
+{
+    Network {
+        demands: &grouping.lists.demands,
+        capacities: &grouping.rows.capacities,
+        limits: &grouping.rows.limits,
+        hosts: &grouping.rows.hosts,
+        sources: &grouping.lists.arcs.sources,
+        servers: &grouping.lists.arcs.servers,
+        costs: &grouping.lists.arcs.costs,
+    }
+}
+
 // What becomes of the groups' network.
 fn solve_groups<F: Frontier>(
     alloc: Global,
@@ -61,15 +77,7 @@ fn solve_groups<F: Frontier>(
     requires nodes { MayHaveUpTo F.may_have (nodes_with grouping.now) }
     ensures { IfOk result (Answers (transport_by grouping.now)) }
 {
-    let network = Network {
-        demands: &grouping.lists.demands,
-        capacities: &grouping.rows.capacities,
-        limits: &grouping.rows.limits,
-        hosts: &grouping.rows.hosts,
-        sources: &grouping.lists.arcs.sources,
-        servers: &grouping.lists.arcs.servers,
-        costs: &grouping.lists.arcs.costs,
-    };
+    let network = group_network(grouping);
     minimum_cost_flow::<F>(alloc, &network, effort)
 }
 

@@ -3,7 +3,7 @@
 ghost use Rattle.std.specs.Prelude.{◌≡◌, ℕ, List, ◌+◌, ◌<◌, ◌≤◌, ◌⊎◌, false, IfOk, length, slice_index, slice_index_or};
 ghost use Rattle.hsp_instance.specs.Groups.{AreBelow};
 ghost use Rattle.hsp_flow.specs.Grouping.{group_of};
-ghost use Rattle.hsp_flow.specs.Spreads.{SpreadOf};
+ghost use Rattle.hsp_flow.specs.Spreads.{Spread};
 
 use hsp_instance::Groups;
 use std::alloc::{AllocError, Global};
@@ -31,7 +31,7 @@ fn spread_each(
         < length left.old }
     ensures many { IfOk result (λ flows. length flows.items ≡ length rows.now) }
     ensures spread { IfOk result (λ flows.
-        SpreadOf need.old rows.now group_places.now left.old flows.items need.new left.new) }
+        Spread need.old rows.now group_places.now left.old flows.items need.new left.new) }
 {
     let mut flows = Vec::new(alloc);
     for arc in 0..rows.len() {
@@ -59,7 +59,7 @@ pub(crate) fn spread_flows(
         < length flows.now }
     ensures many { IfOk result (λ spread. length spread.items ≡ length rows.now) }
     ensures spread { IfOk result (λ spread. (need left : List ℕ)
-        × SpreadOf counts.now rows.now group_places.now flows.now spread.items need left) }
+        × Spread counts.now rows.now group_places.now flows.now spread.items need left) }
 {
     let mut need = counts.to_vec(alloc)?;
     let mut left = flows.to_vec(alloc)?;

@@ -2,7 +2,7 @@
 use Rattle.std.proofs.Common.{◌≡◌, ℕ, ◌+◌, ◌<◌, ◌≤◌, inl, inr, length, slice_index, Option, ap, arith, add-mul, mul-le-mul_right}
 use Rattle.std.proofs.lemmas.Bool.{cases_eq, cases_lt}
 use Rattle.hsp_mincost.specs.Residual.{Flow, IsTree, Links, SearchTree, Sound, distance, nodes, predecessor, prices, raised, to, way, width}
-use Rattle.hsp_mincost.specs.Search.{Begun, Found, Offer, Offered, Priced, Spread, TakesWay, top}
+use Rattle.hsp_mincost.specs.Search.{Begun, Found, IsApart, Offer, Offered, Priced, Spread, top}
 use Rattle.hsp_mincost.proofs.Directions.{gives_raised, takes_raised}
 use Rattle.hsp_mincost.proofs.Searching.{changed}
 
@@ -39,37 +39,29 @@ module _ (n : Links) (f : Flow) (t : SearchTree) (root : ℕ) (sound : Sound n f
   pub raised_low : Spread n f t root (nodes n) → ((v : ℕ) → v < nodes n → prices f v ≤ n.limit) → (v : ℕ) → v < nodes n → raised f t v ≤ n.limit
   raised_low s old v l = elim (cases_lt (distance t v) (distance t 0)) [
     | inl less ↦
-        let low = s.priced.low 0 found.sink_in found.sink_near in
-        omega (arith, sound.sink_free, s.within, n.scale.limit_is, low, s.priced.high v l (omega (arith, found.sink_near)))
+        let sink = s.priced.apart 0 found.sink_in found.sink_near in
+        omega (arith, sound.sink_free, s.within, n.scale.limit_is, sink.0, (s.priced.apart v l (omega (arith, found.sink_near))).1)
     | inr more ↦ omega (arith, old v l)
   ]
 
 pub priced_more : (n : Links) (f : Flow) (t : SearchTree) (root up down up' down' : ℕ) → Priced n f t root up down → up ≤ up' → down ≤ down' →
     Priced n f t root up' down'
-priced_more n f t root up down up' down' p a b = record { low = λ v l q. omega (arith, p.low v l q); high = λ v l q. omega (arith, p.high v l q) }
+priced_more n f t root up down up' down' p a b = record { apart = λ v l q. let it = p.apart v l q in (omega (arith, it.0), omega (arith, it.1)) }
 
 -- an offer within the bounds keeps them
 pub priced_offered : (n : Links) (f : Flow) (t t' : SearchTree) (held held' : ℕ → Option ℕ) (o : Offer) (root up down : ℕ) →
-    o.to < length t.distance.now → Offered held held' t t' o → Priced n f t root up down →
-    o.distance + prices f root ≤ prices f o.to + up → prices f o.to ≤ o.distance + prices f root + down → Priced n f t' root up down
-priced_offered n f t t' held held' o root up down in' it p low high = elim (cases_lt o.distance (distance t o.to)) [
-  | inl less ↦ taken (it.took less)
+    o.to < length t.distance.now → Offered held held' t t' o → Priced n f t root up down → IsApart f root o.to o.distance up down → Priced n f t' root up down
+priced_offered n f t t' held held' o root up down in' it p apart = elim (cases_lt o.distance (distance t o.to)) [
+  | inl less ↦
+      let changes = changed t.distance.now t'.distance.now o.to o.distance (it.took less).distance in' in
+      record {
+        apart = λ v l q. elim (cases_eq v o.to) [
+          | inl e ↦ rw (e, changes.0) apart
+          | inr ne ↦ rw (changes.1 v ne) (p.apart v l (omega (arith, changes.1 v ne)))
+        ];
+      }
   | inr more ↦ rw (it.kept more).1 p
 ]
-  where
-    taken : TakesWay held held' t t' o → Priced n f t' root up down
-    taken w =
-        let changes = changed t.distance.now t'.distance.now o.to o.distance w.distance in' in
-        record {
-          low = λ v l q. elim (cases_eq v o.to) [
-            | inl e ↦ rw e (omega (arith, changes.0))
-            | inr ne ↦ omega (arith, changes.1 v ne, p.low v l (omega (arith, changes.1 v ne)))
-          ];
-          high = λ v l q. elim (cases_eq v o.to) [
-            | inl e ↦ rw e (omega (arith, changes.0))
-            | inr ne ↦ omega (arith, changes.1 v ne, p.high v l (omega (arith, changes.1 v ne)))
-          ];
-        }
 
 pub spread_begun : (n : Links) (f : Flow) (t : SearchTree) (held : ℕ → Option ℕ) (root amount : ℕ) → Begun t held root amount →
     length t.distance.now ≡ nodes n → Spread n f t root 0
@@ -78,10 +70,7 @@ spread_begun n f t held root amount b many =
       up = 0;
       down = 0;
       within = omega arith;
-      priced = record {
-        low = λ v l q. rw (root-only v l q) (omega (arith, b.distance_root));
-        high = λ v l q. rw (root-only v l q) (omega (arith, b.distance_root));
-      };
+      priced = record { apart = λ v l q. rw (root-only v l q) (omega (arith, b.distance_root), omega (arith, b.distance_root)) };
     }
   where
     root-only : (v : ℕ) → v < nodes n → distance t v < top → v ≡ root

@@ -1,64 +1,27 @@
 -- The ways that a node offers, along its links and against them.
-use Rattle.std.proofs.Common.{◌≡◌, ℕ, ◌+◌, ◌<◌, ◌≤◌, ◌⊎◌, Bool, true, false, length, slice_index, Option, if◌then◌else◌, ap, arith}
+use Rattle.std.proofs.Common.{◌≡◌, ℕ, ◌+◌, ◌<◌, ◌≤◌, Bool, true, false, length, slice_index, Option, if◌then◌else◌, ap, arith}
 use Rattle.hsp_mincost.specs.Residual.{Flow, Links, SearchTree, from, gives, nodes, prices, takes, to, width}
-use Rattle.hsp_mincost.specs.Search.{Expanding, IsWay, MayBeOffered, Offer, Offered, Priced, Ready, Visit, top}
+use Rattle.hsp_mincost.specs.Search.{Expanding, IsApart, IsWay, Offer, Offered, Priced, Visit}
 use Rattle.hsp_mincost.proofs.Directions.{to_in}
-use Rattle.hsp_mincost.proofs.Expansion.{may_be_offered, offered}
 use Rattle.hsp_mincost.proofs.Arrival.{priced_offered}
 
--- no residual arc is longer than a step
-pub arc_step : (n : Links) (f : Flow) (k : ℕ) (d : Bool) → ((v : ℕ) → v < nodes n → slice_index f.price.now v ≤ n.limit) → k < length n.tails.now →
-    takes n (prices f) k d ≤ n.step
-arc_step n f k true low l =
-    omega (arith, n.scale.dear k l, low (slice_index n.heads.now k) (omega (arith, n.graph.down k l, n.graph.tails_in k l)), n.scale.step_is)
-arc_step n f k false low l = omega (arith, low (slice_index n.tails.now k) (n.graph.tails_in k l), n.scale.step_is)
-
--- how far the price and the distance of the node that is settled lie apart
-abbrev pub IsApart : Flow → Visit → ℕ → ℕ → Type 0
-IsApart f at up down = (at.distance + prices f at.root ≤ prices f at.node + up) × (prices f at.node ≤ at.distance + prices f at.root + down)
-
 pub apart_here : (n : Links) (f : Flow) (t : SearchTree) (held : ℕ → Option ℕ) (at : Visit) (seen : ℕ → Bool → Type 0) (up down : ℕ) →
-    Expanding n f t held at seen → Priced n f t at.root up down → IsApart f at up down
-apart_here n f t held at seen up down e p =
-    let low = p.low at.node e.node_in e.settled.reached in
-    let high = p.high at.node e.node_in e.settled.reached in
-    (omega (arith, low, e.here), omega (arith, high, e.here))
+    Expanding n f t held at seen → Priced n f t at.root up down → IsApart f at.root at.node at.distance up down
+apart_here n f t held at seen up down e p = rw e.here at (p.apart at.node e.node_in e.settled.reached)
 
 -- over an arc they come to lie no farther apart than by its cost, the one way along a link, the other way back
-apart_end : (n : Links) (f : Flow) (at : Visit) (k : ℕ) (d : Bool) (cost up down near : ℕ) → slice_index n.costs.now k ≤ cost → IsApart f at up down →
-    prices f (from n k d) ≡ prices f at.node → near + gives n (prices f) k d ≡ at.distance + takes n (prices f) k d →
-    (near + prices f at.root ≤ prices f (to n k d) + (up + (if d then cost else 0)))
-    × (prices f (to n k d) ≤ near + prices f at.root + (down + (if d then 0 else cost)))
-apart_end n f at k true cost up down near dear apart start sum = (omega (arith, apart.0), omega (arith, apart.1))
-apart_end n f at k false cost up down near dear apart start sum = (omega (arith, apart.0), omega (arith, apart.1))
+apart_end : (n : Links) (f : Flow) (root k : ℕ) (d : Bool) (cost up down far near : ℕ) → slice_index n.costs.now k ≤ cost → IsApart f root (from n k d) far up down →
+    near + gives n (prices f) k d ≡ far + takes n (prices f) k d → IsApart f root (to n k d) near (up + (if d then cost else 0)) (down + (if d then 0 else cost))
+apart_end n f root k true cost up down far near dear apart sum = (omega (arith, apart.0), omega (arith, apart.1))
+apart_end n f root k false cost up down far near dear apart sum = (omega (arith, apart.0), omega (arith, apart.1))
 
 -- the offer of a way over a residual arc that leaves the node that is settled
-module _ (n : Links) (f : Flow) (t : SearchTree) (held : ℕ → Option ℕ) (at : Visit) (seen : ℕ → Bool → Type 0) (e : Expanding n f t held at seen)
-    (ready : Ready n f) (k : ℕ) (d : Bool) (link : k < length n.tails.now) (leaves : from n k d ≡ at.node) (wide : 0 < width f k d)
-    (o : Offer) (way : IsWay n f t at k d o) (far : at.distance + n.step < top) where
-  pays : gives n (prices f) k d ≤ takes n (prices f) k d
-  pays = ready.sound.paid k d link wide
-
-  pub may_offer : at.turn + 1 < top → MayBeOffered held t o
-  may_offer turns = may_be_offered n f t held at seen e o k d link way.start leaves way.enters (omega (arith, pays, way.exact)) turns
-
-  module _ (t' : SearchTree) (held' : ℕ → Option ℕ) (it : Offered held held' t t' o) where
-    pub way_offered : (seen' : ℕ → Bool → Type 0) →
-        ((j : ℕ) (c : Bool) → j < length n.tails.now → from n j c ≡ at.node → seen' j c → ((j ≡ k) × (c ≡ d)) ⊎ seen j c) →
-        Expanding n f t' held' at seen'
-    way_offered seen' next =
-        offered n f t held at seen e k d seen' next o way.over way.start leaves way.enters link way.exact
-        (omega (arith, pays, way.exact)) (omega (arith, way.exact, arc_step n f k d ready.low link)) far
-        (omega (arith, way.amount, wide, e.search.some at.node e.node_in e.settled.reached)) (omega (arith, way.amount)) (omega (arith, way.amount)) t' held' it
-
-    to-in : o.to < length t.distance.now
-    to-in = rw way.enters (omega (arith, e.search.covers.distances_many, to_in n k d link))
-
-    pub widens : (cost up down : ℕ) → slice_index n.costs.now k ≤ cost → IsApart f at up down →
-        Priced n f t at.root (up + (if d then cost else 0)) (down + (if d then 0 else cost)) →
-        Priced n f t' at.root (up + (if d then cost else 0)) (down + (if d then 0 else cost))
-    widens cost up down dear apart p =
-        let end : prices f o.to ≡ prices f (to n k d) = ap (λ v. slice_index f.price.now v) way.enters in
-        let start : prices f (from n k d) ≡ prices f at.node = ap (λ v. slice_index f.price.now v) leaves in
-        let far-end = apart_end n f at k d cost up down o.distance dear apart start way.exact in
-        priced_offered n f t t' held held' o at.root _ _ to-in it p (omega (arith, far-end.0)) (omega (arith, far-end.1))
+pub widens : (n : Links) (f : Flow) (t : SearchTree) (held : ℕ → Option ℕ) (at : Visit) (seen : ℕ → Bool → Type 0) (e : Expanding n f t held at seen)
+    (k : ℕ) (d : Bool) (link : k < length n.tails.now) (leaves : from n k d ≡ at.node) (o : Offer) (way : IsWay n f t at k d o)
+    (t' : SearchTree) (held' : ℕ → Option ℕ) (it : Offered held held' t t' o) (cost up down : ℕ) → slice_index n.costs.now k ≤ cost → IsApart f at.root at.node at.distance up down →
+    Priced n f t at.root (up + (if d then cost else 0)) (down + (if d then 0 else cost)) →
+    Priced n f t' at.root (up + (if d then cost else 0)) (down + (if d then 0 else cost))
+widens n f t held at seen e k d link leaves o way t' held' it cost up down dear apart p =
+    let to-in : o.to < length t.distance.now = rw way.enters (omega (arith, e.search.covers.distances_many, to_in n k d link)) in
+    priced_offered n f t t' held held' o at.root _ _ to-in it p
+    (rw way.enters (apart_end n f at.root k d cost up down at.distance o.distance dear (rw leaves apart) way.exact))

@@ -1,6 +1,7 @@
 -- Sums over numbers, and what a change of one arc's flow does to them.
 use Rattle.std.proofs.Common.{◌≡◌, ◌≢◌, ℕ, zero, suc, ◌+◌, ◌-◌, ◌*◌, ◌<◌, ◌≤◌, ◌==◌, inl, inr, true, false, List, length, slice_index, set, if◌then◌else◌, refl, ap, arith, eq-eqb, ne_eqb, length-set, get_or-set_same, get_or-set_other}
 use Rattle.std.proofs.lemmas.Bool.{cases_eq}
+use Rattle.hsp_check.proofs.Summing.{sum_below_add, sum_below_one}
 pub use Rattle.hsp_check.proofs.Summing.{sum_below_same, sum_below_le}
 use Rattle.hsp_simplex.specs.Sums.{sum_below, only}
 use Rattle.hsp_mincost.specs.Sums.{through}
@@ -66,31 +67,15 @@ module _ (ends flows : List ℕ) (e y v : ℕ) (l : e < length flows) where
 
 -- one term is larger by one at least
 pub sum_below_lt : (n : ℕ) (f g : ℕ → ℕ) (i : ℕ) → i < n → f i < g i → ((k : ℕ) → k < n → f k ≤ g k) → sum_below n f < sum_below n g
-sum_below_lt zero f g i l more h = absurd (omega arith)
-sum_below_lt (suc n) f g i l more h = elim (cases_eq n i) [
-  | inl e ↦
-      let a : sum_below n f ≤ sum_below n g = sum_below_le n f g (λ k m. h k (omega arith)) in
-      let b : f n ≡ f i = ap f e in
-      let c : g n ≡ g i = ap g e in
-      omega arith
-  | inr ne ↦
-      let a : sum_below n f < sum_below n g = sum_below_lt n f g i (omega arith) more (λ k m. h k (omega arith)) in
-      let b : f n ≤ g n = h n (omega arith) in
-      omega arith
-]
+sum_below_lt n f g i l more h =
+    let bit : sum_below n (λ k. only k i 1) ≡ only i i 1 = sum_below_one n (λ k. only k i 1) i l (λ k m ne. only_there k i 1 ne) in
+    let each : sum_below n (λ k. f k + only k i 1) ≤ sum_below n g = sum_below_le n _ g (λ k m. elim (cases_eq k i) [
+      | inl e ↦ rw e (omega (arith, only_here i i 1 refl))
+      | inr ne ↦ omega (arith, only_there k i 1 ne, h k m)
+    ]) in
+    omega (arith, sum_below_add n f (λ k. only k i 1), only_here i i 1 refl)
 
 -- a sum of terms that are no more than `most`
 pub sum_below_low : (n : ℕ) (f : ℕ → ℕ) (most : ℕ) → ((k : ℕ) → k < n → f k ≤ most) → sum_below n f ≤ n * most
 sum_below_low zero f most low = omega arith
 sum_below_low (suc n) f most low = omega (arith, sum_below_low n f most (λ k l. low k (omega arith)), low n (omega arith))
-
--- a sum of ones and zeros that is as large as can be has only ones
-pub all_ones : (n : ℕ) (f : ℕ → ℕ) → ((k : ℕ) → k < n → f k ≤ 1) → n ≤ sum_below n f → (k : ℕ) → k < n → f k ≡ 1
-all_ones zero f h m k l = absurd (omega arith)
-all_ones (suc n) f h m k l =
-    let top : f n ≤ 1 = h n (omega arith) in
-    let under : sum_below n f ≤ n * 1 = sum_below_low n f 1 (λ j q. h j (omega arith)) in
-    elim (cases_eq k n) [
-      | inl e ↦ let b : f k ≡ f n = ap f e in omega arith
-      | inr ne ↦ all_ones n f (λ j q. h j (omega arith)) (omega arith) k (omega arith)
-    ]

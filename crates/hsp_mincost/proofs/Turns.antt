@@ -5,13 +5,11 @@ use Rattle.std.proofs.lemmas.List.{get_or_past}
 use Rattle.hsp_mincost.specs.Frontier.{Changes, IsLeast}
 use Rattle.hsp_mincost.specs.Residual.{Flow, Links, SearchTree, distance, from, nodes}
 use Rattle.hsp_mincost.specs.Search.{Begun, Covers, Expanding, Running, Settled, Visit, settled_count, settled_test, top}
-use Rattle.hsp_mincost.proofs.Sums.{sum_below_lt, all_ones}
+use Rattle.hsp_simplex.specs.Sums.{sum_below}
+use Rattle.hsp_mincost.proofs.Sums.{sum_below_low, sum_below_lt}
 use Rattle.hsp_mincost.proofs.Directions.{from_in}
 use Rattle.hsp_mincost.proofs.Searching.{fewer, taken, cases_option}
-use Rattle.hsp_mincost.proofs.Expansion.{settled_from_test, still_counted, test_from_settled}
-
-abbrev bit : Bool → ℕ
-bit t = if t then 1 else 0
+use Rattle.hsp_mincost.proofs.Expansion.{still_counted, test_from_settled}
 
 -- every number on the way fits
 pub far_fits : (turn nodes step now near top : ℕ) → turn < nodes → now ≤ turn * step → near ≤ now + step → (nodes + 1) * step < top → near + step < top
@@ -111,16 +109,12 @@ module _ (n : Links) (f : Flow) (t : SearchTree) (held : ℕ → Option ℕ) (ro
     | inl none ↦ none
     | inr w ↦
         let l : v < nodes n = r.search.held_in v w.0 w.1 in
-        let test : settled_test held t v ≡ true =
-        is-one _ (all_ones (nodes n) (λ v. bit (settled_test held t v)) (λ k q. at-most-one (settled_test held t k)) (omega (arith, r.counted.settled)) v l) in
-        absurd (let st = settled_from_test held t v test in let m = st.not_held in let e = w.1 in cc)
+        let less : settled_count n held t < sum_below (nodes n) (λ _. 1) =
+        sum_below_lt (nodes n) _ (λ _. 1) v l (rw w.1 (omega arith)) (λ k q. at-most-one (settled_test held t k)) in
+        absurd (omega (arith, r.counted.settled, sum_below_low (nodes n) (λ _. 1) 1 (λ k q. omega arith)))
   ]
     where
-      is-one : (t : Bool) → bit t ≡ 1 → t ≡ true
-      is-one true e = refl
-      is-one false e = absurd (omega arith)
-
-      at-most-one : (t : Bool) → bit t ≤ 1
+      at-most-one : (t : Bool) → (if t then 1 else 0) ≤ 1
       at-most-one true = omega arith
       at-most-one false = omega arith
 

@@ -185,10 +185,13 @@ pub record Found (n : Links) (f : Flow) (t : SearchTree) (root : ℕ) : Type 0 w
   pub sink_near : distance t 0 < top
   pub relaxed : AreRelaxed n f t
 
--- how far prices and distances can lie apart: by `up` the one way, by `down` the other
+-- a node's price and a distance d lie apart by `up` at most the one way, by `down` the other
+abbrev pub IsApart : Flow → ℕ → ℕ → ℕ → ℕ → ℕ → Type 0
+IsApart f root v d up down = (d + prices f root ≤ prices f v + up) × (prices f v ≤ d + prices f root + down)
+
+-- so do the prices and distances of all that was reached
 pub record Priced (n : Links) (f : Flow) (t : SearchTree) (root up down : ℕ) : Type 0 where
-  pub low : (v : ℕ) → v < nodes n → distance t v < top → distance t v + prices f root ≤ prices f v + up
-  pub high : (v : ℕ) → v < nodes n → distance t v < top → prices f v ≤ distance t v + prices f root + down
+  pub apart : (v : ℕ) → v < nodes n → distance t v < top → IsApart f root v (distance t v) up down
 
 -- the same, with no more in all than the greatest cost for each turn
 pub record Spread (n : Links) (f : Flow) (t : SearchTree) (root turn : ℕ) : Type 0 where

@@ -1,9 +1,9 @@
 use Rattle.std.proofs.Common.{◌≡◌, ◌-◌, ◌<◌, length, slice_index, refl, ◌∙◌, arith}
 use Rattle.hsp_mincost.specs.Residual.{ends}
 use Rattle.hsp_mincost.proofs.Listing.{ends_many, seen_all, seen_next, seen_none}
-use Rattle.hsp_mincost.proofs.Expansion.{reseen, passed}
+use Rattle.hsp_mincost.proofs.Expansion.{may_offer, passed, reseen, way_offered}
 use Rattle.hsp_mincost.proofs.Arrival.{priced_more}
-use Rattle.hsp_mincost.proofs.Offers.{apart_here, may_offer, way_offered, widens}
+use Rattle.hsp_mincost.proofs.Offers.{apart_here, widens}
 use Rattle.hsp_mincost.proofs.expand.offer_ways.Goals as goal
 use Rattle.hsp_mincost.proofs.expand.offer_ways.Goals.{then-capacity-gt0+in_ok-relax, else-capacity-gt0}
 
@@ -35,11 +35,10 @@ loop-last-preserved g c =
       | then-capacity-gt0+in_ok-relax w ↦
           rw (w.frontier-is, w.tree-is) (
             way_offered _ _ _ _ _ _ c.loop-last.invariant.0 c.requires.ready _ _ l here (rw c.capacity.ensures at w.if-capacity-gt0.true) _ w.offer_over-offer.ensures c.requires.far
-                _ _ w.in_ok-relax.ensures.ok _ (λ j e m q seen. seen_next links _ _ _ _ (omega arith) here earlier j e q seen),
+                _ (λ j e m q seen. seen_next links _ _ _ _ (omega arith) here earlier j e q seen) _ _ w.in_ok-relax.ensures.ok,
             w.relax.ensures.count ∙ c.loop-last.invariant.1,
             λ cost up down dear p.
-                widens _ _ _ _ _ _ c.loop-last.invariant.0 c.requires.ready _ _ l here (rw c.capacity.ensures at w.if-capacity-gt0.true) _ w.offer_over-offer.ensures c.requires.far
-                _ _ w.in_ok-relax.ensures.ok cost up down (dear (c.loop-last.last - 1) l here)
+                widens _ _ _ _ _ _ c.loop-last.invariant.0 _ _ l here _ w.offer_over-offer.ensures _ _ w.in_ok-relax.ensures.ok cost up down (dear (c.loop-last.last - 1) l here)
                 (apart_here _ _ _ _ _ _ up down c.requires.expanding p) (c.loop-last.invariant.2 cost up down dear p),
             omega (arith, earlier.within),
             λ some. earlier.own some ∙ here,
