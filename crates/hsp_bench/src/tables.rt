@@ -14,9 +14,24 @@ use std::alloc::Global;
 pub struct Tables<'a> {
     settings: Settings,
     values: ValueList<'a>,
+    rows: RowTables,
+}
+
+// The tables of rows.
+#[derive(Drop)]
+struct RowTables {
     demand: Demand,
     costs: Costs,
     capacity: Capacities,
+}
+
+// Reads the tables of rows.
+fn read_rows(alloc: Global, texts: &Texts) -> Result<RowTables, Failure> {
+    Ok(RowTables {
+        demand: read_demand(alloc, texts.demand.as_bytes())?,
+        costs: read_costs(alloc, texts.costs.as_bytes())?,
+        capacity: read_capacity(alloc, texts.capacity.as_bytes())?,
+    })
 }
 
 /// Reads the texts.
@@ -24,9 +39,7 @@ pub(crate) fn read_texts<'a>(alloc: Global, texts: &'a Texts) -> Result<Tables<'
     Ok(Tables {
         settings: read_settings(alloc, texts.settings.as_bytes())?,
         values: decode_values(alloc, &texts.values)?,
-        demand: read_demand(alloc, texts.demand.as_bytes())?,
-        costs: read_costs(alloc, texts.costs.as_bytes())?,
-        capacity: read_capacity(alloc, texts.capacity.as_bytes())?,
+        rows: read_rows(alloc, texts)?,
     })
 }
 
@@ -36,8 +49,8 @@ pub(crate) fn build_instance(alloc: Global, tables: &Tables<'_>) -> Result<Insta
         alloc,
         &tables.settings,
         Some(&tables.values),
-        &tables.demand,
-        &tables.costs,
-        &tables.capacity,
+        &tables.rows.demand,
+        &tables.rows.costs,
+        &tables.rows.capacity,
     )?)
 }

@@ -147,66 +147,69 @@ run_more lists gl gs row arcs old new start read begins run more =
 
 -- ---- the first rows of groups
 
-module _ (it : Instance) (gs : Groups) (ag : AreGroups it gs) (row g : ℕ) (firsts : List ℕ) (read : slice_get gs.of_rows row ≡ Some g) (few : length firsts ≤ row)
-    (there : (k : ℕ) → k < length firsts → slice_index firsts k < row) (own : (k : ℕ) → k < length firsts → group_of gs (slice_index firsts k) ≡ k)
-    (seen : (i : ℕ) → i < row → group_of gs i < length firsts) where
-  group_is : group_of gs row ≡ g
-  group_is = get_or_from_slice_get gs.of_rows row g 0 read
+-- the first rows of the groups of the rows before row `end`
+pub record AreFirstsBefore (gs : Groups) (end : ℕ) (firsts : List ℕ) : Type 0 where
+  pub few : length firsts ≤ end
+  pub there : (g : ℕ) → g < length firsts → slice_index firsts g < end
+  pub own : (g : ℕ) → g < length firsts → group_of gs (slice_index firsts g) ≡ g
+  pub seen : (i : ℕ) → i < end → group_of gs i < length firsts
+
+pub firsts_none : (gs : Groups) → AreFirstsBefore gs 0 []
+firsts_none gs = record { few = omega arith; there = λ g l. absurd (omega arith); own = λ g l. absurd (omega arith); seen = λ i l. absurd (omega arith) }
+
+module _ (it : Instance) (gs : Groups) (ag : AreGroups it gs) (row g : ℕ) (firsts : List ℕ) (read : slice_get gs.of_rows row ≡ Some g) (s : AreFirstsBefore gs row firsts) where
+  -- whatever holds of the row's group and of those before it
+  seen_to : (n : ℕ) → g < n → length firsts ≤ n → (i : ℕ) → i < row + 1 → group_of gs i < n
+  seen_to n own more i l = elim (cases_lt i row) [
+    | inl before ↦ omega (arith, s.seen i before)
+    | inr here ↦ let e : i ≡ row = omega (arith, l, here) in omega (arith, ap (group_of gs) e, get_or_from_slice_get gs.of_rows row g 0 read)
+  ]
+
+  pub first_more : g ≡ length firsts → AreFirstsBefore gs (row + 1) (firsts ++ row ∷ [])
+  first_more is = record {
+    few = omega (arith, s.few, length-append firsts (row ∷ []));
+    there = λ k l. elim (longer firsts row k l) [ inl old ↦ omega (arith, old.1, s.there k old.0) | inr new ↦ omega (arith, new.1) ];
+    own = λ k l. elim (longer firsts row k l) [
+      | inl old ↦ ap (group_of gs) old.1 ∙ s.own k old.0
+      | inr new ↦ ap (group_of gs) new.1 ∙ get_or_from_slice_get gs.of_rows row g 0 read ∙ is ∙ sym new.0
+    ];
+    seen = seen_to (length (firsts ++ row ∷ [])) (omega (arith, is, length-append firsts (row ∷ []))) (omega (arith, length-append firsts (row ∷ [])));
+  }
 
   -- no group is passed over
-  pub not_beyond : g ≤ length firsts
-  not_beyond = elim (cases_lt (length firsts) g) [
-    | inl beyond ↦
-        let before = ag.in_order row g (length firsts) read beyond in
-        let at : group_of gs before.0 ≡ length firsts = get_or_from_slice_get gs.of_rows before.0 (length firsts) 0 before.2 in
-        absurd (omega (arith, at, seen before.0 before.1))
-    | inr within ↦ omega arith
-  ]
+  pub first_kept : (g ≡ length firsts → ⊥) → AreFirstsBefore gs (row + 1) firsts
+  first_kept not-new = record {
+    few = omega (arith, s.few);
+    there = λ k l. omega (arith, s.there k l);
+    own = s.own;
+    seen = seen_to (length firsts) lower (omega arith);
+  }
+    where
+      lower : g < length firsts
+      lower = elim (cases_lt (length firsts) g) [
+        | inl beyond ↦
+            let before = ag.in_order row g (length firsts) read beyond in
+            absurd (omega (arith, get_or_from_slice_get gs.of_rows before.0 (length firsts) 0 before.2, s.seen before.0 before.1))
+        | inr within ↦ elim (cases_lt g (length firsts)) [ inl less ↦ less | inr more ↦ absurd (not-new (omega arith)) ]
+      ]
 
-  pub first_there : (k : ℕ) → k < length (firsts ++ row ∷ []) → slice_index (firsts ++ row ∷ []) k < row + 1
-  first_there k l = elim (longer firsts row k l) [ inl old ↦ omega (arith, old.1, there k old.0) | inr new ↦ omega (arith, new.1) ]
-
-  pub first_own : g ≡ length firsts → (k : ℕ) → k < length (firsts ++ row ∷ []) → group_of gs (slice_index (firsts ++ row ∷ []) k) ≡ k
-  first_own is k l = elim (longer firsts row k l) [
-    | inl old ↦ ap (group_of gs) old.1 ∙ own k old.0
-    | inr new ↦ ap (group_of gs) new.1 ∙ group_is ∙ is ∙ sym new.0
-  ]
-
-  pub seen_new : g ≡ length firsts → (i : ℕ) → i < row + 1 → group_of gs i < length (firsts ++ row ∷ [])
-  seen_new is i l = elim (cases_lt i row) [
-    | inl before ↦ omega (arith, seen i before, length-append firsts (row ∷ []))
-    | inr here ↦ let e : i ≡ row = omega (arith, l, here) in omega (arith, ap (group_of gs) e, group_is, is, length-append firsts (row ∷ []))
-  ]
-
-  pub seen_old : (g ≡ length firsts → ⊥) → (i : ℕ) → i < row + 1 → group_of gs i < length firsts
-  seen_old not-new i l = elim (cases_lt i row) [
-    | inl before ↦ seen i before
-    | inr here ↦
-        let e : i ≡ row = omega (arith, l, here) in
-        let lower : g < length firsts = elim (cases_lt g (length firsts)) [ inl less ↦ less | inr more ↦ absurd (not-new (omega (arith, not_beyond, more))) ] in
-        omega (arith, ap (group_of gs) e, group_is, lower)
-  ]
-
-pub firsts_done : (it : Instance) (gs : Groups) → AreGroups it gs → (row : ℕ) (firsts : List ℕ) → row ≡ length it.rows → length firsts ≤ row → ((k : ℕ) → k < length firsts → slice_index firsts k < row) →
-    ((k : ℕ) → k < length firsts → group_of gs (slice_index firsts k) ≡ k) → ((i : ℕ) → i < row → group_of gs i < length firsts) → AreFirsts gs firsts
-firsts_done it gs ag row firsts all few there own seen = record {
+pub firsts_done : (it : Instance) (gs : Groups) → AreGroups it gs → (row : ℕ) (firsts : List ℕ) → row ≡ length it.rows → AreFirstsBefore gs row firsts → AreFirsts gs firsts
+firsts_done it gs ag row firsts all s = record {
   many = many;
-  few = omega (arith, many, few, all, ag.one_a_row);
-  there = λ g l. omega (arith, there g (omega (arith, l, many)), all, ag.one_a_row);
-  own = λ g l. own g (omega (arith, l, many));
+  few = omega (arith, many, s.few, all, ag.one_a_row);
+  there = λ g l. omega (arith, s.there g (omega (arith, l, many)), all, ag.one_a_row);
+  own = λ g l. s.own g (omega (arith, l, many));
 }
   where
     many : length firsts ≡ gs.count
     many = elim (cases_lt (length firsts) gs.count) [
       | inl fewer ↦
           let one = ag.seen (length firsts) fewer in
-          let at : group_of gs one.0 ≡ length firsts = get_or_from_slice_get gs.of_rows one.0 (length firsts) 0 one.2 in
-          absurd (omega (arith, at, seen one.0 (omega (arith, one.1, all))))
+          absurd (omega (arith, get_or_from_slice_get gs.of_rows one.0 (length firsts) 0 one.2, s.seen one.0 (omega (arith, one.1, all))))
       | inr not-fewer ↦ elim (cases_lt gs.count (length firsts)) [
         | inl more ↦
-            let r = there gs.count more in
-            let low : group_of gs (slice_index firsts gs.count) < gs.count = each_at (λ g. g < gs.count) gs.of_rows (slice_index firsts gs.count) 0 (omega (arith, r, all, ag.one_a_row)) ag.below in
-            absurd (omega (arith, low, own gs.count more))
+            let low = each_at (λ g. g < gs.count) gs.of_rows (slice_index firsts gs.count) 0 (omega (arith, s.there gs.count more, all, ag.one_a_row)) ag.below in
+            absurd (omega (arith, low, s.own gs.count more))
         | inr not-more ↦ omega arith
       ]
     ]

@@ -13,13 +13,13 @@ use Rattle.hsp_instance.specs.Instance.{Instance, Row, Server, Host, IsInstance,
 use Rattle.hsp_check.specs.declared.arc.NetworkArc.{NetworkArc}
 use Rattle.hsp_check.specs.Instance.{arc_of, arcs_from, network_of}
 use Rattle.hsp_check.specs.Plan.{Plan, Feasible, planned, served, total}
-use Rattle.hsp_instance.proofs.Lists.{all_at}
+use Rattle.hsp_instance.proofs.Lists.{all_append, all_at}
 use Rattle.hsp_check.proofs.Summing.{sum_by_le_all, by_key}
 use Rattle.hsp_mincost.specs.Layout.{IsSmall}
 use Rattle.hsp_simplex.specs.Network.{IsNetwork, Transport, demand_of, host_of}
 use Rattle.hsp_flow.specs.Nodes.{nodes_by}
 use Rattle.hsp_flow.specs.Planning.{transport_of, row_of, server_of, cost_of}
-use Rattle.hsp_flow.proofs.Ordering.{no_arc, each_weaker, each_append, each_at, all_ordered, rows_between, rows_ordered, arcs_many}
+use Rattle.hsp_flow.proofs.Ordering.{no_arc, each_weaker, each_at, all_ordered, rows_between, rows_ordered, arcs_many}
 use Rattle.hsp_flow.proofs.Bridging.{arc}
 use Rattle.hsp_mincost.proofs.Sums.{sum_below_low}
 
@@ -58,7 +58,7 @@ module _ (it : Instance) (is : IsInstance it) where
 
   fits_all : (i : ℕ) (lists : List (List Arc)) → AllByRecursion (AreArcs it.servers) lists → AllByRecursion (Fits it) (arcs_from i lists)
   fits_all i [] h = tt
-  fits_all i (arcs ∷ rest) h = each_append (Fits it) (map (arc_of i) arcs) (arcs_from (i + 1) rest) (fits_row i arcs h.0.each) (fits_all (i + 1) rest h.1)
+  fits_all i (arcs ∷ rest) h = all_append (Fits it) (map (arc_of i) arcs) (arcs_from (i + 1) rest) (fits_row i arcs h.0.each) (fits_all (i + 1) rest h.1)
 
   pub small_ends : AllByRecursion (λ (a : NetworkArc). (a.row ≤ 8191) × (a.site ≤ 31)) (arcs_from 0 it.arcs)
   small_ends =

@@ -6,6 +6,7 @@ use Rattle.std.specs.Prelude.{slice_get}
 use Rattle.std.proofs.lemmas.Option.{slice_get_within, get_or_from_slice_get}
 use Rattle.std.proofs.lemmas.Bool.{cases_lt}
 use Rattle.hsp_instance.specs.declared.arc.Arc.{Arc}
+use Rattle.hsp_instance.proofs.Lists.{all_append}
 use Rattle.hsp_instance.specs.Instance.{IsAscending}
 use Rattle.hsp_check.specs.declared.arc.NetworkArc.{NetworkArc}
 use Rattle.hsp_check.specs.Instance.{arc_of, arcs_from}
@@ -15,10 +16,6 @@ use Rattle.hsp_flow.specs.Ordered.{IsLater, AreOrdered}
 -- what stands past the end of arcs
 abbrev pub no_arc : NetworkArc
 no_arc = record { row = 0; site = 0; server = 0; cost = 0 }
-
-pub each_append : {A : Type 0} (P : A → Type 0) (xs ys : List A) → AllByRecursion P xs → AllByRecursion P ys → AllByRecursion P (xs ++ ys)
-each_append P [] ys h k = k
-each_append P (x ∷ xs) ys h k = (h.0, each_append P xs ys h.1 k)
 
 pub each_weaker : {A : Type 0} (P Q : A → Type 0) (xs : List A) → ((x : A) → P x → Q x) → AllByRecursion P xs → AllByRecursion Q xs
 each_weaker P Q [] weaker h = tt
@@ -38,13 +35,13 @@ of_row i (a ∷ arcs) = (refl, of_row i arcs)
 pub rows_between : (i : ℕ) (lists : List (List Arc)) → AllByRecursion (λ a. (i ≤ a.row) × (a.row < i + length lists)) (arcs_from i lists)
 rows_between i [] = tt
 rows_between i (arcs ∷ rest) =
-    each_append (λ a. (i ≤ a.row) × (a.row < i + suc (length rest))) (map (arc_of i) arcs) (arcs_from (i + 1) rest)
+    all_append (λ a. (i ≤ a.row) × (a.row < i + suc (length rest))) (map (arc_of i) arcs) (arcs_from (i + 1) rest)
     (each_weaker (λ a. a.row ≡ i) _ (map (arc_of i) arcs) (λ a e. (omega arith, omega arith)) (of_row i arcs))
     (each_weaker _ _ (arcs_from (i + 1) rest) (λ a b. (omega (arith, b.0), omega (arith, b.1))) (rows_between (i + 1) rest))
 
 ordered_append : (xs ys : List NetworkArc) → AreOrdered xs → AreOrdered ys → AllByRecursion (λ x. AllByRecursion (IsLater x) ys) xs → AreOrdered (xs ++ ys)
 ordered_append [] ys h k across = k
-ordered_append (x ∷ xs) ys h k across = (each_append (IsLater x) xs ys h.0 across.0, ordered_append xs ys h.1 k across.1)
+ordered_append (x ∷ xs) ys h k across = (all_append (IsLater x) xs ys h.0 across.0, ordered_append xs ys h.1 k across.1)
 
 later_sites : (i : ℕ) (a : Arc) (arcs : List Arc) → AllByRecursion (λ (later : Arc). a.site < later.site) arcs → AllByRecursion (IsLater (arc_of i a)) (map (arc_of i) arcs)
 later_sites i a [] h = tt

@@ -1,9 +1,10 @@
 -- A short set of a network's sources is a valid certificate's short set of rows.
-use Rattle.std.proofs.Common.{◌≡◌, ℕ, zero, suc, ◌+◌, ◌<◌, ◌==◌, ◌∙◌, Bool, true, false, List, [], ◌∷◌, length, slice_index, slice_index_or, if◌then◌else◌, refl, ap, ap₂, sym, inl, inr, arith, eq-eqb, ne_eqb, zero-add}
+use Rattle.std.proofs.Common.{◌≡◌, ℕ, zero, suc, ◌+◌, ◌<◌, ◌≤◌, ◌==◌, ◌∙◌, Bool, true, false, List, [], ◌∷◌, length, slice_index, slice_index_or, if◌then◌else◌, refl, ap, ap₂, sym, inl, inr, arith, eq-eqb, ne_eqb, zero-add, add-one, take, take_all}
 use Rattle.std.specs.Prelude.{◌&&◌, ◌||◌, is_none, min}
 use Rattle.std.specs.List.{AllByRecursion, list_any}
 use Rattle.std.proofs.lemmas.List.Elements.{All-from_recursion}
 use Rattle.std.proofs.lemmas.List.{length-map, get_or-map}
+use Rattle.std.proofs.lemmas.List.Folds.{list_any_more}
 use Rattle.std.proofs.lemmas.Bool.{cases_Bool}
 use Rattle.hsp_instance.specs.Instance.{Instance, Row}
 use Rattle.hsp_check.specs.declared.arc.NetworkArc.{NetworkArc}
@@ -19,27 +20,17 @@ use Rattle.hsp_flow.specs.Planning.{transport_of, flagged_from, row_of, server_o
 use Rattle.hsp_flow.proofs.Ordering.{no_arc, each_weaker}
 use Rattle.hsp_flow.proofs.Bridging.{arc}
 
-or_assoc : (a b c : Bool) → ((a || b) || c) ≡ (a || (b || c))
-or_assoc true b c = refl
-or_assoc false b c = refl
-
--- the first test apart from the others
-first_any : (n : ℕ) (test : ℕ → Bool) → any_below (suc n) test ≡ (test 0 || any_below n (λ k. test (suc k)))
-first_any zero test = either (test 0)
-  where
-    either : (b : Bool) → (false || b) ≡ (b || false)
-    either true = refl
-    either false = refl
-first_any (suc n) test = ap (λ b. b || test (suc n)) (first_any n test) ∙ or_assoc (test 0) (any_below n (λ k. test (suc k))) (test (suc n))
-
 any_same : (n : ℕ) (f g : ℕ → Bool) → ((k : ℕ) → k < n → f k ≡ g k) → any_below n f ≡ any_below n g
 any_same zero f g h = refl
 any_same (suc n) f g h = ap₂ (λ a b. a || b) (any_same n f g (λ k l. h k (omega arith))) (h n (omega arith))
 
 -- a test of each arc, by its place
+any_take : (p : NetworkArc → Bool) (arcs : List NetworkArc) (n : ℕ) → n ≤ length arcs → list_any p (take n arcs) ≡ any_below n (λ k. p (arc arcs k))
+any_take p arcs zero l = refl
+any_take p arcs (suc n) l = rw add-one at (list_any_more p arcs n no_arc (omega arith)) ∙ ap (λ b. b || p (arc arcs n)) (any_take p arcs n (omega arith))
+
 any_place : (p : NetworkArc → Bool) (arcs : List NetworkArc) → list_any p arcs ≡ any_below (length arcs) (λ k. p (arc arcs k))
-any_place p [] = refl
-any_place p (a ∷ arcs) = ap (λ b. p a || b) (any_place p arcs) ∙ sym (first_any (length arcs) (λ k. p (arc (a ∷ arcs) k)))
+any_place p arcs = ap (list_any p) (sym (take_all (length arcs) arcs (omega arith))) ∙ any_take p arcs (length arcs) (omega arith)
 
 -- whether a number is among the flagged ones, by the first flag
 in_flags : (i k : ℕ) (flag : Bool) (flags : List Bool) →
@@ -77,15 +68,12 @@ flagged_is j (flag ∷ flags) (suc i) =
 flags_within : (j : ℕ) (flags : List Bool) → AllByRecursion (λ r. r < j + length flags) (flagged_from j flags)
 flags_within j [] = tt
 flags_within j (flag ∷ flags) =
-    let more : AllByRecursion (λ r. r < j + suc (length flags)) (flagged_from (j + 1) flags) = weaker (flagged_from (j + 1) flags) (flags_within (j + 1) flags) in
+    let more : AllByRecursion (λ r. r < j + suc (length flags)) (flagged_from (j + 1) flags) =
+    each_weaker (λ r. r < j + 1 + length flags) _ (flagged_from (j + 1) flags) (λ r l. omega arith) (flags_within (j + 1) flags) in
     elim (cases_Bool flag) [
       | inl set ↦ rw set (omega arith, more)
       | inr unset ↦ rw unset more
     ]
-  where
-    weaker : (rs : List ℕ) → AllByRecursion (λ r. r < j + 1 + length flags) rs → AllByRecursion (λ r. r < j + suc (length flags)) rs
-    weaker [] h = tt
-    weaker (r ∷ rs) h = (omega (arith, h.0), weaker rs h.1)
 
 module _ (it : Instance) (set : List Bool) (many : length set ≡ length it.rows) where
   abbrev rows : ℕ → Bool

@@ -142,10 +142,14 @@ abbrev pub servers_at : List CapacityEntry → List Host → ℕ → List ℕ �
 servers_at rows hosts n name place earlier [] = Ok earlier
 servers_at rows hosts n name place earlier (own ∷ more) = server_at rows hosts n name place own >>= λ server. servers_at rows hosts n name (place + 1) (earlier ++ server ∷ []) more
 
--- the servers of sites from site `n` on, after those before them, or the first that has no capacity
+-- the servers of site `n`, after those before them, or the first that has no capacity
+abbrev pub servers_with : List CapacityEntry → List Host → ℕ → List Server → Site → Result (List Server) BuildFault
+servers_with rows hosts n earlier site = servers_at rows hosts n site.name 0 earlier site.servers
+
+-- the same of sites from site `n` on
 abbrev pub servers_from : List CapacityEntry → List Host → ℕ → List Server → List Site → Result (List Server) BuildFault
 servers_from rows hosts n earlier [] = Ok earlier
-servers_from rows hosts n earlier (site ∷ more) = servers_at rows hosts n site.name 0 earlier site.servers >>= λ servers. servers_from rows hosts (n + 1) servers more
+servers_from rows hosts n earlier (site ∷ more) = servers_with rows hosts n earlier site >>= λ servers. servers_from rows hosts (n + 1) servers more
 
 -- ---- arcs
 

@@ -6,7 +6,7 @@ ghost use Rattle.hsp_tables.specs.Settings.{AreSettings};
 ghost use Rattle.hsp_text.specs.declared.limits.TheConstants.{MOST_HOSTS, MOST_SERVERS};
 ghost use Rattle.hsp_instance.specs.declared.fault.BuildFault.TheVariants.{OutOfMemory};
 ghost use Rattle.hsp_text.specs.Answers.{Gives};
-ghost use Rattle.hsp_instance.specs.Building.{host_of_entry, is_at, server_at, servers_at, servers_from};
+ghost use Rattle.hsp_instance.specs.Building.{host_of_entry, is_at, server_at, servers_from, servers_with};
 ghost use Rattle.hsp_instance.specs.Instance.{AreSites};
 
 use crate::fault::BuildFault;
@@ -81,8 +81,10 @@ fn push_servers(
 ) -> Result<(), BuildFault>
     requires hosts { length hosts.now ≤ MOST_HOSTS }
     requires few { length site.now.servers ≤ MOST_SERVERS }
-    ensures ok { OnOk result (servers_at capacities.now hosts.now number site.now.name 0 servers.old.items site.now.servers ≡ Ok servers.new.items) }
-    ensures err { IfErr result (λ e. (e ≡ OutOfMemory) ⊎ (servers_at capacities.now hosts.now number site.now.name 0 servers.old.items site.now.servers ≡ Err e)) }
+    ensures ok { OnOk result
+        (servers_with capacities.now hosts.now number servers.old.items site.now ≡ Ok servers.new.items) }
+    ensures err { IfErr result (λ e. (e ≡ OutOfMemory)
+        ⊎ (servers_with capacities.now hosts.now number servers.old.items site.now ≡ Err e)) }
 {
     for (place, own) in site.servers.iter().enumerate() {
         let name = site.name.as_slice();

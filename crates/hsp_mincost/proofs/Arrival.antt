@@ -4,7 +4,7 @@ use Rattle.std.proofs.lemmas.Bool.{cases_eq, cases_lt}
 use Rattle.hsp_mincost.specs.Residual.{Flow, IsTree, Links, SearchTree, Sound, distance, nodes, predecessor, prices, raised, to, way, width}
 use Rattle.hsp_mincost.specs.Search.{Begun, Found, IsApart, Offer, Offered, Priced, Spread, top}
 use Rattle.hsp_mincost.proofs.Directions.{gives_raised, takes_raised}
-use Rattle.hsp_mincost.proofs.Searching.{changed}
+use Rattle.hsp_mincost.proofs.Searching.{changed, root_only}
 
 module _ (n : Links) (f : Flow) (t : SearchTree) (root : ℕ) (sound : Sound n f (λ v. slice_index f.price.now v)) (found : Found n f t root) where
   pub sink_some : 0 < slice_index t.amount.now 0
@@ -70,11 +70,8 @@ spread_begun n f t held root amount b many =
       up = 0;
       down = 0;
       within = omega arith;
-      priced = record { apart = λ v l q. rw (root-only v l q) (omega (arith, b.distance_root), omega (arith, b.distance_root)) };
+      priced = record { apart = λ v l q. rw (root_only n t held root amount b many v l q) (omega (arith, b.distance_root), omega (arith, b.distance_root)) };
     }
-  where
-    root-only : (v : ℕ) → v < nodes n → distance t v < top → v ≡ root
-    root-only v l near = elim (cases_eq v root) [ inl e ↦ e | inr ne ↦ absurd (omega (arith, b.distance_rest v (omega arith) ne)) ]
 
 pub spread_later : (n : Links) (f : Flow) (t : SearchTree) (root turn later : ℕ) → Spread n f t root turn → turn ≤ later → Spread n f t root later
 spread_later n f t root turn later s l = record { up = s.up; down = s.down; within = omega (arith, s.within, mul-le-mul_right n.most l); priced = s.priced }

@@ -10,6 +10,7 @@ use Rattle.std.specs.declared.cmp.Ordering.{Ordering}
 use Rattle.std.specs.declared.cmp.Reverse.{Reverse}
 use Rattle.std.specs.Ordering.{nat_cmp, ordering_then, is_lt}
 use Rattle.hsp_mincost.specs.Frontier.{Changes, Pairs, is_pair, later_pair}
+use Rattle.hsp_mincost.proofs.Searching.{cases_option}
 
 -- a pair of the node and key is one of the pairs still where another one left
 module _ (held : ℕ → Option ℕ) (xs : List (Reverse (ℕ × ℕ))) (paired : Pairs held xs) where
@@ -39,26 +40,22 @@ module _ (held : ℕ → Option ℕ) (xs : List (Reverse (ℕ × ℕ))) (paired 
 
   -- with no pairs left no node is held
   pub none_held : length xs ≡ 0 → (v : ℕ) → held v ≡ None
-  none_held empty v = at (held v) refl
+  none_held empty v = elim (cases_option (held v)) [
+    | inl none ↦ none
+    | inr w ↦ absurd (let there = paired v w.0 w.1 in let none = no_pair xs (is_pair v w.0) empty in cc)
+  ]
     where
       no_pair : (ys : List (Reverse (ℕ × ℕ))) (test : Reverse (ℕ × ℕ) → Bool) → length ys ≡ 0 → list_any test ys ≡ false
       no_pair [] test e = refl
       no_pair (y ∷ ys) test e = absurd (omega arith)
 
-      at : (o : Option ℕ) → held v ≡ o → o ≡ None
-      at None h = refl
-      at (Some key) h =
-          let there : list_any (is_pair v key) xs ≡ true = paired v key h in
-          absurd (let none : list_any (is_pair v key) xs ≡ false = no_pair xs (is_pair v key) empty in cc)
-
 -- where no pair's node is held, none is
 pub all_forgotten : (held held' : ℕ → Option ℕ) (xs : List (Reverse (ℕ × ℕ))) → Pairs held xs →
     ((v key : ℕ) → held' v ≡ Some key → held v ≡ Some key) → ((v key : ℕ) → list_any (is_pair v key) xs ≡ true → held' v ≡ None) → (v : ℕ) → held' v ≡ None
-all_forgotten held held' xs paired kept gone v = at (held' v) refl
-  where
-    at : (o : Option ℕ) → held' v ≡ o → o ≡ None
-    at None h = refl
-    at (Some key) h = absurd (let none : held' v ≡ None = gone v key (paired v key (kept v key h)) in cc)
+all_forgotten held held' xs paired kept gone v = elim (cases_option (held' v)) [
+  | inl none ↦ none
+  | inr w ↦ gone v w.0 (paired v w.0 (kept v w.0 w.1))
+]
 
 pub none_paired : (held : ℕ → Option ℕ) (xs : List (Reverse (ℕ × ℕ))) → ((v : ℕ) → held v ≡ None) → Pairs held xs
 none_paired held xs none v key h = absurd (let n = none v in cc)

@@ -3,12 +3,17 @@ use Rattle.std.proofs.Common.{◌≡◌, ◌≢◌, ℕ, ◌+◌, ◌<◌, ◌�
 use Rattle.std.proofs.lemmas.Bool.{cases_eq, cases_lt}
 use Rattle.hsp_mincost.specs.Frontier.{Changes, IsLeast}
 use Rattle.hsp_mincost.specs.Residual.{Flow, Links, SearchTree, distance, from, gives, nodes, prices, takes, to, way, width}
-use Rattle.hsp_mincost.specs.Search.{Closed, Found, IsRelaxed, Offer, Reached, Search, Settled, TakesWay, top}
+use Rattle.hsp_mincost.specs.Search.{Begun, Closed, Found, IsRelaxed, Offer, Reached, Search, Settled, TakesWay, top}
 use Rattle.hsp_mincost.proofs.Directions.{from_in, to_in, direction}
 
 pub cases_option : (o : Option ℕ) → (o ≡ None) ⊎ ((d : ℕ) × (o ≡ Some d))
 cases_option None = inl refl
 cases_option (Some d) = inr (d, refl)
+
+-- at the start only the root is reached
+pub root_only : (n : Links) (t : SearchTree) (held : ℕ → Option ℕ) (root amount : ℕ) → Begun t held root amount → length t.distance.now ≡ nodes n →
+    (v : ℕ) → v < nodes n → distance t v < top → v ≡ root
+root_only n t held root amount b many v l near = elim (cases_eq v root) [ inl e ↦ e | inr ne ↦ absurd (omega (arith, b.distance_rest v (omega arith) ne)) ]
 
 -- a list with one entry changed
 pub changed : (xs ys : List ℕ) (i x : ℕ) → ys ≡ slice_set xs i x → i < length xs →

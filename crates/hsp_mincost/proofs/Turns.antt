@@ -8,7 +8,7 @@ use Rattle.hsp_mincost.specs.Search.{Begun, Covers, Expanding, Running, Settled,
 use Rattle.hsp_simplex.specs.Sums.{sum_below}
 use Rattle.hsp_mincost.proofs.Sums.{sum_below_low, sum_below_lt}
 use Rattle.hsp_mincost.proofs.Directions.{from_in}
-use Rattle.hsp_mincost.proofs.Searching.{fewer, taken, cases_option}
+use Rattle.hsp_mincost.proofs.Searching.{fewer, taken, cases_option, root_only}
 use Rattle.hsp_mincost.proofs.Expansion.{still_counted, test_from_settled}
 
 -- every number on the way fits
@@ -61,7 +61,7 @@ begun n f t held root covers root-in away pos b = record {
     none v l st = omega (arith, b.distance_rest v (omega (arith, covers.distances_many)) (not-root v st), st.reached)
 
     root-only : (v : ℕ) → v < nodes n → distance t v < top → v ≡ root
-    root-only v l near = elim (cases_eq v root) [ inl e ↦ e | inr ne ↦ absurd (omega (arith, b.distance_rest v (omega (arith, covers.distances_many)) ne)) ]
+    root-only = root_only n t held root _ b covers.distances_many
 
 module _ (n : Links) (f : Flow) (t : SearchTree) (held : ℕ → Option ℕ) (root turn : ℕ) (r : Running n f t held root turn) where
   pub next_near : (node near : ℕ) → IsLeast held node near → near ≤ r.now + n.step
