@@ -1,7 +1,7 @@
 -- Columns of arcs with those of a row more.
-use Rattle.std.proofs.Common.{◌≡◌, ℕ, ◌+◌, ◌∙◌, List, ◌++◌, length, map, take, ap, sym, refl, arith, length-append}
+use Rattle.std.proofs.Common.{◌≡◌, ℕ, ◌+◌, ◌∙◌, List, ◌++◌, map, take, ap, sym, refl}
 use Rattle.std.specs.Prelude.{Some, slice_get}
-use Rattle.std.proofs.lemmas.List.{length-map, map-append}
+use Rattle.std.proofs.lemmas.List.{map-append}
 use Rattle.hsp_instance.specs.declared.arc.Arc.{Arc}
 use Rattle.hsp_check.specs.declared.arc.NetworkArc.{NetworkArc}
 use Rattle.hsp_check.specs.Instance.{arc_of, arcs_from}
@@ -13,9 +13,6 @@ use Rattle.hsp_flow.proofs.Ordering.{arcs_read}
 module _ (lists : List (List Arc)) (k : ℕ) (arcs : List Arc) (read : slice_get lists k ≡ Some arcs) where
   grown : arcs_from 0 (take k lists) ++ map (arc_of k) arcs ≡ arcs_from 0 (take (k + 1) lists)
   grown = arcs_read lists k arcs (arcs_from 0 (take k lists)) read refl
-
-  pub count_more : length (arcs_from 0 (take (k + 1) lists)) ≡ length (arcs_from 0 (take k lists)) + length arcs
-  count_more = omega (arith, ap (λ (xs : List NetworkArc). length xs) grown, length-append (arcs_from 0 (take k lists)) (map (arc_of k) arcs), length-map arcs (arc_of k))
 
   column_more : (part : NetworkArc → ℕ) (old new : List ℕ) → old ≡ map part (arcs_from 0 (take k lists)) → new ≡ old ++ map part (map (arc_of k) arcs) → new ≡ map part (arcs_from 0 (take (k + 1) lists))
   column_more part old new is more =

@@ -1,7 +1,7 @@
 use Rattle.std.proofs.Common.{arith}
 use Rattle.hsp_instance.specs.Instance.{AreArcs}
 use Rattle.hsp_instance.proofs.Lists.{all_at}
-use Rattle.hsp_flow.proofs.InColumns.{count_more}
+use Rattle.hsp_check.proofs.RowLists.{count_more}
 use Rattle.hsp_flow.proofs.arcs.arc_count.Goals as goal
 
 pub overflow_add-count : goal.overflow_add-count
