@@ -12,7 +12,7 @@ use Rattle.hsp_instance.specs.Instance.{Instance}
 use Rattle.hsp_instance.proofs.Lists.{back_at, drop_at, front_at}
 use Rattle.hsp_dispatch.specs.Fronts.{cells_at, share}
 use Rattle.hsp_dispatch.specs.Shares.{AreCells, AreCellsOf, IsCellOf, cells_in, first_of, left_at, without_first}
-use Rattle.hsp_dispatch.specs.Standings.{AreBounded, AreSoles, IsSole, all_sums, cells_left, left_among, lefts_from, lefts_of, shares_in, shares_sum, sole_in, sums_of}
+use Rattle.hsp_dispatch.specs.Standings.{AreBounded, AreSoles, IsSole, all_sums, cells_left, left_among, left_from, lefts_from, lefts_of, shares_in, shares_sum, sole_in, sums_of}
 use Rattle.hsp_dispatch.specs.declared.front_share.Standing.{Standing}
 use Rattle.hsp_dispatch.specs.declared.share.Cell.{Cell}
 use Rattle.hsp_dispatch.proofs.FrontShares.{share_le, share_none}
@@ -173,19 +173,35 @@ none_left fronts front left cells none = rw none (left_none fronts front cells)
 
 -- ---- where a front stands
 
--- it stands at a cell, or at a later one
-pub stands_at : (fronts front left k : ℕ) (cells : List Cell) (cell : Cell) (standing : Standing) → slice_get cells k ≡ Some cell
-    → shares_sum fronts front (drop (k + 1) cells) < left → standing.cell ≡ k → standing.left ≡ left - shares_sum fronts front (drop (k + 1) cells)
-    → cells_left fronts front cells standing ≡ left_among fronts front left (drop k cells)
-stands_at fronts front left k cells cell standing e more at own =
-    let some : left - shares_sum fronts front (drop (k + 1) cells) ≢ 0 = λ none. absurd (omega (arith, more, none)) in
-    rw (at, own, ne_eqb (left - shares_sum fronts front (drop (k + 1) cells)) 0 some, drop_at cells k cell e)
-    (rw (lt-ltb (shares_sum fronts front (drop (k + 1) cells)) left more) refl)
+less_behind : (fronts front k : ℕ) (cells : List Cell) → shares_sum fronts front (drop k cells) ≤ shares_sum fronts front cells
+less_behind fronts front zero cells = omega arith
+less_behind fronts front (suc k) [] = omega arith
+less_behind fronts front (suc k) (cell ∷ cells) = omega (arith, less_behind fronts front k cells)
 
-pub stands_later : (fronts front left k : ℕ) (cells : List Cell) (cell : Cell) → slice_get cells k ≡ Some cell
-    → left ≤ shares_sum fronts front (drop (k + 1) cells) → left_among fronts front left (drop (k + 1) cells) ≡ left_among fronts front left (drop k cells)
-stands_later fronts front left k cells cell e few =
-    sym (ap (left_among fronts front left) (drop_at cells k cell e) ∙ rw (le-ltb (shares_sum fronts front (drop (k + 1) cells)) left few) refl)
+-- it stands at the cell whose share, with those behind it, is as many as it has left, where those behind it are fewer
+stands_at : (fronts front left here k : ℕ) (cells : List Cell) → here ≢ 0 → here + shares_sum fronts front (drop (k + 1) cells) ≡ left
+    → (k ≢ 0 → left ≤ shares_sum fronts front (drop k cells)) → left_from fronts front here (drop k cells) ≡ left_among fronts front left cells
+stands_at fronts front left here zero [] some all as_many = refl
+stands_at fronts front left here zero (cell ∷ later) some all as_many =
+    let behind = shares_sum fronts front later in
+    let own : left - behind ≡ here = omega (arith, all) in
+    rw (lt-ltb behind left (omega (arith, all, some)), own) refl
+stands_at fronts front left here (suc k) [] some all as_many = refl
+stands_at fronts front left here (suc k) (cell ∷ later) some all as_many =
+    let few : left ≤ shares_sum fronts front (drop k later) = as_many (λ e. absurd (cc)) in
+    let next : suc k + 1 ≡ suc (k + 1) = omega arith in
+    rw (le-ltb (shares_sum fronts front later) left (omega (arith, few, less_behind fronts front k later)))
+    (stands_at fronts front left here k later some (rw next at all) (λ first. few))
+
+pub stands : (fronts front left here k : ℕ) (cells : List Cell) (standing : Standing) → (left ≢ 0 → here ≢ 0)
+    → here + shares_sum fronts front (drop (k + 1) cells) ≡ left → (k ≢ 0 → left ≤ shares_sum fronts front (drop k cells))
+    → standing.cell ≡ k → standing.left ≡ here → cells_left fronts front cells standing ≡ left_among fronts front left cells
+stands fronts front left here k cells standing some all as_many at own = elim (cases_eq here 0) [
+  | inl nothing ↦
+      let none : left ≡ 0 = elim (cases_eq left 0) [ | inl none ↦ none | inr more ↦ absurd (some more nothing) ] in
+      rw (own, nothing, none) (sym (left_none fronts front cells))
+  | inr more ↦ rw (at, own, ne_eqb here 0 more) (stands_at fronts front left here k cells more all as_many)
+]
 
 -- the first of what is left
 pub first_left : (fronts front : ℕ) (cells : List Cell) (cell : Cell) (standing : Standing) → standing.left ≢ 0 → slice_get cells standing.cell ≡ Some cell

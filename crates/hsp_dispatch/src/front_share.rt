@@ -48,24 +48,25 @@ pub(crate) fn sum_in(cells: &[Cell], front: Front) -> u32
     sum
 }
 
-/// Where a front stands that has so many left: at the first cell behind which its shares are fewer.
+/// Where a front stands that has so many left: at the last cell whose share, with those behind it, is as many, else at the first.
 pub(crate) fn stand_with(cells: &[Cell], left: u32, front: Front) -> Standing
     requires some { 0 < front.fronts }
-    requires fits { shares_sum front.fronts front.number cells.now ≤ 4294967295 }
     requires few { length cells.now ≤ MOST_SITES }
     ensures { cells_left front.fronts front.number cells.now result ≡
         left_among front.fronts front.number left cells.now }
 {
-    let mut later = sum_in(cells, front);
-    for number in 0..cells.len() {
-        later -= share(cells[number].left, front);
-        if later < left {
+    let mut here = left;
+    let mut number = cells.len().saturating_sub(1);
+    'cells: while number > 0 {
+        let own = share(cells[number].left, front);
+        if here <= own {
             let cell = number as u32;
-            let left = left - later;
-            return Standing { cell, left };
+            return Standing { cell, left: here };
         }
+        here -= own;
+        number -= 1;
     }
-    Standing { cell: 0, left: 0 }
+    Standing { cell: 0, left: here }
 }
 
 /// The share of a front in the cell of a site, 0 where no cell is of the site.

@@ -8,7 +8,9 @@ use Rattle.hsp_instance.specs.declared.arc.Arc.{Arc}
 use Rattle.hsp_check.specs.declared.arc.NetworkArc.{NetworkArc}
 use Rattle.hsp_check.specs.Instance.{arc_of, arcs_from}
 use Rattle.hsp_flow.specs.Planning.{use_of, uses_of, flagged_from}
-use Rattle.hsp_flow.proofs.Offsets.{no_own}
+
+abbrev pub no_own : Arc
+no_own = record { site = 0; server = 0; cost = 0 }
 
 -- the list from a place on begins with what stands there
 pub drop_at : {A : Type 0} (xs : List A) (k : ℕ) (d : A) → k < length xs → drop k xs ≡ slice_index_or xs k d ∷ drop (k + 1) xs

@@ -1,13 +1,9 @@
 pub mod Bridging
 pub mod Certifying
 pub mod Claiming
-pub mod GroupFacts
-pub mod GroupsMet
 pub mod InColumns
 pub mod Laying
 pub mod Limits
-pub mod Offsets
 pub mod Ordering
 pub mod Ranges
 pub mod ShortRows
-pub mod SpreadFlows

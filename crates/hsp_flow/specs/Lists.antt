@@ -1,5 +1,6 @@
--- The network that lists hold.
+-- The networks that lists hold.
 use Rattle.hsp_flow.specs.declared.amounts.TransportLists.{TransportLists}
+use Rattle.hsp_flow.specs.declared.grouping.GroupLists.{GroupLists}
 use Rattle.hsp_simplex.specs.Network.{Transport}
 
 -- the network that the lists are
@@ -12,4 +13,16 @@ transport_in lists = record {
   sources = lists.arcs.sources.items;
   servers = lists.arcs.servers.items;
   costs = lists.arcs.costs.items;
+}
+
+-- the same servers and hosts, with groups for sources
+abbrev pub transport_with : TransportLists → GroupLists → Transport
+transport_with rows groups = record {
+  demands = groups.demands.items;
+  capacities = rows.capacities.items;
+  limits = rows.limits.items;
+  hosts = rows.hosts.items;
+  sources = groups.arcs.sources.items;
+  servers = groups.arcs.servers.items;
+  costs = groups.arcs.costs.items;
 }

@@ -5,10 +5,10 @@
 mod amounts;
 mod arcs;
 mod certify;
-mod group_lists;
 mod grouping;
 mod planning;
 mod shortfall;
+mod small;
 mod spreading;
 
 pub use hsp_mincost::{Frontier, HeapFrontier, ScanFrontier, SearchEffort};

@@ -5,24 +5,24 @@ ghost use Rattle.hsp_instance.specs.Groups.{AreGroups};
 ghost use Rattle.hsp_instance.specs.Instance.{IsInstance};
 ghost use Rattle.hsp_check.specs.Instance.{network_of};
 ghost use Rattle.hsp_check.specs.Valid.{IsValid};
-ghost use Rattle.hsp_simplex.specs.Answer.{Answers, IsMet, IsShortSet};
+ghost use Rattle.hsp_simplex.specs.Answer.{Answers, IsShortSet};
 ghost use Rattle.hsp_simplex.specs.Problem.{problem_of};
+ghost use Rattle.hsp_mincost.specs.Layout.{IsSmall};
 ghost use Rattle.hsp_mincost.specs.Nodes.{MayHaveUpTo};
-ghost use Rattle.hsp_flow.specs.Grouped.{IsGrouping, nodes_with, transport_by};
-ghost use Rattle.hsp_flow.specs.Lists.{transport_in};
+ghost use Rattle.hsp_flow.specs.Lists.{transport_in, transport_with};
 ghost use Rattle.hsp_flow.specs.Nodes.{MayHaveNodesOf, nodes_by};
 ghost use Rattle.hsp_flow.specs.Planning.{HasLimitedPrices, transport_of};
 
 use crate::amounts::{TransportLists, lists_of};
 use crate::certify::plan_certificate;
-use crate::group_lists::{Grouping, group_lists};
-use crate::grouping::firsts_of;
+use crate::grouping::{GroupLists, group_lists};
 use crate::shortfall::short_certificate;
-use crate::spreading::{spread_flags, spread_flows, spread_prices};
+use crate::small::is_small;
+use crate::spreading::spread;
 use hsp_cert::Certificate;
 use hsp_instance::{Groups, Instance, groups};
 use hsp_mincost::{Frontier, HeapFrontier, SearchEffort, minimum_cost_flow};
-use hsp_simplex::{Network, Outcome, PricedFlow, SimplexEffort, accepts, propose_counted};
+use hsp_simplex::{Network, NetworkLists, Outcome, SimplexEffort, accepts, propose_counted};
 use std::alloc::{AllocError, Global};
 
 /// How much work a run took: its searches, the proposals that were accepted, and the pivots of all that were made.
@@ -51,61 +51,22 @@ fn row_network<'a>(instance: &Instance, rows: &'a TransportLists) -> Network<'a>
     }
 }
 
-// The network whose sources are the groups.
-fn group_network<'a>(grouping: &Grouping<'a>) -> Network<'a>
-    requires { IsGrouping grouping.now }
-    ensures { problem_of result ≡ transport_by grouping.now }
+// The network whose sources are the groups, where the loop's numbers have room for it.
+fn group_network<'a>(rows: &'a TransportLists, groups: &'a GroupLists) -> Option<Network<'a>>
+    ensures network { IfSome result (λ network.
+        problem_of network ≡ transport_with rows.now groups.now) }
+    ensures small { IfSome result (λ network. IsSmall (problem_of network)) }
 {
-    Network {
-        demands: &grouping.lists.demands,
-        capacities: &grouping.rows.capacities,
-        limits: &grouping.rows.limits,
-        hosts: &grouping.rows.hosts,
-        sources: &grouping.lists.arcs.sources,
-        servers: &grouping.lists.arcs.servers,
-        costs: &grouping.lists.arcs.costs,
-    }
-}
-
-// What becomes of the groups' network.
-fn solve_groups<F: Frontier>(
-    alloc: Global,
-    grouping: &Grouping,
-    effort: &mut SearchEffort,
-) -> Result<Outcome, AllocError>
-    requires grouping { IsGrouping grouping.now }
-    requires nodes { MayHaveUpTo F.may_have (nodes_with grouping.now) }
-    ensures { IfOk result (Answers (transport_by grouping.now)) }
-{
-    let network = group_network(grouping);
-    minimum_cost_flow::<F>(alloc, &network, effort)
-}
-
-// The plan of the groups, spread over their rows.
-fn spread_plan(
-    alloc: Global,
-    grouping: &Grouping,
-    plan: PricedFlow,
-) -> Result<PricedFlow, AllocError>
-    requires grouping { IsGrouping grouping.now }
-    requires met { IsMet (transport_by grouping.now) plan }
-    ensures { IfOk result (IsMet (transport_of grouping.now.instance.now)) }
-{
-    let flows = spread_flows(
-        alloc,
-        &grouping.rows.demands,
-        &grouping.rows.arcs.sources,
-        &grouping.lists.group_places,
-        &plan.flows,
-    )?;
-    let rows = grouping.instance.rows();
-    let source_prices = spread_prices(alloc, grouping.groups, rows, &plan.source_prices)?;
-    Ok(PricedFlow {
-        flows,
-        source_prices,
-        server_prices: plan.server_prices,
-        host_prices: plan.host_prices,
-    })
+    let network = Network::checked(NetworkLists {
+        demands: &groups.demands,
+        capacities: &rows.capacities,
+        limits: &rows.limits,
+        hosts: &rows.hosts,
+        sources: &groups.arcs.sources,
+        servers: &groups.arcs.servers,
+        costs: &groups.arcs.costs,
+    })?;
+    if is_small(&network) { Some(network) } else { None }
 }
 
 // The certificate of a short set of the rows.
@@ -125,59 +86,6 @@ fn certify_short(
     short_certificate(alloc, instance, &network, set)
 }
 
-// The flags of the rows of short groups.
-fn short_rows(alloc: Global, grouping: &Grouping, set: &[bool]) -> Result<Vec<bool>, AllocError>
-    requires grouping { IsGrouping grouping.now }
-    requires short { IsShortSet (transport_by grouping.now) set.now }
-    ensures { IfOk result (λ flags. IsShortSet (transport_of grouping.now.instance.now) flags.items) }
-{
-    let rows = grouping.instance.rows();
-    let flags = spread_flags(alloc, grouping.groups, rows, set)?;
-    Ok(flags)
-}
-
-// What becomes of the rows' network, by the groups'.
-fn solve_spread<F: Frontier>(
-    alloc: Global,
-    grouping: &Grouping,
-    effort: &mut SearchEffort,
-) -> Result<Outcome, AllocError>
-    requires grouping { IsGrouping grouping.now }
-    requires nodes { MayHaveUpTo F.may_have (nodes_with grouping.now) }
-    ensures { IfOk result (Answers (transport_of grouping.now.instance.now)) }
-{
-    match solve_groups::<F>(alloc, grouping, effort)? {
-        Outcome::Met(plan) => Ok(Outcome::Met(spread_plan(alloc, grouping, plan)?)),
-        Outcome::Short(set) => Ok(Outcome::Short(short_rows(alloc, grouping, &set)?)),
-    }
-}
-
-// What becomes of the rows' network, where some rows are of one group.
-fn solve_grouped<F: Frontier>(
-    alloc: Global,
-    instance: &Instance,
-    groups: &Groups,
-    rows: &TransportLists,
-    effort: &mut SearchEffort,
-) -> Result<Outcome, AllocError>
-    requires within { IsInstance instance.now }
-    requires groups { AreGroups instance.now groups.now }
-    requires rows { transport_in rows.now ≡ transport_of instance.now }
-    requires nodes { MayHaveUpTo F.may_have (nodes_by instance.now groups.now.count) }
-    ensures { IfOk result (Answers (transport_of instance.now)) }
-{
-    let firsts = firsts_of(alloc, instance, groups)?;
-    let lists = group_lists(alloc, instance, groups, &firsts)?;
-    let grouping = Grouping {
-        instance,
-        groups,
-        firsts: &firsts,
-        rows,
-        lists: &lists,
-    };
-    solve_spread::<F>(alloc, &grouping, effort)
-}
-
 // What becomes of the rows' network, each row a source of its own.
 fn solve_rows<F: Frontier>(
     alloc: Global,
@@ -194,7 +102,46 @@ fn solve_rows<F: Frontier>(
     minimum_cost_flow::<F>(alloc, &network, effort)
 }
 
-// What becomes of the rows' network, by the loop of searches.
+// What the searches find for the groups, spread over their rows; None where the loop has no room for the groups' network.
+fn propose_by_groups<F: Frontier>(
+    alloc: Global,
+    instance: &Instance,
+    groups: &Groups,
+    rows: &TransportLists,
+    effort: &mut SearchEffort,
+) -> Result<Option<Outcome>, AllocError>
+    requires groups { AreGroups instance.now groups.now }
+    requires rows { transport_in rows.now ≡ transport_of instance.now }
+    requires nodes { MayHaveUpTo F.may_have (nodes_by instance.now groups.now.count) }
+{
+    let lists = group_lists(alloc, instance, groups)?;
+    let Some(network) = group_network(rows, &lists) else {
+        return Ok(None);
+    };
+    let of_groups = minimum_cost_flow::<F>(alloc, &network, effort)?;
+    Ok(Some(spread(alloc, instance, groups, &lists, of_groups)?))
+}
+
+// What the searches find for the groups, where the test accepts it for their rows.
+fn solve_groups<F: Frontier>(
+    alloc: Global,
+    instance: &Instance,
+    groups: &Groups,
+    rows: &TransportLists,
+    effort: &mut SearchEffort,
+) -> Result<Option<Outcome>, AllocError>
+    requires within { IsInstance instance.now }
+    requires groups { AreGroups instance.now groups.now }
+    requires rows { transport_in rows.now ≡ transport_of instance.now }
+    requires nodes { MayHaveUpTo F.may_have (nodes_by instance.now groups.now.count) }
+    ensures { IfOk result (λ found. IfSome found (Answers (transport_of instance.now))) }
+{
+    let proposal = propose_by_groups::<F>(alloc, instance, groups, rows, effort)?;
+    let network = row_network(instance, rows);
+    accepted(alloc, &network, proposal)
+}
+
+// What becomes of the rows' network, by the loop of searches: by way of the groups where some rows are of one group.
 fn solve_by_searches<F: Frontier>(
     alloc: Global,
     instance: &Instance,
@@ -208,13 +155,33 @@ fn solve_by_searches<F: Frontier>(
 {
     let groups = groups(alloc, instance)?;
     if groups.len() == instance.rows() {
-        solve_rows::<F>(alloc, instance, rows, effort)
-    } else {
-        solve_grouped::<F>(alloc, instance, &groups, rows, effort)
+        return solve_rows::<F>(alloc, instance, rows, effort);
+    }
+    match solve_groups::<F>(alloc, instance, &groups, rows, effort)? {
+        Some(outcome) => Ok(outcome),
+        None => solve_rows::<HeapFrontier>(alloc, instance, rows, effort),
     }
 }
 
-// What is proposed for the network and accepted; None where nothing is.
+// What is proposed, where the test accepts it.
+fn accepted(
+    alloc: Global,
+    network: &Network<'_>,
+    proposal: Option<Outcome>,
+) -> Result<Option<Outcome>, AllocError>
+    ensures { IfOk result (λ found. IfSome found (Answers (problem_of network.now))) }
+{
+    let Some(outcome) = proposal else {
+        return Ok(None);
+    };
+    if accepts(alloc, network, &outcome)? {
+        Ok(Some(outcome))
+    } else {
+        Ok(None)
+    }
+}
+
+// What the network simplex method proposes for the network, where the test accepts it.
 fn accepted_proposal(
     alloc: Global,
     network: &Network<'_>,
@@ -225,14 +192,11 @@ fn accepted_proposal(
     let mut simplex = SimplexEffort::default();
     let proposal = propose_counted(alloc, network, &mut simplex)?;
     effort.pivots = effort.pivots.saturating_add(simplex.pivots);
-    let Some(outcome) = proposal else {
-        return Ok(None);
-    };
-    if !accepts(alloc, network, &outcome)? {
-        return Ok(None);
+    let found = accepted(alloc, network, proposal)?;
+    if found.is_some() {
+        effort.proposals = effort.proposals.saturating_add(1);
     }
-    effort.proposals = effort.proposals.saturating_add(1);
-    Ok(Some(outcome))
+    Ok(found)
 }
 
 // What becomes of the rows' network: what is proposed, where it is accepted, and else what the loop of searches finds.

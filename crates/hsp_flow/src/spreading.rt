@@ -1,109 +1,101 @@
-// A flow through the groups, spread over their rows.
+// What is found for groups, spread over their rows. Whether it is right for the rows is for the test to tell.
 
-ghost use Rattle.std.specs.Prelude.{◌≡◌, ℕ, List, ◌+◌, ◌<◌, ◌≤◌, ◌⊎◌, false, IfOk, length, slice_index, slice_index_or};
-ghost use Rattle.hsp_instance.specs.Groups.{AreBelow};
-ghost use Rattle.hsp_flow.specs.Grouping.{group_of};
-ghost use Rattle.hsp_flow.specs.Spreads.{Spread};
+ghost use Rattle.std.specs.Prelude.{◌≤◌};
+ghost use Rattle.hsp_instance.specs.Groups.{AreGroups};
 
-use hsp_instance::Groups;
+use crate::grouping::GroupLists;
+use hsp_instance::{Groups, Instance};
+use hsp_simplex::{Outcome, PricedFlow};
 use std::alloc::{AllocError, Global};
 
-// As much as is needed of what is left.
-fn served(need: u64, left: u64) -> u64
-    ensures low { result ≤ need }
-    ensures less { result ≤ left }
-    ensures most { (result ≡ need) ⊎ (result ≡ left) }
+// Takes what is needed of what is left at a place, or all that is left there. How much that is, 0 where there is no such place.
+fn take(left: &mut [u64], place: usize, need: u64) -> u64
+    ensures { result ≤ need }
 {
-    if need < left { need } else { left }
+    let Some(here) = left.get_mut(place) else {
+        return 0;
+    };
+    let taken = need.min(*here);
+    *here -= taken;
+    taken
 }
 
-// Gives each arc of a row as much of the flow of its group's arc as the row still needs.
-fn spread_each(
-    alloc: Global,
-    rows: &[u32],
-    group_places: &[usize],
-    need: &mut [u64],
+// Appends the flow of each arc of a row, so many arcs: as much of what is left of its group's arc as the row still needs.
+fn push_flows(
+    flows: &mut Vec<u64>,
     left: &mut [u64],
-) -> Result<Vec<u64>, AllocError>
-    requires many { length group_places.now ≡ length rows.now }
-    requires rows { (k : ℕ) → k < length rows.now → slice_index rows.now k < length need.old }
-    requires group_places { (k : ℕ) → k < length rows.now → slice_index group_places.now k
-        < length left.old }
-    ensures many { IfOk result (λ flows. length flows.items ≡ length rows.now) }
-    ensures spread { IfOk result (λ flows.
-        Spread need.old rows.now group_places.now left.old flows.items need.new left.new) }
-{
-    let mut flows = Vec::new(alloc);
-    for arc in 0..rows.len() {
-        let row = rows[arc] as usize;
-        let group_place = group_places[arc];
-        let flow = served(need[row], left[group_place]);
-        need[row] -= flow;
-        left[group_place] -= flow;
+    begin: usize,
+    arcs: usize,
+    count: u64,
+) -> Result<(), AllocError> {
+    let mut need = count;
+    for place in 0..arcs {
+        let flow = take(left, begin.saturating_add(place), need);
         flows.push(flow)?;
+        need -= flow;
+    }
+    Ok(())
+}
+
+// The flows of the rows' arcs, by those of the groups' arcs.
+fn spread_flows(
+    alloc: Global,
+    instance: &Instance,
+    groups: &Groups,
+    lists: &GroupLists,
+    of_groups: &[u64],
+) -> Result<Vec<u64>, AllocError>
+    requires { AreGroups instance.now groups.now }
+{
+    let mut left = of_groups.to_vec(alloc)?;
+    let mut flows = Vec::new(alloc);
+    for row in 0..instance.rows() {
+        let Some(begin) = lists.begins.get(groups.of(row) as usize) else {
+            break;
+        };
+        let (_, _, count) = instance.row(row);
+        push_flows(&mut flows, &mut left, *begin, instance.arcs(row).len(), count)?;
     }
     Ok(flows)
 }
 
-/// The flows of the rows' arcs.
-pub(crate) fn spread_flows(
+// For each row what its group has.
+fn spread_each<T: Copy>(
     alloc: Global,
-    counts: &[u64],
-    rows: &[u32],
-    group_places: &[usize],
-    flows: &[u64],
-) -> Result<Vec<u64>, AllocError>
-    requires many { length group_places.now ≡ length rows.now }
-    requires rows { (k : ℕ) → k < length rows.now → slice_index rows.now k < length counts.now }
-    requires group_places { (k : ℕ) → k < length rows.now → slice_index group_places.now k
-        < length flows.now }
-    ensures many { IfOk result (λ spread. length spread.items ≡ length rows.now) }
-    ensures spread { IfOk result (λ spread. (need left : List ℕ)
-        × Spread counts.now rows.now group_places.now flows.now spread.items need left) }
+    instance: &Instance,
+    groups: &Groups,
+    of_groups: &[T],
+) -> Result<Vec<T>, AllocError>
+    requires { AreGroups instance.now groups.now }
 {
-    let mut need = counts.to_vec(alloc)?;
-    let mut left = flows.to_vec(alloc)?;
-    spread_each(alloc, rows, group_places, &mut need, &mut left)
+    let mut each = Vec::new(alloc);
+    for row in 0..instance.rows() {
+        let Some(own) = of_groups.get(groups.of(row) as usize) else {
+            break;
+        };
+        each.push(*own)?;
+    }
+    Ok(each)
 }
 
-/// The price of each row, which is its group's.
-pub(crate) fn spread_prices(
+/// What becomes of the rows by what becomes of their groups: a row has its group's price, and takes of its group's flows what it
+/// needs; the rows of a short set's groups are short.
+pub(crate) fn spread(
     alloc: Global,
+    instance: &Instance,
     groups: &Groups,
-    rows: u32,
-    prices: &[u64],
-) -> Result<Vec<u64>, AllocError>
-    requires rows { length groups.now.of_rows ≡ rows }
-    requires groups { length prices.now ≡ groups.now.count }
-    ensures many { IfOk result (λ spread. length spread.items ≡ rows) }
-    ensures prices { IfOk result (λ spread.
-        (i : ℕ) → i < rows → slice_index spread.items i
-        ≡ slice_index prices.now (group_of groups.now i)) }
+    lists: &GroupLists,
+    of_groups: Outcome,
+) -> Result<Outcome, AllocError>
+    requires { AreGroups instance.now groups.now }
 {
-    let mut spread = Vec::new(alloc);
-    for row in 0..rows {
-        spread.push(prices[groups.of(row) as usize])?;
+    match of_groups {
+        Outcome::Met(plan) => Ok(Outcome::Met(PricedFlow {
+            flows: spread_flows(alloc, instance, groups, lists, &plan.flows)?,
+            source_prices: spread_each(alloc, instance, groups, &plan.source_prices)?,
+            server_prices: plan.server_prices,
+            host_prices: plan.host_prices,
+        })),
+        Outcome::Short(set) => Ok(Outcome::Short(spread_each(alloc, instance, groups, &set)?)),
     }
-    Ok(spread)
-}
-
-/// Whether each row's group is flagged.
-pub(crate) fn spread_flags(
-    alloc: Global,
-    groups: &Groups,
-    rows: u32,
-    flags: &[bool],
-) -> Result<Vec<bool>, AllocError>
-    requires rows { length groups.now.of_rows ≡ rows }
-    requires groups { length flags.now ≡ groups.now.count }
-    ensures many { IfOk result (λ spread. length spread.items ≡ rows) }
-    ensures flags { IfOk result (λ spread.
-        (i : ℕ) → i < rows → slice_index_or spread.items i false ≡ slice_index_or flags.now
-        (group_of groups.now i) false) }
-{
-    let mut spread = Vec::new(alloc);
-    for row in 0..rows {
-        spread.push(flags[groups.of(row) as usize])?;
-    }
-    Ok(spread)
 }

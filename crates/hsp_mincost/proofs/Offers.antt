@@ -1,6 +1,6 @@
 -- The ways that a node offers, along its links and against them.
-use Rattle.std.proofs.Common.{◌≡◌, ℕ, ◌+◌, ◌<◌, ◌≤◌, Bool, true, false, length, slice_index, Option, if◌then◌else◌, ap, arith}
-use Rattle.hsp_mincost.specs.Residual.{Flow, Links, SearchTree, from, gives, nodes, prices, takes, to, width}
+use Rattle.std.proofs.Common.{◌≡◌, ℕ, ◌+◌, ◌<◌, ◌≤◌, Bool, true, false, length, slice_index, Option, if◌then◌else◌, arith}
+use Rattle.hsp_mincost.specs.Residual.{Flow, Links, SearchTree, from, gives, prices, takes, to}
 use Rattle.hsp_mincost.specs.Search.{Expanding, IsApart, IsWay, Offer, Offered, Priced, Visit}
 use Rattle.hsp_mincost.proofs.Directions.{to_in}
 use Rattle.hsp_mincost.proofs.Arrival.{priced_offered}

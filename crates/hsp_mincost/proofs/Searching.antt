@@ -1,10 +1,9 @@
 -- The steps of a search.
-use Rattle.std.proofs.Common.{◌≡◌, ◌≢◌, ℕ, ◌+◌, ◌<◌, ◌≤◌, ◌⊎◌, inl, inr, Bool, List, length, slice_index, slice_set, Option, Some, None, refl, ap, sym, ◌∙◌, arith, length-set, get_or-set_same, get_or-set_other}
+use Rattle.std.proofs.Common.{◌≡◌, ◌≢◌, ℕ, ◌<◌, ◌≤◌, ◌⊎◌, inl, inr, Bool, List, length, slice_index, slice_set, Option, Some, None, refl, ap, sym, ◌∙◌, arith, get_or-set_same, get_or-set_other}
 use Rattle.std.proofs.lemmas.Bool.{cases_eq, cases_lt}
 use Rattle.hsp_mincost.specs.Frontier.{Changes, IsLeast}
-use Rattle.hsp_mincost.specs.Residual.{Flow, Links, SearchTree, distance, from, gives, nodes, prices, takes, to, way, width}
-use Rattle.hsp_mincost.specs.Search.{Begun, Closed, Found, IsRelaxed, Offer, Reached, Search, Settled, TakesWay, top}
-use Rattle.hsp_mincost.proofs.Directions.{from_in, to_in, direction}
+use Rattle.hsp_mincost.specs.Residual.{Flow, Links, SearchTree, distance, from, nodes, width}
+use Rattle.hsp_mincost.specs.Search.{Begun, Closed, Found, Search, Settled, top}
 
 pub cases_option : (o : Option ℕ) → (o ≡ None) ⊎ ((d : ℕ) × (o ≡ Some d))
 cases_option None = inl refl

@@ -1,6 +1,6 @@
 -- Sums in parts, and sums of sums.
 use Rattle.std.proofs.Common.{◌≡◌, ◌≢◌, ℕ, zero, suc, ◌+◌, ◌<◌, ◌==◌, inl, inr, Bool, true, false, List, length, slice_index, Option, Some, None, is_none, if◌then◌else◌, refl, ap, ap₂, sym, ◌∙◌, arith}
-use Rattle.std.proofs.lemmas.Bool.{cases_Bool, cases_eq, or_cases, or_left, or_right}
+use Rattle.std.proofs.lemmas.Bool.{cases_Bool, cases_eq, or_cases}
 use Rattle.hsp_simplex.specs.Sums.{any_below, only, sum_below}
 use Rattle.hsp_mincost.specs.Sums.{through}
 use Rattle.hsp_simplex.specs.Network.{is_on}
@@ -80,27 +80,6 @@ any_at (suc n) test h = elim (or_cases (any_below n test) (test n) h) [
   | inl before ↦ let w = any_at n test before in (w.0, omega (arith, w.1), w.2)
   | inr here ↦ (n, omega arith, here)
 ]
-
-pub any_from : (n : ℕ) (test : ℕ → Bool) (k : ℕ) → k < n → test k ≡ true → any_below n test ≡ true
-any_from zero test k l e = absurd (omega arith)
-any_from (suc n) test k l e = elim (cases_eq k n) [
-  | inl last ↦ or_right (any_below n test) (test n) (ap test (sym last) ∙ e)
-  | inr before ↦ or_left (any_below n test) (test n) (any_from n test k (omega arith) e)
-]
-
--- tests of which one holds somewhere where the other does
-pub any_alike : (n m : ℕ) (f g : ℕ → Bool) → ((k : ℕ) → k < n → f k ≡ true → (e : ℕ) × (e < m) × (g e ≡ true)) →
-    ((e : ℕ) → e < m → g e ≡ true → (k : ℕ) × (k < n) × (f k ≡ true)) → any_below n f ≡ any_below m g
-any_alike n m f g there back = elim (cases_Bool (any_below n f)) [
-  | inl some ↦ let w = any_at n f some in let e = there w.0 w.1 w.2 in some ∙ sym (any_from m g e.0 e.1 e.2)
-  | inr none ↦ elim (cases_Bool (any_below m g)) [
-    | inl some ↦ let w = any_at m g some in let k = back w.0 w.1 w.2 in some-none (sym (any_from n f k.0 k.1 k.2) ∙ none)
-    | inr none' ↦ none ∙ sym none'
-  ]
-]
-  where
-    some-none : {A : Type 0} → true ≡ false → A
-    some-none q = absurd cc
 
 -- no arc, or one, has that end
 pub none_ends : (n : ℕ) (end f : ℕ → ℕ) (v : ℕ) → ((k : ℕ) → k < n → end k ≢ v) → sum_below n (λ k. only (end k) v (f k)) ≡ 0

@@ -43,6 +43,10 @@ pub const MOST: &[u8] =
 pub const ONE_SERVER: &[u8] =
     b"[[site]]\nname = \"X\"\nrecord = \"000102000001000100000000000000000000000100000007000000000000000000000000000000010000000000000000\"\n";
 
+/// Two sites of one server each.
+pub const TWO_SITES_OF_ONE: &[u8] =
+    b"[[site]]\nname = \"X\"\nrecord = \"000102000001000100000000000000000000000100000007000000000000000000000000000000010000000000000000\"\n[[site]]\nname = \"Y\"\nrecord = \"000102000001000100000000000000000000000100000007000000000000000000000000000000010000000000000000\"\n";
+
 // What is built of the texts, and None where memory ran out or the texts are bad.
 fn built(alloc: Global, texts: Texts<'_>) -> Option<Instance> {
     let mut settings = Vec::from_slice(alloc, texts.sites).ok()?;

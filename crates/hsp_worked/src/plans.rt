@@ -5,7 +5,7 @@ ghost use Rattle.std.specs.Prelude.{ℕ, ⊤, None, slice_index_or, vec_len};
 use crate::inputs::{BASE, EIGHT, MOST, ONE_SERVER, Texts, instance_of, judged};
 use hsp_cert::{Certificate, UseLine};
 use hsp_check::Verdict;
-use hsp_flow::{Frontier, HeapFrontier, ScanFrontier, solve, solve_with};
+use hsp_flow::{Effort, Frontier, HeapFrontier, ScanFrontier, solve, solve_counted, solve_with};
 use std::alloc::{AllocError, Global};
 use std::process::Abort;
 
@@ -221,6 +221,48 @@ fn rows_of_one_kind_are_one_node(rt: HostRuntime) {
     let best = certificate.as_best().expect(&rt, "a plan came");
     assert_eq!(rt; best.cost(), 20);
     assert_eq!(rt; best.uses().len(), 20);
+}
+
+// How many searches the loop begins for the instance of the texts.
+fn searches(rt: &impl Abort, alloc: Global, texts: Texts<'_>) -> u64 {
+    let instance = instance_of(rt, alloc, texts);
+    let mut effort = Effort::default();
+    if solve_counted::<ScanFrontier>(alloc, &instance, &mut effort).is_err() {
+        effort = Effort::default();
+        solve_counted::<ScanFrontier>(alloc, &instance, &mut effort).expect(rt, "there is memory");
+    }
+    effort.searching.searches
+}
+
+// Two sites of a server each, and two rows of one kind beside another.
+const TWO_KINDS: Texts<'static> = Texts {
+    sites: TWO_SITES_OF_ONE,
+    demand: b"region,handle,count\nr1,10/1,5\nr1,10/2,4\nr2,10/3,3\n",
+    costs: b"region,site,cost\nr1,X,1\nr1,Y,2\nr2,X,2\nr2,Y,1\n",
+    capacity: b"site,server_id,capacity\nX,7,6\nY,7,10\n",
+    ..BASE
+};
+
+// Of the first kind 6 go to X and 3 to Y, and the second kind goes to Y: a search for each. Were that not taken for the rows,
+// there would be searches from the rows as well.
+#[test]
+fn kinds_of_rows_are_searched_from(rt: HostRuntime) {
+    let uses = [used(0, 0, 5), used(1, 0, 1), used(1, 1, 3), used(2, 1, 3)];
+    let certificate = planned::<ScanFrontier>(&rt, rt.alloc(), TWO_KINDS);
+    is_plan(&rt, &certificate, 15, Some(&uses));
+    assert_eq!(rt; searches(&rt, rt.alloc(), TWO_KINDS), 3);
+}
+
+// With 5 at Y the second kind gets 2, and its last search finds no way.
+#[test]
+fn kinds_of_rows_fall_short(rt: HostRuntime) {
+    let texts = Texts {
+        capacity: b"site,server_id,capacity\nX,7,6\nY,7,5\n",
+        ..TWO_KINDS
+    };
+    let certificate = planned::<ScanFrontier>(&rt, rt.alloc(), texts);
+    is_short(&rt, &certificate, (&[0, 1, 2], 12, 11));
+    assert_eq!(rt; searches(&rt, rt.alloc(), texts), 4);
 }
 
 #[test]

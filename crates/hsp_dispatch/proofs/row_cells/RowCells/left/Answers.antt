@@ -1,6 +1,0 @@
-use Rattle.hsp_dispatch.proofs.Standings.{sum_fits}
-use Rattle.hsp_dispatch.proofs.row_cells.RowCells.left.Goals as goal
-
-pub stand_with-standing-requires-clause-fits : goal.stand_with-standing-requires-clause-fits
-stand_with-standing-requires-clause-fits c =
-    rw c.deref.ensures.value (sum_fits c.args.front.fronts c.args.front.number c.self.inside.cells.items c.requires c.self.invariant.1 c.self.invariant.0)
