@@ -1,12 +1,14 @@
 #!/usr/bin/env python3
 """Measures how many rows of a log the built program answers a second, without fronts and with 64 by turns, over an instance at the limits.
 
-    tools/measure_dispatch.py [ROWS] [PROGRAM] [FACTOR]
+    tools/measure_dispatch.py [--rows N] [--turns N] [--times N] [--program FILE]
 
-ROWS is 10,000,000 at first, PROGRAM crates/hsplan/out/hsplan, which `rt run` leaves there. The instance has 8,192 rows, 64 regions, 32 sites of 32 servers and
-2,048 costs, and counts of 1 to 3,000, or FACTOR times as many; a log draws its rows at random by their counts, and with fronts a front for each, so that most of
-it is assigned. Seconds are those of the processor; a run of a log of its header alone tells what is spent before the first row.
+The log has 10,000,000 rows and there are 7 turns, if not said otherwise. The instance has 8,192 rows, 64 regions, 32 sites of 32 servers and 2,048 costs, and counts of
+1 to 3,000, or N times as many (`--times`); a log draws its rows at random by their counts, and with fronts a front for each, so that most of it is assigned. Seconds are
+those of the processor, memory its peak; a run of a log of its header alone tells what is spent before the first row. All runs are on one processor, where the machine
+lets one be chosen.
 """
+import argparse
 import os
 import random
 import statistics
@@ -15,7 +17,7 @@ import sys
 import tempfile
 
 TOP = os.path.dirname(os.path.dirname(os.path.abspath(__file__)))
-SITES, SERVERS, REGIONS, ROWS, FRONTS, TURNS = 32, 32, 64, 8192, 64, 7
+SITES, SERVERS, REGIONS, ROWS, FRONTS = 32, 32, 64, 8192, 64
 
 
 def address(number):
@@ -66,35 +68,65 @@ def log(folder, name, header, lines, weights, many, draw):
     return path
 
 
+# A small process begins each run, since the peak of a run counts what its parent held when it began.
+BEGIN = """
+import os, sys
+run = os.posix_spawn(sys.argv[1], sys.argv[1:], os.environ)
+_, status, used = os.wait4(run, 0)
+os.write(3, f"{os.waitstatus_to_exitcode(status)} {used.ru_utime + used.ru_stime} {used.ru_maxrss}".encode())
+"""
+
+
+def spent_by(words, out, told):
+    """The status of a run, its seconds of the processor and its peak memory in megabytes; what it prints goes to the files `out` and `told`."""
+    reading, writing = os.pipe()
+    begun = [sys.executable, "-S", "-E", "-c", BEGIN] + words
+    actions = [(os.POSIX_SPAWN_DUP2, out.fileno(), 1), (os.POSIX_SPAWN_DUP2, told.fileno(), 2), (os.POSIX_SPAWN_DUP2, writing, 3)]
+    started = os.posix_spawn(sys.executable, begun, os.environ, file_actions=actions)
+    os.close(writing)
+    with open(reading) as answer:
+        status, seconds, memory = answer.read().split()
+    os.waitpid(started, 0)
+    return int(status), float(seconds), int(memory) / 1000
+
+
 def timed(words):
-    """Seconds of the processor, and what was told on standard error."""
+    """Seconds of the processor, peak memory in megabytes, and what was told on standard error."""
     with open(os.devnull, "w") as sink, tempfile.TemporaryFile("w+") as told:
-        running = subprocess.Popen(words, stdout=sink, stderr=told)
-        _, status, used = os.wait4(running.pid, 0)
+        status, seconds, memory = spent_by(words, sink, told)
         told.seek(0)
         if status:
             sys.exit(told.read())
-        return used.ru_utime + used.ru_stime, told.read()
+        return seconds, memory, told.read()
 
 
-def measure(kinds, many):
+def measure(kinds, many, turns):
     """Runs each kind by turns: its name, words, empty log and log."""
     before = {name: min(timed(words + ["--log", empty])[0] for _ in range(3)) for name, words, empty, _ in kinds}
     spent = {name: [] for name, *_ in kinds}
-    for _ in range(TURNS):
+    for _ in range(turns):
         for name, words, _, path in kinds:
-            seconds, told = timed(words + ["--log", path])
+            seconds, memory, told = timed(words + ["--log", path])
             spent[name].append(seconds - before[name])
-            print(f"{name}: {seconds:.2f} s, {many / spent[name][-1] / 1e6:.2f} million rows a second: {told.strip()}", flush=True)
+            print(f"{name}: {seconds:.3f} s, {before[name]:.3f} of them before the first row, {many / spent[name][-1] / 1e6:.2f} million rows a second, {memory:.1f} MB: {told.strip()}", flush=True)
     none, fronts = spent.values()
     pairs = [a / b for a, b in zip(none, fronts)]
-    print(f"of the rows a second without fronts: {min(none) / min(fronts):.2f} by the fastest runs, {statistics.median(pairs):.2f} by the median of {TURNS} turns")
+    print(f"of the rows a second without fronts: {min(none) / min(fronts):.3f} by the fastest runs, {statistics.median(pairs):.3f} by the median of {turns} turns")
 
 
 def main():
-    many = int(sys.argv[1]) if len(sys.argv) > 1 else 10_000_000
-    program = sys.argv[2] if len(sys.argv) > 2 else os.path.join(TOP, "crates", "hsplan", "out", "hsplan")
-    times = int(sys.argv[3]) if len(sys.argv) > 3 else 1
+    arguments = argparse.ArgumentParser(description="Measures how many rows of a log are answered a second.")
+    arguments.add_argument("--rows", type=int, default=10_000_000)
+    arguments.add_argument("--turns", type=int, default=7)
+    arguments.add_argument("--times", type=int, default=1)
+    arguments.add_argument("--program", default=os.path.join(TOP, "crates", "hsplan", "out", "hsplan"))
+    chosen = arguments.parse_args()
+    program, many, times = chosen.program, chosen.rows, chosen.times
+    if not os.access(program, os.X_OK):
+        print(f"no program {program}: run make install first")
+        return 1
+    if hasattr(os, "sched_setaffinity"):
+        os.sched_setaffinity(0, {max(os.sched_getaffinity(0))})
     draw = random.Random(1)
     with tempfile.TemporaryDirectory() as folder:
         rows, counts, files = inputs(folder, draw, times=times)
@@ -115,7 +147,7 @@ def main():
                 log(folder, "events.csv", events, at_fronts, weights, many, draw),
             ),
         ]
-        measure(kinds, many)
+        measure(kinds, many, chosen.turns)
     return 0
 
 

@@ -11,7 +11,6 @@ import argparse
 import os
 import random
 import statistics
-import subprocess
 import sys
 import tempfile
 
@@ -22,19 +21,16 @@ STATUSES = {0: "plan", 3: "shortage"}
 
 
 def spent_by(words, out):
-    """The status of a run, its seconds of the processor and its peak memory in kilobytes; what it prints goes to the file `out`."""
-    with open(out, "w") as file:
-        started = subprocess.Popen(words, stdout=file, stderr=subprocess.DEVNULL)
-        _, status, usage = os.wait4(started.pid, 0)
-    started.returncode = os.waitstatus_to_exitcode(status)
-    return started.returncode, usage.ru_utime + usage.ru_stime, usage.ru_maxrss
+    """The status of a run, its seconds of the processor and its peak memory in megabytes; what it prints goes to the file `out`."""
+    with open(out, "w") as file, open(os.devnull, "w") as told:
+        return measure_dispatch.spent_by(words, file, told)
 
 
 def row(name, words, out, runs):
     """Runs a command so often, and prints a row of the table. The status of the last run."""
     took = [spent_by(words, out) for _ in range(runs)]
     seconds = [it[1] for it in took]
-    print(f"| {name} | {min(seconds):.3f}, {statistics.median(seconds):.3f}, {max(seconds):.3f} | {max(it[2] for it in took) / 1000:.1f} MB | {took[-1][0]} |", flush=True)
+    print(f"| {name} | {min(seconds):.3f}, {statistics.median(seconds):.3f}, {max(seconds):.3f} | {max(it[2] for it in took):.1f} MB | {took[-1][0]} |", flush=True)
     return took[-1][0]
 
 
