@@ -198,7 +198,7 @@ pub stands : (fronts front left here k : ℕ) (cells : List Cell) (standing : St
     → standing.cell ≡ k → standing.left ≡ here → cells_left fronts front cells standing ≡ left_among fronts front left cells
 stands fronts front left here k cells standing some all as_many at own = elim (cases_eq here 0) [
   | inl nothing ↦
-      let none : left ≡ 0 = elim (cases_eq left 0) [ | inl none ↦ none | inr more ↦ absurd (some more nothing) ] in
+      let none : left ≡ 0 = elim (cases_eq left 0) [ inl none ↦ none | inr more ↦ absurd (some more nothing) ] in
       rw (own, nothing, none) (sym (left_none fronts front cells))
   | inr more ↦ rw (at, own, ne_eqb here 0 more) (stands_at fronts front left here k cells more all as_many)
 ]

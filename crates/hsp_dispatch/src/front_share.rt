@@ -66,7 +66,10 @@ pub(crate) fn stand_with(cells: &[Cell], left: u32, front: Front) -> Standing
         here -= own;
         number -= 1;
     }
-    Standing { cell: 0, left: here }
+    Standing {
+        cell: 0,
+        left: here,
+    }
 }
 
 /// The share of a front in the cell of a site, 0 where no cell is of the site.

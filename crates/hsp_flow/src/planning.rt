@@ -25,7 +25,7 @@ use hsp_mincost::{Frontier, HeapFrontier, SearchEffort, minimum_cost_flow};
 use hsp_simplex::{Network, NetworkLists, Outcome, SimplexEffort, accepts, propose_counted};
 use std::alloc::{AllocError, Global};
 
-/// How much work a run took: its searches, the proposals that were accepted, and the pivots of all that were made.
+/// How much work a run took: its searches, the accepted proposals of the network simplex, and the pivots of all that were made.
 #[derive(Clone, Copy, Default)]
 pub struct Effort {
     pub searching: SearchEffort,
@@ -66,7 +66,11 @@ fn group_network<'a>(rows: &'a TransportLists, groups: &'a GroupLists) -> Option
         servers: &groups.arcs.servers,
         costs: &groups.arcs.costs,
     })?;
-    if is_small(&network) { Some(network) } else { None }
+    if is_small(&network) {
+        Some(network)
+    } else {
+        None
+    }
 }
 
 // The certificate of a short set of the rows.

@@ -54,7 +54,13 @@ fn spread_flows(
             break;
         };
         let (_, _, count) = instance.row(row);
-        push_flows(&mut flows, &mut left, *begin, instance.arcs(row).len(), count)?;
+        push_flows(
+            &mut flows,
+            &mut left,
+            *begin,
+            instance.arcs(row).len(),
+            count,
+        )?;
     }
     Ok(flows)
 }

@@ -2,9 +2,7 @@
 
 ghost use Rattle.std.specs.Prelude.{ℕ, ⊤, None, slice_index_or, vec_len};
 
-use crate::inputs::{
-    BASE, EIGHT, MOST, ONE_SERVER, TWO_SITES_OF_ONE, Texts, instance_of, judged,
-};
+use crate::inputs::{BASE, EIGHT, MOST, ONE_SERVER, TWO_SITES_OF_ONE, Texts, instance_of, judged};
 use hsp_cert::{Certificate, UseLine};
 use hsp_check::Verdict;
 use hsp_flow::{Effort, Frontier, HeapFrontier, ScanFrontier, solve, solve_counted, solve_with};

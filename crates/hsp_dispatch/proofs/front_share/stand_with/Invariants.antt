@@ -10,4 +10,3 @@ invariant-cells l =
 
 abbrev pub decreases-cells : goal.decreases-cells
 decreases-cells l = l.number
-
