@@ -42,7 +42,7 @@ mutants:
 	tools/mutants.py
 
 # What is proved already is not proved again: the program is made anew only where a source is newer.
-SOURCES = $(shell find crates -name out -prune -o -name must-fail -prune -o -name hsp_bench -prune -o -name hsp_worked -prune \
+SOURCES = $(shell find crates -name out -prune -o -name must-fail -prune -o -name hsp_bench -prune -o -name hsp_worked -prune -o -name '*_tests' -prune \
 	-o -type f '(' -name '*.rt' -o -name '*.antt' ')' -print) crates.txt
 
 $(PROGRAM): $(SOURCES)

@@ -1,7 +1,8 @@
 #!/usr/bin/env python3
 """Follows the names in the documents: each edit and each clause that docs/CLAIMS.md names, each file that docs/DEFINITIONS.md
 names, each crate in the README, each link, each `make` target and each script; and compares the counts of docs/GATE.md with what is
-there. Then it runs each command of the documents with the built program, and compares what they print.
+there, and the version of the kit in the README with that of this machine. Then it runs each command of the documents with the built program, and
+compares what they print.
 
 The commands are those of the blocks marked `console`, the lines of which are a transcript as tools/transcripts.py has it; those of one
 document run in turn in one shell. In docs/hsplan.1 they are the examples between `.EX` and `.EE`.
@@ -10,7 +11,7 @@ Fails where an edit or a file that a table names is not there, where a clause th
 where a call without a named clause has not just one, where a crate of crates.txt is named neither in the README nor in
 docs/ARCHITECTURE.md, where a document has no such table, and where docs/GATE.md counts other edits, tests, wrong bodies, crates or
 cases of the program than there are. It fails where a word of a fault has no row in docs/GUIDE.md or no paragraph in docs/hsplan.1, where a
-command stands in a block that isn't marked, and where one prints something else.
+command stands in a block that isn't marked, where one prints something else, and where a file still has the marks of a merge.
 
     tools/check_docs.py --names               follows the names alone, without the program
     tools/check_docs.py [--program FILE]      does all
@@ -19,6 +20,7 @@ import argparse
 import glob
 import os
 import re
+import subprocess
 import sys
 
 import transcripts
@@ -47,10 +49,14 @@ def named(cell):
 
 
 def missing_edits():
-    """The edits of the last column of docs/CLAIMS.md that no crate has, and how many it names."""
-    there = {os.path.basename(it)[: -len(".edit")] for it in glob.glob(f"{TOP}/crates/*/must-fail/*.edit")}
-    names = [name for it in rows(text_of("docs/CLAIMS.md")) for name in named(it[-1])]
-    return [f"docs/CLAIMS.md names no edit of a crate: {it}" for it in names if it not in there], len(names)
+    """The edits of the last column of docs/CLAIMS.md that no crate beside them has, or no crate at all where they name none, and how many it names."""
+    there = {(it.split("/")[-3], os.path.basename(it)[: -len(".edit")]) for it in glob.glob(f"{TOP}/crates/*/must-fail/*.edit")}
+    faults, count = [], 0
+    for cells in rows(text_of("docs/CLAIMS.md")):
+        beside = {it for it in crates_of() if re.search(rf"\b{it}\b", cells[1])} or set(crates_of())
+        count += len(named(cells[-1]))
+        faults += [f"docs/CLAIMS.md names no edit of {cells[1]}: {it}" for it in named(cells[-1]) if not any((crate, it) in there for crate in beside)]
+    return faults, count
 
 
 def clauses():
@@ -221,6 +227,30 @@ def manual_steps():
     return transcripts.steps_of(lines)
 
 
+def files():
+    """The files of the repository, but for what git keeps and what the crates' folders `out` hold."""
+    for at, folders, names in os.walk(TOP):
+        folders[:] = sorted(it for it in folders if it not in (".git", "out", "__pycache__"))
+        yield from (os.path.join(at, it) for it in names)
+
+
+def merge_marks():
+    """The lines that a merge left to be chosen from, and how many files there are."""
+    faults, count = [], 0
+    for path in files():
+        count += 1
+        with open(path, "rb") as file:
+            lines = file.read().split(b"\n")
+        faults += [f"{os.path.relpath(path, TOP)}:{at}: a mark of a merge" for at, it in enumerate(lines, 1) if re.match(rb"(<{7}|>{7}) |={7}$", it)]
+    return faults, count
+
+
+def wrong_kit():
+    """What the README says of the kit's version where `rt version` says something else."""
+    told = subprocess.run(["rt", "version"], capture_output=True, text=True, check=True).stdout.strip()
+    return [] if f"`{told}`" in text_of("README.md") else [f"README.md does not name the kit of this machine: {told}"], 1
+
+
 def wrong_commands(program):
     """The commands of the documents that print something else than they show, and how many there are."""
     found = {path: [step for mark, lines in blocks(text_of(path)) if mark == "console" for step in transcripts.steps_of(lines)] for path in documents()}
@@ -239,6 +269,8 @@ KINDS = {
     "targets and scripts": missing_targets,
     "lines outside of transcripts": unmarked,
     "words of faults": missing_words,
+    "files without marks of a merge": merge_marks,
+    "kits": wrong_kit,
 }
 
 

@@ -8,13 +8,12 @@ is refused, but for a test with more than MOST of them: of that the first half o
 fifth as many where there are more than MANY. With `--most N` so many are refused of each test that has more, with `--all` each one of
 all tests, and with `--count` none: then it tells how many allocations there are, and how long it would take to refuse each of them.
 Each test of which some are left out is named with both numbers.
-Fails where a test program is missing, where a test of a program has no count, where a test fails, and where no test of a crate that
-takes memory took any.
+Fails where a test program is missing, where a test of a program has no count, where a test fails, and where no test of a program
+took memory.
 """
 import argparse
 import concurrent.futures
 import os
-import re
 import resource
 import subprocess
 import sys
@@ -103,7 +102,6 @@ def check(pool, crate, preloaded, most):
     text = sources(crate)
     if not any("#[test]" in it for it in text.values()):
         return []
-    takes_memory = any(re.search(r"\balloc: Global\b", it) for name, it in text.items() if "tests" not in name)
     program = os.path.join(TOP, "crates", crate, "out", crate + "_tests")
     if not os.access(program, os.X_OK):
         return [f"{crate}: no test program {program}: run rt ci first"]
@@ -113,8 +111,8 @@ def check(pool, crate, preloaded, most):
     refused, count, seconds = (sum(it[at] for it in found) for at in (1, 2, 3))
     if not tests:
         faults.append(f"{crate}: the test program lists no test")
-    if takes_memory and not (refused or (most == 0 and count)):
-        faults.append(f"{crate}: it takes memory, and no test of it took any")
+    if not (refused or (most == 0 and count)):
+        faults.append(f"{crate}: no test of it took memory")
     print(f"{crate}: {len(tests)} tests, {refused} of {count} allocations refused, {len(faults)} faults, all would take {seconds / 60:.1f} "
           "minutes of the processor", flush=True)
     for _, refused, count, _, test in found:

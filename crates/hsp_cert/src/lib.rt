@@ -18,6 +18,3 @@ pub use fault::CertFault;
 pub use reading::read_cert;
 pub use use_line::UseLine;
 pub use writing::write_cert;
-
-#[cfg(test)]
-mod tests;

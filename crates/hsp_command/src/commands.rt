@@ -70,6 +70,36 @@ fn with_word<'a>(
     with_arg(command, needed_arg(Arg::new(alloc, name)))
 }
 
+fn with_two_options<'a>(
+    alloc: Global,
+    command: Command<'a>,
+    first: &'a str,
+    second: &'a str,
+) -> Result<Command<'a>, AllocError>
+    requires { has_globals_of command ≡ false }
+    ensures app { IfOk result
+        (λ c. app_of c ≡ with_option (with_option (app_of command.entry) first.now) second.now) }
+    ensures local { IfOk result (λ c. has_globals_of c ≡ false) }
+{
+    let command = with_option(alloc, command, first)?;
+    with_option(alloc, command, second)
+}
+
+fn with_two_needed<'a>(
+    alloc: Global,
+    command: Command<'a>,
+    first: &'a str,
+    second: &'a str,
+) -> Result<Command<'a>, AllocError>
+    requires { has_globals_of command ≡ false }
+    ensures app { IfOk result
+        (λ c. app_of c ≡ with_needed (with_needed (app_of command.entry) first.now) second.now) }
+    ensures local { IfOk result (λ c. has_globals_of c ≡ false) }
+{
+    let command = with_needed(alloc, command, first)?;
+    with_needed(alloc, command, second)
+}
+
 fn with_inputs<'a>(alloc: Global, command: Command<'a>) -> Result<Command<'a>, AllocError>
     requires { has_globals_of command ≡ false }
     ensures app { IfOk result (λ c. app_of c ≡ with_inputs (app_of command.entry)) }
@@ -77,8 +107,7 @@ fn with_inputs<'a>(alloc: Global, command: Command<'a>) -> Result<Command<'a>, A
 {
     let command = with_needed(alloc, command, "settings")?;
     let command = with_option(alloc, command, "values")?;
-    let command = with_needed(alloc, command, "demand")?;
-    let command = with_needed(alloc, command, "costs")?;
+    let command = with_two_needed(alloc, command, "demand", "costs")?;
     with_needed(alloc, command, "capacity")
 }
 
@@ -86,10 +115,9 @@ fn locate_command<'a>(alloc: Global) -> Result<Command<'a>, AllocError>
     ensures app { IfOk result (λ c. app_of c ≡ locate_app) }
     ensures local { IfOk result (λ c. has_globals_of c ≡ false) }
 {
-    let command = with_option(alloc, Command::new(alloc, "locate"), "option")?;
-    let command = with_option(alloc, command, "servers")?;
-    let command = with_option(alloc, command, "settings")?;
-    let command = with_option(alloc, command, "values")?;
+    let command = Command::new(alloc, "locate");
+    let command = with_two_options(alloc, command, "option", "servers")?;
+    let command = with_two_options(alloc, command, "settings", "values")?;
     with_word(alloc, command, "handle")
 }
 
@@ -121,8 +149,7 @@ fn dispatch_command<'a>(alloc: Global) -> Result<Command<'a>, AllocError>
     ensures local { IfOk result (λ c. has_globals_of c ≡ false) }
 {
     let command = with_inputs(alloc, Command::new(alloc, "dispatch"))?;
-    let command = with_needed(alloc, command, "plan")?;
-    let command = with_needed(alloc, command, "log")?;
+    let command = with_two_needed(alloc, command, "plan", "log")?;
     with_option(alloc, command, "fronts")
 }
 
@@ -131,8 +158,7 @@ fn report_command<'a>(alloc: Global) -> Result<Command<'a>, AllocError>
     ensures local { IfOk result (λ c. has_globals_of c ≡ false) }
 {
     let command = with_inputs(alloc, Command::new(alloc, "report"))?;
-    let command = with_needed(alloc, command, "plan")?;
-    with_needed(alloc, command, "kind")
+    with_two_needed(alloc, command, "plan", "kind")
 }
 
 // The command with one subcommand more.

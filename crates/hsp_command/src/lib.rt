@@ -11,6 +11,3 @@ pub use fault::CommandFault;
 pub use order::{InputFiles, Kind, Order, Word};
 pub use reading::read_command;
 pub use words::split_words;
-
-#[cfg(test)]
-mod tests;

@@ -12,6 +12,3 @@ mod records;
 pub use fault::RecordsFault;
 pub use header::{is_header, take_header};
 pub use records::{read_records, take_record};
-
-#[cfg(test)]
-mod tests;

@@ -28,18 +28,3 @@ pub use dispatcher::Dispatcher;
 pub use fault::LogFault;
 pub use fronts::Fronts;
 pub use run::{run_fronts, run_log};
-
-#[cfg(test)]
-mod dispatcher_tests;
-#[cfg(test)]
-mod each_octet_tests;
-#[cfg(test)]
-pub mod fakes;
-#[cfg(test)]
-mod front_run_tests;
-#[cfg(test)]
-mod fronts_tests;
-#[cfg(test)]
-mod run_tests;
-#[cfg(test)]
-mod worked;

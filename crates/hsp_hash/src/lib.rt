@@ -8,6 +8,3 @@ mod place;
 pub use digest::digest_of;
 pub use option::HashOption;
 pub use place::{number_of_digest, server_number};
-
-#[cfg(test)]
-mod tests;

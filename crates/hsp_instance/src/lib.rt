@@ -30,6 +30,3 @@ pub use instance::Instance;
 pub use runs::Runs;
 pub use site_reading::build_sites;
 pub use sites::Sites;
-
-#[cfg(test)]
-mod tests;

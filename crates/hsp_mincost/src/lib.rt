@@ -26,6 +26,3 @@ pub use heap::HeapFrontier;
 pub use links::SearchEffort;
 pub use scan::ScanFrontier;
 pub use solving::minimum_cost_flow;
-
-#[cfg(test)]
-mod tests;

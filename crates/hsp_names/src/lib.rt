@@ -9,6 +9,3 @@ mod segments;
 pub use fault::HandleFault;
 pub use handle::HandleRef;
 pub use segments::Segments;
-
-#[cfg(test)]
-mod tests;

@@ -22,6 +22,3 @@ pub use site::{ServerRecord, SiteRecord};
 pub use site_encoding::encode_site;
 pub use values::{Value, ValueList};
 pub use values_encoding::encode_values;
-
-#[cfg(test)]
-mod tests;

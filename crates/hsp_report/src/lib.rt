@@ -10,6 +10,3 @@ mod shortages;
 pub use loads::load_report;
 pub use regions::region_report;
 pub use shortages::shortage_report;
-
-#[cfg(test)]
-mod tests;

@@ -35,14 +35,3 @@ pub use report::{ReportKind, report_run};
 pub use site::site_run;
 pub use sums_text::sums_line;
 pub use verdict_text::{verdict_line, verdict_status};
-
-#[cfg(test)]
-mod dispatch_tests;
-#[cfg(test)]
-mod fronts_tests;
-#[cfg(test)]
-mod report_tests;
-#[cfg(test)]
-mod run_tests;
-#[cfg(test)]
-mod tests;

@@ -29,8 +29,3 @@ pub use accept_set::{reached_capacity, sum_flagged};
 pub use network::{Network, NetworkLists, Outcome, PricedFlow};
 pub use proposal::{propose, propose_counted};
 pub use tree::SimplexEffort;
-
-#[cfg(test)]
-mod accept_tests;
-#[cfg(test)]
-mod propose_tests;

@@ -21,6 +21,3 @@ pub use demand::{Demand, DemandRow, read_demand};
 pub use fault::TableFault;
 pub use settings::{Settings, read_settings};
 pub use sites::Source;
-
-#[cfg(test)]
-mod tests;

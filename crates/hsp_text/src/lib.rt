@@ -16,6 +16,3 @@ pub use output::{WriteFailed, put_all};
 pub use whole::{WholeFault, push_whole, put_digits, read_whole};
 pub use wide::push_wide;
 pub use writing::{push_aligned, push_line, push_number};
-
-#[cfg(test)]
-mod tests;

@@ -1,0 +1,357 @@
+// Logs whose reader and whose writer fails behind each octet in turn, and gives or takes one octet a call.
+
+use crate::fakes::{FakeReader, FakeWriter};
+use crate::worked::{certificate, dispatcher, fronts, instance};
+use hsp_cert::Certificate;
+use hsp_dispatch::*;
+use hsp_instance::Instance;
+use std::alloc::Global;
+use std::process::Abort;
+use std::test::Fail;
+
+// What stands once a row was answered, or before the first one: up to how many octets of the log no further row is read whole, the
+// lines, and what is left in four cells.
+#[derive(Clone, Copy)]
+struct Step {
+    octets: usize,
+    lines: &'static [u8],
+    left: [u64; 4],
+}
+
+// How a run ended, and what it left in four cells.
+#[derive(Clone, Copy, Debug, PartialEq, Eq)]
+struct Ended {
+    fault: Option<LogFault>,
+    left: [u64; 4],
+}
+
+// A log that is answered by the worked plan.
+trait Answered: Copy + Drop {
+    // The log, and what stands after each of its rows.
+    fn log(&self) -> &'static [u8];
+
+    fn steps(&self) -> &'static [Step];
+
+    // The run over an instance and its certificate. None stands for want of memory.
+    fn ended(
+        &self,
+        alloc: Global,
+        instance: &Instance,
+        certificate: &Certificate,
+        reader: FakeReader<'_>,
+        writer: &mut FakeWriter,
+    ) -> Option<Ended>;
+}
+
+// The fault of a run, None where it has none. Want of memory has no place here.
+fn fault_of<T: Drop>(ends: Result<T, LogFault>) -> Option<Option<LogFault>> {
+    match ends {
+        Ok(_) => Some(None),
+        Err(LogFault::OutOfMemory) => None,
+        Err(fault) => Some(Some(fault)),
+    }
+}
+
+// Rows of 8 octets behind a header of 14.
+#[derive(Clone, Copy, Drop)]
+struct Queries;
+
+const QUERIES: &[u8] = b"region,handle\nr2,10/3\nr2,10/3\nr2,10/3\nr2,10/3\nr9,10/3\n";
+
+// What is left for row 2 at E and W, for row 0 at E and for row 1 at E.
+const QUERY_STEPS: [Step; 6] = [
+    Step {
+        octets: 22,
+        lines: b"",
+        left: [1, 2, 5, 4],
+    },
+    Step {
+        octets: 30,
+        lines: b"assigned E 1 3\n",
+        left: [0, 2, 5, 4],
+    },
+    Step {
+        octets: 38,
+        lines: b"assigned E 1 3\nassigned W 0 1\n",
+        left: [0, 1, 5, 4],
+    },
+    Step {
+        octets: 46,
+        lines: b"assigned E 1 3\nassigned W 0 1\nassigned W 0 1\n",
+        left: [0, 0, 5, 4],
+    },
+    Step {
+        octets: 54,
+        lines: b"assigned E 1 3\nassigned W 0 1\nassigned W 0 1\nspent\n",
+        left: [0, 0, 5, 4],
+    },
+    Step {
+        octets: 55,
+        lines: b"assigned E 1 3\nassigned W 0 1\nassigned W 0 1\nspent\nunknown\n",
+        left: [0, 0, 5, 4],
+    },
+];
+
+impl Answered for Queries {
+    fn log(&self) -> &'static [u8] {
+        QUERIES
+    }
+
+    fn steps(&self) -> &'static [Step] {
+        &QUERY_STEPS
+    }
+
+    fn ended(
+        &self,
+        alloc: Global,
+        instance: &Instance,
+        certificate: &Certificate,
+        reader: FakeReader<'_>,
+        writer: &mut FakeWriter,
+    ) -> Option<Ended> {
+        let mut dispatcher = dispatcher(alloc, instance, certificate)?;
+        let fault = fault_of(run_log(alloc, reader, writer, &mut dispatcher))?;
+        let left = [
+            dispatcher.left(2, 0),
+            dispatcher.left(2, 1),
+            dispatcher.left(0, 0),
+            dispatcher.left(1, 0),
+        ];
+        Some(Ended { fault, left })
+    }
+}
+
+// Rows of 10 octets behind a header of 20, over two fronts.
+#[derive(Clone, Copy, Drop)]
+struct Events;
+
+const EVENTS: &[u8] =
+    b"front,region,handle\n1,r1,10/1\n0,r1,10/1\n1,r1,10/1\n1,r1,10/1\n1,r2,10/3\n2,r1,10/1\n";
+
+// What fronts 0 and 1 have left for row 0 at E, and then for row 2 at W.
+const EVENT_STEPS: [Step; 7] = [
+    Step {
+        octets: 30,
+        lines: b"",
+        left: [3, 2, 1, 1],
+    },
+    Step {
+        octets: 40,
+        lines: b"assigned E 1 3\n",
+        left: [3, 1, 1, 1],
+    },
+    Step {
+        octets: 50,
+        lines: b"assigned E 1 3\nassigned E 1 3\n",
+        left: [2, 1, 1, 1],
+    },
+    Step {
+        octets: 60,
+        lines: b"assigned E 1 3\nassigned E 1 3\nassigned E 1 3\n",
+        left: [2, 0, 1, 1],
+    },
+    Step {
+        octets: 70,
+        lines: b"assigned E 1 3\nassigned E 1 3\nassigned E 1 3\nspent\n",
+        left: [2, 0, 1, 1],
+    },
+    Step {
+        octets: 80,
+        lines: b"assigned E 1 3\nassigned E 1 3\nassigned E 1 3\nspent\nassigned W 0 1\n",
+        left: [2, 0, 1, 0],
+    },
+    Step {
+        octets: 81,
+        lines: b"assigned E 1 3\nassigned E 1 3\nassigned E 1 3\nspent\nassigned W 0 1\nnofront\n",
+        left: [2, 0, 1, 0],
+    },
+];
+
+impl Answered for Events {
+    fn log(&self) -> &'static [u8] {
+        EVENTS
+    }
+
+    fn steps(&self) -> &'static [Step] {
+        &EVENT_STEPS
+    }
+
+    fn ended(
+        &self,
+        alloc: Global,
+        instance: &Instance,
+        certificate: &Certificate,
+        reader: FakeReader<'_>,
+        writer: &mut FakeWriter,
+    ) -> Option<Ended> {
+        let mut fronts = fronts(alloc, instance, certificate, 2)?;
+        let fault = fault_of(run_fronts(alloc, reader, writer, &mut fronts))?;
+        let left = [
+            fronts.left(0, 0, 0),
+            fronts.left(1, 0, 0),
+            fronts.left(0, 2, 1),
+            fronts.left(1, 2, 1),
+        ];
+        Some(Ended { fault, left })
+    }
+}
+
+// After how many octets the reader fails and the writer does, and how many go in a call at most.
+#[derive(Clone, Copy)]
+struct Limits {
+    read: usize,
+    written: usize,
+    piece: usize,
+}
+
+// How a run ended, and the lines that it wrote.
+#[derive(Drop)]
+struct Page {
+    ended: Ended,
+    lines: Vec<u8>,
+}
+
+// The worked instance with its plan, and what is run over them.
+#[derive(Drop)]
+struct Worked<A: Answered> {
+    alloc: Global,
+    answered: A,
+    instance: Instance,
+    certificate: Certificate,
+}
+
+impl<A: Answered> Worked<A> {
+    // None stands for want of memory.
+    fn once(alloc: Global, answered: A) -> Option<Worked<A>> {
+        let instance = instance(alloc)?;
+        let certificate = certificate(alloc)?;
+        Some(Worked {
+            alloc,
+            answered,
+            instance,
+            certificate,
+        })
+    }
+
+    // The same. Where a growth is refused, the second building finds memory.
+    fn new(alloc: Global, answered: A) -> Result<Worked<A>, Fail> {
+        match Worked::once(alloc, answered) {
+            Some(worked) => Ok(worked),
+            None => Ok(Worked::once(alloc, answered).ok_or("an instance")?),
+        }
+    }
+
+    fn run(&self, limits: Limits) -> Option<Page> {
+        let mut writer = FakeWriter::whole(self.alloc).ok()?;
+        writer.piece = limits.piece;
+        writer.good = limits.written;
+        let reader = FakeReader {
+            text: self.answered.log(),
+            piece: limits.piece,
+            good: limits.read,
+        };
+        let (alloc, instance, certificate) = (self.alloc, &self.instance, &self.certificate);
+        let ended = self
+            .answered
+            .ended(alloc, instance, certificate, reader, &mut writer)?;
+        Some(Page {
+            ended,
+            lines: writer.taken,
+        })
+    }
+
+    // The same. Where a growth is refused, the second run finds memory.
+    fn page(&self, limits: Limits) -> Result<Page, Fail> {
+        match self.run(limits) {
+            Some(page) => Ok(page),
+            None => Ok(self.run(limits).ok_or("an answer")?),
+        }
+    }
+
+    // A reader that fails behind each octet from one on tells so behind the lines of a step.
+    fn reads_fail(&self, rt: &impl Abort, from: usize, step: Step) -> Result<(), Fail> {
+        let ended = Ended {
+            fault: Some(LogFault::ReadFailed),
+            left: step.left,
+        };
+        for read in from..step.octets {
+            for piece in [1, usize::MAX] {
+                let page = self.page(Limits {
+                    read,
+                    written: 256,
+                    piece,
+                })?;
+                assert_eq!(rt; page.ended, ended);
+                assert_eq!(rt; page.lines.as_slice(), step.lines);
+            }
+        }
+        Ok(())
+    }
+
+    // A writer that fails at each octet from one on of the last line of a step tells so; the row of the line is answered.
+    fn writes_fail(&self, rt: &impl Abort, from: usize, step: Step) -> Result<(), Fail> {
+        let ended = Ended {
+            fault: Some(LogFault::WriteFailed),
+            left: step.left,
+        };
+        for written in from..step.lines.len() {
+            for piece in [1, usize::MAX] {
+                let page = self.page(Limits {
+                    read: usize::MAX,
+                    written,
+                    piece,
+                })?;
+                assert_eq!(rt; page.ended, ended);
+                assert_eq!(rt; page.lines.len(), written);
+                assert!(rt; step.lines.starts_with(page.lines.as_slice()));
+            }
+        }
+        Ok(())
+    }
+}
+
+// The reader of the log fails behind each octet in turn.
+fn each_read_fails<A: Answered>(rt: &impl Abort, alloc: Global, answered: A) -> Result<(), Fail> {
+    let worked = Worked::new(alloc, answered)?;
+    let mut from = 0;
+    for step in answered.steps() {
+        worked.reads_fail(rt, from, *step)?;
+        from = step.octets;
+    }
+    Ok(())
+}
+
+// The writer of the answers fails behind each octet in turn.
+fn each_write_fails<A: Answered>(rt: &impl Abort, alloc: Global, answered: A) -> Result<(), Fail> {
+    let worked = Worked::new(alloc, answered)?;
+    let mut from = 0;
+    for step in answered.steps() {
+        worked.writes_fail(rt, from, *step)?;
+        from = step.lines.len();
+    }
+    Ok(())
+}
+
+#[test]
+fn queries_are_answered_up_to_each_octet_that_cannot_be_read(rt: HostRuntime) -> Result<(), Fail> {
+    each_read_fails(&rt, rt.alloc(), Queries)
+}
+
+#[test]
+fn queries_are_answered_up_to_each_octet_that_cannot_be_written(
+    rt: HostRuntime,
+) -> Result<(), Fail> {
+    each_write_fails(&rt, rt.alloc(), Queries)
+}
+
+#[test]
+fn events_are_answered_up_to_each_octet_that_cannot_be_read(rt: HostRuntime) -> Result<(), Fail> {
+    each_read_fails(&rt, rt.alloc(), Events)
+}
+
+#[test]
+fn events_are_answered_up_to_each_octet_that_cannot_be_written(
+    rt: HostRuntime,
+) -> Result<(), Fail> {
+    each_write_fails(&rt, rt.alloc(), Events)
+}

@@ -1,0 +1,19 @@
+// Tests of the dispatcher, of fronts and of the reports.
+#![tactic(auto)]
+
+#[cfg(test)]
+mod dispatcher_tests;
+#[cfg(test)]
+mod each_octet_tests;
+#[cfg(test)]
+pub mod fakes;
+#[cfg(test)]
+mod front_run_tests;
+#[cfg(test)]
+mod fronts_tests;
+#[cfg(test)]
+mod report_tests;
+#[cfg(test)]
+mod run_tests;
+#[cfg(test)]
+mod worked;

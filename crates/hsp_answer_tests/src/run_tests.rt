@@ -1,0 +1,348 @@
+use crate::fakes::{FakeReader, FakeWriter, Lines, Rows};
+use crate::worked::{certificate, dispatcher, instance};
+use hsp_dispatch::*;
+use std::alloc::Global;
+use std::process::Abort;
+use std::test::Fail;
+
+// A log over the worked instance, how it is read and written, and what comes of it.
+#[derive(Clone, Copy)]
+struct Case {
+    log: &'static [u8],
+    read: Limits,
+    written: Limits,
+    may_flush: bool,
+    ends: Result<LogSums, LogFault>,
+    lines: &'static [u8],
+    left: [u64; 4],
+}
+
+// How many octets go at most in a call, and how many in all.
+#[derive(Clone, Copy)]
+struct Limits {
+    piece: usize,
+    good: usize,
+}
+
+const ALL: Limits = Limits {
+    piece: usize::MAX,
+    good: 200,
+};
+
+const ONE_BY_ONE: Limits = Limits {
+    piece: 1,
+    good: 200,
+};
+
+const LOG: &[u8] = b"region,handle\nr2,10/3\nr2,10/3\nr2,10/3\nr2,10/3\nr9,10/3\n";
+
+const LINES: &[u8] = b"assigned E 1 3\nassigned W 0 1\nassigned W 0 1\nspent\nunknown\n";
+
+fn sums(assigned: u64, spent: u64, unknown: u64) -> Result<LogSums, LogFault> {
+    Ok(LogSums {
+        assigned,
+        spent,
+        unknown,
+    })
+}
+
+// The worked log, read and written whole.
+fn worked() -> Case {
+    Case {
+        log: LOG,
+        read: ALL,
+        written: ALL,
+        may_flush: true,
+        ends: sums(3, 1, 1),
+        lines: LINES,
+        left: [0, 0, 5, 4],
+    }
+}
+
+// What the plan has at first for row 2 at E and W, row 0 at E and row 1 at E.
+const WHOLE_PLAN: [u64; 4] = [1, 2, 5, 4];
+
+// What a log that is read and written whole comes to.
+fn plain(
+    log: &'static [u8],
+    ends: Result<LogSums, LogFault>,
+    lines: &'static [u8],
+    left: [u64; 4],
+) -> Case {
+    Case {
+        log,
+        ends,
+        lines,
+        left,
+        ..worked()
+    }
+}
+
+// Runs a case. Want of memory before anything was read is None.
+fn run(rt: &impl Abort, alloc: Global, case: Case) -> Option<Result<LogSums, LogFault>> {
+    let instance = instance(alloc)?;
+    let certificate = certificate(alloc)?;
+    let mut dispatcher = dispatcher(alloc, &instance, &certificate)?;
+    let mut writer = FakeWriter::whole(alloc).ok()?;
+    writer.piece = case.written.piece;
+    writer.good = case.written.good;
+    writer.may_flush = case.may_flush;
+    let reader = FakeReader {
+        text: case.log,
+        piece: case.read.piece,
+        good: case.read.good,
+    };
+    let ends = run_log(alloc, reader, &mut writer, &mut dispatcher);
+    if ends != Err(LogFault::OutOfMemory) {
+        let left = [
+            dispatcher.left(2, 0),
+            dispatcher.left(2, 1),
+            dispatcher.left(0, 0),
+            dispatcher.left(1, 0),
+        ];
+        assert_eq!(rt; writer.taken.as_slice(), case.lines);
+        assert_eq!(rt; left, case.left);
+        assert_eq!(rt; writer.is_flushed, ends.is_ok());
+    }
+    Some(ends)
+}
+
+// The case comes out. Where a growth is refused, the second run finds memory.
+fn comes(rt: &impl Abort, alloc: Global, case: Case) {
+    let ends = match run(rt, alloc, case) {
+        None | Some(Err(LogFault::OutOfMemory)) => run(rt, alloc, case),
+        ends => ends,
+    };
+    assert_eq!(rt; ends, Some(case.ends));
+}
+
+#[test]
+fn the_worked_log_is_answered(rt: HostRuntime) {
+    let cases = [
+        worked(),
+        Case {
+            read: ONE_BY_ONE,
+            written: ONE_BY_ONE,
+            ..worked()
+        },
+        plain(b"region,handle\n", sums(0, 0, 0), b"", WHOLE_PLAN),
+        plain(
+            b"region,handle\r\nr2,\"10/3\"\r\n",
+            sums(1, 0, 0),
+            b"assigned E 1 3\n",
+            [0, 2, 5, 4],
+        ),
+        plain(
+            b"region,handle\n,10/3\n",
+            sums(0, 0, 1),
+            b"unknown\n",
+            WHOLE_PLAN,
+        ),
+        plain(
+            b"region,handle\nr1,10/1\nr1,10/2\n",
+            sums(2, 0, 0),
+            b"assigned E 1 3\nassigned E 0 7\n",
+            [1, 2, 4, 3],
+        ),
+    ];
+    for case in cases {
+        comes(&rt, rt.alloc(), case);
+    }
+}
+
+#[test]
+fn bodies_are_answered(rt: HostRuntime) {
+    let cases = [
+        plain(
+            b"region,body\nr2,0000000431302f330000000000000000\n",
+            sums(1, 0, 0),
+            FIRST,
+            [0, 2, 5, 4],
+        ),
+        plain(
+            b"region,body\nr2,0000000431302F330000000000000000\n",
+            sums(1, 0, 0),
+            FIRST,
+            [0, 2, 5, 4],
+        ),
+        plain(
+            b"region,body\nr2,0000000431302f330000000100000001000000010000000755524c\n",
+            Err(LogFault::BadBody { row: 0 }),
+            b"",
+            WHOLE_PLAN,
+        ),
+        plain(
+            b"region,body\nr2,0000000431302f330000000100000001000000010000000355524c\n",
+            sums(1, 0, 0),
+            FIRST,
+            [0, 2, 5, 4],
+        ),
+        plain(
+            b"region,body\nr2,0000000231300000000000000000\n",
+            Err(LogFault::BadHandle { row: 0 }),
+            b"",
+            WHOLE_PLAN,
+        ),
+        no_body(b"region,body\nr2,00000004\n"),
+        no_body(b"region,body\nr2,0\n"),
+        no_body(b"region,body\nr2,\n"),
+        no_body(b"region,body\nr2,0000000431302f33000000000000000000\n"),
+        no_body(b"region,body\nr2,0000000431302f33FFFFFFFF\n"),
+        no_body(b"region,body\nr2,0000000431302f33000000000000000g\n"),
+    ];
+    for case in cases {
+        comes(&rt, rt.alloc(), case);
+    }
+}
+
+const FIRST: &[u8] = b"assigned E 1 3\n";
+
+// A log whose first row has no body.
+fn no_body(log: &'static [u8]) -> Case {
+    plain(log, Err(LogFault::BadBody { row: 0 }), b"", WHOLE_PLAN)
+}
+
+#[test]
+fn another_header_answers_nothing(rt: HostRuntime) {
+    let cases = [
+        plain(b"", Err(LogFault::Header), b"", WHOLE_PLAN),
+        plain(
+            b"region,handles\nr1,10/1\n",
+            Err(LogFault::Header),
+            b"",
+            WHOLE_PLAN,
+        ),
+        plain(
+            b"region,handle,count\n",
+            Err(LogFault::Header),
+            b"",
+            WHOLE_PLAN,
+        ),
+        plain(
+            b"front,region,handle\n",
+            Err(LogFault::Header),
+            b"",
+            WHOLE_PLAN,
+        ),
+    ];
+    for case in cases {
+        comes(&rt, rt.alloc(), case);
+    }
+}
+
+#[test]
+fn a_faulty_row_ends_the_run_after_the_others(rt: HostRuntime) {
+    let cases = [
+        plain(
+            b"region,handle\nr1\n",
+            Err(LogFault::Fields { row: 0 }),
+            b"",
+            WHOLE_PLAN,
+        ),
+        plain(
+            b"region,handle\nr1,10/1,5\n",
+            Err(LogFault::Fields { row: 0 }),
+            b"",
+            WHOLE_PLAN,
+        ),
+        plain(
+            b"region,handle\nr1,10/1\nr1,10\n",
+            Err(LogFault::BadHandle { row: 1 }),
+            b"assigned E 1 3\n",
+            [1, 2, 4, 4],
+        ),
+        plain(
+            b"region,handle\nr9,10/1\nr2,10/3\nr9\n",
+            Err(LogFault::Fields { row: 2 }),
+            b"unknown\nassigned E 1 3\n",
+            [0, 2, 5, 4],
+        ),
+    ];
+    for case in cases {
+        comes(&rt, rt.alloc(), case);
+    }
+}
+
+#[test]
+fn failing_reads_and_writes_are_told(rt: HostRuntime) {
+    let cut_line = Case {
+        written: Limits {
+            piece: usize::MAX,
+            good: 10,
+        },
+        ends: Err(LogFault::WriteFailed),
+        lines: b"assigned E",
+        left: [0, 2, 5, 4],
+        ..worked()
+    };
+    let unflushed = Case {
+        may_flush: false,
+        ends: Err(LogFault::WriteFailed),
+        ..worked()
+    };
+    // The reader fails behind the second row.
+    let cut_log = Case {
+        read: Limits { piece: 1, good: 32 },
+        ends: Err(LogFault::ReadFailed),
+        lines: b"assigned E 1 3\nassigned W 0 1\n",
+        left: [0, 1, 5, 4],
+        ..worked()
+    };
+    let no_log = Case {
+        read: Limits { piece: 1, good: 0 },
+        ends: Err(LogFault::ReadFailed),
+        lines: b"",
+        left: WHOLE_PLAN,
+        ..worked()
+    };
+    for case in [cut_line, unflushed, cut_log, no_log] {
+        comes(&rt, rt.alloc(), case);
+    }
+}
+
+// Runs the log of one row more than there may be. None where a growth is refused before its first row.
+fn run_longest<'a>(alloc: Global, dispatcher: &mut Dispatcher<'a>) -> Option<(LogFault, Lines)> {
+    let rows = Rows {
+        head: b"region,handle\n",
+        row: b"a,b/\n",
+        times: 10_000_001,
+    };
+    let mut lines = Lines {
+        wanted: b"unknown\n",
+        many: 0,
+        others: 0,
+    };
+    match run_log(alloc, rows, &mut lines, dispatcher) {
+        Err(LogFault::OutOfMemory) if lines.many == 0 => None,
+        Err(fault) => Some((fault, lines)),
+        Ok(_) => None,
+    }
+}
+
+// Where a growth is refused while instance, certificate or dispatcher are made, they are made once more, and the long log isn't run: a run
+// takes seconds, and that of a test whose growths are all given is insisted on.
+#[test]
+fn a_log_has_ten_million_rows_at_most(rt: HostRuntime) -> Result<(), Fail> {
+    let alloc = rt.alloc();
+    let Some(instance) = instance(alloc) else {
+        assert!(rt; instance(alloc).is_some());
+        return Ok(());
+    };
+    let Some(certificate) = certificate(alloc) else {
+        assert!(rt; certificate(alloc).is_some());
+        return Ok(());
+    };
+    let Some(mut dispatcher) = dispatcher(alloc, &instance, &certificate) else {
+        assert!(rt; dispatcher(alloc, &instance, &certificate).is_some());
+        return Ok(());
+    };
+    let ran = match run_longest(alloc, &mut dispatcher) {
+        None => run_longest(alloc, &mut dispatcher),
+        ran => ran,
+    };
+    let (fault, lines) = ran.ok_or("a log that is too long")?;
+    assert_eq!(rt; fault, LogFault::LogTooLong);
+    assert_eq!(rt; lines.many, 10_000_000);
+    assert_eq!(rt; lines.others, 0);
+    Ok(())
+}

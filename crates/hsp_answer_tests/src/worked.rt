@@ -1,0 +1,80 @@
+// The worked instance and its plan. None stands for want of memory.
+
+use hsp_cert::{Certificate, UseLine};
+use hsp_check::{Verdict, check};
+use hsp_dispatch::{Dispatcher, Fronts};
+use hsp_instance::{Instance, build};
+use hsp_tables::{read_capacity, read_costs, read_demand, read_settings};
+use hsp_text::limits::MOST_FRONTS;
+use std::alloc::Global;
+
+const SETTINGS: &[u8] =
+    b"[[site]]\nname = \"E\"\nrecord = \"00010200000100010000000000000000000000020000000700000000000000000000000000000001000000000000000000000003000000000000000000000000000000010000000000000000\"\n[[site]]\nname = \"W\"\nrecord = \"0001020000010001000000000000000000000003000000010000000000000000000000000000000200000000000000000000000200000000000000000000000000000002000000000000000000000009000000000000000000000000000000020000000000000000\"\n";
+
+const DEMAND: &[u8] = b"region,handle,count\nr1,10/1,5\nr1,10/2,4\nr2,10/3,3\n";
+
+const COSTS: &[u8] = b"region,site,cost\nr1,E,1\nr1,W,4\nr2,E,2\nr2,W,3\n";
+
+const CAPACITY: &[u8] = b"site,server_id,capacity\nE,7,10\nE,3,6\nW,1,2\nW,2,10\nW,9,10\n";
+
+/// Two sites of two and three servers, three rows.
+pub(crate) fn instance(alloc: Global) -> Option<Instance> {
+    instance_of(alloc, DEMAND, CAPACITY)
+}
+
+/// The same by other counts and capacities.
+pub(crate) fn instance_of(alloc: Global, demand: &[u8], capacity: &[u8]) -> Option<Instance> {
+    let settings = read_settings(alloc, SETTINGS).ok()?;
+    let demand = read_demand(alloc, demand).ok()?;
+    let costs = read_costs(alloc, COSTS).ok()?;
+    let capacity = read_capacity(alloc, capacity).ok()?;
+    build(alloc, &settings, None, &demand, &costs, &capacity).ok()
+}
+
+/// Its best plan: all queries go to E, but for two of the last row.
+pub(crate) fn certificate(alloc: Global) -> Option<Certificate> {
+    certificate_of(alloc, 17, [5, 4, 1, 2])
+}
+
+/// The plan of a cost by which so many queries of the three rows go to E, and so many of the last row to W; best where the second
+/// server of E is full.
+pub(crate) fn certificate_of(alloc: Global, cost: u64, counts: [u64; 4]) -> Option<Certificate> {
+    let [first, second, third, away] = counts;
+    let mut uses = Vec::new(alloc);
+    for (row, site, count) in [(0, 0, first), (1, 0, second), (2, 0, third), (2, 1, away)] {
+        uses.push(UseLine { row, site, count }).ok()?;
+    }
+    let rows = Vec::from_slice(alloc, &[2, 1, 3]).ok()?;
+    let servers = Vec::from_slice(alloc, &[0, 1, 0, 0, 0]).ok()?;
+    Certificate::best(cost, uses, rows, servers)
+}
+
+/// A dispatcher by the certificate, which is valid.
+pub(crate) fn dispatcher<'a>(
+    alloc: Global,
+    instance: &'a Instance,
+    certificate: &Certificate,
+) -> Option<Dispatcher<'a>> {
+    let verdict = check(alloc, instance, certificate).ok()?;
+    if verdict != Verdict::Yes || certificate.as_best().is_none() {
+        return None;
+    }
+    Dispatcher::new(alloc, instance, certificate).ok()
+}
+
+/// So many fronts by the certificate, where it is valid and there may be as many.
+pub(crate) fn fronts<'a>(
+    alloc: Global,
+    instance: &'a Instance,
+    certificate: &Certificate,
+    many: u32,
+) -> Option<Fronts<'a>> {
+    let verdict = check(alloc, instance, certificate).ok()?;
+    if verdict != Verdict::Yes || certificate.as_best().is_none() {
+        return None;
+    }
+    if many == 0 || many > MOST_FRONTS {
+        return None;
+    }
+    Fronts::new(alloc, instance, certificate, many).ok()
+}

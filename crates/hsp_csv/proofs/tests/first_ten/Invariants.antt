@@ -1,5 +1,0 @@
-use Rattle.hsp_csv.specs.Records.{IsReading}
-use Rattle.hsp_csv.proofs.tests.first_ten.Given as goal
-
-abbrev pub invariant-loop : goal.invariant-loop
-invariant-loop g l = IsReading l.reader

@@ -1,0 +1,77 @@
+use hsp_hash::*;
+use hsp_names::HandleRef;
+use std::test::Fail;
+
+fn place(option: HashOption, handle: &[u8], servers: u32) -> Option<u32> {
+    let handle = HandleRef::parse(handle).ok()?;
+    if servers == 0 {
+        return None;
+    }
+    Some(server_number(option, handle, servers))
+}
+
+#[test]
+fn options_have_their_octets(rt: HostRuntime) {
+    assert_eq!(rt; HashOption::of_octet(0), Some(HashOption::ByNa));
+    assert_eq!(rt; HashOption::of_octet(1), Some(HashOption::ByLocal));
+    assert_eq!(rt; HashOption::of_octet(2), Some(HashOption::ByHandle));
+    assert_eq!(rt; HashOption::of_octet(3), None);
+    assert_eq!(rt; HashOption::of_octet(255), None);
+}
+
+// The MD5 of each local name, as RFC 1321's algorithm gives it.
+const DIGESTS_OF_LOCAL_NAMES: [(&[u8], u128); 7] = [
+    (b"10/", 0xd41d8cd98f00b204e9800998ecf8427e),
+    (b"10/0", 0xcfcd208495d565ef66e7dff9f98764da),
+    (b"10/1", 0xc4ca4238a0b923820dcc509a6f75849b),
+    (b"10/2", 0xc81e728d9d4c2f636f067f89cc14862c),
+    (b"10/3", 0xeccbc87e4b5ce2fe28308fd9f2a7baf3),
+    (b"10/123", 0x202cb962ac59075b964b07152d234b70),
+    (b"10/A", 0x7fc56270e7a70fa81a5935b72eacbe29),
+];
+
+#[test]
+fn digests_are_md5(rt: HostRuntime) -> Result<(), Fail> {
+    for (handle, wanted) in DIGESTS_OF_LOCAL_NAMES {
+        let handle = HandleRef::parse(handle).ok().ok_or("no handle")?;
+        assert_eq!(rt;
+            digest_of(HashOption::ByLocal, handle),
+            wanted.to_be_bytes()
+        );
+    }
+    Ok(())
+}
+
+#[test]
+fn naming_authorities_are_hashed(rt: HostRuntime) -> Result<(), Fail> {
+    let handle = HandleRef::parse(b"10/1").ok().ok_or("no handle")?;
+    let wanted: u128 = 0xd3d9446802a44259755d38e6d163e820;
+    assert_eq!(rt; digest_of(HashOption::ByNa, handle), wanted.to_be_bytes());
+    Ok(())
+}
+
+#[test]
+fn the_least_integer_has_an_absolute_value(rt: HostRuntime) {
+    let digest = [0, 0, 0, 0, 0, 0, 0, 0, 0, 0, 0, 0, 0x80, 0, 0, 0];
+    assert_eq!(rt; number_of_digest(&digest, 3), 2);
+}
+
+#[test]
+fn places_are_those_of_the_standard(rt: HostRuntime) {
+    let cases: [(HashOption, &[u8], u32, u32); 11] = [
+        (HashOption::ByLocal, b"10/3", 2, 1),
+        (HashOption::ByLocal, b"10/3", 3, 0),
+        (HashOption::ByLocal, b"10/", 2, 0),
+        (HashOption::ByLocal, b"10/", 3, 0),
+        (HashOption::ByLocal, b"10/", 7, 2),
+        (HashOption::ByLocal, b"10/a", 3, 2),
+        (HashOption::ByLocal, b"10/A", 3, 2),
+        (HashOption::ByLocal, b"10/a", 7, 1),
+        (HashOption::ByLocal, b"10/A", 7, 1),
+        (HashOption::ByNa, b"10/1", 3, 2),
+        (HashOption::ByHandle, b"10/1", 1, 0),
+    ];
+    for (option, handle, servers, wanted) in cases {
+        assert_eq!(rt; place(option, handle, servers), Some(wanted));
+    }
+}

@@ -1,0 +1,70 @@
+use hsp_names::*;
+use std::test::Fail;
+
+fn fault_of(octets: &[u8]) -> Option<HandleFault> {
+    match HandleRef::parse(octets) {
+        Ok(_) => None,
+        Err(fault) => Some(fault),
+    }
+}
+
+#[test]
+fn faults_are_told_in_their_order(rt: HostRuntime) {
+    let cases: [(&[u8], Option<HandleFault>); 9] = [
+        (b"10/1", None),
+        (b"10/", None),
+        (b"10.5/a/b", None),
+        (b"10", Some(HandleFault::NoSlash)),
+        (b"", Some(HandleFault::NoSlash)),
+        (b"/x", Some(HandleFault::EmptySegment)),
+        (b"10./x", Some(HandleFault::EmptySegment)),
+        (b"10..5/x", Some(HandleFault::EmptySegment)),
+        (b"10/\xff", Some(HandleFault::NotUtf8)),
+    ];
+    for (octets, wanted) in cases {
+        assert_eq!(rt; fault_of(octets), wanted);
+    }
+}
+
+#[test]
+fn length_is_limited(rt: HostRuntime) {
+    let mut octets = [b'x'; 4097];
+    octets[0] = b'1';
+    octets[1] = b'0';
+    octets[2] = b'/';
+    assert_eq!(rt; fault_of(&octets), Some(HandleFault::TooLong));
+    assert_eq!(rt; fault_of(&octets[..4096]), None);
+}
+
+#[test]
+fn parts_are_lent(rt: HostRuntime) -> Result<(), Fail> {
+    let handle = HandleRef::parse(b"10.abc/a/b").ok().ok_or("no handle")?;
+    assert_eq!(rt; handle.bytes(), b"10.abc/a/b".as_slice());
+    assert_eq!(rt; handle.naming_authority(), b"10.abc".as_slice());
+    assert_eq!(rt; handle.local_name(), b"a/b".as_slice());
+    let mut segments = handle.segments();
+    assert_eq!(rt; segments.next(), Some(b"10".as_slice()));
+    assert_eq!(rt; segments.next(), Some(b"abc".as_slice()));
+    assert_eq!(rt; segments.next(), None);
+    Ok(())
+}
+
+// The handle of octets that are read and then accepted.
+fn accepted_after_reading(octets: &[u8]) -> Option<HandleRef<'_>> {
+    match HandleRef::parse(octets) {
+        Ok(_) => {
+            laws::readings_are_handles();
+            Some(HandleRef::accepted(octets))
+        }
+        Err(_) => None,
+    }
+}
+
+#[test]
+fn accepted_handles_have_the_same_parts(rt: HostRuntime) -> Result<(), Fail> {
+    let handle = accepted_after_reading(b"10.abc/a/b").ok_or("no handle")?;
+    assert_eq!(rt; handle.bytes(), b"10.abc/a/b".as_slice());
+    assert_eq!(rt; handle.naming_authority(), b"10.abc".as_slice());
+    assert_eq!(rt; handle.local_name(), b"a/b".as_slice());
+    Ok(())
+}

@@ -1,0 +1,378 @@
+// The worked cases, and the readers of a record that has something in every field.
+
+use hsp_record::*;
+use std::alloc::{AllocError, Global};
+use std::test::Fail;
+
+/// A site of one server, 7, in 48 octets.
+const SITE: [u8; 48] = [
+    0, 1, 2, 0, 0, 1, 0, 1, 0, 0, 0, 0, 0, 0, 0, 0, 0, 0, 0, 1, 0, 0, 0, 7, 0, 0, 0, 0, 0, 0, 0, 0,
+    0, 0, 0, 0, 0, 0, 0, 1, 0, 0, 0, 0, 0, 0, 0, 0,
+];
+
+/// A site of two servers, 7 and 3, in 76 octets.
+const TWO_SERVERS: [u8; 76] = [
+    0, 1, 2, 0, 0, 1, 0, 1, 0, 0, 0, 0, 0, 0, 0, 0, 0, 0, 0, 2, 0, 0, 0, 7, 0, 0, 0, 0, 0, 0, 0, 0,
+    0, 0, 0, 0, 0, 0, 0, 1, 0, 0, 0, 0, 0, 0, 0, 0, 0, 0, 0, 3, 0, 0, 0, 0, 0, 0, 0, 0, 0, 0, 0, 0,
+    0, 0, 0, 1, 0, 0, 0, 0, 0, 0, 0, 0,
+];
+
+/// A site with a filter, an attribute, a key and an interface.
+const FULL_SITE: &[u8] =
+    b"\0\x04\x02\x01\0\x05\x06\x02\0\0\0\x01f\0\0\0\x01\0\0\0\x01a\0\0\0\x02bc\0\0\0\x01\0\0\0\x09addressofserver9\0\0\0\x03key\0\0\0\x01\x01\x02\0\0\x0a\x51";
+
+/// A list of one value of index 1 without data, with a reference to index 2 of `10/3`.
+const REFERRING: &[u8] =
+    b"\0\0\0\x01\0\0\0\x01\0\0\0\x07HS_SITE\0\0\0\0\x0e\x01\0\0\x0e\x10\0\0\0\0\x65\x53\xf1\0\0\0\0\x01\0\0\0\x0410/3\0\0\0\x02";
+
+/// The body of a request for the value of index 1 and of type `HS_SITE` of `10/3`.
+const BODY: &[u8] = b"\0\0\0\x0410/3\0\0\0\x01\0\0\0\x01\0\0\0\x01\0\0\0\x07HS_SITE";
+
+/// The fields of a value of index 1 before the length of its data, in a list of one.
+const ONE_VALUE: &[u8] = b"\0\0\0\x01\0\0\0\x01\0\0\0\x07HS_SITE";
+
+fn joined_once(alloc: Global, parts: &[&[u8]]) -> Result<Vec<u8>, AllocError> {
+    let mut octets = Vec::new(alloc);
+    for part in parts {
+        octets.extend_from_slice(part)?;
+    }
+    Ok(octets)
+}
+
+// The same, once more where a growth was refused.
+fn joined(alloc: Global, parts: &[&[u8]]) -> Result<Vec<u8>, AllocError> {
+    match joined_once(alloc, parts) {
+        Err(AllocError) => joined_once(alloc, parts),
+        octets => octets,
+    }
+}
+
+// A call that tells want of memory is made once more: where one growth is refused, the second answer is that of ample memory.
+fn site_of(alloc: Global, octets: &[u8]) -> Result<SiteRecord, RecordFault> {
+    match decode_site(alloc, octets) {
+        Err(RecordFault::OutOfMemory) => decode_site(alloc, octets),
+        answer => answer,
+    }
+}
+
+fn list_of<'a>(alloc: Global, octets: &'a [u8]) -> Result<ValueList<'a>, RecordFault> {
+    match decode_values(alloc, octets) {
+        Err(RecordFault::OutOfMemory) => decode_values(alloc, octets),
+        answer => answer,
+    }
+}
+
+fn site_spelling(alloc: Global, site: &SiteRecord) -> Result<Vec<u8>, AllocError> {
+    match encode_site(alloc, site) {
+        Err(_) => encode_site(alloc, site),
+        answer => answer,
+    }
+}
+
+fn list_spelling(alloc: Global, list: &ValueList) -> Result<Vec<u8>, AllocError> {
+    match encode_values(alloc, list) {
+        Err(_) => encode_values(alloc, list),
+        answer => answer,
+    }
+}
+
+fn site_fault(alloc: Global, octets: &[u8]) -> Option<RecordFault> {
+    site_of(alloc, octets).err()
+}
+
+fn values_fault(alloc: Global, octets: &[u8]) -> Option<RecordFault> {
+    list_of(alloc, octets).err()
+}
+
+#[test]
+fn sites_come_back(rt: HostRuntime) -> Result<(), Fail> {
+    let mut no_server = [0; 20];
+    no_server.copy_from_slice(&SITE[..20]);
+    no_server[19] = 0;
+    let mut third_option = SITE;
+    third_option[7] = 3;
+    for octets in [
+        SITE.as_slice(),
+        TWO_SERVERS.as_slice(),
+        FULL_SITE,
+        no_server.as_slice(),
+        third_option.as_slice(),
+    ] {
+        let site = site_of(rt.alloc(), octets).ok().ok_or("no record")?;
+        let spelled = site_spelling(rt.alloc(), &site).ok().ok_or("no spelling")?;
+        assert_eq!(rt; spelled.as_slice(), octets);
+    }
+    Ok(())
+}
+
+#[test]
+fn fields_are_read(rt: HostRuntime) -> Result<(), Fail> {
+    let site = site_of(rt.alloc(), FULL_SITE).ok().ok_or("no record")?;
+    assert_eq!(rt; site.version(), 4);
+    assert_eq!(rt; site.protocol(), (2, 1));
+    assert_eq!(rt; site.serial(), 5);
+    assert_eq!(rt; site.mask(), 6);
+    assert_eq!(rt; site.option_octet(), 2);
+    assert_eq!(rt; site.filter(), b"f".as_slice());
+    assert_eq!(rt; site.attribute_count(), 1);
+    let (name, value) = site.attribute(0);
+    assert_eq!(rt; name, b"a".as_slice());
+    assert_eq!(rt; value, b"bc".as_slice());
+    assert_eq!(rt; site.server_count(), 1);
+    let server = site.server(0);
+    assert_eq!(rt; server.id(), 9);
+    assert_eq!(rt; server.address(), *b"addressofserver9");
+    assert_eq!(rt; server.key(), b"key".as_slice());
+    assert_eq!(rt; server.interface_count(), 1);
+    assert_eq!(rt; server.interface(0), (1, 2, 2641));
+    Ok(())
+}
+
+#[test]
+fn site_faults_are_told(rt: HostRuntime) {
+    let mut octets = [0; 49];
+    octets[..48].copy_from_slice(&SITE);
+    assert_eq!(rt;
+        site_fault(rt.alloc(), &octets),
+        Some(RecordFault::Trailing { at: 48 })
+    );
+    assert_eq!(rt;
+        site_fault(rt.alloc(), &SITE[..47]),
+        Some(RecordFault::Truncated { at: 44 })
+    );
+    for (count, wanted) in [
+        ([0, 0, 0, 1], RecordFault::Truncated { at: 20 }),
+        ([0, 0, 4, 0], RecordFault::Truncated { at: 20 }),
+        ([0, 0, 4, 1], RecordFault::TooManyServers),
+        ([255, 255, 255, 255], RecordFault::TooManyServers),
+    ] {
+        octets[16..20].copy_from_slice(&count);
+        assert_eq!(rt; site_fault(rt.alloc(), &octets[..20]), Some(wanted));
+    }
+    octets[16] = 255;
+    assert_eq!(rt;
+        site_fault(rt.alloc(), &octets[..17]),
+        Some(RecordFault::Truncated { at: 16 })
+    );
+}
+
+// Where the last of the fields begins that a text of so many octets reaches.
+fn last_field(fields: &[usize], len: usize) -> usize {
+    let mut at = 0;
+    for field in fields {
+        if *field <= len {
+            at = *field;
+        }
+    }
+    at
+}
+
+#[test]
+fn every_cut_is_told(rt: HostRuntime) {
+    let two_servers = [0, 2, 4, 6, 7, 8, 12, 16, 20, 24, 40, 44, 48, 52, 68, 72];
+    let full = [
+        0, 2, 4, 6, 7, 8, 12, 13, 17, 21, 22, 26, 28, 32, 36, 52, 56, 59, 63, 64, 65,
+    ];
+    let sites: [(&[u8], &[usize]); 2] = [(&TWO_SERVERS, &two_servers), (FULL_SITE, &full)];
+    for (octets, fields) in sites {
+        for n in 0..octets.len() {
+            let at = last_field(fields, n);
+            assert_eq!(rt;
+                site_fault(rt.alloc(), &octets[..n]),
+                Some(RecordFault::Truncated { at }),
+                "at {n}"
+            );
+        }
+    }
+}
+
+#[test]
+fn every_cut_of_a_list_is_told(rt: HostRuntime) {
+    let fields = [0, 4, 8, 12, 19, 23, 24, 25, 29, 37, 41, 45, 49];
+    for n in 0..REFERRING.len() {
+        let at = last_field(&fields, n);
+        assert_eq!(rt;
+            values_fault(rt.alloc(), &REFERRING[..n]),
+            Some(RecordFault::Truncated { at }),
+            "at {n}"
+        );
+    }
+}
+
+#[test]
+fn every_cut_of_a_body_is_told(rt: HostRuntime) {
+    let fields = [0, 4, 8, 12, 16, 20, 24];
+    for n in 0..BODY.len() {
+        let at = last_field(&fields, n);
+        assert_eq!(rt;
+            decode_request(&BODY[..n]).err(),
+            Some(RecordFault::Truncated { at }),
+            "at {n}"
+        );
+    }
+}
+
+#[test]
+fn forged_lengths_reach_past_the_end(rt: HostRuntime) {
+    for (place, at) in [(0, 53), (8, 12), (19, 23), (37, 53), (41, 45)] {
+        let mut octets = [0; 53];
+        octets.copy_from_slice(REFERRING);
+        octets[place..place + 4].copy_from_slice(&[255; 4]);
+        assert_eq!(rt;
+            values_fault(rt.alloc(), &octets),
+            Some(RecordFault::Truncated { at })
+        );
+    }
+    for (place, at) in [(0, 4), (8, 28), (16, 31), (20, 24)] {
+        let mut octets = [0; 31];
+        octets.copy_from_slice(BODY);
+        octets[place..place + 4].copy_from_slice(&[255; 4]);
+        assert_eq!(rt;
+            decode_request(&octets).err(),
+            Some(RecordFault::Truncated { at })
+        );
+    }
+}
+
+#[test]
+fn forged_counts_take_no_memory(rt: HostRuntime) {
+    for (place, len, at) in [(8, 12, 12), (12, 16, 16), (40, 48, 44), (44, 48, 48)] {
+        let mut octets = SITE;
+        octets[place..place + 4].copy_from_slice(&[255; 4]);
+        assert_eq!(rt;
+            decode_site(rt.alloc(), &octets[..len]).err(),
+            Some(RecordFault::Truncated { at })
+        );
+    }
+    assert_eq!(rt;
+        decode_values(rt.alloc(), &[255; 4]).err(),
+        Some(RecordFault::Truncated { at: 4 })
+    );
+}
+
+#[test]
+fn value_lists_come_back(rt: HostRuntime) -> Result<(), Fail> {
+    let octets = joined(rt.alloc(), &[ONE_VALUE, &[0, 0, 0, 48], &SITE, &[0; 18]])?;
+    assert_eq!(rt; octets.len(), 89);
+    let (_, cut) = octets.split_last().ok_or("no octets")?;
+    assert_eq!(rt;
+        values_fault(rt.alloc(), cut),
+        Some(RecordFault::Truncated { at: 85 })
+    );
+    let list = list_of(rt.alloc(), &octets).ok().ok_or("no list")?;
+    assert_eq!(rt; list.len(), 1);
+    assert!(rt; list.find(2).is_none());
+    let value = list.find(1).ok_or("no value of index 1")?;
+    assert_eq!(rt; value.index(), 1);
+    assert_eq!(rt; value.type_octets(), b"HS_SITE".as_slice());
+    assert_eq!(rt; value.octets(), SITE.as_slice());
+    let spelled = list_spelling(rt.alloc(), &list).ok().ok_or("no spelling")?;
+    assert_eq!(rt; spelled.as_slice(), octets.as_slice());
+    Ok(())
+}
+
+// A list of 1,001 values without data, of the indices from 0 on.
+fn long_list(alloc: Global) -> Result<Vec<u8>, AllocError> {
+    let mut octets = Vec::from_slice(alloc, &1001u32.to_be_bytes())?;
+    for index in 0..1001u32 {
+        octets.extend_from_slice(&index.to_be_bytes())?;
+        octets.extend_from_slice(&[0; 26])?;
+    }
+    Ok(octets)
+}
+
+#[test]
+fn long_lists_come_back(rt: HostRuntime) -> Result<(), Fail> {
+    let octets = match long_list(rt.alloc()) {
+        Err(AllocError) => long_list(rt.alloc())?,
+        Ok(octets) => octets,
+    };
+    let list = list_of(rt.alloc(), &octets).ok().ok_or("no list")?;
+    assert_eq!(rt; list.len(), 1001);
+    assert!(rt; list.find(1000).is_some());
+    let spelled = list_spelling(rt.alloc(), &list).ok().ok_or("no spelling")?;
+    assert!(rt; spelled == octets);
+    Ok(())
+}
+
+// A site of one server with a key of 65,536 octets.
+fn large_site(alloc: Global) -> Result<Vec<u8>, AllocError> {
+    let mut octets = Vec::from_slice(alloc, &SITE[..40])?;
+    octets.extend_from_slice(&65_536u32.to_be_bytes())?;
+    for _ in 0..1024 {
+        octets.extend_from_slice(&[7; 64])?;
+    }
+    octets.extend_from_slice(&[0; 4])?;
+    Ok(octets)
+}
+
+#[test]
+fn large_sites_come_back(rt: HostRuntime) -> Result<(), Fail> {
+    let octets = match large_site(rt.alloc()) {
+        Err(AllocError) => large_site(rt.alloc())?,
+        Ok(octets) => octets,
+    };
+    let site = site_of(rt.alloc(), &octets).ok().ok_or("no record")?;
+    let spelled = site_spelling(rt.alloc(), &site).ok().ok_or("no spelling")?;
+    assert_eq!(rt; spelled.len(), 65_584);
+    assert!(rt; spelled == octets);
+    Ok(())
+}
+
+#[test]
+fn references_and_no_values_come_back(rt: HostRuntime) -> Result<(), Fail> {
+    for (octets, len) in [([0; 4].as_slice(), 0), (REFERRING, 1)] {
+        let list = list_of(rt.alloc(), octets).ok().ok_or("no list")?;
+        assert_eq!(rt; list.len(), len);
+        assert_eq!(rt; list.is_empty(), len == 0);
+        let spelled = list_spelling(rt.alloc(), &list).ok().ok_or("no spelling")?;
+        assert_eq!(rt; spelled.as_slice(), octets);
+    }
+    Ok(())
+}
+
+#[test]
+fn value_faults_are_told(rt: HostRuntime) {
+    let mut octets = [0; 38];
+    octets[3] = 2;
+    octets[7] = 1;
+    octets[37] = 1;
+    assert_eq!(rt;
+        values_fault(rt.alloc(), &octets),
+        Some(RecordFault::IndexTwice { index: 1 })
+    );
+    assert_eq!(rt;
+        values_fault(rt.alloc(), &octets[..37]),
+        Some(RecordFault::Truncated { at: 34 })
+    );
+    octets[3] = 1;
+    assert_eq!(rt;
+        values_fault(rt.alloc(), &octets),
+        Some(RecordFault::Trailing { at: 34 })
+    );
+}
+
+#[test]
+fn request_bodies_are_read(rt: HostRuntime) {
+    let cases: [(&[u8], Result<&[u8], RecordFault>); 6] = [
+        (b"\0\0\0\x0210\0\0\0\0\0\0\0\0", Ok(b"10")),
+        (b"\0\0\0\x0410/3\0\0\0\0\0\0\0\0", Ok(b"10/3")),
+        (BODY, Ok(b"10/3")),
+        (b"\0\0\0\x04", Err(RecordFault::Truncated { at: 4 })),
+        (
+            b"\0\0\0\x0410/3\xff\xff\xff\xff",
+            Err(RecordFault::Truncated { at: 12 }),
+        ),
+        (
+            b"\0\0\0\x0210\0\0\0\0\0\0\0\0\0",
+            Err(RecordFault::Trailing { at: 14 }),
+        ),
+    ];
+    for (body, wanted) in cases {
+        match (decode_request(body), wanted) {
+            (Ok(request), Ok(handle)) => assert_eq!(rt; request.handle(), handle),
+            (Err(fault), Err(expected)) => assert_eq!(rt; fault, expected),
+            _ => assert!(rt; false, "{body:?}"),
+        }
+    }
+}

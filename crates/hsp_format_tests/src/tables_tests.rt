@@ -1,0 +1,471 @@
+use hsp_names::HandleFault;
+use hsp_tables::*;
+use hsp_text::push_whole;
+use std::alloc::{AllocError, Global};
+use std::process::Abort;
+use std::test::Fail;
+
+const DEMAND: &[u8] = b"region,handle,count\nr1,10/1,5\nr1,10/2,4\nr2,10/3,3\n";
+
+const COSTS: &[u8] = b"region,site,cost\nr1,E,1\nr1,W,4\nr2,E,2\nr2,W,3\n";
+
+const CAPACITY: &[u8] = b"site,server_id,capacity\nE,7,10\nE,3,6\nW,1,2\nW,2,10\nW,9,10\n";
+
+const SETTINGS: &[u8] =
+    b"[[site]]\nname = \"E\"\nrecord = \"00010200000100010000000000000000000000020000000700000000000000000000000000000001000000000000000000000003000000000000000000000000000000010000000000000000\"\n[[site]]\nname = \"W\"\nrecord = \"0001020000010001000000000000000000000003000000010000000000000000000000000000000200000000000000000000000200000000000000000000000000000002000000000000000000000009000000000000000000000000000000020000000000000000\"\n";
+
+const RECORD_OF_E: &[u8] =
+    b"\x00\x01\x02\x00\x00\x01\x00\x01\x00\x00\x00\x00\x00\x00\x00\x00\x00\x00\x00\x02\
+    \x00\x00\x00\x07\x00\x00\x00\x00\x00\x00\x00\x00\x00\x00\x00\x00\x00\x00\x00\x01\x00\x00\x00\x00\x00\x00\x00\x00\
+    \x00\x00\x00\x03\x00\x00\x00\x00\x00\x00\x00\x00\x00\x00\x00\x00\x00\x00\x00\x01\x00\x00\x00\x00\x00\x00\x00\x00";
+
+// What is read. Where one growth is refused, the second reading finds memory: so the answers below are insisted on.
+fn demand_of(alloc: Global, text: &[u8]) -> Result<Demand, TableFault> {
+    match read_demand(alloc, text) {
+        Err(TableFault::OutOfMemory) => read_demand(alloc, text),
+        answer => answer,
+    }
+}
+
+fn costs_of(alloc: Global, text: &[u8]) -> Result<Costs, TableFault> {
+    match read_costs(alloc, text) {
+        Err(TableFault::OutOfMemory) => read_costs(alloc, text),
+        answer => answer,
+    }
+}
+
+fn capacity_of(alloc: Global, text: &[u8]) -> Result<Capacities, TableFault> {
+    match read_capacity(alloc, text) {
+        Err(TableFault::OutOfMemory) => read_capacity(alloc, text),
+        answer => answer,
+    }
+}
+
+fn settings_of(alloc: Global, text: &[u8]) -> Result<Settings, TableFault> {
+    match read_settings(alloc, text) {
+        Err(TableFault::OutOfMemory) => read_settings(alloc, text),
+        answer => answer,
+    }
+}
+
+// The fault is the wanted one.
+fn is_fault(rt: &impl Abort, text: &[u8], answer: Option<TableFault>, wanted: Option<TableFault>) {
+    assert_eq!(rt; answer, wanted, "{text:?}");
+}
+
+#[test]
+fn the_base_demand_is_read(rt: HostRuntime) -> Result<(), Fail> {
+    let marked = b"\xEF\xBB\xBFregion,handle,count\nr1,10/1,5\nr1,10/2,4\nr2,10/3,3\n";
+    let dressed = b"region,handle,count\r\n\"r1\",10/1,5\r\n\r\n\nr1,\"10/2\",4\nr2,10/3,\"3\"";
+    let rows: [(&[u8], &[u8], u64); 3] = [
+        (b"r1", b"10/1", 5),
+        (b"r1", b"10/2", 4),
+        (b"r2", b"10/3", 3),
+    ];
+    for text in [DEMAND, marked, dressed] {
+        match demand_of(rt.alloc(), text) {
+            Ok(demand) => {
+                assert_eq!(rt; demand.len(), 3);
+                for (number, (region, handle, count)) in rows.iter().enumerate() {
+                    if number < 3 && demand.len() == 3 {
+                        let row = demand.row(number as u32);
+                        assert_eq!(rt; row.region, *region);
+                        assert_eq!(rt; row.handle.bytes(), *handle);
+                        assert_eq!(rt; row.count, *count);
+                    }
+                }
+            }
+            Err(fault) => panic!(rt; "{fault:?}"),
+        }
+    }
+    Ok(())
+}
+
+#[test]
+fn the_base_costs_are_read(rt: HostRuntime) -> Result<(), Fail> {
+    let rows: [(&[u8], &[u8], u64); 4] = [
+        (b"r1", b"E", 1),
+        (b"r1", b"W", 4),
+        (b"r2", b"E", 2),
+        (b"r2", b"W", 3),
+    ];
+    match costs_of(rt.alloc(), COSTS) {
+        Ok(costs) => {
+            assert_eq!(rt; costs.len(), 4);
+            for (number, (region, site, cost)) in rows.iter().enumerate() {
+                if number < 4 && costs.len() == 4 {
+                    let row = costs.row(number as u32);
+                    assert_eq!(rt; row.region, *region);
+                    assert_eq!(rt; row.site, *site);
+                    assert_eq!(rt; row.cost, *cost);
+                    assert_eq!(rt; costs.find(region, site), Some(*cost));
+                }
+            }
+            assert_eq!(rt; costs.find(b"E", b"r1"), None);
+        }
+        Err(fault) => panic!(rt; "{fault:?}"),
+    }
+    Ok(())
+}
+
+#[test]
+fn the_base_capacities_are_read(rt: HostRuntime) -> Result<(), Fail> {
+    let rows: [(&[u8], u32, u64); 5] = [
+        (b"E", 7, 10),
+        (b"E", 3, 6),
+        (b"W", 1, 2),
+        (b"W", 2, 10),
+        (b"W", 9, 10),
+    ];
+    match capacity_of(rt.alloc(), CAPACITY) {
+        Ok(capacities) => {
+            assert_eq!(rt; capacities.len(), 5);
+            for (number, (site, server_id, capacity)) in rows.iter().enumerate() {
+                if number < 5 && capacities.len() == 5 {
+                    let row = capacities.row(number as u32);
+                    assert_eq!(rt; row.site, *site);
+                    assert_eq!(rt; row.server_id, *server_id);
+                    assert_eq!(rt; row.capacity, *capacity);
+                    assert_eq!(rt; capacities.find(site, *server_id), Some(*capacity));
+                }
+            }
+            assert_eq!(rt; capacities.find(b"E", 1), None);
+        }
+        Err(fault) => panic!(rt; "{fault:?}"),
+    }
+    Ok(())
+}
+
+#[test]
+fn the_base_settings_are_read(rt: HostRuntime) -> Result<(), Fail> {
+    match settings_of(rt.alloc(), SETTINGS) {
+        Ok(settings) => {
+            assert_eq!(rt; settings.len(), 2);
+            assert_eq!(rt; settings.host_count(), 0);
+            assert_eq!(rt; settings.name(0), b"E".as_slice());
+            assert_eq!(rt; settings.name(1), b"W".as_slice());
+            assert!(rt;
+                matches!(settings.source(0), Source::Octets(octets) if octets == RECORD_OF_E)
+            );
+            assert!(rt;
+                matches!(settings.source(1), Source::Octets(octets) if octets.len() == 104)
+            );
+        }
+        Err(fault) => panic!(rt; "{fault:?}"),
+    }
+    Ok(())
+}
+
+#[test]
+fn faults_of_demand(rt: HostRuntime) -> Result<(), Fail> {
+    let twice = Some(TableFault::RowTwice { row: 1 });
+    let number = Some(TableFault::BadNumber { row: 0 });
+    let fields = Some(TableFault::Fields { row: 0 });
+    let no_slash = HandleFault::NoSlash;
+    let cases: [(&[u8], Option<TableFault>); 16] = [
+        (b"", Some(TableFault::Header)),
+        (b"region,handle\nr1,10/1,5\n", Some(TableFault::Header)),
+        (b"region,handle,count\n", None),
+        (b"region,handle,count\nr1,10/1,5\nr1,10/1,6\n", twice),
+        (b"region,handle,count\nr1,10/1,1000001\n", number),
+        (b"region,handle,count\nr1,10/1,007\n", number),
+        (b"region,handle,count\nr1,10/1,-1\n", number),
+        (b"region,handle,count\nr1,10/1,0\nr1,10/2,1000000\n", None),
+        (b"region,handle,count\nr1,10/1\n", fields),
+        (b"region,handle,count\nr1,10/1,5,\n", fields),
+        (
+            b"region,handle,count\nr 1,10,x\n",
+            Some(TableFault::BadName { row: 0 }),
+        ),
+        (
+            b"region,handle,count\nr1,10,x\n",
+            Some(TableFault::BadHandle {
+                row: 0,
+                fault: no_slash,
+            }),
+        ),
+        (b"region,handle,count\nr1,10/a,1\nr1,10/A,1\n", None),
+        (b"region,handle,count\nr1,10/1", fields),
+        (b"region,handle,count\nr1,10/1,", number),
+        (b"region,handle,count\nr1,10/1,5", None),
+    ];
+    for (text, wanted) in cases {
+        is_fault(&rt, text, demand_of(rt.alloc(), text).err(), wanted);
+    }
+    Ok(())
+}
+
+#[test]
+fn faults_of_costs(rt: HostRuntime) -> Result<(), Fail> {
+    let number = Some(TableFault::BadNumber { row: 0 });
+    let cases: [(&[u8], Option<TableFault>); 4] = [
+        (b"region,handle,count\n", Some(TableFault::Header)),
+        (
+            b"region,site,cost\nr1,E,1\nr2,E,1\nr1,E,1\n",
+            Some(TableFault::RowTwice { row: 2 }),
+        ),
+        (b"region,site,cost\nr1,E,1000001\n", number),
+        (
+            b"region,site,cost\nr1,,1\n",
+            Some(TableFault::BadName { row: 0 }),
+        ),
+    ];
+    for (text, wanted) in cases {
+        is_fault(&rt, text, costs_of(rt.alloc(), text).err(), wanted);
+    }
+    Ok(())
+}
+
+#[test]
+fn faults_of_capacity(rt: HostRuntime) -> Result<(), Fail> {
+    let twice = Some(TableFault::RowTwice { row: 1 });
+    let number = Some(TableFault::BadNumber { row: 0 });
+    let cases: [(&[u8], Option<TableFault>); 4] = [
+        (
+            b"site,server_id,capacity\nE,4294967295,1000000000\nW,4294967295,0\n",
+            None,
+        ),
+        (b"site,server_id,capacity\nE,4294967296,1\n", number),
+        (b"site,server_id,capacity\nE,1,1000000001\n", number),
+        (b"site,server_id,capacity\nE,1,1\nE,1,2\n", twice),
+    ];
+    for (text, wanted) in cases {
+        is_fault(&rt, text, capacity_of(rt.alloc(), text).err(), wanted);
+    }
+    Ok(())
+}
+
+#[test]
+fn faults_of_settings(rt: HostRuntime) -> Result<(), Fail> {
+    let bad = Some(TableFault::BadSite { site: 0 });
+    let cases: [(&[u8], Option<TableFault>); 22] = [
+        (b"", None),
+        (b"site = []", None),
+        (b"\xFF", Some(TableFault::NotToml)),
+        (b"a = ", Some(TableFault::NotToml)),
+        (b"x = 1", Some(TableFault::UnknownKey)),
+        (b"site = 1", bad),
+        (b"site = [1]", bad),
+        (
+            b"[[site]]\nname = \"E\"\nindex = 1\nsite = 1\n",
+            Some(TableFault::UnknownKey),
+        ),
+        (b"[[site]]\nindex = 1\n", bad),
+        (b"[[site]]\nname = 1\nindex = 1\n", bad),
+        (b"[[site]]\nname = \"E\"\nrecord = \"0\"\n", bad),
+        (b"[[site]]\nname = \"E\"\nrecord = \"0g\"\n", bad),
+        (b"[[site]]\nname = \"E\"\nrecord = 1\n", bad),
+        (b"[[site]]\nname = \"E\"\nrecord = \"\"\n", None),
+        (b"[[site]]\nname = \"E\"\nrecord = \"\"\nindex = 1\n", bad),
+        (b"[[site]]\nname = \"E\"\n", bad),
+        (b"[[site]]\nname = \"E\"\nindex = -1\n", bad),
+        (b"[[site]]\nname = \"E\"\nindex = 4294967295\n", None),
+        (b"[[site]]\nname = \"E\"\nindex = 4294967296\n", bad),
+        (b"[[site]]\nname = \"E E\"\nindex = 1\n", bad),
+        (
+            b"[[site]]\nname = \"a1234567890123456789012345678901234567890123456789012345678901234\"\nindex = 1\n",
+            bad,
+        ),
+        (
+            b"[[site]]\nname = \"E\"\nindex = 1\n[[site]]\nname = \"E\"\nindex = 2\n",
+            Some(TableFault::SiteTwice { site: 1 }),
+        ),
+    ];
+    for (text, wanted) in cases {
+        is_fault(&rt, text, settings_of(rt.alloc(), text).err(), wanted);
+    }
+    Ok(())
+}
+
+#[test]
+fn long_texts_that_are_no_toml(rt: HostRuntime) -> Result<(), Fail> {
+    let text =
+        b"[[site]]\nname = \"E\"\nindex = 1\n[[site]]\nname = \"F\"\nindex = 2\n[[site]]\nname = \"G\"\nindex = 3\n[[site]]\nname = \"H\"\nindex = 4\n[[site\n";
+    let answer = settings_of(rt.alloc(), text).err();
+    is_fault(&rt, text, answer, Some(TableFault::NotToml));
+    Ok(())
+}
+
+#[test]
+fn faults_of_hosts(rt: HostRuntime) -> Result<(), Fail> {
+    let bad = Some(TableFault::BadHost { host: 0 });
+    let twice = Some(TableFault::HostTwice { host: 1 });
+    let cases: [(&[u8], Option<TableFault>); 11] = [
+        (b"host = []", None),
+        (b"host = 1", bad),
+        (b"host = [1]", bad),
+        (
+            b"host = 1\nsite = 1\n",
+            Some(TableFault::BadSite { site: 0 }),
+        ),
+        (
+            b"[[host]]\naddress = \"aaaaaaaaaaaaaaaaaaaaaaaaaaaaaaaa\"\nlimit = 1\nname = 1\n",
+            Some(TableFault::UnknownKey),
+        ),
+        (
+            b"[[host]]\naddress = \"aaaaaaaaaaaaaaaaaaaaaaaaaaaaaaa\"\nlimit = 1\n",
+            bad,
+        ),
+        (
+            b"[[host]]\naddress = \"aaaaaaaaaaaaaaaaaaaaaaaaaaaaaaaa\"\n",
+            bad,
+        ),
+        (b"[[host]]\nlimit = 1\n", bad),
+        (
+            b"[[host]]\naddress = \"aaaaaaaaaaaaaaaaaaaaaaaaaaaaaaaa\"\nlimit = -1\n",
+            bad,
+        ),
+        (
+            b"[[host]]\naddress = \"aaaaaaaaaaaaaaaaaaaaaaaaaaaaaaaa\"\nlimit = 1000000000001\n",
+            bad,
+        ),
+        (
+            b"[[host]]\naddress = \"aaaaaaaaaaaaaaaaaaaaaaaaaaaaaaaa\"\nlimit = 1\n[[host]]\naddress = \"AAAAAAAAAAAAAAAAAAAAAAAAAAAAAAAA\"\nlimit = 1\n",
+            twice,
+        ),
+    ];
+    for (text, wanted) in cases {
+        is_fault(&rt, text, settings_of(rt.alloc(), text).err(), wanted);
+    }
+    Ok(())
+}
+
+#[test]
+fn numbers_of_settings(rt: HostRuntime) -> Result<(), Fail> {
+    let text =
+        b"[[site]]\nname = \"E\"\nindex = 0x10\n[[host]]\naddress = \"0123456789abcdefABCDEF0123456789\"\nlimit = 1_000_000_000_000\n";
+    match settings_of(rt.alloc(), text) {
+        Ok(settings) => {
+            assert_eq!(rt; settings.len(), 1);
+            assert_eq!(rt; settings.host_count(), 1);
+            assert!(rt; matches!(settings.source(0), Source::Index(16)));
+            let (address, limit) = settings.host(0);
+            let octets = [
+                0x01, 0x23, 0x45, 0x67, 0x89, 0xab, 0xcd, 0xef, 0xab, 0xcd, 0xef, 0x01, 0x23, 0x45,
+                0x67, 0x89,
+            ];
+            assert_eq!(rt; address, octets);
+            assert_eq!(rt; limit, 1_000_000_000_000);
+        }
+        Err(fault) => panic!(rt; "{fault:?}"),
+    }
+    Ok(())
+}
+
+// A head, and then for each number from `first` on the number between two texts.
+fn numbered_once(
+    alloc: Global,
+    head: &[u8],
+    before: &[u8],
+    after: &[u8],
+    first: u64,
+    end: u64,
+) -> Result<Vec<u8>, AllocError> {
+    let mut text = Vec::with_capacity(alloc, 200_000)?;
+    text.extend_from_slice(head)?;
+    for number in first..end {
+        text.extend_from_slice(before)?;
+        push_whole(&mut text, number)?;
+        text.extend_from_slice(after)?;
+    }
+    Ok(text)
+}
+
+// The same, once more where a growth was refused.
+fn numbered(
+    alloc: Global,
+    head: &[u8],
+    before: &[u8],
+    after: &[u8],
+    first: u64,
+    end: u64,
+) -> Result<Vec<u8>, AllocError> {
+    match numbered_once(alloc, head, before, after, first, end) {
+        Err(_) => numbered_once(alloc, head, before, after, first, end),
+        text => text,
+    }
+}
+
+#[test]
+fn demand_at_the_limits(rt: HostRuntime) -> Result<(), Fail> {
+    let head = b"region,handle,count\n";
+    for (before, after, end, wanted) in [
+        (b"r1,10/".as_slice(), b",1\n".as_slice(), 8192, None),
+        (
+            b"r1,10/".as_slice(),
+            b",1\n".as_slice(),
+            8193,
+            Some(TableFault::TooManyRows),
+        ),
+        (b"r".as_slice(), b",10/1,1\n".as_slice(), 64, None),
+        (
+            b"r".as_slice(),
+            b",10/1,1\n".as_slice(),
+            65,
+            Some(TableFault::TooManyRegions),
+        ),
+    ] {
+        let text = numbered(rt.alloc(), head, before, after, 0, end)?;
+        let answer = demand_of(rt.alloc(), text.as_slice()).err();
+        is_fault(&rt, before, answer, wanted);
+    }
+    Ok(())
+}
+
+#[test]
+fn costs_at_the_limits(rt: HostRuntime) -> Result<(), Fail> {
+    let head = b"region,site,cost\n";
+    for (before, after, end, wanted) in [
+        (b"r1,s".as_slice(), b",1\n".as_slice(), 2048, None),
+        (
+            b"r1,s".as_slice(),
+            b",1\n".as_slice(),
+            2049,
+            Some(TableFault::TooManyRows),
+        ),
+        (
+            b"r".as_slice(),
+            b",E,1\n".as_slice(),
+            65,
+            Some(TableFault::TooManyRegions),
+        ),
+    ] {
+        let text = numbered(rt.alloc(), head, before, after, 0, end)?;
+        let answer = costs_of(rt.alloc(), text.as_slice()).err();
+        is_fault(&rt, before, answer, wanted);
+    }
+    Ok(())
+}
+
+#[test]
+fn capacity_at_the_limits(rt: HostRuntime) -> Result<(), Fail> {
+    let head = b"site,server_id,capacity\n";
+    for (end, wanted) in [(1024, None), (1025, Some(TableFault::TooManyRows))] {
+        let text = numbered(rt.alloc(), head, b"E,", b",1\n", 0, end)?;
+        let answer = capacity_of(rt.alloc(), text.as_slice()).err();
+        is_fault(&rt, b"E", answer, wanted);
+    }
+    Ok(())
+}
+
+#[test]
+fn sites_at_the_limits(rt: HostRuntime) -> Result<(), Fail> {
+    let before = b"[[site]]\nname = \"s";
+    for (end, wanted) in [(32, None), (33, Some(TableFault::TooManySites))] {
+        let text = numbered(rt.alloc(), b"", before, b"\"\nindex = 1\n", 0, end)?;
+        let answer = settings_of(rt.alloc(), text.as_slice()).err();
+        is_fault(&rt, before, answer, wanted);
+    }
+    Ok(())
+}
+
+#[test]
+fn hosts_at_the_limits(rt: HostRuntime) -> Result<(), Fail> {
+    let before = b"[[host]]\naddress = \"0000000000000000000000000000";
+    for (end, wanted) in [(2024, None), (2025, Some(TableFault::TooManyHosts))] {
+        let text = numbered(rt.alloc(), b"", before, b"\"\nlimit = 1\n", 1000, end)?;
+        let answer = settings_of(rt.alloc(), text.as_slice()).err();
+        is_fault(&rt, before, answer, wanted);
+    }
+    Ok(())
+}

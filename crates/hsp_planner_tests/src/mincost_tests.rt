@@ -1,0 +1,271 @@
+ghost use Rattle.std.specs.Prelude.{ℕ};
+ghost use Rattle.hsp_mincost.specs.Layout.{IsSmall};
+ghost use Rattle.hsp_simplex.specs.Problem.{problem_of};
+
+use hsp_mincost::{Frontier, HeapFrontier, ScanFrontier, SearchEffort, minimum_cost_flow};
+use hsp_simplex::{Network, Outcome};
+use std::alloc::{AllocError, Global};
+use std::process::Abort;
+
+/// Four nodes, one of them lowered: what comes out of them until they are empty.
+fn taken_by_key<F: Frontier>(alloc: Global) -> Result<[Option<(u32, u64)>; 3], AllocError>
+    requires { (nodes : ℕ) → F.may_have nodes }
+{
+    let mut frontier = F::with_nodes(alloc, 4)?;
+    frontier.put(3, 5)?;
+    frontier.put(1, 2)?;
+    frontier.lower(3, 1)?;
+    Ok([
+        frontier.take_least(),
+        frontier.take_least(),
+        frontier.take_least(),
+    ])
+}
+
+/// Where a growth is refused, the second call finds memory, here and below.
+fn takes_by_key<F: Frontier>(rt: &impl Abort, alloc: Global)
+    requires { (nodes : ℕ) → F.may_have nodes }
+{
+    let taken = match taken_by_key::<F>(alloc) {
+        Err(AllocError) => taken_by_key::<F>(alloc),
+        taken => taken,
+    };
+    assert_eq!(rt; taken, Ok([Some((3, 1)), Some((1, 2)), None]));
+}
+
+/// A key that is lowered, and one behind it: what comes out until none is held.
+fn taken_once_lowered<F: Frontier>(alloc: Global) -> Result<[Option<(u32, u64)>; 4], AllocError>
+    requires { (nodes : ℕ) → F.may_have nodes }
+{
+    let mut frontier = F::with_nodes(alloc, 1)?;
+    frontier.put(0, 5)?;
+    frontier.lower(0, 3)?;
+    let lowered = frontier.take_least();
+    let gone = frontier.take_least();
+    frontier.put(0, 5)?;
+    Ok([lowered, gone, frontier.take_least(), frontier.take_least()])
+}
+
+/// Whether a frontier of one node is empty, before it is cleared and then.
+fn empty_once_cleared<F: Frontier>(alloc: Global) -> Result<[bool; 2], AllocError>
+    requires { (nodes : ℕ) → F.may_have nodes }
+{
+    let mut frontier = F::with_nodes(alloc, 1)?;
+    frontier.put(0, 7)?;
+    let before = frontier.is_empty();
+    frontier.clear();
+    Ok([before, frontier.is_empty()])
+}
+
+/// A key that was lowered doesn't come out again, nor does one that was cleared.
+fn forgets_old_keys<F: Frontier>(rt: &impl Abort, alloc: Global)
+    requires { (nodes : ℕ) → F.may_have nodes }
+{
+    let lowered = match taken_once_lowered::<F>(alloc) {
+        Err(AllocError) => taken_once_lowered::<F>(alloc),
+        taken => taken,
+    };
+    assert_eq!(rt; lowered, Ok([Some((0, 3)), None, Some((0, 5)), None]));
+    let empty = match empty_once_cleared::<F>(alloc) {
+        Err(AllocError) => empty_once_cleared::<F>(alloc),
+        empty => empty,
+    };
+    assert_eq!(rt; empty, Ok([false, true]));
+}
+
+#[test]
+fn frontiers_take_the_least_key(rt: HostRuntime) {
+    takes_by_key::<ScanFrontier>(&rt, rt.alloc());
+    takes_by_key::<HeapFrontier>(&rt, rt.alloc());
+    forgets_old_keys::<ScanFrontier>(&rt, rt.alloc());
+    forgets_old_keys::<HeapFrontier>(&rt, rt.alloc());
+}
+
+/// The calls that a frontier with a node is sure of, and those left when it has another: one is spent at most.
+fn spares<F: Frontier>(alloc: Global) -> Result<(u64, u64), AllocError>
+    requires { (nodes : ℕ) → F.may_have nodes }
+{
+    let mut frontier = F::with_nodes(alloc, 2)?;
+    frontier.put(0, 4)?;
+    let before = frontier.spare();
+    frontier.put(1, 9)?;
+    Ok((before, frontier.spare()))
+}
+
+fn knows_its_spare_calls<F: Frontier>(rt: &impl Abort, alloc: Global)
+    requires { (nodes : ℕ) → F.may_have nodes }
+{
+    let spares = match spares::<F>(alloc) {
+        Err(AllocError) => spares::<F>(alloc),
+        spares => spares,
+    };
+    assert!(rt; spares.is_ok_and(|(before, after)| before <= after.saturating_add(1)));
+}
+
+/// Whether a scan is made that is sure of all calls.
+fn is_scan_sure(alloc: Global) -> bool {
+    match ScanFrontier::with_nodes(alloc, 2) {
+        Ok(scan) => scan.spare() == u64::MAX,
+        Err(AllocError) => false,
+    }
+}
+
+#[test]
+fn frontiers_know_their_spare_calls(rt: HostRuntime) {
+    knows_its_spare_calls::<ScanFrontier>(&rt, rt.alloc());
+    knows_its_spare_calls::<HeapFrontier>(&rt, rt.alloc());
+    assert!(rt; is_scan_sure(rt.alloc()) || is_scan_sure(rt.alloc()));
+}
+
+/// What becomes of a network.
+fn outcome_of<F: Frontier>(alloc: Global, network: &Network) -> Result<Outcome, AllocError>
+    requires small { IsSmall (problem_of network.now) }
+    requires nodes { (nodes : ℕ) → F.may_have nodes }
+{
+    match minimum_cost_flow::<F>(alloc, network, &mut SearchEffort::default()) {
+        Err(AllocError) => minimum_cost_flow::<F>(alloc, network, &mut SearchEffort::default()),
+        outcome => outcome,
+    }
+}
+
+/// Every source is met, and the flows are these.
+fn meets<F: Frontier>(rt: &impl Abort, alloc: Global, network: &Network, flows: &[u64])
+    requires small { IsSmall (problem_of network.now) }
+    requires nodes { (nodes : ℕ) → F.may_have nodes }
+{
+    match outcome_of::<F>(alloc, network) {
+        Ok(Outcome::Met(plan)) => assert_eq!(rt; plan.flows.as_slice(), flows),
+        Ok(Outcome::Short(_)) => panic!(rt; "a shortage came"),
+        Err(AllocError) => panic!(rt; "memory ran out"),
+    }
+}
+
+/// These sources are short.
+fn lacks<F: Frontier>(rt: &impl Abort, alloc: Global, network: &Network, short: &[bool])
+    requires small { IsSmall (problem_of network.now) }
+    requires nodes { (nodes : ℕ) → F.may_have nodes }
+{
+    match outcome_of::<F>(alloc, network) {
+        Ok(Outcome::Short(reached)) => assert_eq!(rt; reached.as_slice(), short),
+        Ok(Outcome::Met(_)) => panic!(rt; "a plan came"),
+        Err(AllocError) => panic!(rt; "memory ran out"),
+    }
+}
+
+#[test]
+fn later_source_pushes_an_earlier_one_off(rt: HostRuntime) {
+    let network = Network {
+        demands: &[5, 5],
+        capacities: &[5, 5],
+        limits: &[],
+        hosts: &[None, None],
+        sources: &[0, 0, 1],
+        servers: &[0, 1, 0],
+        costs: &[1, 3, 1],
+    };
+    meets::<ScanFrontier>(&rt, rt.alloc(), &network, &[0, 5, 5]);
+    meets::<HeapFrontier>(&rt, rt.alloc(), &network, &[0, 5, 5]);
+}
+
+#[test]
+fn server_without_capacity_takes_nothing(rt: HostRuntime) {
+    let network = Network {
+        demands: &[2],
+        capacities: &[0, 4],
+        limits: &[],
+        hosts: &[None, None],
+        sources: &[0, 0],
+        servers: &[0, 1],
+        costs: &[0, 7],
+    };
+    meets::<ScanFrontier>(&rt, rt.alloc(), &network, &[0, 2]);
+    meets::<HeapFrontier>(&rt, rt.alloc(), &network, &[0, 2]);
+}
+
+#[test]
+fn host_is_full_before_its_servers(rt: HostRuntime) {
+    let network = Network {
+        demands: &[4, 3],
+        capacities: &[9, 9, 9],
+        limits: &[5],
+        hosts: &[Some(0), Some(0), None],
+        sources: &[0, 0, 1, 1],
+        servers: &[0, 2, 1, 2],
+        costs: &[1, 6, 1, 2],
+    };
+    meets::<ScanFrontier>(&rt, rt.alloc(), &network, &[4, 0, 1, 2]);
+    meets::<HeapFrontier>(&rt, rt.alloc(), &network, &[4, 0, 1, 2]);
+}
+
+#[test]
+fn host_is_short(rt: HostRuntime) {
+    let network = Network {
+        demands: &[4, 3],
+        capacities: &[9, 9],
+        limits: &[6],
+        hosts: &[Some(0), Some(0)],
+        sources: &[0, 1],
+        servers: &[0, 1],
+        costs: &[2, 2],
+    };
+    lacks::<ScanFrontier>(&rt, rt.alloc(), &network, &[true, true]);
+    lacks::<HeapFrontier>(&rt, rt.alloc(), &network, &[true, true]);
+}
+
+#[test]
+fn shared_server_is_short(rt: HostRuntime) {
+    let network = Network {
+        demands: &[4, 3, 2],
+        capacities: &[6, 2],
+        limits: &[],
+        hosts: &[None, None],
+        sources: &[0, 1, 2],
+        servers: &[0, 0, 1],
+        costs: &[1, 1, 1],
+    };
+    lacks::<ScanFrontier>(&rt, rt.alloc(), &network, &[true, true, false]);
+    lacks::<HeapFrontier>(&rt, rt.alloc(), &network, &[true, true, false]);
+}
+
+#[test]
+fn source_without_arcs_is_short(rt: HostRuntime) {
+    let network = Network {
+        demands: &[1, 1],
+        capacities: &[5],
+        limits: &[],
+        hosts: &[None],
+        sources: &[0],
+        servers: &[0],
+        costs: &[3],
+    };
+    lacks::<ScanFrontier>(&rt, rt.alloc(), &network, &[false, true]);
+    lacks::<HeapFrontier>(&rt, rt.alloc(), &network, &[false, true]);
+}
+
+/// Each source is met by one path, and so by one search.
+#[test]
+fn effort_is_added(rt: HostRuntime) {
+    let network = Network {
+        demands: &[5, 5],
+        capacities: &[5, 5],
+        limits: &[],
+        hosts: &[None, None],
+        sources: &[0, 0, 1],
+        servers: &[0, 1, 0],
+        costs: &[1, 3, 1],
+    };
+    let begun = SearchEffort {
+        searches: 7,
+        settled: 7,
+        augmentations: 7,
+    };
+    let mut effort = begun;
+    let mut outcome = minimum_cost_flow::<HeapFrontier>(rt.alloc(), &network, &mut effort);
+    if outcome.is_err() {
+        effort = begun;
+        outcome = minimum_cost_flow::<HeapFrontier>(rt.alloc(), &network, &mut effort);
+    }
+    assert!(rt; outcome.is_ok());
+    assert_eq!(rt; (effort.searches, effort.augmentations), (9, 9));
+    assert!(rt; effort.settled > 7);
+}

@@ -1,0 +1,647 @@
+use hsp_cert::CertFault;
+use hsp_check::Reason;
+use hsp_dispatch::LogFault;
+use hsp_instance::{BuildFault, Table};
+use hsp_names::HandleFault;
+use hsp_record::RecordFault;
+use hsp_runs::*;
+use hsp_tables::TableFault;
+use std::alloc::{AllocError, Global};
+use std::io::{self, Read};
+use std::process::Abort;
+use std::test::Fail;
+
+// A reader whose every read fails.
+#[derive(Drop)]
+pub(crate) struct Broken;
+
+impl Read for Broken {
+    fn read(&mut self, _buf: &mut [u8]) -> io::Result<usize> {
+        Err(io::Error::from(io::ErrorKind::Other))
+    }
+}
+
+// A reader of so many octets of one kind.
+#[derive(Drop)]
+struct Run {
+    octet: u8,
+    left: usize,
+}
+
+impl Read for Run {
+    fn read(&mut self, buf: &mut [u8]) -> io::Result<usize> {
+        let count = buf.len().min(self.left);
+        for to in buf[..count].iter_mut() {
+            *to = self.octet;
+        }
+        self.left -= count;
+        Ok(count)
+    }
+}
+
+// The answer is the wanted one.
+fn answers(rt: &impl Abort, answer: Result<Vec<u8>, Fault>, wanted: &Result<&[u8], Fault>) {
+    match (answer, wanted) {
+        (Ok(text), Ok(wanted)) => assert_eq!(rt; text.as_slice(), *wanted),
+        (Err(fault), Err(wanted)) => assert!(rt; fault == *wanted, "{fault:?}"),
+        (Err(fault), Ok(_)) => panic!(rt; "{fault:?}"),
+        (Ok(_), Err(wanted)) => panic!(rt; "an answer came in place of {wanted:?}"),
+    }
+}
+
+// The answer of `locate`, from the texts of its inputs.
+#[derive(Clone, Copy)]
+enum Asked<'a> {
+    Place(&'a [u8], &'a [u8]),
+    Sites(&'a [u8], Option<&'a [u8]>),
+}
+
+fn inputs_of(alloc: Global, asked: Asked<'_>) -> Result<Locate, AllocError> {
+    match asked {
+        Asked::Place(option, servers) => Ok(Locate::Place {
+            option: Vec::from_slice(alloc, option)?,
+            servers: Vec::from_slice(alloc, servers)?,
+        }),
+        Asked::Sites(settings, None) => Ok(Locate::Sites {
+            settings: Vec::from_slice(alloc, settings)?,
+            values: None,
+        }),
+        Asked::Sites(settings, Some(values)) => Ok(Locate::Sites {
+            settings: Vec::from_slice(alloc, settings)?,
+            values: Some(Vec::from_slice(alloc, values)?),
+        }),
+    }
+}
+
+fn located(alloc: Global, asked: Asked<'_>, handle: &[u8]) -> Result<Vec<u8>, Fault> {
+    let inputs = inputs_of(alloc, asked)?;
+    locate_run(alloc, &inputs, handle)
+}
+
+// The answer of `locate` is the wanted one. Where a growth is refused, the second call finds memory, here and below.
+fn locates(
+    rt: &impl Abort,
+    alloc: Global,
+    asked: Asked<'_>,
+    handle: &[u8],
+    wanted: &Result<&[u8], Fault>,
+) {
+    let answer = match located(alloc, asked, handle) {
+        Err(Fault::OutOfMemory) => located(alloc, asked, handle),
+        answer => answer,
+    };
+    answers(rt, answer, wanted);
+}
+
+#[test]
+fn places_are_printed(rt: HostRuntime) {
+    let cases: [(&[u8], &[u8], &[u8], &[u8]); 4] = [
+        (b"local", b"2", b"10/3", b"1\n"),
+        (b"local", b"3", b"10/3", b"0\n"),
+        (b"na", b"3", b"10/1", b"2\n"),
+        (b"handle", b"1", b"10/1", b"0\n"),
+    ];
+    for (option, servers, handle, wanted) in cases {
+        locates(
+            &rt,
+            rt.alloc(),
+            Asked::Place(option, servers),
+            handle,
+            &Ok(wanted),
+        );
+    }
+}
+
+pub(crate) const SETTINGS: &[u8] =
+    b"[[site]]\nname = \"E\"\nrecord = \"00010200000100010000000000000000000000020000000700000000000000000000000000000001000000000000000000000003000000000000000000000000000000010000000000000000\"\n[[site]]\nname = \"W\"\nrecord = \"0001020000010001000000000000000000000003000000010000000000000000000000000000000200000000000000000000000200000000000000000000000000000002000000000000000000000009000000000000000000000000000000020000000000000000\"\n";
+
+#[test]
+fn servers_at_sites_are_printed(rt: HostRuntime) {
+    let cases: [(&[u8], &[u8]); 3] = [
+        (b"10/1", b"E 1 3\nW 2 9\n"),
+        (b"10/2", b"E 0 7\nW 1 2\n"),
+        (b"10/3", b"E 1 3\nW 0 1\n"),
+    ];
+    for (handle, wanted) in cases {
+        locates(
+            &rt,
+            rt.alloc(),
+            Asked::Sites(SETTINGS, None),
+            handle,
+            &Ok(wanted),
+        );
+    }
+    locates(
+        &rt,
+        rt.alloc(),
+        Asked::Sites(b"", None),
+        b"10/3",
+        &Ok(b"".as_slice()),
+    );
+}
+
+// Sites are refused, each with the fault beside it.
+fn refuses(rt: &impl Abort, alloc: Global, cases: [(&[u8], Option<&[u8]>, &[u8], Fault); 3]) {
+    for (settings, values, handle, wanted) in cases {
+        locates(
+            rt,
+            alloc,
+            Asked::Sites(settings, values),
+            handle,
+            &Err(wanted),
+        );
+    }
+}
+
+#[test]
+fn sites_are_refused_in_the_order_of_the_inputs(rt: HostRuntime) {
+    let by_index: &[u8] = b"[[site]]\nname = \"E\"\nindex = 2\n";
+    refuses(
+        &rt,
+        rt.alloc(),
+        [
+            (b"x", Some(b""), b"10", Fault::Handle(HandleFault::NoSlash)),
+            (
+                b"x",
+                Some(b""),
+                b"10/3",
+                Fault::Settings(TableFault::NotToml),
+            ),
+            (
+                by_index,
+                Some(b""),
+                b"10/3",
+                Fault::Values(RecordFault::Truncated { at: 0 }),
+            ),
+        ],
+    );
+}
+
+#[test]
+fn sites_without_a_value_or_a_server_are_refused(rt: HostRuntime) {
+    let by_index: &[u8] = b"[[site]]\nname = \"E\"\nindex = 2\n";
+    let no_server: &[u8] =
+        b"[[site]]\nname = \"E\"\nrecord = \"0001020000010001000000000000000000000000\"\n";
+    let no_value = Fault::Build(BuildFault::NoValue { site: 0 });
+    let none = Fault::Build(BuildFault::NoServer { site: 0 });
+    refuses(
+        &rt,
+        rt.alloc(),
+        [
+            (by_index, Some(b"\0\0\0\0"), b"10/3", no_value),
+            (
+                by_index,
+                None,
+                b"10/3",
+                Fault::Build(BuildFault::NoValue { site: 0 }),
+            ),
+            (no_server, None, b"10/3", none),
+        ],
+    );
+}
+
+#[test]
+fn sites_are_located_by_values(rt: HostRuntime) -> Result<(), Fail> {
+    let list = list_of(rt.alloc(), b"HS_SITE")?;
+    let settings: &[u8] = b"[[site]]\nname = \"X\"\nindex = 1\n";
+    let asked = Asked::Sites(settings, Some(list.as_slice()));
+    let wanted: &[u8] = b"X 0 7\n";
+    locates(&rt, rt.alloc(), asked, b"10/3", &Ok(wanted));
+    Ok(())
+}
+
+#[test]
+fn the_first_fault_is_told(rt: HostRuntime) {
+    let cases: [(&[u8], &[u8], &[u8], Fault); 6] = [
+        (b"x", b"0", b"10", Fault::BadOption),
+        (b"local", b"0", b"10", Fault::BadServers),
+        (b"local", b"1025", b"10/3", Fault::BadServers),
+        (b"local", b"02", b"10/3", Fault::BadServers),
+        (b"local", b"", b"10/3", Fault::BadServers),
+        (b"local", b"2", b"10", Fault::Handle(HandleFault::NoSlash)),
+    ];
+    for (option, servers, handle, wanted) in cases {
+        locates(
+            &rt,
+            rt.alloc(),
+            Asked::Place(option, servers),
+            handle,
+            &Err(wanted),
+        );
+    }
+}
+
+// The fault has this line and this status.
+pub(crate) fn is_told(rt: &impl Abort, alloc: Global, fault: &Fault, wanted: &[u8], status: u8) {
+    let line = match fault_line(alloc, fault) {
+        Err(AllocError) => fault_line(alloc, fault),
+        line => line,
+    };
+    match line {
+        Ok(line) => assert_eq!(rt; line.as_slice(), wanted),
+        Err(AllocError) => panic!(rt; "no line of {fault:?}"),
+    }
+    assert_eq!(rt; status_of(fault), status);
+}
+
+// This is the line of a fault in the input.
+fn tells(rt: &impl Abort, alloc: Global, fault: &Fault, wanted: &[u8]) {
+    is_told(rt, alloc, fault, wanted, 1);
+}
+
+#[test]
+fn faults_have_their_lines_and_statuses(rt: HostRuntime) {
+    let cases: [(Fault, &[u8], u8); 11] = [
+        (Fault::BadOption, b"hsplan: BadOption\n", 1),
+        (Fault::BadServers, b"hsplan: BadServers\n", 1),
+        (
+            Fault::Handle(HandleFault::NoSlash),
+            b"hsplan: handle: NoSlash\n",
+            1,
+        ),
+        (Fault::BadIndex, b"hsplan: BadIndex\n", 1),
+        (
+            Fault::Site(RecordFault::Trailing { at: 48 }),
+            b"hsplan: site: Trailing at 48\n",
+            1,
+        ),
+        (
+            Fault::Site(RecordFault::TooManyServers),
+            b"hsplan: site: TooManyServers\n",
+            1,
+        ),
+        (
+            Fault::Values(RecordFault::Truncated { at: 34 }),
+            b"hsplan: values: Truncated at 34\n",
+            1,
+        ),
+        (
+            Fault::Values(RecordFault::IndexTwice { index: 1 }),
+            b"hsplan: values: IndexTwice index 1\n",
+            1,
+        ),
+        (Fault::NoValue, b"hsplan: NoValue\n", 1),
+        (Fault::NotSiteValue, b"hsplan: NotSiteValue\n", 1),
+        (Fault::OutOfMemory, b"hsplan: OutOfMemory\n", 4),
+    ];
+    for (fault, wanted, status) in cases {
+        is_told(&rt, rt.alloc(), &fault, wanted, status);
+    }
+}
+
+#[test]
+fn faults_of_settings_have_their_lines(rt: HostRuntime) {
+    let cases: [(TableFault, &[u8]); 9] = [
+        (TableFault::NotToml, b"hsplan: settings: NotToml\n"),
+        (TableFault::UnknownKey, b"hsplan: settings: UnknownKey\n"),
+        (
+            TableFault::BadSite { site: 0 },
+            b"hsplan: settings: BadSite site 0\n",
+        ),
+        (
+            TableFault::SiteTwice { site: 1 },
+            b"hsplan: settings: SiteTwice site 1\n",
+        ),
+        (
+            TableFault::TooManySites,
+            b"hsplan: settings: TooManySites\n",
+        ),
+        (TableFault::OutOfMemory, b"hsplan: settings: OutOfMemory\n"),
+        (
+            TableFault::BadHost { host: 0 },
+            b"hsplan: settings: BadHost host 0\n",
+        ),
+        (
+            TableFault::HostTwice { host: 1 },
+            b"hsplan: settings: HostTwice host 1\n",
+        ),
+        (
+            TableFault::TooManyHosts,
+            b"hsplan: settings: TooManyHosts\n",
+        ),
+    ];
+    for (fault, wanted) in cases {
+        tells(&rt, rt.alloc(), &Fault::Settings(fault), wanted);
+    }
+}
+
+#[test]
+fn faults_of_rows_have_their_lines(rt: HostRuntime) {
+    let bad_handle = TableFault::BadHandle {
+        row: 0,
+        fault: HandleFault::NoSlash,
+    };
+    let cases: [(TableFault, &[u8]); 8] = [
+        (TableFault::Header, b"hsplan: settings: Header\n"),
+        (
+            TableFault::Fields { row: 0 },
+            b"hsplan: settings: Fields row 0\n",
+        ),
+        (
+            TableFault::BadName { row: 0 },
+            b"hsplan: settings: BadName row 0\n",
+        ),
+        (bad_handle, b"hsplan: settings: BadHandle row 0 NoSlash\n"),
+        (
+            TableFault::BadNumber { row: 0 },
+            b"hsplan: settings: BadNumber row 0\n",
+        ),
+        (
+            TableFault::RowTwice { row: 1 },
+            b"hsplan: settings: RowTwice row 1\n",
+        ),
+        (TableFault::TooManyRows, b"hsplan: settings: TooManyRows\n"),
+        (
+            TableFault::TooManyRegions,
+            b"hsplan: settings: TooManyRegions\n",
+        ),
+    ];
+    for (fault, wanted) in cases {
+        tells(&rt, rt.alloc(), &Fault::Settings(fault), wanted);
+    }
+}
+
+#[test]
+fn faults_of_sites_have_their_lines(rt: HostRuntime) {
+    let truncated = BuildFault::BadRecord {
+        site: 1,
+        fault: RecordFault::Truncated { at: 44 },
+    };
+    let cases: [(BuildFault, &[u8]); 7] = [
+        (
+            BuildFault::NoValue { site: 0 },
+            b"hsplan: build: NoValue site 0\n",
+        ),
+        (
+            BuildFault::NotSiteValue { site: 0 },
+            b"hsplan: build: NotSiteValue site 0\n",
+        ),
+        (
+            truncated,
+            b"hsplan: build: BadRecord site 1 Truncated at 44\n",
+        ),
+        (
+            BuildFault::BadHashOption { site: 0 },
+            b"hsplan: build: BadHashOption site 0\n",
+        ),
+        (
+            BuildFault::NoServer { site: 0 },
+            b"hsplan: build: NoServer site 0\n",
+        ),
+        (
+            BuildFault::ServerIdTwice { site: 0 },
+            b"hsplan: build: ServerIdTwice site 0\n",
+        ),
+        (
+            BuildFault::TooManyServers,
+            b"hsplan: build: TooManyServers\n",
+        ),
+    ];
+    for (fault, wanted) in cases {
+        tells(&rt, rt.alloc(), &Fault::Build(fault), wanted);
+    }
+}
+
+#[test]
+fn faults_of_what_tables_name_have_their_lines(rt: HostRuntime) {
+    let unknown_site = BuildFault::UnknownSite {
+        table: Table::Costs,
+        row: 0,
+    };
+    let no_capacity = BuildFault::NoCapacity {
+        site: 1,
+        server_id: 9,
+    };
+    let cases: [(BuildFault, &[u8]); 4] = [
+        (
+            unknown_site,
+            b"hsplan: build: UnknownSite table costs row 0\n",
+        ),
+        (
+            BuildFault::UnknownServer { row: 0 },
+            b"hsplan: build: UnknownServer row 0\n",
+        ),
+        (
+            no_capacity,
+            b"hsplan: build: NoCapacity site 1 server_id 9\n",
+        ),
+        (BuildFault::OutOfMemory, b"hsplan: build: OutOfMemory\n"),
+    ];
+    for (fault, wanted) in cases {
+        tells(&rt, rt.alloc(), &Fault::Build(fault), wanted);
+    }
+}
+
+// The fault is displayed so.
+fn is_displayed(rt: &impl Abort, alloc: Global, fault: &Fault, wanted: &str) {
+    let text = match fault.to_string(alloc) {
+        Err(AllocError) => fault.to_string(alloc),
+        text => text,
+    };
+    match text {
+        Ok(text) => assert_eq!(rt; text.as_str(), wanted),
+        Err(AllocError) => panic!(rt; "no text of {fault:?}"),
+    }
+}
+
+#[test]
+fn faults_of_words_and_values_are_displayed(rt: HostRuntime) {
+    let cases: [(Fault, &str); 10] = [
+        (Fault::BadOption, "bad option"),
+        (Fault::BadServers, "bad servers"),
+        (Fault::BadIndex, "bad index"),
+        (Fault::BadFronts, "bad fronts"),
+        (Fault::NoValue, "no value"),
+        (Fault::NotSiteValue, "not a site value"),
+        (Fault::WrongKind, "wrong kind"),
+        (Fault::OutOfMemory, "out of memory"),
+        (Fault::Refused(Reason::Cost), "check: Cost"),
+        (Fault::Log(LogFault::Header), "log: Header"),
+    ];
+    for (fault, wanted) in cases {
+        is_displayed(&rt, rt.alloc(), &fault, wanted);
+    }
+}
+
+#[test]
+fn faults_of_inputs_are_displayed(rt: HostRuntime) {
+    let cases: [(Fault, &str); 9] = [
+        (Fault::Handle(HandleFault::NoSlash), "handle: NoSlash"),
+        (
+            Fault::Site(RecordFault::Trailing { at: 48 }),
+            "site: Trailing { at: 48 }",
+        ),
+        (
+            Fault::Values(RecordFault::TooManyServers),
+            "values: TooManyServers",
+        ),
+        (Fault::Settings(TableFault::NotToml), "settings: NotToml"),
+        (Fault::Demand(TableFault::Header), "demand: Header"),
+        (Fault::Costs(TableFault::Header), "costs: Header"),
+        (Fault::Capacity(TableFault::Header), "capacity: Header"),
+        (
+            Fault::Build(BuildFault::TooManyServers),
+            "build: TooManyServers",
+        ),
+        (Fault::Cert(CertFault::Ended), "certificate: Ended"),
+    ];
+    for (fault, wanted) in cases {
+        is_displayed(&rt, rt.alloc(), &fault, wanted);
+    }
+}
+
+#[test]
+fn first_lines_are_read(rt: HostRuntime) -> Result<(), Fail> {
+    let cases: [(&[u8], &[u8]); 4] = [
+        (b"a  b\nc", b"a  b"),
+        (b"c", b"c"),
+        (b"", b""),
+        (b"\n\n", b""),
+    ];
+    for (text, wanted) in cases {
+        let found = match first_line(rt.alloc(), text) {
+            Err(AllocError) => first_line(rt.alloc(), text)?,
+            Ok(found) => found,
+        };
+        assert_eq!(rt; found.ok_or("no line")?.as_slice(), wanted);
+    }
+    Ok(())
+}
+
+#[test]
+fn a_failing_reader_gives_nothing(rt: HostRuntime) {
+    assert!(rt; matches!(first_line(rt.alloc(), Broken), Ok(None)));
+    assert!(rt; matches!(read_file(rt.alloc(), Broken), Ok(None)));
+}
+
+fn run_of(octet: u8, left: usize) -> Run {
+    Run { octet, left }
+}
+
+// Whether a line of so many octets is read.
+fn is_line(alloc: Global, left: usize) -> Result<bool, AllocError> {
+    let found = match first_line(alloc, run_of(b'x', left)) {
+        Err(AllocError) => first_line(alloc, run_of(b'x', left))?,
+        Ok(found) => found,
+    };
+    Ok(found.is_some())
+}
+
+#[test]
+fn first_lines_are_limited(rt: HostRuntime) -> Result<(), Fail> {
+    assert!(rt; !is_line(rt.alloc(), 65_537)?);
+    assert!(rt; is_line(rt.alloc(), 65_536)?);
+    Ok(())
+}
+
+#[test]
+fn whole_files_are_read(rt: HostRuntime) -> Result<(), Fail> {
+    let text: &[u8] = b"a\nb";
+    let found = match read_file(rt.alloc(), text) {
+        Err(AllocError) => read_file(rt.alloc(), text)?,
+        Ok(found) => found,
+    };
+    assert_eq!(rt; found.ok_or("no file")?.as_slice(), text);
+    Ok(())
+}
+
+// Whether a file of so many octets is read.
+fn is_file(alloc: Global, left: usize) -> Result<bool, AllocError> {
+    let found = match read_file(alloc, run_of(0, left)) {
+        Err(AllocError) => read_file(alloc, run_of(0, left))?,
+        Ok(found) => found,
+    };
+    Ok(found.is_some())
+}
+
+#[test]
+fn whole_files_are_limited(rt: HostRuntime) -> Result<(), Fail> {
+    assert!(rt; !is_file(rt.alloc(), 67_108_865)?);
+    assert!(rt; is_file(rt.alloc(), 67_108_864)?);
+    Ok(())
+}
+
+// A site of one server: 48 octets.
+const ONE_SERVER: [u8; 48] = [
+    0, 1, 2, 0, 0, 1, 0, 1, 0, 0, 0, 0, 0, 0, 0, 0, 0, 0, 0, 1, 0, 0, 0, 7, 0, 0, 0, 0, 0, 0, 0, 0,
+    0, 0, 0, 0, 0, 0, 0, 1, 0, 0, 0, 0, 0, 0, 0, 0,
+];
+
+const ONE_SERVER_TEXT: &[u8] =
+    b"version 1\nprotocol 2 0\nserial 1\nmask 0\noption 1\nfilter 0\nattributes 0\nservers 1\nserver 0 7 00000000000000000000000000000001 0 0\n";
+
+// A list of one value with the index 1, this type and the site as its data.
+pub(crate) fn list_of(alloc: Global, type_octets: &[u8; 7]) -> Result<Vec<u8>, AllocError> {
+    match list_once(alloc, type_octets) {
+        Err(AllocError) => list_once(alloc, type_octets),
+        list => list,
+    }
+}
+
+fn list_once(alloc: Global, type_octets: &[u8; 7]) -> Result<Vec<u8>, AllocError> {
+    let mut list = Vec::with_capacity(alloc, 89)?;
+    list.extend_from_slice(&[0, 0, 0, 1, 0, 0, 0, 1, 0, 0, 0, 7])?;
+    list.extend_from_slice(type_octets)?;
+    list.extend_from_slice(&[0, 0, 0, 48])?;
+    list.extend_from_slice(&ONE_SERVER)?;
+    list.extend_from_slice(&[0; 18])?;
+    Ok(list)
+}
+
+// The answer of `site`.
+fn prints(
+    rt: &impl Abort,
+    alloc: Global,
+    octets: &[u8],
+    index: Option<&[u8]>,
+    wanted: &Result<&[u8], Fault>,
+) {
+    let answer = match site_run(alloc, octets, index) {
+        Err(Fault::OutOfMemory) => site_run(alloc, octets, index),
+        answer => answer,
+    };
+    answers(rt, answer, wanted);
+}
+
+#[test]
+fn records_are_printed(rt: HostRuntime) -> Result<(), Fail> {
+    prints(&rt, rt.alloc(), &ONE_SERVER, None, &Ok(ONE_SERVER_TEXT));
+    let mut longer = [0u8; 49];
+    longer[..48].copy_from_slice(&ONE_SERVER);
+    prints(
+        &rt,
+        rt.alloc(),
+        &longer,
+        None,
+        &Err(Fault::Site(RecordFault::Trailing { at: 48 })),
+    );
+    Ok(())
+}
+
+#[test]
+fn values_are_printed(rt: HostRuntime) -> Result<(), Fail> {
+    let list = list_of(rt.alloc(), b"HS_SITE")?;
+    let list = list.as_slice();
+    let cut: &[u8] = &[0, 0, 0, 1];
+    let truncated = Fault::Values(RecordFault::Truncated { at: 4 });
+    let cases: [(&[u8], &[u8], Result<&[u8], Fault>); 5] = [
+        (list, b"1", Ok(ONE_SERVER_TEXT)),
+        (list, b"2", Err(Fault::NoValue)),
+        (list, b"x", Err(Fault::BadIndex)),
+        (list, b"4294967296", Err(Fault::BadIndex)),
+        (cut, b"1", Err(truncated)),
+    ];
+    for (octets, index, wanted) in cases {
+        prints(&rt, rt.alloc(), octets, Some(index), &wanted);
+    }
+    Ok(())
+}
+
+#[test]
+fn values_of_other_types_are_refused(rt: HostRuntime) -> Result<(), Fail> {
+    let list = list_of(rt.alloc(), b"HS_SITF")?;
+    let index: &[u8] = b"1";
+    let wanted = Err(Fault::NotSiteValue);
+    prints(&rt, rt.alloc(), list.as_slice(), Some(index), &wanted);
+    Ok(())
+}

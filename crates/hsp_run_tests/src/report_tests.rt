@@ -1,0 +1,90 @@
+use crate::run_tests::{BASE, CHEAPER_PLAN, LACKING, PLAN, SHORTAGE, Texts, UNASKED, inputs_of};
+use hsp_cert::CertFault;
+use hsp_check::Reason;
+use hsp_runs::*;
+use hsp_tables::TableFault;
+use std::alloc::Global;
+use std::test::Fail;
+
+// A report of a certificate of the texts. Where a growth is refused, the second call finds memory.
+fn report_twice(
+    alloc: Global,
+    texts: Texts<'_>,
+    cert: &[u8],
+    kind: ReportKind,
+) -> Result<Vec<u8>, Fault> {
+    match report_once(alloc, texts, cert, kind) {
+        Err(Fault::OutOfMemory) => report_once(alloc, texts, cert, kind),
+        answer => answer,
+    }
+}
+
+fn report_once(
+    alloc: Global,
+    texts: Texts<'_>,
+    cert: &[u8],
+    kind: ReportKind,
+) -> Result<Vec<u8>, Fault> {
+    let inputs = inputs_of(alloc, texts).ok_or(Fault::OutOfMemory)?;
+    report_run(alloc, &inputs, cert, kind)
+}
+
+const LOADS: &[u8] =
+    b"place     server       load   capacity         price site\n    0          7          4         10             0 E\n    1          3          6          6             1 E\n    0          1          2          2             0 W\n    1          2          0         10             0 W\n    2          9          0         10             0 W\nbound 23 - 6 = 17\n";
+
+const REGIONS: &[u8] =
+    b"    demand             cost region\n         9                9 r1\n         3                8 r2\ntotal 12 17\n";
+
+const MISSING: &[u8] =
+    b"short 9 - 8 = 1\n row   count region\n   2       9 r2\nplace     server   capacity site\n    1          3          6 E\n    0          1          2 W\n";
+
+#[test]
+fn reports_are_of_their_kinds(rt: HostRuntime) -> Result<(), Fail> {
+    let cases: [(Texts<'_>, &[u8], ReportKind, &[u8]); 3] = [
+        (BASE, PLAN, ReportKind::Load, LOADS),
+        (BASE, PLAN, ReportKind::Region, REGIONS),
+        (LACKING, SHORTAGE, ReportKind::Shortage, MISSING),
+    ];
+    for (texts, cert, kind, wanted) in cases {
+        let text = report_twice(rt.alloc(), texts, cert, kind)?;
+        assert_eq!(rt; text.as_slice(), wanted);
+    }
+    Ok(())
+}
+
+#[test]
+fn what_has_no_report_is_told(rt: HostRuntime) {
+    let cases: [(Texts<'_>, &[u8], ReportKind, Fault); 7] = [
+        (
+            UNASKED,
+            b"",
+            ReportKind::Load,
+            Fault::Demand(TableFault::Header),
+        ),
+        (
+            BASE,
+            SHORTAGE,
+            ReportKind::Load,
+            Fault::Refused(Reason::DemandSum),
+        ),
+        (LACKING, SHORTAGE, ReportKind::Load, Fault::WrongKind),
+        (LACKING, SHORTAGE, ReportKind::Region, Fault::WrongKind),
+        (BASE, PLAN, ReportKind::Shortage, Fault::WrongKind),
+        (
+            BASE,
+            CHEAPER_PLAN,
+            ReportKind::Shortage,
+            Fault::Refused(Reason::Cost),
+        ),
+        (
+            BASE,
+            b"",
+            ReportKind::Shortage,
+            Fault::Cert(CertFault::Ended),
+        ),
+    ];
+    for (texts, cert, kind, wanted) in cases {
+        let told = report_twice(rt.alloc(), texts, cert, kind).err();
+        assert!(rt; told == Some(wanted));
+    }
+}

@@ -1,0 +1,533 @@
+use crate::line_tests::{SETTINGS, is_told, list_of};
+use hsp_cert::CertFault;
+use hsp_check::{Reason, Verdict};
+use hsp_instance::BuildFault;
+use hsp_names::HandleFault;
+use hsp_record::RecordFault;
+use hsp_runs::*;
+use hsp_tables::TableFault;
+use hsp_text::push_whole;
+use std::alloc::{AllocError, Global};
+use std::process::Abort;
+use std::test::Fail;
+
+const DEMAND: &[u8] = b"region,handle,count\nr1,10/1,5\nr1,10/2,4\nr2,10/3,3\n";
+
+const COSTS: &[u8] = b"region,site,cost\nr1,E,1\nr1,W,4\nr2,E,2\nr2,W,3\n";
+
+const CAPACITY: &[u8] = b"site,server_id,capacity\nE,7,10\nE,3,6\nW,1,2\nW,2,10\nW,9,10\n";
+
+// Two sites, three rows, five servers.
+pub(crate) const BASE: Texts<'static> = Texts {
+    settings: SETTINGS,
+    values: None,
+    demand: DEMAND,
+    costs: COSTS,
+    capacity: CAPACITY,
+};
+
+// The same without a table of demand.
+pub(crate) const UNASKED: Texts<'static> = Texts {
+    settings: SETTINGS,
+    values: None,
+    demand: b"",
+    costs: COSTS,
+    capacity: CAPACITY,
+};
+
+// The same, where the last row asks for 9 queries.
+pub(crate) const LACKING: Texts<'static> = Texts {
+    settings: SETTINGS,
+    values: None,
+    demand: b"region,handle,count\nr1,10/1,5\nr1,10/2,4\nr2,10/3,9\n",
+    costs: COSTS,
+    capacity: CAPACITY,
+};
+
+// The texts of inputs.
+#[derive(Clone, Copy)]
+pub(crate) struct Texts<'a> {
+    settings: &'a [u8],
+    values: Option<&'a [u8]>,
+    demand: &'a [u8],
+    costs: &'a [u8],
+    capacity: &'a [u8],
+}
+
+pub(crate) fn inputs_of(alloc: Global, texts: Texts<'_>) -> Option<Inputs> {
+    let values = match texts.values {
+        None => None,
+        Some(octets) => Some(Vec::from_slice(alloc, octets).ok()?),
+    };
+    Some(Inputs {
+        settings: Vec::from_slice(alloc, texts.settings).ok()?,
+        values,
+        demand: Vec::from_slice(alloc, texts.demand).ok()?,
+        costs: Vec::from_slice(alloc, texts.costs).ok()?,
+        capacity: Vec::from_slice(alloc, texts.capacity).ok()?,
+    })
+}
+
+// The text of a plan, from the texts of its uses and prices.
+fn plan_text(
+    alloc: Global,
+    cost: &[u8],
+    uses: &[u8],
+    prices: &[u8],
+) -> Result<Vec<u8>, AllocError> {
+    match plan_text_once(alloc, cost, uses, prices) {
+        Err(AllocError) => plan_text_once(alloc, cost, uses, prices),
+        text => text,
+    }
+}
+
+fn plan_text_once(
+    alloc: Global,
+    cost: &[u8],
+    uses: &[u8],
+    prices: &[u8],
+) -> Result<Vec<u8>, AllocError> {
+    let mut text = Vec::from_slice(alloc, b"HSPLAN 1\nPLAN\n")?;
+    text.extend_from_slice(cost)?;
+    text.extend_from_slice(uses)?;
+    text.extend_from_slice(prices)?;
+    text.extend_from_slice(b"END\n")?;
+    Ok(text)
+}
+
+// The verdict on a certificate of the texts. Where a growth is refused, the second call finds memory.
+fn judged_twice(alloc: Global, texts: Texts<'_>, cert: &[u8]) -> Result<Verdict, Fault> {
+    match judged_once(alloc, texts, cert) {
+        Err(Fault::OutOfMemory) => judged_once(alloc, texts, cert),
+        answer => answer,
+    }
+}
+
+fn judged_once(alloc: Global, texts: Texts<'_>, cert: &[u8]) -> Result<Verdict, Fault> {
+    let inputs = inputs_of(alloc, texts).ok_or(Fault::OutOfMemory)?;
+    check_run(alloc, &inputs, cert)
+}
+
+// The verdict is the wanted one.
+fn checks(
+    rt: &impl Abort,
+    alloc: Global,
+    texts: Texts<'_>,
+    cert: &[u8],
+    wanted: &Result<Verdict, Fault>,
+) {
+    assert_eq!(rt; judged_twice(alloc, texts, cert), *wanted);
+}
+
+const USES: &[u8] = b"use 0 0 5\nuse 1 0 4\nuse 2 0 1\nuse 2 1 2\n";
+
+const PRICES: &[u8] =
+    b"row 0 2\nrow 1 1\nrow 2 3\nserver 0 0\nserver 1 1\nserver 2 0\nserver 3 0\nserver 4 0\n";
+
+#[test]
+fn plans_are_judged(rt: HostRuntime) -> Result<(), Fail> {
+    let uses: [(&[u8], &[u8], Verdict); 5] = [
+        (b"cost 17\n", USES, Verdict::Yes),
+        (b"cost 16\n", USES, Verdict::No(Reason::Cost)),
+        (
+            b"cost 17\n",
+            b"use 0 0 5\nuse 1 2 4\nuse 2 0 1\nuse 2 1 2\n",
+            Verdict::No(Reason::NoSuchUse),
+        ),
+        (
+            b"cost 17\n",
+            b"use 0 0 4\nuse 1 0 4\nuse 2 0 1\nuse 2 1 2\n",
+            Verdict::No(Reason::RowSum),
+        ),
+        (
+            b"cost 17\n",
+            b"use 0 0 5\nuse 1 0 4\nuse 2 0 3\n",
+            Verdict::No(Reason::Load),
+        ),
+    ];
+    for (cost, uses, wanted) in uses {
+        let text = plan_text(rt.alloc(), cost, uses, PRICES)?;
+        checks(&rt, rt.alloc(), BASE, text.as_slice(), &Ok(wanted));
+    }
+    Ok(())
+}
+
+#[test]
+fn prices_are_judged(rt: HostRuntime) -> Result<(), Fail> {
+    let prices: [(&[u8], Reason); 4] = [
+        (
+            b"row 0 2\nrow 1 1\nrow 2 3\nserver 0 0\nserver 1 1\nserver 2 0\nserver 3 0\n",
+            Reason::Shape,
+        ),
+        (
+            b"row 0 3\nrow 1 1\nrow 2 3\nserver 0 0\nserver 1 1\nserver 2 0\nserver 3 0\nserver 4 0\n",
+            Reason::ArcPrice,
+        ),
+        (
+            b"row 0 1\nrow 1 1\nrow 2 3\nserver 0 0\nserver 1 1\nserver 2 0\nserver 3 0\nserver 4 0\n",
+            Reason::UsedArcPrice,
+        ),
+        (
+            b"row 0 2\nrow 1 1\nrow 2 3\nserver 0 0\nserver 1 1\nserver 2 0\nserver 3 0\nserver 4 1\n",
+            Reason::IdlePrice,
+        ),
+    ];
+    for (prices, reason) in prices {
+        let text = plan_text(rt.alloc(), b"cost 17\n", USES, prices)?;
+        let wanted = Ok(Verdict::No(reason));
+        checks(&rt, rt.alloc(), BASE, text.as_slice(), &wanted);
+    }
+    Ok(())
+}
+
+#[test]
+fn shortages_are_judged(rt: HostRuntime) {
+    let sets: [(&[u8], Verdict); 5] = [
+        (
+            b"HSPLAN 1\nSHORTAGE\ndemand 9\ncapacity 8\nrow 2\nEND\n",
+            Verdict::Yes,
+        ),
+        (
+            b"HSPLAN 1\nSHORTAGE\ndemand 10\ncapacity 8\nrow 2\nEND\n",
+            Verdict::No(Reason::DemandSum),
+        ),
+        (
+            b"HSPLAN 1\nSHORTAGE\ndemand 9\ncapacity 9\nrow 2\nEND\n",
+            Verdict::No(Reason::CapacitySum),
+        ),
+        (
+            b"HSPLAN 1\nSHORTAGE\ndemand 4\ncapacity 20\nrow 1\nEND\n",
+            Verdict::No(Reason::NotShort),
+        ),
+        (
+            b"HSPLAN 1\nSHORTAGE\ndemand 9\ncapacity 8\nrow 3\nEND\n",
+            Verdict::No(Reason::Shape),
+        ),
+    ];
+    for (text, wanted) in sets {
+        checks(&rt, rt.alloc(), LACKING, text, &Ok(wanted));
+    }
+}
+
+#[test]
+fn equal_costs_leave_several_best_plans(rt: HostRuntime) -> Result<(), Fail> {
+    let texts = Texts {
+        demand: b"region,handle,count\nr1,10/1,2\n",
+        costs: b"region,site,cost\nr1,E,1\nr1,W,1\n",
+        ..BASE
+    };
+    let prices: &[u8] = b"row 0 1\nserver 0 0\nserver 1 0\nserver 2 0\nserver 3 0\nserver 4 0\n";
+    let plans: [&[u8]; 3] = [b"use 0 0 2\n", b"use 0 0 1\nuse 0 1 1\n", b"use 0 1 2\n"];
+    for uses in plans {
+        let text = plan_text(rt.alloc(), b"cost 2\n", uses, prices)?;
+        checks(&rt, rt.alloc(), texts, text.as_slice(), &Ok(Verdict::Yes));
+    }
+    Ok(())
+}
+
+#[test]
+fn sites_of_values_are_planned_for(rt: HostRuntime) -> Result<(), Fail> {
+    let list = list_of(rt.alloc(), b"HS_SITE")?;
+    let texts = Texts {
+        settings: b"[[site]]\nname = \"X\"\nindex = 1\n",
+        values: Some(list.as_slice()),
+        demand: b"region,handle,count\nr1,10/1,1\n",
+        costs: b"region,site,cost\nr1,X,1\n",
+        capacity: b"site,server_id,capacity\nX,7,10\n",
+    };
+    let text = plan_text(
+        rt.alloc(),
+        b"cost 1\n",
+        b"use 0 0 1\n",
+        b"row 0 1\nserver 0 0\n",
+    )?;
+    checks(&rt, rt.alloc(), texts, text.as_slice(), &Ok(Verdict::Yes));
+    Ok(())
+}
+
+#[test]
+fn the_first_fault_of_the_inputs_is_told(rt: HostRuntime) {
+    let empty: &[u8] = b"";
+    let no_capacities: &[u8] = b"site,server_id,capacity\n";
+    let no_capacity = BuildFault::NoCapacity {
+        site: 0,
+        server_id: 7,
+    };
+    let mut texts = Texts {
+        settings: b"x",
+        values: Some(empty),
+        demand: empty,
+        costs: b"x",
+        capacity: b"y",
+    };
+    let told = |texts: Texts<'_>, wanted: Fault| checks(&rt, rt.alloc(), texts, b"", &Err(wanted));
+    told(texts, Fault::Settings(TableFault::NotToml));
+    texts.settings = SETTINGS;
+    told(texts, Fault::Values(RecordFault::Truncated { at: 0 }));
+    texts.values = Some(b"\0\0\0\0");
+    told(texts, Fault::Demand(TableFault::Header));
+    texts.demand = DEMAND;
+    told(texts, Fault::Costs(TableFault::Header));
+    texts.costs = COSTS;
+    told(texts, Fault::Capacity(TableFault::Header));
+    texts.capacity = no_capacities;
+    told(texts, Fault::Build(no_capacity));
+    texts.capacity = CAPACITY;
+    told(texts, Fault::Cert(CertFault::Ended));
+}
+
+#[test]
+fn verdicts_have_their_lines(rt: HostRuntime) -> Result<(), Fail> {
+    let cases: [(Verdict, &[u8], u8); 12] = [
+        (Verdict::Yes, b"yes\n", 0),
+        (Verdict::No(Reason::Shape), b"no 1 Shape\n", 3),
+        (Verdict::No(Reason::NoSuchUse), b"no 2 NoSuchUse\n", 3),
+        (Verdict::No(Reason::RowSum), b"no 3 RowSum\n", 3),
+        (Verdict::No(Reason::Load), b"no 4 Load\n", 3),
+        (Verdict::No(Reason::Cost), b"no 5 Cost\n", 3),
+        (Verdict::No(Reason::ArcPrice), b"no 6 ArcPrice\n", 3),
+        (Verdict::No(Reason::UsedArcPrice), b"no 7 UsedArcPrice\n", 3),
+        (Verdict::No(Reason::IdlePrice), b"no 8 IdlePrice\n", 3),
+        (Verdict::No(Reason::DemandSum), b"no 9 DemandSum\n", 3),
+        (Verdict::No(Reason::CapacitySum), b"no 10 CapacitySum\n", 3),
+        (Verdict::No(Reason::NotShort), b"no 11 NotShort\n", 3),
+    ];
+    for (verdict, wanted, status) in cases {
+        let line = match verdict_line(rt.alloc(), &verdict) {
+            Err(AllocError) => verdict_line(rt.alloc(), &verdict)?,
+            Ok(line) => line,
+        };
+        assert_eq!(rt; line.as_slice(), wanted);
+        assert_eq!(rt; verdict_status(&verdict), status);
+    }
+    Ok(())
+}
+
+#[test]
+fn faults_of_tables_and_certificates_have_their_lines(rt: HostRuntime) {
+    let bad_handle = TableFault::BadHandle {
+        row: 0,
+        fault: HandleFault::NoSlash,
+    };
+    let cases: [(Fault, &[u8]); 8] = [
+        (
+            Fault::Demand(TableFault::RowTwice { row: 1 }),
+            b"hsplan: demand: RowTwice row 1\n",
+        ),
+        (
+            Fault::Demand(bad_handle),
+            b"hsplan: demand: BadHandle row 0 NoSlash\n",
+        ),
+        (Fault::Costs(TableFault::Header), b"hsplan: costs: Header\n"),
+        (
+            Fault::Capacity(TableFault::BadNumber { row: 0 }),
+            b"hsplan: capacity: BadNumber row 0\n",
+        ),
+        (
+            Fault::Cert(CertFault::BadLine { line: 3 }),
+            b"hsplan: certificate: BadLine line 3\n",
+        ),
+        (
+            Fault::Cert(CertFault::Ended),
+            b"hsplan: certificate: Ended\n",
+        ),
+        (
+            Fault::Cert(CertFault::AfterEnd { line: 7 }),
+            b"hsplan: certificate: AfterEnd line 7\n",
+        ),
+        (
+            Fault::Cert(CertFault::OutOfMemory),
+            b"hsplan: certificate: OutOfMemory\n",
+        ),
+    ];
+    for (fault, wanted) in cases {
+        is_told(&rt, rt.alloc(), &fault, wanted, 1);
+    }
+}
+
+// The text that `plan` answers. Where a growth is refused, the second call finds memory.
+fn planned(alloc: Global, texts: Texts<'_>) -> Result<PlanText, Fault> {
+    match planned_once(alloc, texts) {
+        Err(Fault::OutOfMemory) => planned_once(alloc, texts),
+        answer => answer,
+    }
+}
+
+fn planned_once(alloc: Global, texts: Texts<'_>) -> Result<PlanText, Fault> {
+    let inputs = inputs_of(alloc, texts).ok_or(Fault::OutOfMemory)?;
+    plan_run(alloc, &inputs)
+}
+
+// The plan's text begins so, and is valid.
+fn plans_from(rt: &impl Abort, alloc: Global, texts: Texts<'_>, start: &[u8]) -> Result<(), Fail> {
+    let plan = planned(alloc, texts)?;
+    assert!(rt; !plan.is_short());
+    assert!(rt; plan.bytes().starts_with(start));
+    checks(rt, alloc, texts, plan.bytes(), &Ok(Verdict::Yes));
+    assert!(rt; plan.into_bytes().as_slice().starts_with(start));
+    Ok(())
+}
+
+#[test]
+fn plans_are_of_the_least_cost(rt: HostRuntime) -> Result<(), Fail> {
+    plans_from(
+        &rt,
+        rt.alloc(),
+        BASE,
+        b"HSPLAN 1\nPLAN\ncost 17\nuse 0 0 5\nuse 1 0 4\nuse 2 0 1\nuse 2 1 2\nrow 0 ",
+    )?;
+    let reversed = Texts {
+        demand: b"region,handle,count\nr2,10/3,3\nr1,10/2,4\nr1,10/1,5\n",
+        ..BASE
+    };
+    plans_from(
+        &rt,
+        rt.alloc(),
+        reversed,
+        b"HSPLAN 1\nPLAN\ncost 17\nuse 0 0 1\nuse 0 1 2\nuse 1 0 4\nuse 2 0 5\nrow 0 ",
+    )?;
+    Ok(())
+}
+
+// A query of each of 5,000 rows.
+fn many_once(alloc: Global) -> Result<Vec<u8>, AllocError> {
+    let mut text = Vec::from_slice(alloc, b"region,handle,count\n")?;
+    for row in 0..5000 {
+        text.extend_from_slice(b"r1,10/")?;
+        push_whole(&mut text, row)?;
+        text.extend_from_slice(b",1\n")?;
+    }
+    Ok(text)
+}
+
+// Where a growth is refused, the second call finds memory.
+fn many_twice(alloc: Global) -> Result<Vec<u8>, AllocError> {
+    match many_once(alloc) {
+        Err(AllocError) => many_once(alloc),
+        text => text,
+    }
+}
+
+#[test]
+fn many_rows_are_planned_and_judged(rt: HostRuntime) -> Result<(), Fail> {
+    let demand = many_twice(rt.alloc())?;
+    let texts = Texts {
+        demand: demand.as_slice(),
+        costs: b"region,site,cost\nr1,E,1\n",
+        capacity: b"site,server_id,capacity\nE,7,5000\nE,3,5000\nW,1,0\nW,2,0\nW,9,0\n",
+        ..BASE
+    };
+    plans_from(
+        &rt,
+        rt.alloc(),
+        texts,
+        b"HSPLAN 1\nPLAN\ncost 5000\nuse 0 0 1\nuse 1 0 1\nuse 2 0 1\n",
+    )
+}
+
+// Two texts, one behind the other.
+fn joined(alloc: Global, first: &[u8], second: &[u8]) -> Result<Vec<u8>, AllocError> {
+    let mut text = Vec::from_slice(alloc, first)?;
+    text.extend_from_slice(second)?;
+    Ok(text)
+}
+
+#[test]
+fn hosts_limit_plans(rt: HostRuntime) -> Result<(), Fail> {
+    let host: &[u8] = b"[[host]]\naddress = \"00000000000000000000000000000001\"\nlimit = 8\n";
+    let settings = match joined(rt.alloc(), SETTINGS, host) {
+        Err(AllocError) => joined(rt.alloc(), SETTINGS, host)?,
+        Ok(settings) => settings,
+    };
+    let limited = Texts {
+        settings: settings.as_slice(),
+        ..BASE
+    };
+    plans_from(&rt, rt.alloc(), limited, b"HSPLAN 2\nPLAN\ncost 23\n")?;
+    Ok(())
+}
+
+#[test]
+fn shortages_are_told(rt: HostRuntime) -> Result<(), Fail> {
+    let unserved = Texts {
+        demand: b"region,handle,count\nr3,10/1,1\n",
+        ..BASE
+    };
+    let without_w = Texts {
+        demand: b"region,handle,count\nr1,10/1,4\nr1,10/2,1\nr2,10/3,4\n",
+        costs: b"region,site,cost\nr1,E,1\nr2,E,2\n",
+        ..BASE
+    };
+    let cases: [(Texts<'_>, &[u8]); 3] = [
+        (
+            LACKING,
+            b"HSPLAN 1\nSHORTAGE\ndemand 9\ncapacity 8\nrow 2\nEND\n",
+        ),
+        (
+            unserved,
+            b"HSPLAN 1\nSHORTAGE\ndemand 1\ncapacity 0\nrow 0\nEND\n",
+        ),
+        (
+            without_w,
+            b"HSPLAN 1\nSHORTAGE\ndemand 8\ncapacity 6\nrow 0\nrow 2\nEND\n",
+        ),
+    ];
+    for (texts, wanted) in cases {
+        let plan = planned(rt.alloc(), texts)?;
+        assert!(rt; plan.is_short());
+        assert_eq!(rt; plan.bytes(), wanted);
+    }
+    Ok(())
+}
+
+#[test]
+fn nothing_asked_for_is_planned(rt: HostRuntime) -> Result<(), Fail> {
+    let nothing = Texts {
+        demand: b"region,handle,count\n",
+        ..BASE
+    };
+    let wanted: &[u8] =
+        b"HSPLAN 1\nPLAN\ncost 0\nserver 0 0\nserver 1 0\nserver 2 0\nserver 3 0\nserver 4 0\nEND\n";
+    let plan = planned(rt.alloc(), nothing)?;
+    assert!(rt; !plan.is_short());
+    assert_eq!(rt; plan.bytes(), wanted);
+    let no_query = Texts {
+        demand: b"region,handle,count\nr3,10/1,0\n",
+        ..BASE
+    };
+    plans_from(&rt, rt.alloc(), no_query, b"HSPLAN 1\nPLAN\ncost 0\nrow 0 ")?;
+    Ok(())
+}
+
+#[test]
+fn nothing_is_planned_for_inputs_with_a_fault(rt: HostRuntime) {
+    let no_table = Texts {
+        demand: b"",
+        costs: b"",
+        ..BASE
+    };
+    let told = planned(rt.alloc(), no_table).err();
+    assert_eq!(rt; told, Some(Fault::Demand(TableFault::Header)));
+}
+
+pub(crate) const PLAN: &[u8] =
+    b"HSPLAN 1\nPLAN\ncost 17\nuse 0 0 5\nuse 1 0 4\nuse 2 0 1\nuse 2 1 2\nrow 0 2\nrow 1 1\nrow 2 3\nserver 0 0\nserver 1 1\nserver 2 0\nserver 3 0\nserver 4 0\nEND\n";
+
+pub(crate) const CHEAPER_PLAN: &[u8] =
+    b"HSPLAN 1\nPLAN\ncost 16\nuse 0 0 5\nuse 1 0 4\nuse 2 0 1\nuse 2 1 2\nrow 0 2\nrow 1 1\nrow 2 3\nserver 0 0\nserver 1 1\nserver 2 0\nserver 3 0\nserver 4 0\nEND\n";
+
+pub(crate) const SHORTAGE: &[u8] = b"HSPLAN 1\nSHORTAGE\ndemand 9\ncapacity 8\nrow 2\nEND\n";
+
+#[test]
+fn certificates_that_are_not_accepted_have_their_lines(rt: HostRuntime) {
+    let cases: [(Fault, &[u8]); 2] = [
+        (
+            Fault::Refused(Reason::IdlePrice),
+            b"hsplan: check: IdlePrice\n",
+        ),
+        (Fault::WrongKind, b"hsplan: WrongKind\n"),
+    ];
+    for (fault, wanted) in cases {
+        is_told(&rt, rt.alloc(), &fault, wanted, 3);
+    }
+}
