@@ -39,6 +39,10 @@ IsOrderIn (order.Dispatch inputs plan log fronts) name rows =
 IsOrderIn (order.Report inputs plan kind) name rows =
     (name ≡ codes "report") × HasInputs rows inputs × (first_of (codes "plan") rows ≡ Some plan) × (first_of (codes "kind") rows ≡ Some (kind_word kind))
 
+-- no value asks for a place
+abbrev pub HasNoPlace : List Row → Type 0
+HasNoPlace rows = (first_of (codes "option") rows ≡ None) × (first_of (codes "servers") rows ≡ None)
+
 -- the order of what clap's matches give
 abbrev pub IsOrderOf : Order → Option (Text × List Row) → Type 0
 IsOrderOf o None = ⊥

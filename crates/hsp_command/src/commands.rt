@@ -2,7 +2,7 @@
 
 ghost use Rattle.std.specs.Prelude.{◌≡◌, IfOk, false};
 ghost use Rattle.clap.specs.Words.{app_of, rule_of, with_rule, with_subcommand};
-ghost use Rattle.hsp_command.specs.Commands.{check_app, dispatch_app, has_globals_of, hsplan_app, locate_app, needed, option_rule, plan_app, report_app, site_app, with_inputs, with_needed, with_option, with_word};
+ghost use Rattle.hsp_command.specs.Commands.{check_app, dispatch_app, has_globals_of, hsplan_app, locate_app, needed, option_rule, plan_app, report_app, site_app, with_inputs, with_needed, with_option, with_word, without_plans};
 
 use clap::{Arg, Command};
 use std::alloc::{AllocError, Global};
@@ -173,15 +173,38 @@ fn with_subcommand<'a>(
     command.subcommand(subcommand)
 }
 
+// The program's commands about one handle or one record.
+fn records_command<'a>(alloc: Global) -> Result<Command<'a>, AllocError>
+    ensures { IfOk result (λ c. app_of c ≡ without_plans) }
+{
+    let command = Command::new(alloc, "hsplan").no_binary_name(true);
+    let command = with_subcommand(command, locate_command(alloc)?)?;
+    with_subcommand(command, site_command(alloc)?)
+}
+
+// The command with those that make a plan and check it.
+fn with_making<'a>(alloc: Global, command: Command<'a>) -> Result<Command<'a>, AllocError>
+    ensures { IfOk result (λ c. app_of c
+        ≡ with_subcommand (with_subcommand (app_of command.entry) plan_app.top) check_app.top) }
+{
+    let command = with_subcommand(command, plan_command(alloc)?)?;
+    with_subcommand(command, check_command(alloc)?)
+}
+
+// The command with those that answer and tell by a plan.
+fn with_using<'a>(alloc: Global, command: Command<'a>) -> Result<Command<'a>, AllocError>
+    ensures { IfOk result (λ c. app_of c
+        ≡ with_subcommand (with_subcommand (app_of command.entry) dispatch_app.top) report_app.top) }
+{
+    let command = with_subcommand(command, dispatch_command(alloc)?)?;
+    with_subcommand(command, report_command(alloc)?)
+}
+
 /// All commands of the program, for words that don't begin with its name.
 pub(crate) fn hsplan_command<'a>(alloc: Global) -> Result<Command<'a>, AllocError>
     ensures { IfOk result (λ c. app_of c ≡ hsplan_app) }
 {
-    let command = Command::new(alloc, "hsplan").no_binary_name(true);
-    let command = with_subcommand(command, locate_command(alloc)?)?;
-    let command = with_subcommand(command, site_command(alloc)?)?;
-    let command = with_subcommand(command, plan_command(alloc)?)?;
-    let command = with_subcommand(command, check_command(alloc)?)?;
-    let command = with_subcommand(command, dispatch_command(alloc)?)?;
-    with_subcommand(command, report_command(alloc)?)
+    let command = records_command(alloc)?;
+    let command = with_making(alloc, command)?;
+    with_using(alloc, command)
 }

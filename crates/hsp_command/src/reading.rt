@@ -1,10 +1,10 @@
 // The order that words give.
 
-ghost use Rattle.std.specs.Prelude.{◌≡◌, ◌↔◌, [], IfNone, IfOk, IfSome, OnOk, Err, Some, None, codes, map, string_bytes};
+ghost use Rattle.std.specs.Prelude.{◌≡◌, ◌↔◌, [], true, false, IfNone, IfOk, IfSome, OnOk, Err, Some, None, codes, map, string_bytes};
 ghost use Rattle.clap.specs.Words.{fault_of, found_of, kind_of, rows_of, first_of, subcommand_of};
 ghost use Rattle.clap.specs.declared.error.kind.ErrorKind.TheVariants as kind;
 ghost use Rattle.hsp_command.specs.Commands.{hsplan_app};
-ghost use Rattle.hsp_command.specs.Orders.{HasInputs, IsOrderIn, IsOrderOf, IsUsage, kind_word};
+ghost use Rattle.hsp_command.specs.Orders.{HasInputs, HasNoPlace, IsOrderIn, IsOrderOf, IsUsage, kind_word};
 ghost use Rattle.hsp_command.specs.declared.fault.CommandFault.TheVariants as fault;
 ghost use Rattle.hsp_command.specs.declared.order.InputFiles.{InputFiles};
 ghost use Rattle.hsp_command.specs.declared.order.Kind.{Kind};
@@ -59,6 +59,57 @@ fn inputs_of(alloc: Global, matches: &ArgMatches<'_>) -> Result<InputFiles, Comm
     })
 }
 
+// Whether there is a value of this name.
+fn is_given(matches: &ArgMatches<'_>, name: &str) -> bool
+    ensures given { result ≡ true
+        → first_of name.now (rows_of (found_of matches.now)) ≡ None → ⊥ }
+    ensures absent { result ≡ false
+        → first_of name.now (rows_of (found_of matches.now)) ≡ None }
+{
+    match matches.get_str(name) {
+        Some(_text) => true,
+        None => false,
+    }
+}
+
+// The form of `locate` that asks for a place.
+fn place_of(alloc: Global, matches: &ArgMatches<'_>) -> Result<Order, CommandFault>
+    requires settings { first_of (codes "settings") (rows_of (found_of matches.now)) ≡ None }
+    requires values { first_of (codes "values") (rows_of (found_of matches.now)) ≡ None }
+    ensures order { IfOk result
+        (λ order. IsOrderIn order (codes "locate") (rows_of (found_of matches.now))) }
+    ensures usage { result ≡ Err fault.Usage → (order : Order)
+        → IsOrderIn order (codes "locate") (rows_of (found_of matches.now))
+        → HasNoPlace (rows_of (found_of matches.now)) }
+{
+    let option = needed_of(alloc, matches, "option")?;
+    let servers = needed_of(alloc, matches, "servers")?;
+    let handle = needed_of(alloc, matches, "handle")?;
+    Ok(Order::LocatePlace {
+        option,
+        servers,
+        handle,
+    })
+}
+
+// The form of `locate` that asks for sites.
+fn sites_of(alloc: Global, matches: &ArgMatches<'_>) -> Result<Order, CommandFault>
+    requires { HasNoPlace (rows_of (found_of matches.now)) }
+    ensures order { IfOk result
+        (λ order. IsOrderIn order (codes "locate") (rows_of (found_of matches.now))) }
+    ensures usage { result ≡ Err fault.Usage → (order : Order)
+        → IsOrderIn order (codes "locate") (rows_of (found_of matches.now)) → ⊥ }
+{
+    let settings = needed_of(alloc, matches, "settings")?;
+    let values = word_of(alloc, matches, "values")?;
+    let handle = needed_of(alloc, matches, "handle")?;
+    Ok(Order::LocateSites {
+        settings,
+        values,
+        handle,
+    })
+}
+
 // One of the two forms of `locate`, and neither a mixture nor a part.
 fn locate_of(alloc: Global, matches: &ArgMatches<'_>) -> Result<Order, CommandFault>
     ensures order { IfOk result
@@ -66,24 +117,63 @@ fn locate_of(alloc: Global, matches: &ArgMatches<'_>) -> Result<Order, CommandFa
     ensures usage { result ≡ Err fault.Usage → (order : Order)
         → IsOrderIn order (codes "locate") (rows_of (found_of matches.now)) → ⊥ }
 {
-    let option = word_of(alloc, matches, "option")?;
-    let servers = word_of(alloc, matches, "servers")?;
-    let settings = word_of(alloc, matches, "settings")?;
-    let values = word_of(alloc, matches, "values")?;
-    let handle = needed_of(alloc, matches, "handle")?;
-    match (option, servers, settings, values) {
-        (Some(option), Some(servers), None, None) => Ok(Order::LocatePlace {
-            option,
-            servers,
-            handle,
-        }),
-        (None, None, Some(settings), values) => Ok(Order::LocateSites {
-            settings,
-            values,
-            handle,
-        }),
-        _ => Err(CommandFault::Usage),
+    if !is_given(matches, "option") && !is_given(matches, "servers") {
+        return sites_of(alloc, matches);
     }
+    if is_given(matches, "settings") || is_given(matches, "values") {
+        return Err(CommandFault::Usage);
+    }
+    place_of(alloc, matches)
+}
+
+fn site_of(alloc: Global, matches: &ArgMatches<'_>) -> Result<Order, CommandFault>
+    ensures order { IfOk result
+        (λ order. IsOrderIn order (codes "site") (rows_of (found_of matches.now))) }
+    ensures usage { result ≡ Err fault.Usage → (order : Order)
+        → IsOrderIn order (codes "site") (rows_of (found_of matches.now)) → ⊥ }
+{
+    let index = word_of(alloc, matches, "index")?;
+    let file = needed_of(alloc, matches, "file")?;
+    Ok(Order::Site { index, file })
+}
+
+fn plan_of(alloc: Global, matches: &ArgMatches<'_>) -> Result<Order, CommandFault>
+    ensures order { IfOk result
+        (λ order. IsOrderIn order (codes "plan") (rows_of (found_of matches.now))) }
+    ensures usage { result ≡ Err fault.Usage → (order : Order)
+        → IsOrderIn order (codes "plan") (rows_of (found_of matches.now)) → ⊥ }
+{
+    let inputs = inputs_of(alloc, matches)?;
+    Ok(Order::Plan { inputs })
+}
+
+fn check_of(alloc: Global, matches: &ArgMatches<'_>) -> Result<Order, CommandFault>
+    ensures order { IfOk result
+        (λ order. IsOrderIn order (codes "check") (rows_of (found_of matches.now))) }
+    ensures usage { result ≡ Err fault.Usage → (order : Order)
+        → IsOrderIn order (codes "check") (rows_of (found_of matches.now)) → ⊥ }
+{
+    let inputs = inputs_of(alloc, matches)?;
+    let plan = needed_of(alloc, matches, "plan")?;
+    Ok(Order::Check { inputs, plan })
+}
+
+fn dispatch_of(alloc: Global, matches: &ArgMatches<'_>) -> Result<Order, CommandFault>
+    ensures order { IfOk result
+        (λ order. IsOrderIn order (codes "dispatch") (rows_of (found_of matches.now))) }
+    ensures usage { result ≡ Err fault.Usage → (order : Order)
+        → IsOrderIn order (codes "dispatch") (rows_of (found_of matches.now)) → ⊥ }
+{
+    let inputs = inputs_of(alloc, matches)?;
+    let plan = needed_of(alloc, matches, "plan")?;
+    let log = needed_of(alloc, matches, "log")?;
+    let fronts = word_of(alloc, matches, "fronts")?;
+    Ok(Order::Dispatch {
+        inputs,
+        plan,
+        log,
+        fronts,
+    })
 }
 
 // The kind of report that has the word.
@@ -123,32 +213,10 @@ fn order_of(alloc: Global, name: &str, matches: &ArgMatches<'_>) -> Result<Order
 {
     match name {
         "locate" => locate_of(alloc, matches),
-        "site" => {
-            let index = word_of(alloc, matches, "index")?;
-            let file = needed_of(alloc, matches, "file")?;
-            Ok(Order::Site { index, file })
-        }
-        "plan" => {
-            let inputs = inputs_of(alloc, matches)?;
-            Ok(Order::Plan { inputs })
-        }
-        "check" => {
-            let inputs = inputs_of(alloc, matches)?;
-            let plan = needed_of(alloc, matches, "plan")?;
-            Ok(Order::Check { inputs, plan })
-        }
-        "dispatch" => {
-            let inputs = inputs_of(alloc, matches)?;
-            let plan = needed_of(alloc, matches, "plan")?;
-            let log = needed_of(alloc, matches, "log")?;
-            let fronts = word_of(alloc, matches, "fronts")?;
-            Ok(Order::Dispatch {
-                inputs,
-                plan,
-                log,
-                fronts,
-            })
-        }
+        "site" => site_of(alloc, matches),
+        "plan" => plan_of(alloc, matches),
+        "check" => check_of(alloc, matches),
+        "dispatch" => dispatch_of(alloc, matches),
         "report" => report_of(alloc, matches),
         _ => Err(CommandFault::Usage),
     }
