@@ -1,5 +1,5 @@
-# make demo        plans a service of two sites, and has the plan judged: by the built program, or within about two minutes by an unproved one
-# make try ARGS='plan --settings F ..'    runs the program on your own files, from unproved sources, in about a minute
+# make demo        plans a service of two sites, and has the plan judged: by the built program, or by two builds of an unproved one
+# make try ARGS='plan --settings F ..'    runs the program on your own files, by a build from unproved sources
 # make install     proves and builds the program, and installs it with its manual page and its completions below $(PREFIX)
 # make uninstall   removes what make install put there
 # make test        the whole gate: the checks of documents and examples, every proof from nothing, every test, every must-fail edit

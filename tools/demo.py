@@ -24,7 +24,7 @@ MAKING = [
 READING = [
     ("what the nearest sites would have to bear", f"report {FREE} --plan nearest.txt --kind load"),
     ("the plan that was printed, judged by the checker", f"check {OWN} --plan plan.txt"),
-    ("the loads, and what one query more of room would save", f"report {OWN} --plan plan.txt --kind load"),
+    ("the loads, and what one query more of room saves at most", f"report {OWN} --plan plan.txt --kind load"),
     ("demand and cost of each region", f"report {OWN} --plan plan.txt --kind region"),
 ]
 END = """
@@ -89,7 +89,7 @@ def steps(folder):
 
 
 def main():
-    unproved = "Built from the sources as they stand, without a proof of them: make test proves them. Each of two builds takes about a minute."
+    unproved = "Built from the sources as they stand, without a proof of them: make test proves them. Each of two builds takes a minute or more."
     print("The built program is run." if os.access(PROGRAM, os.X_OK) else unproved, flush=True)
     with tempfile.TemporaryDirectory() as folder:
         accepted = steps(folder)

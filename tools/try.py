@@ -5,7 +5,7 @@
     make try ARGS='locate --option handle --servers 3 20.500.1234/film-5'
 
 Names of files are those of the folder in which it is called, and standard input is the program's. The kit builds the program anew for each
-call, which takes about a minute; `make install` proves it and builds it once. The status is the program's.
+call, which takes a minute or more; `make install` proves it and builds it once. The status is the program's.
 """
 import os
 import re
@@ -41,7 +41,7 @@ def main():
     if not words:
         print(__doc__, file=sys.stderr)
         return 2
-    print("Built from the sources as they stand, without a proof of them: this takes about a minute.", file=sys.stderr, flush=True)
+    print("Built from the sources as they stand, without a proof of them: this takes a minute or more.", file=sys.stderr, flush=True)
     printed, told, status = run(words)
     sys.stdout.write(printed)
     sys.stderr.write(told)
