@@ -3,12 +3,14 @@
 
   words    the words of the command, on one line, as they may stand on standard input too
   args     in place of words: one argument a line, given as arguments alone
-  stdin    in place of words: standard input, without arguments
+  stdin    in place of words: standard input, without arguments; beside args it is there, and need not be read
   stdout   what it has to print (no file: nothing)
   begins   in place of stdout: how that has to begin, where several texts are right
   ends     with begins: how it has to end
   judged   with begins: what `check` has to print of the text that was printed, over the same inputs
   files    a folder with files that stand in place of the example files
+  repeated lines that other files have behind their own: FILE FIRST LAST TEXT is a line of TEXT for each number from FIRST to LAST, in which {} is the
+           number, put as Python's format puts it ({:5}, {{ for a brace); FILE is `stdout`, or that of a case with a folder `files`: `files/log.csv`
   stderr   what it has to print on standard error (no file: nothing)
   status   with which status it has to end (no file: 0)
 
@@ -33,12 +35,33 @@ CASES = os.path.join(TOP, "checks", "program")
 MEMORY = (b"hsplan: OutOfMemory\n", 4)
 
 
+def repeated(folder):
+    """The lines that `repeated` gives the files of a case in this folder, by their paths there."""
+    texts = {}
+    path = os.path.join(folder, "repeated")
+    if os.path.exists(path):
+        with open(path, encoding="utf-8") as file:
+            for line in file.read().splitlines():
+                name, first, last, text = line.split(" ", 3)
+                lines = "".join(text.format(number) + "\n" for number in range(int(first), int(last) + 1))
+                texts[name] = texts.get(name, b"") + lines.encode()
+    return texts
+
+
+def put_repeated(folder, texts):
+    """Puts such lines behind those that the files below a folder have already."""
+    for name, text in texts.items():
+        with open(os.path.join(folder, name), "ab") as file:
+            file.write(text)
+
+
 def octets(case, name, absent=b""):
-    path = os.path.join(CASES, case, name)
+    folder = os.path.join(CASES, case)
+    path, added = os.path.join(folder, name), repeated(folder).get(name)
     if not os.path.exists(path):
-        return absent
+        return absent if added is None else added
     with open(path, "rb") as file:
-        return file.read()
+        return file.read() + (added or b"")
 
 
 def run(program, words, given, folder, **more):
@@ -53,7 +76,7 @@ def ways(case):
         return [(words.split(), b""), ([], words)]
     args = octets(case, "args", None)
     if args is not None:
-        return [(args.split(b"\n")[:-1], b"")]
+        return [(args.split(b"\n")[:-1], octets(case, "stdin"))]
     return [([], octets(case, "stdin"))]
 
 
@@ -80,20 +103,21 @@ def judged(program, case, words, folder, text):
 
 def folder_of(case, room, data):
     """The folder in which a case is run: the example files, and its own in their place."""
-    own = os.path.join(CASES, case, "files")
-    if not os.path.isdir(own):
+    own = os.path.join(CASES, case)
+    if not os.path.isdir(os.path.join(own, "files")):
         return data
     folder = os.path.join(room, case)
     shutil.copytree(data, folder)
-    shutil.copytree(own, folder, dirs_exist_ok=True)
+    shutil.copytree(os.path.join(own, "files"), folder, dirs_exist_ok=True)
+    put_repeated(folder, {it[len("files/") :]: text for it, text in repeated(own).items() if it.startswith("files/")})
     return folder
 
 
 def is_cut_short(words, got, wanted):
     """Whether a run ended for want of memory: with nothing printed or, by the command that prints as it goes, with some of the lines."""
     goes_on = words[:1] == [b"dispatch"]
-    lines = wanted[0].splitlines(keepends=True) if goes_on else []
-    return got[1:] == MEMORY and got[0] in [b"".join(lines[:count]) for count in range(len(lines) + 1)]
+    is_begun = goes_on and got[0].endswith(b"\n") and wanted[0].startswith(got[0])
+    return got[1:] == MEMORY and (not got[0] or is_begun)
 
 
 def refusing(program, words, given, folder, preloaded, number):

@@ -31,6 +31,8 @@ import sys
 import tempfile
 import time
 
+import check_program
+
 TOP = os.path.dirname(os.path.dirname(os.path.abspath(__file__)))
 FOLDER = os.path.join(TOP, "mutants")
 CASES = os.path.join("checks", "program")
@@ -84,6 +86,9 @@ def copy_to(folder):
         shutil.copy(os.path.join(TOP, name), folder)
     for name in (BASE, CASES):
         shutil.copytree(os.path.join(TOP, name), os.path.join(folder, name))
+    for case in os.listdir(os.path.join(folder, CASES)):
+        own = os.path.join(folder, CASES, case)
+        check_program.put_repeated(own, check_program.repeated(own))
     shutil.copytree(os.path.join(TOP, "crates"), os.path.join(folder, "crates"), ignore=is_source)
 
 
