@@ -1,5 +1,5 @@
 use crate::fakes::{FakeReader, FakeWriter, Lines, Rows};
-use crate::worked::{certificate, fronts, instance};
+use crate::worked::{best_fronts, instance};
 use hsp_dispatch::*;
 use std::alloc::Global;
 use std::process::Abort;
@@ -84,11 +84,13 @@ fn plain(
     }
 }
 
-// Runs a case. Want of memory before anything was read is None.
-fn run(rt: &impl Abort, alloc: Global, case: Case) -> Option<Result<FrontSums, LogFault>> {
-    let instance = instance(alloc)?;
-    let certificate = certificate(alloc)?;
-    let mut fronts = fronts(alloc, &instance, &certificate, 2)?;
+// Runs a case by fronts. Want of memory before anything was read is None.
+fn run_by(
+    rt: &impl Abort,
+    alloc: Global,
+    case: Case,
+    fronts: &mut Fronts<'_>,
+) -> Option<Result<FrontSums, LogFault>> {
     let mut writer = FakeWriter::whole(alloc).ok()?;
     writer.piece = case.written.piece;
     writer.good = case.written.good;
@@ -98,7 +100,7 @@ fn run(rt: &impl Abort, alloc: Global, case: Case) -> Option<Result<FrontSums, L
         piece: case.read.piece,
         good: case.read.good,
     };
-    let ends = run_fronts(alloc, reader, &mut writer, &mut fronts);
+    let ends = run_fronts(alloc, reader, &mut writer, fronts);
     if ends != Err(LogFault::OutOfMemory) {
         let left = [
             fronts.left(0, 0, 0),
@@ -111,6 +113,13 @@ fn run(rt: &impl Abort, alloc: Global, case: Case) -> Option<Result<FrontSums, L
         assert_eq!(rt; writer.is_flushed, ends.is_ok());
     }
     Some(ends)
+}
+
+// The same by the worked plan.
+fn run(rt: &impl Abort, alloc: Global, case: Case) -> Option<Result<FrontSums, LogFault>> {
+    let instance = instance(alloc)?;
+    let mut fronts = best_fronts(alloc, &instance, 2)?;
+    run_by(rt, alloc, case, &mut fronts)
 }
 
 // The case comes out. Where a growth is refused, the second run finds memory.
@@ -303,25 +312,28 @@ const EACH_ONCE: &[u8] =
     b"front,region,handle\n0,r1,10/1\n4,r1,10/1\n5,r1,10/1\n63,r1,10/1\n64,r1,10/1\n4,r1,10/1\n";
 
 // Runs a log of events of row 0 over 64 fronts. Want of memory before anything was read is None.
-fn run_all(rt: &impl Abort, alloc: Global) -> Option<Result<FrontSums, LogFault>> {
-    let instance = instance(alloc)?;
-    let certificate = certificate(alloc)?;
-    let mut fronts = fronts(alloc, &instance, &certificate, 64)?;
+fn run_each(
+    rt: &impl Abort,
+    alloc: Global,
+    fronts: &mut Fronts<'_>,
+) -> Option<Result<FrontSums, LogFault>> {
     let mut writer = FakeWriter::whole(alloc).ok()?;
     for (front, share) in [(0, 1), (4, 1), (5, 0), (63, 0), (64, 0)] {
         assert_eq!(rt; fronts.left(front, 0, 0), share);
     }
-    let ends = run_fronts(
-        alloc,
-        FakeReader::whole(EACH_ONCE),
-        &mut writer,
-        &mut fronts,
-    );
+    let ends = run_fronts(alloc, FakeReader::whole(EACH_ONCE), &mut writer, fronts);
     if ends.is_ok() {
         let lines = b"assigned E 1 3\nassigned E 1 3\nspent\nspent\nnofront\nspent\n";
         assert_eq!(rt; writer.taken.as_slice(), lines.as_slice());
     }
     Some(ends)
+}
+
+// The same by the worked plan.
+fn run_all(rt: &impl Abort, alloc: Global) -> Option<Result<FrontSums, LogFault>> {
+    let instance = instance(alloc)?;
+    let mut fronts = best_fronts(alloc, &instance, 64)?;
+    run_each(rt, alloc, &mut fronts)
 }
 
 #[test]
@@ -358,6 +370,19 @@ fn run_longest<'a>(alloc: Global, fronts: &mut Fronts<'a>) -> Option<(LogFault, 
     }
 }
 
+// A log of one row more than there may be is refused behind the others.
+fn is_too_long(rt: &impl Abort, alloc: Global, fronts: &mut Fronts<'_>) -> Result<(), Fail> {
+    let ran = match run_longest(alloc, fronts) {
+        None => run_longest(alloc, fronts),
+        ran => ran,
+    };
+    let (fault, lines) = ran.ok_or("a log that is too long")?;
+    assert_eq!(rt; fault, LogFault::LogTooLong);
+    assert_eq!(rt; lines.many, 10_000_000);
+    assert_eq!(rt; lines.others, 0);
+    Ok(())
+}
+
 // Where a growth is refused while instance, certificate or fronts are made, they are made once more, and the long log isn't run: a run
 // takes seconds, and that of a test whose growths are all given is insisted on.
 #[test]
@@ -367,21 +392,9 @@ fn a_log_has_ten_million_events_at_most(rt: HostRuntime) -> Result<(), Fail> {
         assert!(rt; instance(alloc).is_some());
         return Ok(());
     };
-    let Some(certificate) = certificate(alloc) else {
-        assert!(rt; certificate(alloc).is_some());
+    let Some(mut fronts) = best_fronts(alloc, &instance, 2) else {
+        assert!(rt; best_fronts(alloc, &instance, 2).is_some());
         return Ok(());
     };
-    let Some(mut fronts) = fronts(alloc, &instance, &certificate, 2) else {
-        assert!(rt; fronts(alloc, &instance, &certificate, 2).is_some());
-        return Ok(());
-    };
-    let ran = match run_longest(alloc, &mut fronts) {
-        None => run_longest(alloc, &mut fronts),
-        ran => ran,
-    };
-    let (fault, lines) = ran.ok_or("a log that is too long")?;
-    assert_eq!(rt; fault, LogFault::LogTooLong);
-    assert_eq!(rt; lines.many, 10_000_000);
-    assert_eq!(rt; lines.others, 0);
-    Ok(())
+    is_too_long(&rt, alloc, &mut fronts)
 }

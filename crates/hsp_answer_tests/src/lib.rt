@@ -2,6 +2,8 @@
 #![tactic(auto)]
 
 #[cfg(test)]
+mod building;
+#[cfg(test)]
 mod dispatcher_tests;
 #[cfg(test)]
 mod each_octet_tests;

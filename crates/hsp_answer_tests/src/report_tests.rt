@@ -4,11 +4,11 @@ ghost use Rattle.hsp_check.specs.Instance.{network_of};
 ghost use Rattle.hsp_check.specs.Valid.{IsValid};
 ghost use Rattle.hsp_report.specs.Conditions.{IsPlanFor, IsShortageFor};
 
+use crate::building::instance_by;
 use hsp_cert::{Certificate, UseLine};
 use hsp_check::{Verdict, check};
-use hsp_instance::{Instance, build};
+use hsp_instance::Instance;
 use hsp_report::*;
-use hsp_tables::{read_capacity, read_costs, read_demand, read_settings};
 use hsp_text::push_whole;
 use std::alloc::{AllocError, Global};
 use std::process::Abort;
@@ -73,11 +73,7 @@ const LONG: Texts<'static> = Texts {
 fn instance_of(alloc: Global, texts: Texts<'_>) -> Option<Instance> {
     let mut settings = Vec::from_slice(alloc, texts.sites).ok()?;
     settings.extend_from_slice(texts.hosts).ok()?;
-    let settings = read_settings(alloc, settings.as_slice()).ok()?;
-    let demand = read_demand(alloc, texts.demand).ok()?;
-    let costs = read_costs(alloc, texts.costs).ok()?;
-    let capacity = read_capacity(alloc, texts.capacity).ok()?;
-    build(alloc, &settings, None, &demand, &costs, &capacity).ok()
+    instance_by(alloc, &settings, texts.demand, texts.costs, texts.capacity)
 }
 
 // The same. Where a growth is refused, the second building finds memory: so the answers below are insisted on.

@@ -1,5 +1,5 @@
 use crate::fakes::{FakeReader, FakeWriter, Lines, Rows};
-use crate::worked::{certificate, dispatcher, instance};
+use crate::worked::{best_dispatcher, instance};
 use hsp_dispatch::*;
 use std::alloc::Global;
 use std::process::Abort;
@@ -78,11 +78,13 @@ fn plain(
     }
 }
 
-// Runs a case. Want of memory before anything was read is None.
-fn run(rt: &impl Abort, alloc: Global, case: Case) -> Option<Result<LogSums, LogFault>> {
-    let instance = instance(alloc)?;
-    let certificate = certificate(alloc)?;
-    let mut dispatcher = dispatcher(alloc, &instance, &certificate)?;
+// Runs a case by a dispatcher. Want of memory before anything was read is None.
+fn run_by(
+    rt: &impl Abort,
+    alloc: Global,
+    case: Case,
+    dispatcher: &mut Dispatcher<'_>,
+) -> Option<Result<LogSums, LogFault>> {
     let mut writer = FakeWriter::whole(alloc).ok()?;
     writer.piece = case.written.piece;
     writer.good = case.written.good;
@@ -92,7 +94,7 @@ fn run(rt: &impl Abort, alloc: Global, case: Case) -> Option<Result<LogSums, Log
         piece: case.read.piece,
         good: case.read.good,
     };
-    let ends = run_log(alloc, reader, &mut writer, &mut dispatcher);
+    let ends = run_log(alloc, reader, &mut writer, dispatcher);
     if ends != Err(LogFault::OutOfMemory) {
         let left = [
             dispatcher.left(2, 0),
@@ -105,6 +107,13 @@ fn run(rt: &impl Abort, alloc: Global, case: Case) -> Option<Result<LogSums, Log
         assert_eq!(rt; writer.is_flushed, ends.is_ok());
     }
     Some(ends)
+}
+
+// The same by the worked plan.
+fn run(rt: &impl Abort, alloc: Global, case: Case) -> Option<Result<LogSums, LogFault>> {
+    let instance = instance(alloc)?;
+    let mut dispatcher = best_dispatcher(alloc, &instance)?;
+    run_by(rt, alloc, case, &mut dispatcher)
 }
 
 // The case comes out. Where a growth is refused, the second run finds memory.
@@ -319,6 +328,23 @@ fn run_longest<'a>(alloc: Global, dispatcher: &mut Dispatcher<'a>) -> Option<(Lo
     }
 }
 
+// A log of one row more than there may be is refused behind the others.
+fn is_too_long(
+    rt: &impl Abort,
+    alloc: Global,
+    dispatcher: &mut Dispatcher<'_>,
+) -> Result<(), Fail> {
+    let ran = match run_longest(alloc, dispatcher) {
+        None => run_longest(alloc, dispatcher),
+        ran => ran,
+    };
+    let (fault, lines) = ran.ok_or("a log that is too long")?;
+    assert_eq!(rt; fault, LogFault::LogTooLong);
+    assert_eq!(rt; lines.many, 10_000_000);
+    assert_eq!(rt; lines.others, 0);
+    Ok(())
+}
+
 // Where a growth is refused while instance, certificate or dispatcher are made, they are made once more, and the long log isn't run: a run
 // takes seconds, and that of a test whose growths are all given is insisted on.
 #[test]
@@ -328,21 +354,9 @@ fn a_log_has_ten_million_rows_at_most(rt: HostRuntime) -> Result<(), Fail> {
         assert!(rt; instance(alloc).is_some());
         return Ok(());
     };
-    let Some(certificate) = certificate(alloc) else {
-        assert!(rt; certificate(alloc).is_some());
+    let Some(mut dispatcher) = best_dispatcher(alloc, &instance) else {
+        assert!(rt; best_dispatcher(alloc, &instance).is_some());
         return Ok(());
     };
-    let Some(mut dispatcher) = dispatcher(alloc, &instance, &certificate) else {
-        assert!(rt; dispatcher(alloc, &instance, &certificate).is_some());
-        return Ok(());
-    };
-    let ran = match run_longest(alloc, &mut dispatcher) {
-        None => run_longest(alloc, &mut dispatcher),
-        ran => ran,
-    };
-    let (fault, lines) = ran.ok_or("a log that is too long")?;
-    assert_eq!(rt; fault, LogFault::LogTooLong);
-    assert_eq!(rt; lines.many, 10_000_000);
-    assert_eq!(rt; lines.others, 0);
-    Ok(())
+    is_too_long(&rt, alloc, &mut dispatcher)
 }

@@ -1,10 +1,10 @@
 // The worked instance and its plan. None stands for want of memory.
 
+use crate::building::instance_by;
 use hsp_cert::{Certificate, UseLine};
 use hsp_check::{Verdict, check};
 use hsp_dispatch::{Dispatcher, Fronts};
-use hsp_instance::{Instance, build};
-use hsp_tables::{read_capacity, read_costs, read_demand, read_settings};
+use hsp_instance::Instance;
 use hsp_text::limits::MOST_FRONTS;
 use std::alloc::Global;
 
@@ -24,11 +24,7 @@ pub(crate) fn instance(alloc: Global) -> Option<Instance> {
 
 /// The same by other counts and capacities.
 pub(crate) fn instance_of(alloc: Global, demand: &[u8], capacity: &[u8]) -> Option<Instance> {
-    let settings = read_settings(alloc, SETTINGS).ok()?;
-    let demand = read_demand(alloc, demand).ok()?;
-    let costs = read_costs(alloc, COSTS).ok()?;
-    let capacity = read_capacity(alloc, capacity).ok()?;
-    build(alloc, &settings, None, &demand, &costs, &capacity).ok()
+    instance_by(alloc, SETTINGS, demand, COSTS, capacity)
 }
 
 /// Its best plan: all queries go to E, but for two of the last row.
@@ -62,6 +58,12 @@ pub(crate) fn dispatcher<'a>(
     Dispatcher::new(alloc, instance, certificate).ok()
 }
 
+/// A dispatcher by the best plan of the worked instance.
+pub(crate) fn best_dispatcher(alloc: Global, instance: &Instance) -> Option<Dispatcher<'_>> {
+    let certificate = certificate(alloc)?;
+    dispatcher(alloc, instance, &certificate)
+}
+
 /// So many fronts by the certificate, where it is valid and there may be as many.
 pub(crate) fn fronts<'a>(
     alloc: Global,
@@ -77,4 +79,10 @@ pub(crate) fn fronts<'a>(
         return None;
     }
     Fronts::new(alloc, instance, certificate, many).ok()
+}
+
+/// So many fronts by the best plan of the worked instance.
+pub(crate) fn best_fronts(alloc: Global, instance: &Instance, many: u32) -> Option<Fronts<'_>> {
+    let certificate = certificate(alloc)?;
+    fronts(alloc, instance, &certificate, many)
 }

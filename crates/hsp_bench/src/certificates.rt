@@ -1,7 +1,7 @@
 // How long the largest certificate takes.
 
 use crate::failure::Failure;
-use crate::watch::Watch;
+use crate::watch::{Times, Watch};
 use hsp_cert::{Certificate, UseLine, read_cert, write_cert};
 use std::alloc::{AllocError, Global};
 use std::rt::Clock;
@@ -44,21 +44,37 @@ fn use_count(certificate: &Certificate) -> usize {
     }
 }
 
-/// Writes and reads the certificate with the longest text, and prints the times of both.
-pub(crate) fn measure_certificate<R: AllocGlobal + Clock + CpuClock + Print>(
+// Reads the text of a certificate, which was written in that time, and prints the times.
+fn measure_reading<R: AllocGlobal + Clock + CpuClock + Print>(
     rt: &R,
+    text: &[u8],
+    written: &Times,
 ) -> Result<(), Failure> {
-    let alloc = rt.alloc();
-    let certificate = largest(alloc)?;
-    let writing = Watch::start(rt)?;
-    let text = write_cert(alloc, &certificate)?;
-    let written = writing.times(rt)?;
     let reading = Watch::start(rt)?;
-    let again = read_cert(alloc, &text)?;
+    let certificate = read_cert(rt.alloc(), text)?;
     let read = reading.times(rt)?;
-    let (uses, octets) = (use_count(&again), text.len());
+    let (uses, octets) = (use_count(&certificate), text.len());
     println!(rt;
         "certificate of {uses} uses: {octets} octets written in {written}, read in {read}"
     )?;
     Ok(())
+}
+
+// Writes the certificate and reads its text, and prints the times.
+fn measure_writing<R: AllocGlobal + Clock + CpuClock + Print>(
+    rt: &R,
+    certificate: &Certificate,
+) -> Result<(), Failure> {
+    let writing = Watch::start(rt)?;
+    let text = write_cert(rt.alloc(), certificate)?;
+    let written = writing.times(rt)?;
+    measure_reading(rt, &text, &written)
+}
+
+/// Writes and reads the certificate with the longest text, and prints the times of both.
+pub(crate) fn measure_certificate<R: AllocGlobal + Clock + CpuClock + Print>(
+    rt: &R,
+) -> Result<(), Failure> {
+    let certificate = largest(rt.alloc())?;
+    measure_writing(rt, &certificate)
 }

@@ -1,28 +1,58 @@
 // How long the largest instance takes.
 
 use crate::failure::Failure;
-use crate::inputs::texts_of_size;
+use crate::inputs::{Texts, texts_of_size};
 use crate::size::LARGEST;
-use crate::tables::{build_instance, read_texts};
-use crate::watch::Watch;
+use crate::tables::{Tables, build_instance, read_texts};
+use crate::watch::{Times, Watch};
+use hsp_instance::Instance;
+use std::io;
 use std::rt::Clock;
 use std::time::CpuClock;
+
+// Prints how large the instance is, and the times of reading its texts and of building it.
+fn print_times<R: Print>(
+    rt: &R,
+    instance: &Instance,
+    octets: usize,
+    read: &Times,
+    built: &Times,
+) -> io::Result<()> {
+    let (rows, servers) = (instance.rows(), instance.servers());
+    println!(rt;
+        "instance of {rows} rows and {servers} servers: {octets} octets read in {read}, built in {built}"
+    )
+}
+
+// Builds the instance of the tables, which were read from so many octets, and prints the times.
+fn measure_building<R: AllocGlobal + Clock + CpuClock + Print>(
+    rt: &R,
+    tables: &Tables<'_>,
+    octets: usize,
+    read: &Times,
+) -> Result<(), Failure> {
+    let building = Watch::start(rt)?;
+    let instance = build_instance(rt.alloc(), tables)?;
+    let built = building.times(rt)?;
+    print_times(rt, &instance, octets, read, &built)?;
+    Ok(())
+}
+
+// Reads the texts and builds their instance, and prints the times.
+fn measure_reading<R: AllocGlobal + Clock + CpuClock + Print>(
+    rt: &R,
+    texts: &Texts,
+) -> Result<(), Failure> {
+    let reading = Watch::start(rt)?;
+    let tables = read_texts(rt.alloc(), texts)?;
+    let read = reading.times(rt)?;
+    measure_building(rt, &tables, texts.octets(), &read)
+}
 
 /// Reads the texts of the largest instance, builds it, and prints the times of both.
 pub(crate) fn measure_instance<R: AllocGlobal + Clock + CpuClock + Print>(
     rt: &R,
 ) -> Result<(), Failure> {
-    let alloc = rt.alloc();
-    let texts = texts_of_size(alloc, &LARGEST)?;
-    let reading = Watch::start(rt)?;
-    let tables = read_texts(alloc, &texts)?;
-    let read = reading.times(rt)?;
-    let building = Watch::start(rt)?;
-    let instance = build_instance(alloc, &tables)?;
-    let built = building.times(rt)?;
-    let (rows, servers, octets) = (instance.rows(), instance.servers(), texts.octets());
-    println!(rt;
-        "instance of {rows} rows and {servers} servers: {octets} octets read in {read}, built in {built}"
-    )?;
-    Ok(())
+    let texts = texts_of_size(rt.alloc(), &LARGEST)?;
+    measure_reading(rt, &texts)
 }

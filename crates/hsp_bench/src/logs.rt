@@ -3,10 +3,9 @@
 ghost use Rattle.std.specs.Prelude.{◌<◌, length};
 
 use crate::failure::Failure;
-use crate::inputs::texts_of_size;
 use crate::random::Generator;
 use crate::size::LARGEST;
-use crate::tables::{build_instance, read_texts};
+use crate::tables::instance_of_size;
 use crate::watch::Watch;
 use csv::ByteRecord;
 use hsp_cert::Certificate;
@@ -119,14 +118,7 @@ fn measure_steps<R: AllocGlobal + Clock + CpuClock + Print>(
     Ok(())
 }
 
-// The largest instance.
-fn largest(alloc: Global) -> Result<Instance, Failure> {
-    let texts = texts_of_size(alloc, &LARGEST)?;
-    let tables = read_texts(alloc, &texts)?;
-    build_instance(alloc, &tables)
-}
-
-// A dispatcher by the instance's best plan.
+// A dispatcher by a certificate that has to be a valid plan's.
 fn dispatcher_by<'a>(
     alloc: Global,
     instance: &'a Instance,
@@ -139,19 +131,50 @@ fn dispatcher_by<'a>(
     Ok(Dispatcher::new(alloc, instance, certificate)?)
 }
 
+// A dispatcher by the instance's best plan.
+fn planned_dispatcher(alloc: Global, instance: &Instance) -> Result<Dispatcher<'_>, Failure> {
+    let certificate = solve(alloc, instance)?;
+    dispatcher_by(alloc, instance, &certificate)
+}
+
+// Answers the log, and says how many rows were assigned.
+fn answer_log(alloc: Global, log: &[u8], dispatcher: &mut Dispatcher<'_>) -> Result<u64, Failure> {
+    let mut writer = BufWriter::with_capacity(alloc, PIECE, Sink)?;
+    let sums = run_log(alloc, log, &mut writer, dispatcher)?;
+    Ok(sums.assigned)
+}
+
 // Answers the log, and prints the time.
 fn measure_run<R: AllocGlobal + Clock + CpuClock + Print>(
     rt: &R,
     log: &[u8],
     dispatcher: &mut Dispatcher<'_>,
 ) -> Result<(), Failure> {
-    let mut writer = BufWriter::with_capacity(rt.alloc(), PIECE, Sink)?;
     let running = Watch::start(rt)?;
-    let sums = run_log(rt.alloc(), log, &mut writer, dispatcher)?;
+    let assigned = answer_log(rt.alloc(), log, dispatcher)?;
     let run = running.times(rt)?;
-    let assigned = sums.assigned;
     println!(rt; "{assigned} rows read, found, assigned and written in {run}")?;
     Ok(())
+}
+
+// Answers a log over the instance, and prints the times of the steps and of the whole.
+fn measure_answers<R: AllocGlobal + Clock + CpuClock + Print>(
+    rt: &R,
+    instance: &Instance,
+    dispatcher: &mut Dispatcher<'_>,
+) -> Result<(), Failure> {
+    let log = log_text(rt.alloc(), instance)?;
+    measure_steps(rt, instance, &log)?;
+    measure_run(rt, &log, dispatcher)
+}
+
+// Answers a log over the instance by its best plan.
+fn measure_planned<R: AllocGlobal + Clock + CpuClock + Print>(
+    rt: &R,
+    instance: &Instance,
+) -> Result<(), Failure> {
+    let mut dispatcher = planned_dispatcher(rt.alloc(), instance)?;
+    measure_answers(rt, instance, &mut dispatcher)
 }
 
 /// Answers a log over the largest instance, and prints the times of reading its records alone, of finding their rows as well, and
@@ -159,10 +182,6 @@ fn measure_run<R: AllocGlobal + Clock + CpuClock + Print>(
 pub(crate) fn measure_log<R: AllocGlobal + Clock + CpuClock + Print>(
     rt: &R,
 ) -> Result<(), Failure> {
-    let instance = largest(rt.alloc())?;
-    let certificate = solve(rt.alloc(), &instance)?;
-    let mut dispatcher = dispatcher_by(rt.alloc(), &instance, &certificate)?;
-    let log = log_text(rt.alloc(), &instance)?;
-    measure_steps(rt, &instance, &log)?;
-    measure_run(rt, &log, &mut dispatcher)
+    let instance = instance_of_size(rt.alloc(), &LARGEST)?;
+    measure_planned(rt, &instance)
 }

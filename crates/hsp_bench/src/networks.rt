@@ -62,21 +62,32 @@ fn drawn_hosts(
     Ok(homes)
 }
 
+// Lists of so many sources, of the servers up to `last` and of so many hosts, without an arc.
+fn lists_without_arcs(
+    alloc: Global,
+    generator: &mut Generator,
+    sources: u32,
+    last: u32,
+    hosts: u32,
+) -> Result<Lists, AllocError> {
+    let servers = last.saturating_add(1);
+    Ok(Lists {
+        demands: generator.numbers(alloc, sources, 0, 9)?,
+        capacities: generator.numbers(alloc, servers, 0, 12)?,
+        limits: generator.numbers(alloc, hosts, 0, 20)?,
+        hosts: drawn_hosts(alloc, generator, servers, hosts)?,
+        sources: Vec::new(alloc),
+        servers: Vec::new(alloc),
+        costs: Vec::new(alloc),
+    })
+}
+
 // The lists of a seed: up to 6 sources, 6 servers and 3 hosts.
 fn drawn_lists(alloc: Global, seed: u32) -> Result<Lists, AllocError> {
     let mut generator = Generator::seeded(u64::from(seed));
     let (sources, last, hosts) = (generator.up_to(6), generator.up_to(5), generator.up_to(3));
     let most = generator.up_to(4);
-    let servers = last.saturating_add(1);
-    let mut lists = Lists {
-        demands: generator.numbers(alloc, sources, 0, 9)?,
-        capacities: generator.numbers(alloc, servers, 0, 12)?,
-        limits: generator.numbers(alloc, hosts, 0, 20)?,
-        hosts: drawn_hosts(alloc, &mut generator, servers, hosts)?,
-        sources: Vec::new(alloc),
-        servers: Vec::new(alloc),
-        costs: Vec::new(alloc),
-    };
+    let mut lists = lists_without_arcs(alloc, &mut generator, sources, last, hosts)?;
     for source in 0..sources {
         lists.push_arcs(&mut generator, source, last, most)?;
     }
@@ -85,7 +96,7 @@ fn drawn_lists(alloc: Global, seed: u32) -> Result<Lists, AllocError> {
 
 // What became of networks: for how many nothing was proposed, for how many a plan or a short set was, and how many of those
 // were refused.
-#[derive(Default, Drop)]
+#[derive(Clone, Copy, Default)]
 struct Tally {
     declined: u64,
     met: u64,

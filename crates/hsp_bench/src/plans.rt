@@ -1,10 +1,9 @@
 // How long plans take.
 
 use crate::failure::Failure;
-use crate::inputs::texts_of_size;
 use crate::size::Size;
-use crate::tables::{build_instance, read_texts};
-use crate::watch::Watch;
+use crate::tables::instance_of_size;
+use crate::watch::{Times, Watch};
 use hsp_cert::Certificate;
 use hsp_check::check;
 use hsp_flow::{Effort, HeapFrontier, solve_counted, solve_proposed};
@@ -15,7 +14,7 @@ use std::time::CpuClock;
 use std::{fmt, io};
 
 // What a certificate shows, in short.
-#[derive(Drop)]
+#[derive(Clone, Copy)]
 enum Shown {
     Plan {
         cost: u64,
@@ -59,12 +58,6 @@ fn shown_by(certificate: &Certificate) -> Shown {
     }
 }
 
-fn instance_of(alloc: Global, size: &Size) -> Result<Instance, Failure> {
-    let texts = texts_of_size(alloc, size)?;
-    let tables = read_texts(alloc, &texts)?;
-    build_instance(alloc, &tables)
-}
-
 fn print_size<R: Print>(rt: &R, size: &Size) -> io::Result<()> {
     let (rows, most, hosts) = (size.rows, size.most, size.hosts);
     let (whole, part) = (size.percent / 100, size.percent % 100);
@@ -72,7 +65,7 @@ fn print_size<R: Print>(rt: &R, size: &Size) -> io::Result<()> {
 }
 
 // What shows how a solver came to its certificate.
-#[derive(Drop)]
+#[derive(Clone, Copy)]
 enum Way {
     Proposal,
     Searches,
@@ -90,7 +83,7 @@ fn print_effort<R: Print>(rt: &R, way: &Way, effort: &Effort) -> io::Result<()> 
     print!(rt; "{searches} searches, {settled} settled nodes, {augmentations} augmentations")
 }
 
-fn solve_by(
+fn certificate_by(
     alloc: Global,
     instance: &Instance,
     way: &Way,
@@ -102,25 +95,56 @@ fn solve_by(
     }
 }
 
+// What a solver came to, and how much work and how long that took.
+#[derive(Drop)]
+struct Solved {
+    certificate: Certificate,
+    effort: Effort,
+    times: Times,
+}
+
+// Plans the instance one way.
+fn solve_by<R: AllocGlobal + Clock + CpuClock>(
+    rt: &R,
+    instance: &Instance,
+    way: &Way,
+) -> Result<Solved, Failure> {
+    let solving = Watch::start(rt)?;
+    let mut effort = Effort::default();
+    let certificate = certificate_by(rt.alloc(), instance, way, &mut effort)?;
+    let times = solving.times(rt)?;
+    Ok(Solved {
+        certificate,
+        effort,
+        times,
+    })
+}
+
+// Checks the certificate, and prints what it shows and the times.
+fn measure_check<R: AllocGlobal + Clock + CpuClock + Print>(
+    rt: &R,
+    instance: &Instance,
+    way: &Way,
+    solved: &Solved,
+) -> Result<(), Failure> {
+    let checking = Watch::start(rt)?;
+    let verdict = check(rt.alloc(), instance, &solved.certificate)?;
+    let checked = checking.times(rt)?;
+    let (shown, times) = (shown_by(&solved.certificate), solved.times);
+    println!(rt; "    {shown}, solved in {times}")?;
+    print_effort(rt, way, &solved.effort)?;
+    println!(rt; ", checked in {checked}: {verdict:?}")?;
+    Ok(())
+}
+
 // Plans the instance one way, checks the certificate, and prints the times of both.
 fn measure_way<R: AllocGlobal + Clock + CpuClock + Print>(
     rt: &R,
     instance: &Instance,
     way: &Way,
 ) -> Result<(), Failure> {
-    let alloc = rt.alloc();
-    let solving = Watch::start(rt)?;
-    let mut effort = Effort::default();
-    let certificate = solve_by(alloc, instance, way, &mut effort)?;
-    let solved = solving.times(rt)?;
-    let checking = Watch::start(rt)?;
-    let verdict = check(alloc, instance, &certificate)?;
-    let checked = checking.times(rt)?;
-    let shown = shown_by(&certificate);
-    println!(rt; "    {shown}, solved in {solved}")?;
-    print_effort(rt, way, &effort)?;
-    println!(rt; ", checked in {checked}: {verdict:?}")?;
-    Ok(())
+    let solved = solve_by(rt, instance, way)?;
+    measure_check(rt, instance, way, &solved)
 }
 
 /// Plans an instance of the size by a proposal and by searches, checks both certificates, and prints the times.
@@ -128,7 +152,7 @@ pub(crate) fn measure_plan<R: AllocGlobal + Clock + CpuClock + Print>(
     rt: &R,
     size: &Size,
 ) -> Result<(), Failure> {
-    let instance = instance_of(rt.alloc(), size)?;
+    let instance = instance_of_size(rt.alloc(), size)?;
     print_size(rt, size)?;
     measure_way(rt, &instance, &Way::Proposal)?;
     measure_way(rt, &instance, &Way::Searches)

@@ -2,7 +2,7 @@
 
 use crate::failure::Failure;
 use crate::small::small_texts;
-use crate::tables::{build_instance, read_texts};
+use crate::tables::instance_of;
 use hsp_cert::Certificate;
 use hsp_check::{Verdict, check};
 use hsp_flow::{Effort, HeapFrontier, solve_proposed, solve_with};
@@ -11,7 +11,7 @@ use std::alloc::{AllocError, Global};
 
 // What became of instances: how many, for how many a proposal was taken, how many have a plan and how many a shortage, for how
 // many the searches find another cost or kind, and for how many the checker refuses one of the two certificates.
-#[derive(Default, Drop)]
+#[derive(Clone, Copy, Default)]
 struct Tally {
     planned: u64,
     taken: u64,
@@ -44,7 +44,7 @@ impl Tally {
 
 // What became of an instance: whether a proposal was taken, the cost by it and by the searches, None of a shortage, and whether
 // both certificates are valid.
-#[derive(Drop)]
+#[derive(Clone, Copy)]
 struct Planned {
     is_taken: bool,
     cost: Option<u64>,
@@ -67,24 +67,38 @@ fn is_yes(
     Ok(verdict == Verdict::Yes)
 }
 
+// Plans by searches too, and checks the certificate of this and that of the proposal.
+fn compare(
+    alloc: Global,
+    instance: &Instance,
+    effort: &Effort,
+    proposed: &Certificate,
+) -> Result<Planned, AllocError> {
+    let searched = solve_with::<HeapFrontier>(alloc, instance)?;
+    Ok(Planned {
+        is_taken: effort.proposals > 0,
+        cost: cost_of(proposed),
+        searched: cost_of(&searched),
+        is_valid: is_yes(alloc, instance, proposed)? && is_yes(alloc, instance, &searched)?,
+    })
+}
+
 // Plans an instance by both solvers, and checks both certificates.
 fn plan_both(alloc: Global, instance: &Instance) -> Result<Planned, AllocError> {
     let mut effort = Effort::default();
     let proposed = solve_proposed(alloc, instance, &mut effort)?;
-    let searched = solve_with::<HeapFrontier>(alloc, instance)?;
-    Ok(Planned {
-        is_taken: effort.proposals > 0,
-        cost: cost_of(&proposed),
-        searched: cost_of(&searched),
-        is_valid: is_yes(alloc, instance, &proposed)? && is_yes(alloc, instance, &searched)?,
-    })
+    compare(alloc, instance, &effort, &proposed)
+}
+
+// The small instance of a seed.
+fn small_instance(alloc: Global, seed: u32) -> Result<Instance, Failure> {
+    let texts = small_texts(alloc, seed)?;
+    instance_of(alloc, &texts)
 }
 
 // Plans the small instance of a seed.
 fn plan_seed(alloc: Global, seed: u32) -> Result<Planned, Failure> {
-    let texts = small_texts(alloc, seed)?;
-    let tables = read_texts(alloc, &texts)?;
-    let instance = build_instance(alloc, &tables)?;
+    let instance = small_instance(alloc, seed)?;
     Ok(plan_both(alloc, &instance)?)
 }
 

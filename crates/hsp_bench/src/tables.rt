@@ -1,7 +1,8 @@
 // The instance of texts.
 
 use crate::failure::Failure;
-use crate::inputs::Texts;
+use crate::inputs::{Texts, texts_of_size};
+use crate::size::Size;
 use hsp_instance::{Instance, build};
 use hsp_record::{ValueList, decode_values};
 use hsp_tables::{
@@ -53,4 +54,16 @@ pub(crate) fn build_instance(alloc: Global, tables: &Tables<'_>) -> Result<Insta
         &tables.rows.costs,
         &tables.rows.capacity,
     )?)
+}
+
+/// Reads the texts, and builds their instance.
+pub(crate) fn instance_of(alloc: Global, texts: &Texts) -> Result<Instance, Failure> {
+    let tables = read_texts(alloc, texts)?;
+    build_instance(alloc, &tables)
+}
+
+/// The instance of a size.
+pub(crate) fn instance_of_size(alloc: Global, size: &Size) -> Result<Instance, Failure> {
+    let texts = texts_of_size(alloc, size)?;
+    instance_of(alloc, &texts)
 }

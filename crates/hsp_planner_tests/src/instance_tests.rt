@@ -10,6 +10,7 @@ use hsp_tables::{
 };
 use hsp_text::push_whole;
 use std::alloc::{AllocError, Global};
+use std::process::Abort;
 use std::test::Fail;
 
 const SETTINGS: &[u8] =
@@ -268,6 +269,56 @@ fn capacity_of(alloc: Global, text: &[u8]) -> Result<Capacities, TableFault> {
     }
 }
 
+// What the texts of the tables spell.
+#[derive(Drop)]
+struct Rows {
+    demand: Demand,
+    costs: Costs,
+    capacity: Capacities,
+}
+
+fn rows_of(alloc: Global, tables: Tables<'_>) -> Result<Rows, Fail> {
+    let demand = demand_of(alloc, tables.demand).ok().ok_or("no demand")?;
+    let costs = costs_of(alloc, tables.costs).ok().ok_or("no costs")?;
+    let capacity = capacity_of(alloc, tables.capacity)
+        .ok()
+        .ok_or("no capacities")?;
+    Ok(Rows {
+        demand,
+        costs,
+        capacity,
+    })
+}
+
+fn built_once(
+    alloc: Global,
+    settings: &Settings,
+    values: Option<&ValueList<'_>>,
+    rows: &Rows,
+) -> Result<Instance, BuildFault> {
+    build(
+        alloc,
+        settings,
+        values,
+        &rows.demand,
+        &rows.costs,
+        &rows.capacity,
+    )
+}
+
+// The same, once more where a growth was refused.
+fn built_twice(
+    alloc: Global,
+    settings: &Settings,
+    values: Option<&ValueList<'_>>,
+    rows: &Rows,
+) -> Result<Instance, BuildFault> {
+    match built_once(alloc, settings, values, rows) {
+        Err(BuildFault::OutOfMemory) => built_once(alloc, settings, values, rows),
+        answer => answer,
+    }
+}
+
 // What is built of texts that can be read.
 fn built(
     alloc: Global,
@@ -276,17 +327,8 @@ fn built(
     tables: Tables<'_>,
 ) -> Result<Result<Instance, BuildFault>, Fail> {
     let settings = settings_of(alloc, settings).ok().ok_or("no settings")?;
-    let demand = demand_of(alloc, tables.demand).ok().ok_or("no demand")?;
-    let costs = costs_of(alloc, tables.costs).ok().ok_or("no costs")?;
-    let capacity = capacity_of(alloc, tables.capacity)
-        .ok()
-        .ok_or("no capacities")?;
-    match build(alloc, &settings, values, &demand, &costs, &capacity) {
-        Err(BuildFault::OutOfMemory) => {
-            Ok(build(alloc, &settings, values, &demand, &costs, &capacity))
-        }
-        answer => Ok(answer),
-    }
+    let rows = rows_of(alloc, tables)?;
+    Ok(built_twice(alloc, &settings, values, &rows))
 }
 
 // The instance of texts.
@@ -351,15 +393,21 @@ fn rows_are_found_by_region_and_handle(rt: HostRuntime) -> Result<(), Fail> {
     Ok(())
 }
 
+fn to(site: u32, server: u32, cost: u64) -> Arc {
+    Arc { site, server, cost }
+}
+
 // The places are 1, 0 and 1 at E and 2, 1 and 0 at W.
-#[test]
-fn arcs_go_to_the_responsible_servers(rt: HostRuntime) -> Result<(), Fail> {
-    let base = instance_of(rt.alloc(), SETTINGS, BASE)?;
-    let to = |site: u32, server: u32, cost: u64| Arc { site, server, cost };
+fn arcs_of_the_base(rt: &impl Abort, base: &Instance) {
     assert_eq!(rt; base.rows(), 3);
     assert_eq!(rt; base.arcs(0), [to(0, 1, 1), to(1, 4, 4)].as_slice());
     assert_eq!(rt; base.arcs(1), [to(0, 0, 1), to(1, 3, 4)].as_slice());
     assert_eq!(rt; base.arcs(2), [to(0, 1, 2), to(1, 2, 3)].as_slice());
+}
+
+#[test]
+fn arcs_go_to_the_responsible_servers(rt: HostRuntime) -> Result<(), Fail> {
+    arcs_of_the_base(&rt, &instance_of(rt.alloc(), SETTINGS, BASE)?);
     let one_site = b"region,site,cost\nr1,W,4\nr9,E,2\n";
     let tables = Tables {
         costs: one_site,
@@ -469,30 +517,46 @@ fn sites_are_tried_before_costs_and_these_before_capacities(rt: HostRuntime) -> 
     Ok(())
 }
 
+// What is built of texts and the octets of a value list, which can be read.
+fn built_from(
+    alloc: Global,
+    settings: &[u8],
+    octets: &[u8],
+    tables: Tables<'_>,
+) -> Result<Result<Instance, BuildFault>, Fail> {
+    let values = values_of(alloc, octets).ok().ok_or("no values")?;
+    built(alloc, settings, Some(&values), tables)
+}
+
 #[test]
 fn an_instance_is_built_from_values(rt: HostRuntime) -> Result<(), Fail> {
     let alloc = rt.alloc();
     let octets = one_value_twice(alloc, b"HS_SITE")?;
-    let values = values_of(alloc, &octets).ok().ok_or("no values")?;
     let tables = Tables {
         costs: b"region,site,cost\nr2,E,2\n",
         capacity: b"site,server_id,capacity\nE,0,6\n",
         ..BASE
     };
-    match built(alloc, FIRST_VALUE, Some(&values), tables)? {
+    match built_from(alloc, FIRST_VALUE, &octets, tables)? {
         Ok(instance) => {
             assert_eq!(rt; instance.servers(), 1);
             assert_eq!(rt; instance.server(0), (0, 0, 0, 6));
             assert_eq!(rt; instance.rows(), 3);
-            let only = Arc {
-                site: 0,
-                server: 0,
-                cost: 2,
-            };
-            assert_eq!(rt; instance.arcs(2), [only].as_slice());
+            assert_eq!(rt; instance.arcs(2), [to(0, 0, 2)].as_slice());
         }
         Err(fault) => panic!(rt; "{fault:?}"),
     }
+    Ok(())
+}
+
+// The first two of three rows are in one group.
+fn two_are_alike(rt: &impl Abort, alloc: Global, instance: &Instance) -> Result<(), Fail> {
+    let found = groups_of(alloc, instance)?;
+    assert_eq!(rt; instance.rows(), 3);
+    assert_eq!(rt; found.len(), 2);
+    assert_eq!(rt; found.of(0), 0);
+    assert_eq!(rt; found.of(1), 0);
+    assert_eq!(rt; found.of(2), 1);
     Ok(())
 }
 
@@ -503,13 +567,7 @@ fn rows_of_one_region_and_the_same_arcs_are_in_one_group(rt: HostRuntime) -> Res
         demand: b"region,handle,count\nr1,10/a,1\nr1,10/A,2\nr2,10/a,3\n",
         ..BASE
     };
-    let instance = instance_of(alloc, SETTINGS, alike)?;
-    let found = groups_of(alloc, &instance)?;
-    assert_eq!(rt; instance.rows(), 3);
-    assert_eq!(rt; found.len(), 2);
-    assert_eq!(rt; found.of(0), 0);
-    assert_eq!(rt; found.of(1), 0);
-    assert_eq!(rt; found.of(2), 1);
+    two_are_alike(&rt, alloc, &instance_of(alloc, SETTINGS, alike)?)?;
     let base = instance_of(alloc, SETTINGS, BASE)?;
     assert_eq!(rt; groups_of(alloc, &base)?.len(), 3);
     Ok(())
@@ -598,21 +656,19 @@ fn texts_at_the_limit(alloc: Global) -> Result<LimitTexts, AllocError> {
     })
 }
 
-#[test]
-fn an_instance_at_the_limits_is_built(rt: HostRuntime) -> Result<(), Fail> {
-    let alloc = rt.alloc();
-    let texts = match texts_at_the_limit(alloc) {
-        Err(AllocError) => texts_at_the_limit(alloc)?,
-        Ok(texts) => texts,
-    };
-    let values = values_of(alloc, &texts.values).ok().ok_or("no values")?;
+// The instance of these octets.
+fn instance_at_the_limit(alloc: Global, texts: &LimitTexts) -> Result<Instance, Fail> {
     let tables = Tables {
         demand: texts.demand.as_slice(),
         costs: texts.costs.as_slice(),
         capacity: texts.capacity.as_slice(),
     };
-    let instance = built(alloc, &texts.settings, Some(&values), tables)?;
-    let instance = instance.ok().ok_or("no instance")?;
+    let answer = built_from(alloc, &texts.settings, &texts.values, tables)?;
+    Ok(answer.ok().ok_or("no instance")?)
+}
+
+// The last row has an arc to each site, of the cost of its number.
+fn all_is_at_the_limit(rt: &impl Abort, instance: &Instance) {
     assert_eq!(rt; instance.rows(), 8192);
     assert_eq!(rt; instance.servers(), 1024);
     assert_eq!(rt; instance.server(1023), (31, 31, 31, 1023));
@@ -624,6 +680,17 @@ fn an_instance_at_the_limits_is_built(rt: HostRuntime) -> Result<(), Fail> {
         assert_eq!(rt; arc.server as usize / 32, site);
         assert_eq!(rt; arc.cost as usize, site);
     }
+}
+
+#[test]
+fn an_instance_at_the_limits_is_built(rt: HostRuntime) -> Result<(), Fail> {
+    let alloc = rt.alloc();
+    let texts = match texts_at_the_limit(alloc) {
+        Err(AllocError) => texts_at_the_limit(alloc)?,
+        Ok(texts) => texts,
+    };
+    let instance = instance_at_the_limit(alloc, &texts)?;
+    all_is_at_the_limit(&rt, &instance);
     let found = groups_of(alloc, &instance)?;
     assert_eq!(rt; found.of(0), 0);
     assert!(rt; 64 <= found.len() && found.len() <= 2048);
