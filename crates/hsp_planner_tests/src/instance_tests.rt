@@ -691,6 +691,7 @@ fn an_instance_at_the_limits_is_built(rt: HostRuntime) -> Result<(), Fail> {
     };
     let instance = instance_at_the_limit(alloc, &texts)?;
     all_is_at_the_limit(&rt, &instance);
+    assert_eq!(rt; instance.rows(), 8192);
     let found = groups_of(alloc, &instance)?;
     assert_eq!(rt; found.of(0), 0);
     assert!(rt; 64 <= found.len() && found.len() <= 2048);
