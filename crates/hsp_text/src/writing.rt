@@ -1,35 +1,68 @@
 // Pieces of printed texts.
 
-ghost use Rattle.std.specs.Prelude.{◌≡◌, ◌++◌, ◌∷◌, OnOk, decimal, length, replicate};
+ghost use Rattle.std.specs.Prelude.{◌≡◌, ◌++◌, ◌∷◌, OnErr, OnOk, decimal, length, replicate, take};
 ghost use Rattle.hsp_text.specs.Writing.{numbered, right_aligned};
 
 use crate::whole::push_whole;
 use crate::wide::push_wide;
 use std::alloc::AllocError;
 
-/// Appends a space and the digits of a number.
-pub fn push_number(out: &mut Vec<u8>, number: u64) -> Result<(), AllocError>
-    ensures { OnOk result (out.new.items ≡ out.old.items ++ 32 ∷ decimal number) }
+// Appends a space and the digits of a number, or a part of them where a growth is refused.
+#[tactic(auto, using(crate::proofs::Kept::kept_behind))]
+fn push_number_part(out: &mut Vec<u8>, number: u64) -> Result<(), AllocError>
+    ensures number { OnOk result (out.new.items ≡ out.old.items ++ 32 ∷ decimal number) }
+    ensures kept { take (length out.old.items) out.new.items ≡ out.old.items }
 {
     out.push(b' ')?;
     push_whole(out, number)
 }
 
-/// Appends a line: a word and the numbers behind it, each after a space, and LF.
-pub fn push_line(out: &mut Vec<u8>, word: &[u8], numbers: &[u64]) -> Result<(), AllocError>
-    ensures { OnOk result (out.new.items ≡ out.old.items ++ numbered word.now numbers.now) }
+// The pieces of a line, or a part of them where a growth is refused.
+#[tactic(auto, using(crate::proofs::Kept::kept_behind, crate::proofs::Kept::kept_on))]
+fn push_line_part(out: &mut Vec<u8>, word: &[u8], numbers: &[u64]) -> Result<(), AllocError>
+    ensures line { OnOk result (out.new.items ≡ out.old.items ++ numbered word.now numbers.now) }
+    ensures kept { take (length out.old.items) out.new.items ≡ out.old.items }
 {
     out.extend_from_slice(word)?;
     for number in numbers {
-        push_number(out, *number)?;
+        push_number_part(out, *number)?;
     }
     out.push(b'\n')?;
     Ok(())
 }
 
-// Appends so many spaces.
+/// Appends a space and the digits of a number, and leaves `out` as it was where a growth is refused.
+pub fn push_number(out: &mut Vec<u8>, number: u64) -> Result<(), AllocError>
+    ensures number { OnOk result (out.new.items ≡ out.old.items ++ 32 ∷ decimal number) }
+    ensures err { OnErr result (out.new.items ≡ out.old.items) }
+{
+    let start = out.len();
+    let pushed = push_number_part(out, number);
+    if pushed.is_err() {
+        out.truncate(start);
+    }
+    pushed
+}
+
+/// Appends a line: a word and the numbers behind it, each after a space, and LF. Where a growth is refused, `out` is left as it
+/// was.
+pub fn push_line(out: &mut Vec<u8>, word: &[u8], numbers: &[u64]) -> Result<(), AllocError>
+    ensures line { OnOk result (out.new.items ≡ out.old.items ++ numbered word.now numbers.now) }
+    ensures err { OnErr result (out.new.items ≡ out.old.items) }
+{
+    let start = out.len();
+    let pushed = push_line_part(out, word, numbers);
+    if pushed.is_err() {
+        out.truncate(start);
+    }
+    pushed
+}
+
+// Appends so many spaces, or a part of them where a growth is refused.
+#[tactic(auto, using(crate::proofs::Kept::kept_behind, crate::proofs::Kept::kept_on))]
 fn push_spaces(out: &mut Vec<u8>, count: usize) -> Result<(), AllocError>
-    ensures { OnOk result (out.new.items ≡ out.old.items ++ replicate count 32) }
+    ensures spaces { OnOk result (out.new.items ≡ out.old.items ++ replicate count 32) }
+    ensures kept { take (length out.old.items) out.new.items ≡ out.old.items }
 {
     for _place in 0..count {
         out.push(b' ')?;
@@ -48,10 +81,20 @@ fn digit_count(number: u128) -> usize
     digit_count(number / 10) + 1
 }
 
-/// Appends the digits of a number, right-aligned in `width` places; a longer number stands as it is.
+/// Appends the digits of a number, right-aligned in `width` places; a longer number stands as it is. Where a growth is refused,
+/// `out` is left as it was.
 pub fn push_aligned(out: &mut Vec<u8>, number: u128, width: usize) -> Result<(), AllocError>
-    ensures { OnOk result (out.new.items ≡ out.old.items ++ right_aligned width (decimal number)) }
+    ensures aligned { OnOk result
+        (out.new.items ≡ out.old.items ++ right_aligned width (decimal number)) }
+    ensures err { OnErr result (out.new.items ≡ out.old.items) }
 {
-    push_spaces(out, width.saturating_sub(digit_count(number)))?;
-    push_wide(out, number)
+    let start = out.len();
+    let mut pushed = push_spaces(out, width.saturating_sub(digit_count(number)));
+    if pushed.is_ok() {
+        pushed = push_wide(out, number);
+    }
+    if pushed.is_err() {
+        out.truncate(start);
+    }
+    pushed
 }

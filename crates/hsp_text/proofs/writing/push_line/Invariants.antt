@@ -1,6 +1,0 @@
-use Rattle.std.proofs.Common.{◌≡◌, ◌++◌, drop}
-use Rattle.hsp_text.specs.Writing.{numbered, spaced}
-use Rattle.hsp_text.proofs.writing.push_line.Given as goal
-
-abbrev pub invariant-loop-number : goal.invariant-loop-number
-invariant-loop-number l = l.out.items ++ spaced (drop l.number-index l.numbers) ≡ l.fn.out.items ++ numbered l.word l.numbers
