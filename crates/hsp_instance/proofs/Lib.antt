@@ -10,6 +10,7 @@ pub mod SitesInTurn
 pub mod RowPlaces
 pub mod TableChecks
 pub mod NewRows
+pub mod NextServers
 pub mod Reading
 pub mod BuiltParts
 pub mod Parting

@@ -18,31 +18,37 @@ use hsp_record::ValueList;
 use hsp_tables::{Capacities, Costs, Demand, Settings};
 use std::alloc::Global;
 
+// The three tables that an instance is built from.
+#[derive(Clone, Copy)]
+struct Tables<'a> {
+    demand: &'a Demand,
+    costs: &'a Costs,
+    capacity: &'a Capacities,
+}
+
 // The instance whose sites these are.
 fn instance_with(
     alloc: Global,
     sites: Sites,
     settings: &Settings,
-    demand: &Demand,
-    costs: &Costs,
-    capacity: &Capacities,
+    tables: Tables<'_>,
 ) -> Result<Instance, BuildFault>
     ensures { (values : Option (List HandleValue)) → GivesUnless OutOfMemory (λ x. x) result
         (instance_with (record {
           settings = settings.now;
           values = values;
-          demand = demand.now;
-          costs = costs.now;
-          capacities = capacity.now;
+          demand = tables.entry.demand.now;
+          costs = tables.entry.costs.now;
+          capacities = tables.entry.capacity.now;
         }) sites) }
 {
     let list = sites.sites.as_slice();
-    check_costs(list, costs)?;
-    check_capacities(list, capacity)?;
+    check_costs(list, tables.costs)?;
+    check_capacities(list, tables.capacity)?;
     let hosts = hosts_of(alloc, settings)?;
-    let servers = servers_of(alloc, list, capacity, hosts.as_slice())?;
-    let rows = rows_of(alloc, demand)?;
-    let arcs = arcs_of(alloc, demand, list, costs)?;
+    let servers = servers_of(alloc, list, tables.capacity, hosts.as_slice())?;
+    let rows = rows_of(alloc, tables.demand)?;
+    let arcs = arcs_of(alloc, tables.demand, list, tables.costs)?;
     Ok(Instance {
         rows,
         sites,
@@ -73,5 +79,10 @@ pub fn build(
     })) result }
 {
     let sites = build_sites(alloc, settings, values)?;
-    instance_with(alloc, sites, settings, demand, costs, capacity)
+    let tables = Tables {
+        demand,
+        costs,
+        capacity,
+    };
+    instance_with(alloc, sites, settings, tables)
 }

@@ -5,13 +5,12 @@ ghost use Rattle.std.specs.List.{position_from};
 ghost use Rattle.hsp_tables.specs.Settings.{AreSettings};
 ghost use Rattle.hsp_text.specs.declared.limits.TheConstants.{MOST_HOSTS, MOST_SERVERS};
 ghost use Rattle.hsp_instance.specs.declared.fault.BuildFault.TheVariants.{OutOfMemory};
-ghost use Rattle.hsp_text.specs.Answers.{Gives};
-ghost use Rattle.hsp_instance.specs.Building.{host_of_entry, is_at, server_at, servers_from, servers_with};
+ghost use Rattle.hsp_instance.specs.Building.{host_of_entry, is_at, servers_from, servers_with};
 ghost use Rattle.hsp_instance.specs.Instance.{AreSites};
 
 use crate::fault::BuildFault;
 use crate::instance::{Host, Server};
-use crate::sites::{Site, SiteServer};
+use crate::sites::Site;
 use hsp_tables::{Capacities, Settings};
 use std::alloc::{AllocError, Global};
 
@@ -43,34 +42,6 @@ fn host_of(hosts: &[Host], address: &[u8; 16]) -> Option<u32>
     None
 }
 
-// The server at a place of a site.
-fn server_at(
-    capacities: &Capacities,
-    hosts: &[Host],
-    site: u32,
-    name: &[u8],
-    place: u32,
-    own: &SiteServer,
-) -> Result<Server, BuildFault>
-    requires { length hosts.now ≤ MOST_HOSTS }
-    ensures { Gives (λ s. s) result
-        (server_at capacities.now hosts.now site name.now place own.now) }
-{
-    let Some(capacity) = capacities.find(name, own.id) else {
-        return Err(BuildFault::NoCapacity {
-            site,
-            server_id: own.id,
-        });
-    };
-    Ok(Server {
-        site,
-        place,
-        id: own.id,
-        capacity,
-        host: host_of(hosts, &own.address),
-    })
-}
-
 // Adds the servers of a site.
 fn push_servers(
     servers: &mut Vec<Server>,
@@ -87,9 +58,19 @@ fn push_servers(
         ⊎ (servers_with capacities.now hosts.now number servers.old.items site.now ≡ Err e)) }
 {
     for (place, own) in site.servers.iter().enumerate() {
-        let name = site.name.as_slice();
-        let server = server_at(capacities, hosts, number, name, place as u32, own)?;
-        servers.push(server)?;
+        let Some(capacity) = capacities.find(site.name.as_slice(), own.id) else {
+            return Err(BuildFault::NoCapacity {
+                site: number,
+                server_id: own.id,
+            });
+        };
+        servers.push(Server {
+            site: number,
+            place: place as u32,
+            id: own.id,
+            capacity,
+            host: host_of(hosts, &own.address),
+        })?;
     }
     Ok(())
 }

@@ -154,23 +154,6 @@ fn site_in(
     }
 }
 
-// The site of a source.
-fn site_of(
-    alloc: Global,
-    values: Option<&ValueList<'_>>,
-    number: u32,
-    before: u32,
-    name: &[u8],
-    source: Source<'_>,
-) -> Result<Site, BuildFault>
-    requires { before ≤ MOST_SERVERS }
-    ensures { Stands OutOfMemory (λ x. x) (IsSiteOf number before name.now (site_octets
-        (option_map (λ v. v.now) values.entry) number (source_shown source.entry))) result }
-{
-    let octets = site_octets(values, number, source)?;
-    site_in(alloc, number, before, name, octets)
-}
-
 /// The sites of the settings, by their records.
 ///
 /// Sites in turn, each is tried for NoValue, also where no value list was given, NotSiteValue, BadRecord, BadHashOption,
@@ -188,7 +171,8 @@ pub fn build_sites(
     'sites: for number in 0..settings.len() {
         let name = settings.name(number);
         let source = settings.source(number);
-        let site = site_of(alloc, values, number, before, name, source)?;
+        let octets = site_octets(values, number, source)?;
+        let site = site_in(alloc, number, before, name, octets)?;
         before += site.servers.len() as u32;
         sites.push(site)?;
     }
