@@ -48,7 +48,8 @@ pub trait Frontier: Sized + Drop {
     /// Removes an entry whose key none undercuts; `None` where no node is held.
     fn take_least(&mut self) -> Option<(u32, u64)>
         ensures least { IfSome result (λ taken. IsLeast (held self.old) taken.0 taken.1) }
-        ensures took { IfSome result (λ taken. Changes (held self.old) (held self.new) taken.0 None) }
+        ensures took { IfSome result
+            (λ taken. Changes (held self.old) (held self.new) taken.0 None) }
         ensures none { IfNone result (HoldsNone (held self.old)) }
         ensures none_new { IfNone result (held self.new ≡ held self.old) }
         ensures nodes { node_count self.new ≡ node_count self.old };

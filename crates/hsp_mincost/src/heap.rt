@@ -15,7 +15,7 @@ use std::collections::BinaryHeap;
 pub struct HeapFrontier {
     keys: Vec<Option<u64>>,
     pairs: BinaryHeap<Reverse<(u64, u32)>>,
-    ghost ordered: { IsHeap later_pair (heap_items pairs) } by { IsHeap-prop later_pair (heap_items pairs) },
+    ghost ordered: { IsHeap later_pair (heap_items pairs) } by { IsHeap-prop _ _ },
     ghost paired: { Pairs (λ v. slice_index_or keys.items v None) (heap_items pairs) },
 }
 

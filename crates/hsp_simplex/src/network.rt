@@ -30,7 +30,15 @@ pub struct Network<'a> {
     pub sources: &'a [u32],
     pub servers: &'a [u32],
     pub costs: &'a [u64],
-    pub ghost ends: { IsNetwork (record { demands = demands.now; capacities = capacities.now; limits = limits.now; hosts = hosts.now; sources = sources.now; servers = servers.now; costs = costs.now }) },
+    pub ghost ends: { IsNetwork (record {
+      demands = demands.now;
+      capacities = capacities.now;
+      limits = limits.now;
+      hosts = hosts.now;
+      sources = sources.now;
+      servers = servers.now;
+      costs = costs.now;
+    }) },
 }
 
 // Whether each end of an arc is below the bound.
