@@ -5,3 +5,4 @@ pub mod LoadReport
 pub mod ShortageReport
 pub mod RegionReport
 pub mod Lent
+pub mod RegionTotals
