@@ -1,5 +1,5 @@
 -- A run over a log: what was answered so far, one row more, and how it stops.
-use Rattle.std.proofs.Common.{◌≡◌, ◌++◌, ◌∙◌, ◌+◌, ℕ, List, [], ◌∷◌, length, length-append, Option, Some, None, inl, inr, refl, sym, ap, arith}
+use Rattle.std.proofs.Common.{◌≡◌, ◌≤◌, ◌<◌, ◌++◌, ◌∙◌, ◌+◌, ℕ, List, [], ◌∷◌, length, length-append, Option, Some, None, inl, inr, refl, sym, ap, arith, lit≤}
 use Rattle.std.specs.Io.KnownBytes.{Appends, Keeps}
 use Rattle.std.proofs.KnownBytes.{Appends-trans}
 use Rattle.std.proofs.lemmas.List.{append-nil, append_assoc}
@@ -12,7 +12,7 @@ use Rattle.hsp_csv.specs.declared.fault.RecordsFault.TheVariants as records_faul
 use Rattle.hsp_instance.specs.Instance.{Instance}
 use Rattle.hsp_dispatch.specs.Lines.{count_all, counted, text_of}
 use Rattle.hsp_dispatch.specs.Log.{fault_of}
-use Rattle.hsp_dispatch.specs.Runs.{Answered, Begins, Desk, EndsWhole, Stops, Streams, desk_of}
+use Rattle.hsp_dispatch.specs.Runs.{Answered, AreWithinLimit, Begins, Desk, EndsWhole, Stops, StopsAtRow, Streams, desk_of}
 use Rattle.hsp_dispatch.specs.Steps.{FailsHeader, GoesOn, IsRead, IsRefused, RowAnswers, log_left, none_counted}
 use Rattle.hsp_dispatch.specs.declared.answer.FrontSums.{FrontSums}
 use Rattle.hsp_dispatch.specs.declared.answering.Given.{Given}
@@ -30,14 +30,19 @@ pub record SoFar (desk : Desk) (run : Streams) (form : Form) (now : Option (List
   pub rows : List Fields
   pub lines : List (List ℕ)
   pub many : length rows ≡ number
+  pub within : number ≤ MOST_LOG_ROWS
   pub read : IsRead (desk.header form) run.log rows now
   pub answers : desk.Answers form rows lines sums
   pub written : Appends run.before run.after (text_of lines)
   pub counted_all : count_all sums ≡ number
 
+within_limit : (rows : List Fields) (number : ℕ) → length rows ≡ number → number ≤ MOST_LOG_ROWS → AreWithinLimit rows
+within_limit rows number many within = rw many within
+
 pub answered : (desk : Desk) (run : Streams) (form : Form) (now : Option (List Fields)) (number : ℕ) (sums : FrontSums)
     (so_far : SoFar desk run form now number sums) → Answered desk run form so_far.rows sums
-answered desk run form now number sums so_far = (so_far.lines, so_far.answers, so_far.written)
+answered desk run form now number sums so_far =
+    (within_limit so_far.rows number so_far.many so_far.within, so_far.lines, so_far.answers, so_far.written)
 
 -- ---- one row more
 
@@ -51,18 +56,22 @@ count_more sums given.Spent = omega arith
 count_more sums given.Unknown = omega arith
 count_more sums given.NoFront = omega arith
 
+more_rows : (rows : List Fields) (row : Fields) (number : ℕ) → length rows ≡ number → length (rows ++ row ∷ []) ≡ number + 1
+more_rows rows row number many = length-append rows (row ∷ []) ∙ ap (λ n. n + 1) many
+
 -- the row's answer is counted, and its line written
 pub row_more : {S : Type 0} (instance : S → Instance) (Answers : S → S → RowAnswers) (header : Form → Fields) (Refuses : Form → Fields → LogFault → Type 0) (start old new : S)
     (log : Option (List Fields)) (before middle after : Option (List ℕ)) (form : Form) (now later : Option (List Fields)) (number : ℕ) (sums : FrontSums)
     (row : Fields) (line text : List ℕ) (how : Given)
     (so_far : SoFar (desk_of header (Answers start old) Refuses) (record { log = log; before = before; after = middle }) form now number sums)
     → IsRead (header form) log (so_far.rows ++ row ∷ []) later → instance old ≡ instance start → GoesOn instance Answers old new form row line how
-    → text ≡ line → Appends middle after text
+    → text ≡ line → Appends middle after text → number < MOST_LOG_ROWS
     → SoFar (desk_of header (Answers start new) Refuses) (record { log = log; before = before; after = after }) form later (number + 1) (counted sums how)
-row_more instance Answers header Refuses start old new log before middle after form now later number sums row line text how so_far read same on is_line line_written = record {
+row_more instance Answers header Refuses start old new log before middle after form now later number sums row line text how so_far read same on is_line line_written below = record {
   rows = so_far.rows ++ row ∷ [];
   lines = so_far.lines ++ line ∷ [];
-  many = length-append so_far.rows (row ∷ []) ∙ ap (λ n. n + 1) so_far.many;
+  many = more_rows so_far.rows row number so_far.many;
+  within = omega (arith, below);
   read = read;
   answers = on start so_far.rows so_far.lines sums same so_far.answers;
   written = rw (text_more so_far.lines line) (Appends-trans before middle after (text_of so_far.lines) line so_far.written (rw is_line at line_written));
@@ -76,9 +85,9 @@ pub header_stops : {R : Type 0} (remaining : R → Option (List ℕ)) (old : Rea
     → run.log ≡ log_left remaining old → desk.Answers Handles [] [] none_counted → Appends run.before run.after [] → FailsHeader remaining old desk.header e
     → Stops desk run e
 header_stops remaining old desk run fault.Header log none written fails =
-    (rw log (unheaded remaining old desk.header fails), (Handles, none_counted, ([], none, written)))
-header_stops remaining old desk run fault.ReadFailed log none written fails = (Handles, [], [], none_counted, inl refl, ([], none, written))
-header_stops remaining old desk run fault.OutOfMemory log none written fails = (Handles, [], [], none_counted, inl refl, ([], none, written))
+    (rw log (unheaded remaining old desk.header fails), (Handles, none_counted, (lit≤ tt, [], none, written)))
+header_stops remaining old desk run fault.ReadFailed log none written fails = (Handles, [], [], none_counted, inl refl, (lit≤ tt, [], none, written))
+header_stops remaining old desk run fault.OutOfMemory log none written fails = (Handles, [], [], none_counted, inl refl, (lit≤ tt, [], none, written))
 header_stops remaining old desk run fault.WriteFailed log none written fails = absurd fails
 header_stops remaining old desk run fault.LogTooLong log none written fails = absurd fails
 header_stops remaining old desk run (fault.Fields row) log none written fails = absurd fails
@@ -88,7 +97,7 @@ header_stops remaining old desk run (fault.BadFront row) log none written fails 
 
 -- before it
 pub memory_stops : (desk : Desk) (run : Streams) → desk.Answers Handles [] [] none_counted → Appends run.before run.after [] → Stops desk run fault.OutOfMemory
-memory_stops desk run none written = (Handles, [], [], none_counted, inl refl, ([], none, written))
+memory_stops desk run none written = (Handles, [], [], none_counted, inl refl, (lit≤ tt, [], none, written))
 
 module _ (desk : Desk) (run : Streams) (form : Form) (now : Option (List Fields)) (number : ℕ) (sums : FrontSums)
     (so_far : SoFar desk run form now number sums) where
@@ -112,16 +121,29 @@ module _ (desk : Desk) (run : Streams) (form : Form) (now : Option (List Fields)
     pub too_long : number ≡ MOST_LOG_ROWS → Stops desk run fault.LogTooLong
     too_long last = (form, so_far.rows, row, more, sums, before_row, so_far.many ∙ last, tt, answered desk run form now number sums so_far)
 
-    pub refused_stops : (e : LogFault) → IsRefused desk.Refuses number form row e → Stops desk run e
-    refused_stops (fault.Fields n) refused = (form, so_far.rows, row, more, sums, before_row, so_far.many ∙ sym refused.0, refused.1, answered desk run form now number sums so_far)
-    refused_stops (fault.BadHandle n) refused = (form, so_far.rows, row, more, sums, before_row, so_far.many ∙ sym refused.0, refused.1, answered desk run form now number sums so_far)
-    refused_stops (fault.BadBody n) refused = (form, so_far.rows, row, more, sums, before_row, so_far.many ∙ sym refused.0, refused.1, answered desk run form now number sums so_far)
-    refused_stops (fault.BadFront n) refused = (form, so_far.rows, row, more, sums, before_row, so_far.many ∙ sym refused.0, refused.1, answered desk run form now number sums so_far)
-    refused_stops fault.OutOfMemory refused = (form, so_far.rows, row ∷ more, sums, inr before_row, answered desk run form now number sums so_far)
-    refused_stops fault.ReadFailed refused = absurd refused
-    refused_stops fault.WriteFailed refused = absurd refused
-    refused_stops fault.Header refused = absurd refused
-    refused_stops fault.LogTooLong refused = absurd refused
+    at_row : number < MOST_LOG_ROWS → (n : ℕ) → n ≡ number → (e : LogFault) → desk.Refuses form row e → StopsAtRow desk run n e
+    at_row below n is e refused = (
+      form,
+      so_far.rows,
+      row,
+      more,
+      sums,
+      before_row,
+      so_far.many ∙ sym is,
+      (rw is below, refused),
+      answered desk run form now number sums so_far,
+    )
+
+    pub refused_stops : number < MOST_LOG_ROWS → (e : LogFault) → IsRefused desk.Refuses number form row e → Stops desk run e
+    refused_stops below (fault.Fields n) refused = at_row below n refused.0 (fault.Fields n) refused.1
+    refused_stops below (fault.BadHandle n) refused = at_row below n refused.0 (fault.BadHandle n) refused.1
+    refused_stops below (fault.BadBody n) refused = at_row below n refused.0 (fault.BadBody n) refused.1
+    refused_stops below (fault.BadFront n) refused = at_row below n refused.0 (fault.BadFront n) refused.1
+    refused_stops below fault.OutOfMemory refused = (form, so_far.rows, row ∷ more, sums, inr before_row, answered desk run form now number sums so_far)
+    refused_stops below fault.ReadFailed refused = absurd refused
+    refused_stops below fault.WriteFailed refused = absurd refused
+    refused_stops below fault.Header refused = absurd refused
+    refused_stops below fault.LogTooLong refused = absurd refused
 
 -- where less than the row's line was written
 pub line_stops : {S : Type 0} (instance : S → Instance) (Answers : S → S → RowAnswers) (header : Form → Fields) (Refuses : Form → Fields → LogFault → Type 0) (start old new : S)
@@ -129,9 +151,9 @@ pub line_stops : {S : Type 0} (instance : S → Instance) (Answers : S → S →
     (row : Fields) (line text : List ℕ) (how : Given)
     (so_far : SoFar (desk_of header (Answers start old) Refuses) (record { log = log; before = before; after = middle }) form now number sums)
     → IsRead (header form) log (so_far.rows ++ row ∷ []) later → instance old ≡ instance start → GoesOn instance Answers old new form row line how
-    → text ≡ line → IsCut middle after text
+    → text ≡ line → IsCut middle after text → number < MOST_LOG_ROWS
     → Stops (desk_of header (Answers start new) Refuses) (record { log = log; before = before; after = after }) fault.WriteFailed
-line_stops instance Answers header Refuses start old new log before middle after form now later number sums row line text how so_far read same on is_line cut =
+line_stops instance Answers header Refuses start old new log before middle after form now later number sums row line text how so_far read same on is_line cut below =
     let begun = begins (header form) log later (so_far.rows ++ row ∷ []) read in
     inl (
       form,
@@ -142,6 +164,7 @@ line_stops instance Answers header Refuses start old new log before middle after
       counted sums how,
       middle,
       begun.1,
+      within_limit (so_far.rows ++ row ∷ []) (number + 1) (more_rows so_far.rows row number so_far.many) (omega (arith, below)),
       on start so_far.rows so_far.lines sums same so_far.answers,
       so_far.written,
       rw is_line at cut,
@@ -154,7 +177,7 @@ pub ends : (desk : Desk) (log : Option (List Fields)) (before middle after : Opt
 ends desk log before middle after form now number sums so_far keeps whole =
     let written : Appends before after (text_of so_far.lines) =
     rw (append-nil (text_of so_far.lines)) at (Appends-trans before middle after (text_of so_far.lines) [] so_far.written (keeps_appends middle after keeps)) in
-    (form, so_far.rows, whole, (so_far.lines, so_far.answers, written))
+    (form, so_far.rows, whole, (within_limit so_far.rows number so_far.many so_far.within, so_far.lines, so_far.answers, written))
   where
     keeps_appends : (a b : Option (List ℕ)) → Keeps a b → Appends a b []
     keeps_appends None b keeps = tt

@@ -40,7 +40,8 @@ pub(crate) fn row_in(
     requires { IsInstance instance.now }
     ensures row { IfOk result (λ row. row ≡ row_of instance.now (entry_of lent.entry)) }
     ensures there { IfOk result (λ row. IfSome row (λ row. row < length instance.now.rows)) }
-    ensures handle { IfOk result (λ row. handle_in lent.entry.handle.now ≡ Ok lent.entry.handle.now) }
+    ensures handle { IfOk result
+        (λ row. handle_in lent.entry.handle.now ≡ Ok lent.entry.handle.now) }
     ensures fault { IfErr result (λ e. e ≡ BadHandle number) }
     ensures bad { OnErr result (handle_in lent.entry.handle.now ≢ Ok lent.entry.handle.now) }
 {

@@ -4,8 +4,7 @@ ghost use Rattle.std.specs.Prelude.{◌≡◌, ◌≢◌, IfErr, IfNone, IfOk, I
 ghost use Rattle.csv.specs.Records.{fields_of};
 ghost use Rattle.hsp_instance.specs.Instance.{Instance};
 ghost use Rattle.hsp_dispatch.specs.Lines.{IsAmong, line_by, lines_of};
-ghost use Rattle.hsp_dispatch.specs.Steps.{BeginsWithNone, GoesOn, IsRefused};
-ghost use Rattle.hsp_dispatch.specs.declared.answer.FrontSums.{FrontSums};
+ghost use Rattle.hsp_dispatch.specs.Steps.{BeginsWithNone, GoesOn, IsRefused, RowAnswers};
 ghost use Rattle.hsp_dispatch.specs.declared.fault.LogFault.{LogFault};
 ghost use Rattle.hsp_dispatch.specs.declared.form.Form.{Form};
 
@@ -32,7 +31,7 @@ pub(crate) trait Desk: Drop {
     ghost header: { Form → List (List ℕ) };
 
     /// The rows are answered by these lines, and counted so, from a desk as it was at first up to a desk as it is then.
-    ghost Answers: { Self → Self → Form → List (List (List ℕ)) → List (List ℕ) → FrontSums → Type 0 };
+    ghost Answers: { Self → Self → RowAnswers };
 
     /// Why a row is refused.
     ghost Refuses: { Form → List (List ℕ) → LogFault → Type 0 };
@@ -58,6 +57,7 @@ pub(crate) trait Desk: Drop {
         ensures among { IfOk result (IsAmong (length (instance self.old).servers)) }
         ensures answers { IfOk result (λ given. GoesOn instance Answers self.old self.new place.form
             (fields_of «record».now) (line_by (lines_of (instance self.old)) given) given) }
-        ensures refuses { IfErr result (IsRefused Refuses place.row place.form (fields_of «record».now)) }
+        ensures refuses { IfErr result
+            (IsRefused Refuses place.row place.form (fields_of «record».now)) }
         ensures stays { OnErr result (self.new ≡ self.old) };
 }

@@ -193,7 +193,8 @@ impl<'a> Fronts<'a> {
     fn take(&mut self, front: u32, row: u32) -> Option<u32>
         requires front { front < fronts_of self.old }
         requires row { row < length self.old.instance.rows }
-        ensures taken { taken_answer self.old.instance result ≡ first_answer (held_at self.old front) row }
+        ensures taken { taken_answer self.old.instance result
+            ≡ first_answer (held_at self.old front) row }
         ensures there { IfSome result (λ server. server < length self.old.instance.servers) }
         ensures rest { IsTakenOf front row self.old self.new }
     {

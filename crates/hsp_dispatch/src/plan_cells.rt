@@ -59,7 +59,8 @@ impl PlanCells {
         requires some { 0 < front.fronts }
         requires row { row < length self.now }
         ensures { result ≡ option_map (λ (cell : Cell). cell.server)
-            (first_of (left_among front.fronts front.number left (cells_in (slice_get self.now row)))) }
+            (first_of
+            (left_among front.fronts front.number left (cells_in (slice_get self.now row)))) }
     {
         if left == 0 {
             return None;
@@ -75,7 +76,8 @@ impl PlanCells {
         requires some { 0 < front.fronts }
         requires row { row < length self.now }
         ensures { result ≡
-            left_at (left_among front.fronts front.number left (cells_in (slice_get self.now row))) site }
+            left_at
+            (left_among front.fronts front.number left (cells_in (slice_get self.now row))) site }
     {
         self.rows[row as usize].left(left, site, front)
     }

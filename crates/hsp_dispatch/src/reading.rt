@@ -25,7 +25,8 @@ pub(crate) fn take_form<D: Desk, R: Read>(
     record: &mut ByteRecord,
 ) -> Result<Form, LogFault>
     requires { IsReading reader.old }
-    ensures form { IfOk result (λ form. TakesHeader R.remaining reader.old reader.new (D.header form)) }
+    ensures form { IfOk result
+        (λ form. TakesHeader R.remaining reader.old reader.new (D.header form)) }
     ensures reading { OnOk result (IsReading reader.new) }
     ensures fault { IfErr result (FailsHeader R.remaining reader.old D.header) }
 {

@@ -42,10 +42,13 @@ fn run_rows<D: Desk, R: Read, W: Write>(
     requires lines { ready.now.lines ≡ lines_of (D.instance desk.old) }
     requires begins { BeginsWithNone (D.Answers desk.old desk.old) }
     ensures instance { D.instance desk.new ≡ D.instance desk.old }
-    ensures whole { IfOk result (EndsWhole (desk_of D.header (D.Answers desk.old desk.new) D.Refuses)
-        (streams (log_left R.remaining reader.old) (W.contents writer.old) (W.contents writer.new))) }
+    ensures whole { IfOk result (EndsWhole
+        (desk_of D.header (D.Answers desk.old desk.new) D.Refuses)
+        (streams (log_left R.remaining reader.old)
+        (W.contents writer.old) (W.contents writer.new))) }
     ensures stops { IfErr result (Stops (desk_of D.header (D.Answers desk.old desk.new) D.Refuses)
-        (streams (log_left R.remaining reader.old) (W.contents writer.old) (W.contents writer.new))) }
+        (streams (log_left R.remaining reader.old)
+        (W.contents writer.old) (W.contents writer.new))) }
 {
     let form = take_form::<D, R>(reader, record)?;
     let mut sums = FrontSums::none();
@@ -76,10 +79,13 @@ fn run<D: Desk, R: Read + Drop, W: Write>(
     desk: &mut D,
 ) -> Result<FrontSums, LogFault>
     ensures instance { D.instance desk.new ≡ D.instance desk.old }
-    ensures whole { IfOk result (EndsWhole (desk_of D.header (D.Answers desk.old desk.new) D.Refuses)
-        (streams (option_map records_of (R.remaining reader)) (W.contents writer.old) (W.contents writer.new))) }
+    ensures whole { IfOk result (EndsWhole
+        (desk_of D.header (D.Answers desk.old desk.new) D.Refuses)
+        (streams (option_map records_of (R.remaining reader))
+        (W.contents writer.old) (W.contents writer.new))) }
     ensures stops { IfErr result (Stops (desk_of D.header (D.Answers desk.old desk.new) D.Refuses)
-        (streams (option_map records_of (R.remaining reader)) (W.contents writer.old) (W.contents writer.new))) }
+        (streams (option_map records_of (R.remaining reader))
+        (W.contents writer.old) (W.contents writer.new))) }
 {
     let ready = Ready {
         alloc,
@@ -106,10 +112,12 @@ pub fn run_log<R: Read + Drop, W: Write>(
     ensures instance { dispatcher.new.instance ≡ dispatcher.old.instance }
     ensures whole { IfOk result (λ sums. EndsWhole
         (by_dispatcher dispatcher.old dispatcher.new)
-        (streams (option_map records_of (R.remaining reader)) (W.contents writer.old) (W.contents writer.new))
+        (streams (option_map records_of (R.remaining reader))
+        (W.contents writer.old) (W.contents writer.new))
         (all_of sums)) }
     ensures stops { IfErr result (Stops (by_dispatcher dispatcher.old dispatcher.new)
-        (streams (option_map records_of (R.remaining reader)) (W.contents writer.old) (W.contents writer.new))) }
+        (streams (option_map records_of (R.remaining reader))
+        (W.contents writer.old) (W.contents writer.new))) }
 {
     let sums = run(alloc, reader, writer, dispatcher)?;
     Ok(sums.without_fronts())
@@ -127,9 +135,11 @@ pub fn run_fronts<R: Read + Drop, W: Write>(
 ) -> Result<FrontSums, LogFault>
     ensures instance { fronts.new.instance ≡ fronts.old.instance }
     ensures whole { IfOk result (EndsWhole (by_fronts fronts.old fronts.new)
-        (streams (option_map records_of (R.remaining reader)) (W.contents writer.old) (W.contents writer.new))) }
+        (streams (option_map records_of (R.remaining reader))
+        (W.contents writer.old) (W.contents writer.new))) }
     ensures stops { IfErr result (Stops (by_fronts fronts.old fronts.new)
-        (streams (option_map records_of (R.remaining reader)) (W.contents writer.old) (W.contents writer.new))) }
+        (streams (option_map records_of (R.remaining reader))
+        (W.contents writer.old) (W.contents writer.new))) }
 {
     run(alloc, reader, writer, fronts)
 }

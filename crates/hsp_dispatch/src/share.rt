@@ -32,7 +32,8 @@ impl Model for RowShare {
 
     ghost view = { λ s. with_first s.first (drop s.next s.more.items) };
 
-    ghost invariant = { λ s. (s.next ≤ length s.more.items) × AreCells (with_first s.first (drop s.next s.more.items))
+    ghost invariant = { λ s. (s.next ≤ length s.more.items)
+        × AreCells (with_first s.first (drop s.next s.more.items))
         × (s.first.left ≡ 0 → drop s.next s.more.items ≡ []) };
 }
 

@@ -57,7 +57,8 @@ pub(crate) fn share_out(
 ) -> Result<Vec<RowShare>, AllocError>
     requires { AreUsesOf instance.now uses.now }
     ensures held { IfOk result (λ shares. IsHeld (holding instance.now shares.items)) }
-    ensures table { IfOk result (λ shares. HoldsTable uses.now (holding instance.now shares.items)) }
+    ensures table { IfOk result
+        (λ shares. HoldsTable uses.now (holding instance.now shares.items)) }
     ensures bounded { IfOk result (λ shares. AllByRecursion AreBounded shares.items) }
 {
     let mut shares = empty_shares(alloc, instance.rows())?;

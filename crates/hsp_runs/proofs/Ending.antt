@@ -24,7 +24,7 @@ module _ (one other : Desk) (run : Streams) (heads : one.header ≡ other.header
 
   answered : (form : _) (rows : List Fields) (sums : FrontSums) → Answered one run form rows sums
       → Answered other run form rows sums
-  answered form rows sums (lines, are, written) = (lines, goes form rows lines sums are, written)
+  answered form rows sums (within, lines, are, written) = (within, lines, goes form rows lines sums are, written)
 
   whole : (sums : FrontSums) → EndsWhole one run sums → EndsWhole other run sums
   whole sums (form, rows, begins, of) = (form, rows, begun form rows [] begins, answered form rows sums of)
@@ -33,8 +33,8 @@ module _ (one other : Desk) (run : Streams) (heads : one.header ≡ other.header
   somewhere (form, rows, more, sums, begins, of) = (form, rows, more, sums, begun_or form rows more begins, answered form rows sums of)
 
   in_line : StopsInLine one run → StopsInLine other run
-  in_line (form, rows, more, early, last, sums, middle, begins, are, written, cut) =
-      (form, rows, more, early, last, sums, middle, begun form rows more begins, goes form rows (early ++ last ∷ []) sums are, written, cut)
+  in_line (form, rows, more, early, last, sums, middle, begins, within, are, written, cut) =
+      (form, rows, more, early, last, sums, middle, begun form rows more begins, within, goes form rows (early ++ last ∷ []) sums are, written, cut)
 
   at_row : (number : ℕ) (IsSo : _ → Fields → Type 0) → StopsAt one run number IsSo → Stopped
   at_row number IsSo (form, rows, bad, more, sums, begins, many, so, of) = inl (form, rows, bad ∷ more, sums, inr (begun form rows (bad ∷ more) begins), answered form rows sums of)

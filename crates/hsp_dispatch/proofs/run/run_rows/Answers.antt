@@ -1,4 +1,4 @@
-use Rattle.std.proofs.Common.{[], ◌∙◌, inr, refl, sym, ap, arith, lit≤}
+use Rattle.std.proofs.Common.{[], ◌<◌, ◌∙◌, inr, refl, sym, ap, arith, lit≤}
 use Rattle.std.proofs.KnownBytes.{Appends-nil}
 use Rattle.std.proofs.lemmas.Result.{err_from_is_err_and}
 use Rattle.csv.specs.Records.{fields_of}
@@ -19,11 +19,11 @@ pub rows-init : goal.rows-init
 rows-init g c = record {
   reading = c.in_ok-form.ensures.reading;
   instance = refl;
-  within = lit≤ tt;
   so_far = record {
     rows = [];
     lines = [];
     many = refl;
+    within = lit≤ tt;
     read = header_read g.R.Read.remaining c.args.reader.now c.take_form.new.reader (g.D.Desk.header c.in_ok-form.form) c.in_ok-form.ensures.form;
     answers = rw c.none-sums.ensures (c.requires.begins c.in_ok-form.form);
     written = Appends-nil _;
@@ -50,8 +50,9 @@ returns-in_err-given-clause-stops g c =
     let row = fields_of c.take_record.new.record in
     let read = row_read g.R.Read.remaining c.rows.reader c.take_record.new.reader _ _ so_far.rows row so_far.read
     (rw c.if-not-branch.false at c.in_ok-take_record.ensures.takes) in
+    let below : c.rows.row < 10000000 = omega (arith, so_far.within, c.if-row-eq-MOST_LOG_ROWS.false) in
     let told = err_from_is_err_and c.from_residual-in_err-given.result c.from_residual-in_err-given.ensures.1 in
-    rw (told.1, told.2, c.in_err-given.ensures.stays) (refused_stops _ _ _ _ _ _ so_far row _ read _ c.in_err-given.ensures.refuses)
+    rw (told.1, told.2, c.in_err-given.ensures.stays) (refused_stops _ _ _ _ _ _ so_far row _ read below _ c.in_err-given.ensures.refuses)
 
 pub returns-in_err-put_all-clause-stops : goal.returns-in_err-put_all-clause-stops
 returns-in_err-put_all-clause-stops g c =
@@ -59,10 +60,11 @@ returns-in_err-put_all-clause-stops g c =
     let row = fields_of c.take_record.new.record in
     let read = row_read g.R.Read.remaining c.rows.reader c.take_record.new.reader _ _ so_far.rows row so_far.read
     (rw c.if-not-branch.false at c.in_ok-take_record.ensures.takes) in
+    let below : c.rows.row < 10000000 = omega (arith, so_far.within, c.if-row-eq-MOST_LOG_ROWS.false) in
     let told = err_from_is_err_and c.from_residual-in_err-put_all.result c.from_residual-in_err-put_all.ensures.1 in
     let line = c.line_in.ensures ∙ ap (λ lines. line_by lines c.in_ok-given.given) (c.requires.lines ∙ ap lines_of (sym c.rows.invariant.instance)) in
     rw (told.1, told.2) (line_stops g.D.Desk.instance g.D.Desk.Answers g.D.Desk.header g.D.Desk.Refuses c.args.desk.now c.rows.desk c.answer.new.self _ _ _ _ _ _ _ _ _ row _ c.line_in.result.now
-    c.in_ok-given.given so_far read c.rows.invariant.instance c.in_ok-given.ensures.answers line c.in_err-put_all.ensures.cut)
+    c.in_ok-given.given so_far read c.rows.invariant.instance c.in_ok-given.ensures.answers line c.in_err-put_all.ensures.cut below)
 
 pub rows-preserved : goal.rows-preserved
 rows-preserved g c =
@@ -70,14 +72,14 @@ rows-preserved g c =
     let row = fields_of c.take_record.new.record in
     let read = row_read g.R.Read.remaining c.rows.reader c.take_record.new.reader _ _ so_far.rows row so_far.read
     (rw c.if-not-branch.false at c.in_ok-take_record.ensures.takes) in
+    let below : c.rows.row < 10000000 = omega (arith, so_far.within, c.if-row-eq-MOST_LOG_ROWS.false) in
     let line = c.line_in.ensures ∙ ap (λ lines. line_by lines c.in_ok-given.given) (c.requires.lines ∙ ap lines_of (sym c.rows.invariant.instance)) in
     record {
       reading = c.in_ok-take_record.ensures.reading;
       instance = c.answer.ensures.instance ∙ c.rows.invariant.instance;
-      within = omega (arith, c.rows.invariant.within, c.if-row-eq-MOST_LOG_ROWS.false);
       so_far = rw c.count.ensures (row_more g.D.Desk.instance g.D.Desk.Answers g.D.Desk.header g.D.Desk.Refuses c.args.desk.now c.rows.desk c.answer.new.self
           _ _ _ _ _ _ _ _ _ row _ c.line_in.result.now c.in_ok-given.given so_far read c.rows.invariant.instance c.in_ok-given.ensures.answers line
-          c.in_ok-put_all.ensures.whole);
+          c.in_ok-put_all.ensures.whole below);
     }
 
 pub returns-in-Err-clause-stops : goal.returns-in-Err-clause-stops

@@ -1,4 +1,4 @@
-use Rattle.std.proofs.Common.{◌≡◌, ◌-◌, ◌≤◌}
+use Rattle.std.proofs.Common.{◌≡◌, ◌-◌}
 use Rattle.hsp_csv.specs.Records.{IsReading}
 use Rattle.hsp_dispatch.specs.Runs.{desk_of, streams}
 use Rattle.hsp_dispatch.specs.Steps.{log_left}
@@ -13,7 +13,6 @@ invariant-rows g l =
     record {
       reading : IsReading l.reader;
       instance : desk.instance l.desk ≡ desk.instance l.fn.desk;
-      within : l.row ≤ 10000000;
       so_far : SoFar (desk_of desk.header (desk.Answers l.fn.desk l.desk) desk.Refuses)
           (streams (log_left remaining l.fn.reader) (contents l.fn.writer) (contents l.writer)) l.form (log_left remaining l.reader) l.row l.sums;
     }
