@@ -45,16 +45,22 @@ abbrev pub report_app : App
 report_app = with_needed (with_needed (with_inputs (new_app (codes "report"))) (codes "plan")) (codes "kind")
 
 -- the words don't begin with the program's name
-abbrev pub unnamed : App → App
-unnamed app = record app { top = record app.top { no_binary_name = true } }
+abbrev pub bare_app : App
+bare_app = let app = new_app (codes "hsplan") in record app { top = record app.top { no_binary_name = true } }
 
 -- those that ask about one handle or one record, and then those about a plan
 abbrev pub without_plans : App
-without_plans = with_subcommand (with_subcommand (unnamed (new_app (codes "hsplan"))) locate_app.top) site_app.top
+without_plans = with_subcommand (with_subcommand bare_app locate_app.top) site_app.top
+
+-- with those that make a plan and check it, and with those that answer and tell by one
+abbrev pub with_making : App → App
+with_making app = with_subcommand (with_subcommand app plan_app.top) check_app.top
+
+abbrev pub with_using : App → App
+with_using app = with_subcommand (with_subcommand app dispatch_app.top) report_app.top
 
 abbrev pub hsplan_app : App
-hsplan_app =
-    with_subcommand (with_subcommand (with_subcommand (with_subcommand without_plans plan_app.top) check_app.top) dispatch_app.top) report_app.top
+hsplan_app = with_using (with_making without_plans)
 
 abbrev pub has_globals_of : Command → Bool
 has_globals_of c = (out-Command c).has_globals

@@ -1,8 +1,8 @@
 // The commands of the program, built for clap.
 
 ghost use Rattle.std.specs.Prelude.{◌≡◌, IfOk, false};
-ghost use Rattle.clap.specs.Words.{app_of, rule_of, with_rule, with_subcommand};
-ghost use Rattle.hsp_command.specs.Commands.{check_app, dispatch_app, has_globals_of, hsplan_app, locate_app, needed, option_rule, plan_app, report_app, site_app, with_inputs, with_needed, with_option, with_word, without_plans};
+ghost use Rattle.clap.specs.Words.{App, app_of, rule_of, with_rule, with_subcommand};
+ghost use Rattle.hsp_command.specs.Commands.{bare_app, check_app, dispatch_app, has_globals_of, hsplan_app, locate_app, needed, option_rule, plan_app, report_app, site_app, with_inputs, with_making, with_needed, with_option, with_using, with_word, without_plans};
 
 use clap::{Arg, Command};
 use std::alloc::{AllocError, Global};
@@ -161,43 +161,50 @@ fn report_command<'a>(alloc: Global) -> Result<Command<'a>, AllocError>
     with_two_needed(alloc, command, "plan", "kind")
 }
 
-// The command with one subcommand more.
+// The command with one subcommand more, where memory sufficed for that.
 fn with_subcommand<'a>(
     command: Command<'a>,
-    subcommand: Command<'a>,
+    subcommand: Result<Command<'a>, AllocError>,
 ) -> Result<Command<'a>, AllocError>
-    requires { has_globals_of subcommand ≡ false }
-    ensures { IfOk result
-        (λ c. app_of c ≡ with_subcommand (app_of command.entry) (app_of subcommand.entry).top) }
+    requires { IfOk subcommand (λ s. has_globals_of s ≡ false) }
+    ensures { (app : App) → IfOk subcommand.entry (λ s. app_of s ≡ app)
+        → IfOk result (λ c. app_of c ≡ with_subcommand (app_of command.entry) app.top) }
 {
-    command.subcommand(subcommand)
+    match subcommand {
+        Ok(subcommand) => command.subcommand(subcommand),
+        Err(error) => Err(error),
+    }
+}
+
+// The program's command, without its subcommands.
+fn bare_command<'a>(alloc: Global) -> Command<'a>
+    ensures { app_of result ≡ bare_app }
+{
+    Command::new(alloc, "hsplan").no_binary_name(true)
 }
 
 // The program's commands about one handle or one record.
 fn records_command<'a>(alloc: Global) -> Result<Command<'a>, AllocError>
     ensures { IfOk result (λ c. app_of c ≡ without_plans) }
 {
-    let command = Command::new(alloc, "hsplan").no_binary_name(true);
-    let command = with_subcommand(command, locate_command(alloc)?)?;
-    with_subcommand(command, site_command(alloc)?)
+    let command = with_subcommand(bare_command(alloc), locate_command(alloc))?;
+    with_subcommand(command, site_command(alloc))
 }
 
 // The command with those that make a plan and check it.
 fn with_making<'a>(alloc: Global, command: Command<'a>) -> Result<Command<'a>, AllocError>
-    ensures { IfOk result (λ c. app_of c
-        ≡ with_subcommand (with_subcommand (app_of command.entry) plan_app.top) check_app.top) }
+    ensures { IfOk result (λ c. app_of c ≡ with_making (app_of command.entry)) }
 {
-    let command = with_subcommand(command, plan_command(alloc)?)?;
-    with_subcommand(command, check_command(alloc)?)
+    let command = with_subcommand(command, plan_command(alloc))?;
+    with_subcommand(command, check_command(alloc))
 }
 
 // The command with those that answer and tell by a plan.
 fn with_using<'a>(alloc: Global, command: Command<'a>) -> Result<Command<'a>, AllocError>
-    ensures { IfOk result (λ c. app_of c
-        ≡ with_subcommand (with_subcommand (app_of command.entry) dispatch_app.top) report_app.top) }
+    ensures { IfOk result (λ c. app_of c ≡ with_using (app_of command.entry)) }
 {
-    let command = with_subcommand(command, dispatch_command(alloc)?)?;
-    with_subcommand(command, report_command(alloc)?)
+    let command = with_subcommand(command, dispatch_command(alloc))?;
+    with_subcommand(command, report_command(alloc))
 }
 
 /// All commands of the program, for words that don't begin with its name.

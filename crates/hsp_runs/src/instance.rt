@@ -46,24 +46,37 @@ fn capacities_in(alloc: Global, octets: &[u8]) -> Result<Capacities, Fault>
     }
 }
 
+// Where the sites come from: the settings, and the value list that their sites' indices are of, where there is one.
+#[derive(Clone, Copy)]
+struct Sources<'s, 'v, 'l> {
+    settings: &'s Settings,
+    values: Option<&'v ValueList<'l>>,
+}
+
 // The instance of what was read.
 fn built(
     alloc: Global,
-    settings: &Settings,
-    values: Option<&ValueList<'_>>,
+    sources: Sources<'_, '_, '_>,
     demand: &Demand,
     costs: &Costs,
     capacity: &Capacities,
 ) -> Result<Instance, Fault>
     ensures { Tells (IsBuilt (record {
-      settings = settings.now;
-      values = option_map (λ v. v.now) values.entry;
+      settings = sources.entry.settings.now;
+      values = option_map (λ v. v.now) sources.entry.values;
       demand = demand.now;
       costs = costs.now;
       capacities = capacity.now;
     })) result }
 {
-    match build(alloc, settings, values, demand, costs, capacity) {
+    match build(
+        alloc,
+        sources.settings,
+        sources.values,
+        demand,
+        costs,
+        capacity,
+    ) {
         Ok(instance) => Ok(instance),
         Err(BuildFault::OutOfMemory) => Err(Fault::OutOfMemory),
         Err(fault) => Err(Fault::Build(fault)),
@@ -74,31 +87,29 @@ fn built(
 fn with_costs(
     alloc: Global,
     inputs: &Inputs,
-    settings: &Settings,
-    values: Option<&ValueList<'_>>,
+    sources: Sources<'_, '_, '_>,
     demand: &Demand,
     costs: &Costs,
 ) -> Result<Instance, Fault>
-    ensures { Tells (IsWithCosts inputs.now settings.now
-        (option_map (λ v. v.now) values.entry) demand.now costs.now) result }
+    ensures { Tells (IsWithCosts inputs.now sources.entry.settings.now
+        (option_map (λ v. v.now) sources.entry.values) demand.now costs.now) result }
 {
     let capacity = capacities_in(alloc, &inputs.capacity)?;
-    built(alloc, settings, values, demand, costs, &capacity)
+    built(alloc, sources, demand, costs, &capacity)
 }
 
 // The instance, after the demand was read.
 fn with_demand(
     alloc: Global,
     inputs: &Inputs,
-    settings: &Settings,
-    values: Option<&ValueList<'_>>,
+    sources: Sources<'_, '_, '_>,
     demand: &Demand,
 ) -> Result<Instance, Fault>
-    ensures { Tells (IsWithDemand inputs.now settings.now
-        (option_map (λ v. v.now) values.entry) demand.now) result }
+    ensures { Tells (IsWithDemand inputs.now sources.entry.settings.now
+        (option_map (λ v. v.now) sources.entry.values) demand.now) result }
 {
     let costs = costs_in(alloc, &inputs.costs)?;
-    with_costs(alloc, inputs, settings, values, demand, &costs)
+    with_costs(alloc, inputs, sources, demand, &costs)
 }
 
 // The instance, after the values were read.
@@ -112,7 +123,7 @@ fn with_values(
         (option_map (λ v. v.now) values.entry)) result }
 {
     let demand = demand_in(alloc, &inputs.demand)?;
-    with_demand(alloc, inputs, settings, values, &demand)
+    with_demand(alloc, inputs, Sources { settings, values }, &demand)
 }
 
 // The instance, after the settings were read.
