@@ -2,10 +2,15 @@
 use Rattle.std.specs.Prelude.{◌≡◌, ◌≤◌, ◌<◌, ℕ, List, [], ◌∷◌, ◌++◌, length, Some}
 use Rattle.hsp_instance.specs.Instance.{Instance}
 use Rattle.hsp_check.specs.Plan.{Plan}
+use Rattle.hsp_check.specs.Sums.{sum_below}
 use Rattle.hsp_dispatch.specs.Dispatch.{IsSame, row_of}
-use Rattle.hsp_dispatch.specs.Fronts.{AreFrontsOf, Event, IsTakenAt, Tables, answer_among, answers_at, assigned_by_all, entries_at, front_answer, front_answers, fronts_of, left_at_front, rest_at}
+use Rattle.hsp_dispatch.specs.Fronts.{AreFrontsOf, Event, IsTakenAt, Tables, answer_among, answers_at, assigned_by_all, entries_at, front_answer, front_answers, fronts_of, left_at_front, rest_at, shares_of}
 use Rattle.hsp_dispatch.specs.declared.answer.Answer.TheVariants.{Spent}
 use Rattle.hsp_dispatch.specs.declared.answer.FrontAnswer.TheVariants.{Answered}
+
+-- what the plan sends of a row to a site is the sum of what the fronts' shares send there
+abbrev pub SharesAddUp : Type 0
+SharesAddUp = (fronts : ℕ) → 0 < fronts → (x : Plan) (row site : ℕ) → sum_below fronts (λ front. shares_of fronts x front row site) ≡ x row site
 
 -- the fronts hold what events leave of their shares
 pub record AreFrontsAfter (it : Instance) (x : Plan) (fronts : ℕ) (events : List Event) (tables : Tables) : Type 0 where

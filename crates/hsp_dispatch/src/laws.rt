@@ -1,6 +1,6 @@
 // What holds of every plan and every log.
 
-ghost use Rattle.hsp_dispatch.specs.FrontLaws.{AnswersByShares, BeginsWithShares, EndsInTheSame, GoesByItsEntries, IsSpentTogether, NeverExceedsTogether};
+ghost use Rattle.hsp_dispatch.specs.FrontLaws.{AnswersByShares, BeginsWithShares, EndsInTheSame, GoesByItsEntries, IsSpentTogether, NeverExceedsTogether, SharesAddUp};
 ghost use Rattle.hsp_dispatch.specs.Laws.{GoesByHash, GoesOnWithTheRest, IsSpentAfterAll, NeverExceeds};
 
 /// No log has more of a row's entries assigned to a site than the plan sends there; and where an entry is answered `Spent`, all that
@@ -21,8 +21,9 @@ pub fn goes_by_hash()
     ensures { GoesByHash }
 {}
 
-/// Each front begins with its share of the plan, and answers by it and by its own earlier entries.
+/// The shares of all fronts add up to the plan. Each front begins with its share, and answers by it and by its own earlier entries.
 pub fn fronts_by_shares()
+    ensures shares { SharesAddUp }
     ensures begin { BeginsWithShares }
     ensures answers { AnswersByShares }
 {}

@@ -1,5 +1,9 @@
 use Rattle.hsp_dispatch.proofs.FrontLaws as lemmas
+use Rattle.hsp_dispatch.proofs.FrontShares.{shares_add_up}
 use Rattle.hsp_dispatch.proofs.laws.fronts_by_shares.Goals as goal
+
+pub returns-clause-shares : goal.returns-clause-shares
+returns-clause-shares c fronts some x row site = shares_add_up fronts (x row site) some
 
 pub returns-clause-begin : goal.returns-clause-begin
 returns-clause-begin c = lemmas.begins
