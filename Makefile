@@ -29,7 +29,7 @@ test:
 	tools/list_reading.py --check
 	tools/check_manual.py
 	tools/check_completions.py
-	rt ci
+	RT_JOBS=$${RT_JOBS:-$$(tools/lanes.py)} rt ci
 	tools/check_docs.py
 	tools/check_examples.py
 	tools/check_install.py

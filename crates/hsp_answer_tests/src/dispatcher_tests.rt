@@ -1,3 +1,4 @@
+use crate::same::is_same;
 use crate::worked::{certificate, dispatcher, instance};
 use hsp_dispatch::*;
 use hsp_names::HandleRef;
@@ -27,9 +28,9 @@ fn queries_go_by_the_plan(rt: HostRuntime) {
         server_id: 1,
     };
     for wanted in [by_hash, later, later, Answer::Spent] {
-        assert_eq!(rt; dispatcher.assign(b"r2", handle), wanted);
+        is_same(&rt, dispatcher.assign(b"r2", handle), wanted);
     }
-    assert_eq!(rt; dispatcher.assign(b"r9", handle), Answer::Unknown);
+    is_same(&rt, dispatcher.assign(b"r9", handle), Answer::Unknown);
     for (row, site, left) in [
         (2, 0, 0),
         (2, 1, 0),
@@ -38,6 +39,6 @@ fn queries_go_by_the_plan(rt: HostRuntime) {
         (3, 0, 0),
         (0, 2, 0),
     ] {
-        assert_eq!(rt; dispatcher.left(row, site), left);
+        is_same(&rt, dispatcher.left(row, site), left);
     }
 }

@@ -1,6 +1,7 @@
 // Logs whose reader and whose writer fails behind each octet in turn, and gives or takes one octet a call.
 
 use crate::fakes::{FakeReader, FakeWriter};
+use crate::same::is_same;
 use crate::worked::{certificate, dispatcher, fronts, instance};
 use hsp_cert::Certificate;
 use hsp_dispatch::*;
@@ -281,8 +282,8 @@ impl<A: Answered> Worked<A> {
                     written: 256,
                     piece,
                 })?;
-                assert_eq!(rt; page.ended, ended);
-                assert_eq!(rt; page.lines.as_slice(), step.lines);
+                is_same(rt, page.ended, ended);
+                is_same(rt, page.lines.as_slice(), step.lines);
             }
         }
         Ok(())
@@ -301,8 +302,8 @@ impl<A: Answered> Worked<A> {
                     written,
                     piece,
                 })?;
-                assert_eq!(rt; page.ended, ended);
-                assert_eq!(rt; page.lines.len(), written);
+                is_same(rt, page.ended, ended);
+                assert!(rt; page.lines.len() == written);
                 assert!(rt; step.lines.starts_with(page.lines.as_slice()));
             }
         }

@@ -1,4 +1,5 @@
 use crate::fakes::{FakeReader, FakeWriter, Lines, Rows};
+use crate::same::is_same;
 use crate::worked::{best_fronts, instance};
 use hsp_dispatch::*;
 use std::alloc::Global;
@@ -108,9 +109,9 @@ fn run_by(
             fronts.left(0, 2, 1),
             fronts.left(1, 2, 1),
         ];
-        assert_eq!(rt; writer.taken.as_slice(), case.lines);
-        assert_eq!(rt; left, case.left);
-        assert_eq!(rt; writer.is_flushed, ends.is_ok());
+        is_same(rt, writer.taken.as_slice(), case.lines);
+        is_same(rt, left, case.left);
+        is_same(rt, writer.is_flushed, ends.is_ok());
     }
     Some(ends)
 }
@@ -128,7 +129,7 @@ fn comes(rt: &impl Abort, alloc: Global, case: Case) {
         None | Some(Err(LogFault::OutOfMemory)) => run(rt, alloc, case),
         ends => ends,
     };
-    assert_eq!(rt; ends, Some(case.ends));
+    is_same(rt, ends, Some(case.ends));
 }
 
 #[test]
@@ -319,12 +320,12 @@ fn run_each(
 ) -> Option<Result<FrontSums, LogFault>> {
     let mut writer = FakeWriter::whole(alloc).ok()?;
     for (front, share) in [(0, 1), (4, 1), (5, 0), (63, 0), (64, 0)] {
-        assert_eq!(rt; fronts.left(front, 0, 0), share);
+        is_same(rt, fronts.left(front, 0, 0), share);
     }
     let ends = run_fronts(alloc, FakeReader::whole(EACH_ONCE), &mut writer, fronts);
     if ends.is_ok() {
         let lines = b"assigned E 1 3\nassigned E 1 3\nspent\nspent\nnofront\nspent\n";
-        assert_eq!(rt; writer.taken.as_slice(), lines.as_slice());
+        is_same(rt, writer.taken.as_slice(), lines.as_slice());
     }
     Some(ends)
 }
@@ -348,7 +349,7 @@ fn five_queries_go_to_the_first_five_of_64_fronts(rt: HostRuntime) {
         unknown: 0,
         no_front: 1,
     };
-    assert_eq!(rt; ends, Some(Ok(sums)));
+    is_same(&rt, ends, Some(Ok(sums)));
 }
 
 // Runs the log of one row more than there may be. None where a growth is refused before its first row.
@@ -377,9 +378,9 @@ fn is_too_long(rt: &impl Abort, alloc: Global, fronts: &mut Fronts<'_>) -> Resul
         ran => ran,
     };
     let (fault, lines) = ran.ok_or("a log that is too long")?;
-    assert_eq!(rt; fault, LogFault::LogTooLong);
-    assert_eq!(rt; lines.many, 10_000_000);
-    assert_eq!(rt; lines.others, 0);
+    is_same(rt, fault, LogFault::LogTooLong);
+    is_same(rt, lines.many, 10_000_000);
+    is_same(rt, lines.others, 0);
     Ok(())
 }
 

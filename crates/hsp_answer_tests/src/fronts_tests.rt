@@ -1,3 +1,4 @@
+use crate::same::is_same;
 use crate::worked::{certificate, certificate_of, fronts, instance, instance_of};
 use hsp_dispatch::*;
 use hsp_names::HandleRef;
@@ -40,7 +41,7 @@ fn fronts_hold_their_shares(rt: HostRuntime) {
             fronts.left(1, row, site),
             fronts.left(2, row, site),
         ];
-        assert_eq!(rt; held, lefts);
+        is_same(&rt, held, lefts);
     }
 }
 
@@ -69,7 +70,7 @@ fn fronts_answer_by_their_shares(rt: HostRuntime) {
         (0, b"r9", b"10/1", unknown),
     ] {
         let handle = HandleRef::parse(handle).expect(&rt, "the handle is one");
-        assert_eq!(rt; fronts.assign(front, region, handle), wanted);
+        is_same(&rt, fronts.assign(front, region, handle), wanted);
     }
     let left = [
         fronts.left(0, 0, 0),
@@ -77,7 +78,7 @@ fn fronts_answer_by_their_shares(rt: HostRuntime) {
         fronts.left(0, 2, 1),
         fronts.left(1, 2, 1),
     ];
-    assert_eq!(rt; left, [2, 0, 1, 0]);
+    is_same(&rt, left, [2, 0, 1, 0]);
 }
 
 // What a front is asked for the last row, answer by answer, and what it has left at both sites behind each of them.
@@ -94,8 +95,12 @@ fn uses_both_sites(
             1 => assigned(1, 0, 1),
             _ => FrontAnswer::Answered(Answer::Spent),
         };
-        assert_eq!(rt; fronts.assign(front, b"r2", handle), wanted);
-        assert_eq!(rt; [fronts.left(front, 2, 0), fronts.left(front, 2, 1)], *left);
+        is_same(&rt, fronts.assign(front, b"r2", handle), wanted);
+        is_same(
+            &rt,
+            [fronts.left(front, 2, 0), fronts.left(front, 2, 1)],
+            *left,
+        );
     }
 }
 
@@ -114,8 +119,8 @@ fn a_front_uses_up_one_site_after_the_other(rt: HostRuntime) {
     let first = fronts(alloc, &instance, &certificate, 2);
     let second = fronts(alloc, &instance, &certificate, 2);
     let mut fronts = first.or(second).expect(&rt, "the plan is valid");
-    assert_eq!(rt; [fronts.left(0, 2, 0), fronts.left(0, 2, 1)], [2, 3]);
-    assert_eq!(rt; [fronts.left(1, 2, 0), fronts.left(1, 2, 1)], [1, 2]);
+    is_same(&rt, [fronts.left(0, 2, 0), fronts.left(0, 2, 1)], [2, 3]);
+    is_same(&rt, [fronts.left(1, 2, 0), fronts.left(1, 2, 1)], [1, 2]);
     uses_both_sites(
         &rt,
         &mut fronts,
@@ -155,13 +160,14 @@ fn has_the_share(rt: &impl Abort, alloc: Global, wide: Wide) -> Option<()> {
     let mut fronts = fronts(alloc, &instance, &certificate, wide.many)?;
     let handle = HandleRef::parse(b"10/1").expect(rt, "the handle is one");
     for front in 0..wide.many {
-        assert_eq!(rt; fronts.left(front, 0, 0), wide.share);
-        assert_eq!(rt; fronts.assign(front, b"r1", handle), assigned(0, 1, 3));
-        assert_eq!(rt; fronts.left(front, 0, 0).saturating_add(1), wide.share);
+        is_same(rt, fronts.left(front, 0, 0), wide.share);
+        is_same(rt, fronts.assign(front, b"r1", handle), assigned(0, 1, 3));
+        is_same(rt, fronts.left(front, 0, 0).saturating_add(1), wide.share);
     }
-    assert_eq!(rt;
+    is_same(
+        rt,
         [fronts.left(0, 1, 0), fronts.left(0, 2, 0)],
-        [wide.next, 1]
+        [wide.next, 1],
     );
     Some(())
 }
@@ -221,6 +227,6 @@ fn fronts_hold_shares_of_two_octets_and_of_more(rt: HostRuntime) {
     for wide in [ONE_LESS, ONE_MORE, BOTH_LESS, BOTH_MORE, MOST] {
         let first = has_the_share(&rt, rt.alloc(), wide);
         let held = first.or(has_the_share(&rt, rt.alloc(), wide));
-        assert_eq!(rt; held, Some(()));
+        is_same(&rt, held, Some(()));
     }
 }

@@ -1,4 +1,5 @@
 use crate::fakes::{FakeReader, FakeWriter, Lines, Rows};
+use crate::same::is_same;
 use crate::worked::{best_dispatcher, instance};
 use hsp_dispatch::*;
 use std::alloc::Global;
@@ -102,9 +103,9 @@ fn run_by(
             dispatcher.left(0, 0),
             dispatcher.left(1, 0),
         ];
-        assert_eq!(rt; writer.taken.as_slice(), case.lines);
-        assert_eq!(rt; left, case.left);
-        assert_eq!(rt; writer.is_flushed, ends.is_ok());
+        is_same(rt, writer.taken.as_slice(), case.lines);
+        is_same(rt, left, case.left);
+        is_same(rt, writer.is_flushed, ends.is_ok());
     }
     Some(ends)
 }
@@ -122,7 +123,7 @@ fn comes(rt: &impl Abort, alloc: Global, case: Case) {
         None | Some(Err(LogFault::OutOfMemory)) => run(rt, alloc, case),
         ends => ends,
     };
-    assert_eq!(rt; ends, Some(case.ends));
+    is_same(rt, ends, Some(case.ends));
 }
 
 #[test]
@@ -339,9 +340,9 @@ fn is_too_long(
         ran => ran,
     };
     let (fault, lines) = ran.ok_or("a log that is too long")?;
-    assert_eq!(rt; fault, LogFault::LogTooLong);
-    assert_eq!(rt; lines.many, 10_000_000);
-    assert_eq!(rt; lines.others, 0);
+    is_same(rt, fault, LogFault::LogTooLong);
+    is_same(rt, lines.many, 10_000_000);
+    is_same(rt, lines.others, 0);
     Ok(())
 }
 

@@ -2,7 +2,8 @@
 
 use crate::failure::Failure;
 use crate::random::Generator;
-use hsp_simplex::{Network, NetworkLists, Outcome, accepts, propose};
+use hsp_network::{Network, NetworkLists, Outcome, accepts};
+use hsp_simplex::propose;
 use std::alloc::{AllocError, Global};
 
 // The lists of a network, drawn at random: two arcs may be equal, a demand, capacity, limit or cost may be 0, and a source may

@@ -17,8 +17,8 @@ use Rattle.hsp_check.specs.Prices.{Prices, ArePrices, at_home}
 use Rattle.hsp_check.specs.Valid.{IsValidPlan}
 use Rattle.hsp_check.specs.Uses.{table}
 use Rattle.hsp_check.proofs.Summing.{sum_below_same}
-use Rattle.hsp_simplex.specs.Sums.{sum_below}
-use Rattle.hsp_simplex.specs.Network.{IsFeasible, HasPrices, HasLowPrices, at_host, is_on, host_of, load, host_load, price_at}
+use Rattle.hsp_network.specs.Sums.{sum_below}
+use Rattle.hsp_network.specs.Network.{IsFeasible, HasPrices, HasLowPrices, at_host, is_on, host_of, load, host_load, price_at}
 use Rattle.hsp_flow.specs.Ordered.{AreOrdered}
 use Rattle.hsp_flow.specs.Planning.{transport_of, uses_of, row_of, server_of, cost_of}
 use Rattle.hsp_flow.proofs.Ordering.{no_arc, each_weaker, all_ordered}

@@ -12,11 +12,11 @@ use Rattle.hsp_check.specs.Plan.{total, Feasible}
 use Rattle.hsp_check.specs.Uses.{table}
 use Rattle.hsp_check.specs.Valid.{IsValidPlan, IsValidSet}
 use Rattle.hsp_check.specs.declared.arc.NetworkArc.{NetworkArc}
-use Rattle.hsp_simplex.specs.Answer.{IsMet, BoundsCosts, IsShortSet}
-use Rattle.hsp_simplex.specs.Network.{HasLowPrices, capacity_of, demand_of}
+use Rattle.hsp_network.specs.Answer.{IsMet, BoundsCosts, IsShortSet}
+use Rattle.hsp_network.specs.Network.{HasLowPrices, capacity_of, demand_of}
 use Rattle.hsp_flow.specs.Planning.{transport_of, uses_of, flagged_from, HasLimitedPrices, row_of, cost_of}
-use Rattle.hsp_simplex.specs.Sums.{sum_below, only}
-use Rattle.hsp_simplex.specs.declared.network.PricedFlow.{PricedFlow}
+use Rattle.hsp_network.specs.Sums.{sum_below, only}
+use Rattle.hsp_network.specs.declared.network.PricedFlow.{PricedFlow}
 use Rattle.hsp_mincost.proofs.Sums.{term_within, only_here}
 use Rattle.hsp_flow.proofs.Ordering.{no_arc}
 use Rattle.hsp_flow.proofs.Bridging.{arc, total_at}

@@ -7,7 +7,7 @@ use Rattle.std.proofs.lemmas.List.{length-map, get_or-map, get_or_past}
 use Rattle.std.proofs.lemmas.List.Elements.{All-from_get_or}
 use Rattle.std.proofs.lemmas.Option.{slice_get_within}
 use Rattle.std.proofs.lemmas.Bool.{cases_lt, cases_Bool}
-use Rattle.hsp_simplex.specs.Sums.{sum_below}
+use Rattle.hsp_network.specs.Sums.{sum_below}
 use Rattle.hsp_instance.specs.declared.arc.Arc.{Arc}
 use Rattle.hsp_instance.specs.Instance.{Instance, Row, Server, Host, IsInstance, IsArc, AreArcs, IsAscending, IsCounted, IsServer, IsHostOf}
 use Rattle.hsp_check.specs.declared.arc.NetworkArc.{NetworkArc}
@@ -16,7 +16,7 @@ use Rattle.hsp_check.specs.Plan.{Plan, Feasible, planned, served, total}
 use Rattle.hsp_instance.proofs.Lists.{all_append, all_at}
 use Rattle.hsp_check.proofs.Summing.{sum_by_le_all, by_key}
 use Rattle.hsp_mincost.specs.Layout.{IsSmall}
-use Rattle.hsp_simplex.specs.Network.{IsNetwork, Transport, demand_of, host_of}
+use Rattle.hsp_network.specs.Network.{IsNetwork, Transport, demand_of, host_of}
 use Rattle.hsp_flow.specs.Nodes.{nodes_by}
 use Rattle.hsp_flow.specs.Planning.{transport_of, row_of, server_of, cost_of}
 use Rattle.hsp_flow.proofs.Ordering.{no_arc, each_weaker, each_at, all_ordered, rows_between, rows_ordered, arcs_many}

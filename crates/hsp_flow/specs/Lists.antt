@@ -1,7 +1,7 @@
 -- The networks that lists hold.
 use Rattle.hsp_flow.specs.declared.amounts.TransportLists.{TransportLists}
 use Rattle.hsp_flow.specs.declared.grouping.GroupLists.{GroupLists}
-use Rattle.hsp_simplex.specs.Network.{Transport}
+use Rattle.hsp_network.specs.Network.{Transport}
 
 -- the network that the lists are
 abbrev pub transport_in : TransportLists → Transport

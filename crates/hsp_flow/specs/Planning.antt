@@ -7,7 +7,7 @@ use Rattle.hsp_instance.specs.Instance.{Instance}
 use Rattle.hsp_check.specs.Network.{Network}
 use Rattle.hsp_check.specs.declared.arc.NetworkArc.{NetworkArc}
 use Rattle.hsp_check.specs.Instance.{arcs_from}
-use Rattle.hsp_simplex.specs.Network.{Transport}
+use Rattle.hsp_network.specs.Network.{Transport}
 
 -- the row that an arc leaves, the server that it enters, and what a query costs on it
 abbrev pub row_of : NetworkArc → ℕ

@@ -7,13 +7,13 @@ ghost use Rattle.hsp_cert.specs.Certificate.Claim.{best};
 ghost use Rattle.hsp_instance.specs.Instance.{IsInstance};
 ghost use Rattle.hsp_check.specs.Instance.{arc_of, arcs_from, network_of};
 ghost use Rattle.hsp_check.specs.Valid.{IsValid};
-ghost use Rattle.hsp_simplex.specs.Answer.{IsMet};
+ghost use Rattle.hsp_network.specs.Answer.{IsMet};
 ghost use Rattle.hsp_flow.specs.Planning.{HasLimitedPrices, cost_of, transport_of, uses_of};
-ghost use Rattle.hsp_simplex.specs.Sums.{sum_below};
+ghost use Rattle.hsp_network.specs.Sums.{sum_below};
 
 use hsp_cert::{Certificate, UseLine};
 use hsp_instance::{Arc, Instance};
-use hsp_simplex::PricedFlow;
+use hsp_network::PricedFlow;
 use std::alloc::{AllocError, Global};
 
 // Appends the uses of the arcs of a row.

@@ -5,8 +5,8 @@ ghost use Rattle.hsp_instance.specs.Groups.{AreGroups};
 ghost use Rattle.hsp_instance.specs.Instance.{IsInstance};
 ghost use Rattle.hsp_check.specs.Instance.{network_of};
 ghost use Rattle.hsp_check.specs.Valid.{IsValid};
-ghost use Rattle.hsp_simplex.specs.Answer.{Answers, IsShortSet};
-ghost use Rattle.hsp_simplex.specs.Problem.{problem_of};
+ghost use Rattle.hsp_network.specs.Answer.{Answers, IsShortSet};
+ghost use Rattle.hsp_network.specs.Problem.{problem_of};
 ghost use Rattle.hsp_mincost.specs.Layout.{IsSmall};
 ghost use Rattle.hsp_mincost.specs.Nodes.{MayHaveUpTo};
 ghost use Rattle.hsp_flow.specs.Lists.{transport_in, transport_with};
@@ -22,7 +22,8 @@ use crate::spreading::spread;
 use hsp_cert::Certificate;
 use hsp_instance::{Groups, Instance, groups};
 use hsp_mincost::{Frontier, HeapFrontier, SearchEffort, minimum_cost_flow};
-use hsp_simplex::{Network, NetworkLists, Outcome, SimplexEffort, accepts, propose_counted};
+use hsp_network::{Network, NetworkLists, Outcome, accepts};
+use hsp_simplex::{SimplexEffort, propose_counted};
 use std::alloc::{AllocError, Global};
 
 /// How much work a run took: its searches, the accepted proposals of the network simplex, and the pivots of all that were made.

@@ -6,13 +6,13 @@ ghost use Rattle.hsp_cert.specs.Certificate.Claim.{short};
 ghost use Rattle.hsp_instance.specs.Instance.{IsInstance};
 ghost use Rattle.hsp_check.specs.Instance.{network_of};
 ghost use Rattle.hsp_check.specs.Valid.{IsValid};
-ghost use Rattle.hsp_simplex.specs.Answer.{IsShortSet};
-ghost use Rattle.hsp_simplex.specs.Problem.{problem_of};
+ghost use Rattle.hsp_network.specs.Answer.{IsShortSet};
+ghost use Rattle.hsp_network.specs.Problem.{problem_of};
 ghost use Rattle.hsp_flow.specs.Planning.{HasLimitedPrices, flagged_from, transport_of};
 
 use hsp_cert::Certificate;
 use hsp_instance::Instance;
-use hsp_simplex::{Network, reached_capacity, sum_flagged};
+use hsp_network::{Network, reached_capacity, sum_flagged};
 use std::alloc::{AllocError, Global};
 
 // The numbers of the flagged sources.

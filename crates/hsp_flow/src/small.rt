@@ -1,10 +1,10 @@
 // Whether the loop's numbers have room for a network.
 
 ghost use Rattle.std.specs.Prelude.{ℕ, ◌*◌, ◌<◌, IsTrue, length, slice_index};
-ghost use Rattle.hsp_simplex.specs.Problem.{problem_of};
+ghost use Rattle.hsp_network.specs.Problem.{problem_of};
 ghost use Rattle.hsp_mincost.specs.Layout.{IsSmall};
 
-use hsp_simplex::{Network, greatest};
+use hsp_network::{Network, greatest};
 
 // Whether twice so many arcs in turn cost less than the greatest number.
 fn are_cheap(nodes: u64, costs: &[u64]) -> bool

@@ -5,7 +5,7 @@ ghost use Rattle.hsp_instance.specs.Groups.{AreGroups};
 
 use crate::grouping::GroupLists;
 use hsp_instance::{Groups, Instance};
-use hsp_simplex::{Outcome, PricedFlow};
+use hsp_network::{Outcome, PricedFlow};
 use std::alloc::{AllocError, Global};
 
 // Takes what is needed of what is left at a place, or all that is left there. How much that is, 0 where there is no such place.

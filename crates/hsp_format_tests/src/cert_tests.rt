@@ -1,3 +1,4 @@
+use crate::same::{is_same, is_same_of};
 use hsp_cert::*;
 use hsp_text::push_line;
 use std::alloc::{AllocError, Global};
@@ -39,7 +40,7 @@ fn fault_of(alloc: Global, text: &[u8]) -> Option<CertFault> {
 
 // The fault is the wanted one.
 fn is_fault(rt: &impl Abort, text: &[u8], answer: Option<CertFault>, wanted: CertFault) {
-    assert_eq!(rt; answer, Some(wanted), "{text:?}");
+    is_same_of(rt, &text, answer, Some(wanted));
 }
 
 // The line of this number can't stand.
@@ -72,7 +73,7 @@ fn texts_are_read_and_written_back(rt: HostRuntime) -> Result<(), Fail> {
         last_row,
     ] {
         let again = written_back(&rt, rt.alloc(), text)?;
-        assert_eq!(rt; again.as_slice(), text);
+        is_same(&rt, again.as_slice(), text);
     }
     Ok(())
 }
@@ -89,11 +90,11 @@ fn a_plan_is_what_its_text_says(rt: HostRuntime) -> Result<(), Fail> {
         use_of(2, 0, 1),
         use_of(2, 1, 2),
     ];
-    assert_eq!(rt; plan.cost(), 23);
-    assert_eq!(rt; plan.uses(), uses.as_slice());
-    assert_eq!(rt; plan.row_prices(), [4, 4, 5].as_slice());
-    assert_eq!(rt; plan.server_prices(), [0, 0, 2, 0, 0].as_slice());
-    assert_eq!(rt; plan.host_prices(), [3].as_slice());
+    is_same(&rt, plan.cost(), 23);
+    is_same(&rt, plan.uses(), uses.as_slice());
+    is_same(&rt, plan.row_prices(), [4, 4, 5].as_slice());
+    is_same(&rt, plan.server_prices(), [0, 0, 2, 0, 0].as_slice());
+    is_same(&rt, plan.host_prices(), [3].as_slice());
     Ok(())
 }
 
@@ -102,9 +103,9 @@ fn a_shortage_is_what_its_text_says(rt: HostRuntime) -> Result<(), Fail> {
     let certificate = read_twice(rt.alloc(), SHORTAGE)?;
     assert!(rt; certificate.as_best().is_none());
     let set = certificate.as_short().ok_or("a short set")?;
-    assert_eq!(rt; set.rows(), [2].as_slice());
-    assert_eq!(rt; set.demand(), 9);
-    assert_eq!(rt; set.capacity(), 8);
+    is_same(&rt, set.rows(), [2].as_slice());
+    is_same(&rt, set.demand(), 9);
+    is_same(&rt, set.capacity(), 8);
     Ok(())
 }
 
@@ -325,7 +326,7 @@ fn plans_are_made_within_their_ranges(rt: HostRuntime) -> Result<(), Fail> {
             Err(AllocError) => is_use_and_cost(alloc, cost, one)?,
             Ok(made) => made,
         };
-        assert_eq!(rt; made, wanted, "{cost} {row} {site} {count}");
+        is_same_of(&rt, &(cost, row, site, count), made, wanted);
     }
     let counts = [
         ([8192, 1024, 1024], 1_000_000_000_000, true),
@@ -341,7 +342,7 @@ fn plans_are_made_within_their_ranges(rt: HostRuntime) -> Result<(), Fail> {
             Err(AllocError) => are_prices(alloc, count, price)?,
             Ok(made) => made,
         };
-        assert_eq!(rt; made, wanted, "{count:?} {price}");
+        is_same_of(&rt, &(count, price), made, wanted);
     }
     Ok(())
 }
@@ -361,7 +362,7 @@ fn uses_stand_in_order(rt: HostRuntime) -> Result<(), Fail> {
             Ok(uses) => uses,
         };
         let made = Certificate::best(0, uses, Vec::new(alloc), Vec::new(alloc));
-        assert_eq!(rt; made.is_some(), wanted);
+        is_same(&rt, made.is_some(), wanted);
     }
     Ok(())
 }
@@ -384,15 +385,16 @@ fn what_is_put_in_is_read_out(rt: HostRuntime) -> Result<(), Fail> {
     };
     let certificate = made.ok_or("a certificate")?;
     let plan = certificate.as_best().ok_or("a plan")?;
-    assert_eq!(rt; plan.cost(), 12);
-    assert_eq!(rt; plan.uses(), [one].as_slice());
-    assert_eq!(rt; plan.row_prices(), [7, 7].as_slice());
-    assert_eq!(rt; plan.server_prices(), [5, 5, 5].as_slice());
-    assert_eq!(rt; plan.host_prices().len(), 0);
+    is_same(&rt, plan.cost(), 12);
+    is_same(&rt, plan.uses(), [one].as_slice());
+    is_same(&rt, plan.row_prices(), [7, 7].as_slice());
+    is_same(&rt, plan.server_prices(), [5, 5, 5].as_slice());
+    is_same(&rt, plan.host_prices().len(), 0);
     let text = write_twice(alloc, &certificate)?;
-    assert_eq!(rt;
+    is_same(
+        &rt,
         text.as_slice(),
-        b"HSPLAN 1\nPLAN\ncost 12\nuse 2 1 3\nrow 0 7\nrow 1 7\nserver 0 5\nserver 1 5\nserver 2 5\nEND\n".as_slice()
+        b"HSPLAN 1\nPLAN\ncost 12\nuse 2 1 3\nrow 0 7\nrow 1 7\nserver 0 5\nserver 1 5\nserver 2 5\nEND\n".as_slice(),
     );
     Ok(())
 }
@@ -425,12 +427,12 @@ fn shortages_are_made_within_their_ranges(rt: HostRuntime) -> Result<(), Fail> {
             Err(AllocError) => shortage_of(alloc, rows, demand, capacity)?,
             Ok(made) => made,
         };
-        assert_eq!(rt; made.is_some(), wanted, "{rows:?}");
+        is_same_of(&rt, &rows, made.is_some(), wanted);
         if let Some(certificate) = made {
             let set = certificate.as_short().ok_or("a short set")?;
-            assert_eq!(rt; set.rows(), rows);
-            assert_eq!(rt; set.demand(), demand);
-            assert_eq!(rt; set.capacity(), capacity);
+            is_same(&rt, set.rows(), rows);
+            is_same(&rt, set.demand(), demand);
+            is_same(&rt, set.capacity(), capacity);
         }
     }
     Ok(())
@@ -492,6 +494,6 @@ fn bad_lines_are_told_at_any_length(rt: HostRuntime) -> Result<(), Fail> {
         Ok(text) => text,
     };
     let answer = fault_of(alloc, &text);
-    assert_eq!(rt; answer, Some(CertFault::BadLine { line: 100_004 }));
+    is_same(&rt, answer, Some(CertFault::BadLine { line: 100_004 }));
     Ok(())
 }

@@ -1,3 +1,4 @@
+use crate::same::is_same;
 use csv::ByteRecord;
 use hsp_csv::*;
 use std::alloc::{AllocError, Global};
@@ -100,8 +101,8 @@ fn records_of_a_text(rt: HostRuntime) -> Result<(), Fail> {
             out.clear();
             fault = first_ten(rt.alloc(), text, &mut out);
         }
-        assert_eq!(rt; fault, None);
-        assert_eq!(rt; out.as_slice(), wanted);
+        is_same(&rt, fault, None);
+        is_same(&rt, out.as_slice(), wanted);
     }
     Ok(())
 }
@@ -121,8 +122,8 @@ fn a_reader_that_gives_little_or_fails(rt: HostRuntime) -> Result<(), Fail> {
             out.clear();
             fault = first_ten(rt.alloc(), little(good), &mut out);
         }
-        assert_eq!(rt; fault, wanted_fault);
-        assert_eq!(rt; out.as_slice(), wanted);
+        is_same(&rt, fault, wanted_fault);
+        is_same(&rt, out.as_slice(), wanted);
     }
     Ok(())
 }
@@ -146,7 +147,7 @@ fn headers_are_told(rt: HostRuntime) {
             let reader = OneByOne { text, good: 100 };
             found = headed(rt.alloc(), reader, &header);
         }
-        assert_eq!(rt; found, Ok(wanted));
+        is_same(&rt, found, Ok(wanted));
     }
 }
 

@@ -1,3 +1,4 @@
+use crate::same::is_same;
 use hsp_hash::*;
 use hsp_names::HandleRef;
 use std::test::Fail;
@@ -12,11 +13,11 @@ fn place(option: HashOption, handle: &[u8], servers: u32) -> Option<u32> {
 
 #[test]
 fn options_have_their_octets(rt: HostRuntime) {
-    assert_eq!(rt; HashOption::of_octet(0), Some(HashOption::ByNa));
-    assert_eq!(rt; HashOption::of_octet(1), Some(HashOption::ByLocal));
-    assert_eq!(rt; HashOption::of_octet(2), Some(HashOption::ByHandle));
-    assert_eq!(rt; HashOption::of_octet(3), None);
-    assert_eq!(rt; HashOption::of_octet(255), None);
+    is_same(&rt, HashOption::of_octet(0), Some(HashOption::ByNa));
+    is_same(&rt, HashOption::of_octet(1), Some(HashOption::ByLocal));
+    is_same(&rt, HashOption::of_octet(2), Some(HashOption::ByHandle));
+    is_same(&rt, HashOption::of_octet(3), None);
+    is_same(&rt, HashOption::of_octet(255), None);
 }
 
 // The MD5 of each local name, as RFC 1321's algorithm gives it.
@@ -34,9 +35,10 @@ const DIGESTS_OF_LOCAL_NAMES: [(&[u8], u128); 7] = [
 fn digests_are_md5(rt: HostRuntime) -> Result<(), Fail> {
     for (handle, wanted) in DIGESTS_OF_LOCAL_NAMES {
         let handle = HandleRef::parse(handle).ok().ok_or("no handle")?;
-        assert_eq!(rt;
+        is_same(
+            &rt,
             digest_of(HashOption::ByLocal, handle),
-            wanted.to_be_bytes()
+            wanted.to_be_bytes(),
         );
     }
     Ok(())
@@ -46,14 +48,18 @@ fn digests_are_md5(rt: HostRuntime) -> Result<(), Fail> {
 fn naming_authorities_are_hashed(rt: HostRuntime) -> Result<(), Fail> {
     let handle = HandleRef::parse(b"10/1").ok().ok_or("no handle")?;
     let wanted: u128 = 0xd3d9446802a44259755d38e6d163e820;
-    assert_eq!(rt; digest_of(HashOption::ByNa, handle), wanted.to_be_bytes());
+    is_same(
+        &rt,
+        digest_of(HashOption::ByNa, handle),
+        wanted.to_be_bytes(),
+    );
     Ok(())
 }
 
 #[test]
 fn the_least_integer_has_an_absolute_value(rt: HostRuntime) {
     let digest = [0, 0, 0, 0, 0, 0, 0, 0, 0, 0, 0, 0, 0x80, 0, 0, 0];
-    assert_eq!(rt; number_of_digest(&digest, 3), 2);
+    is_same(&rt, number_of_digest(&digest, 3), 2);
 }
 
 #[test]
@@ -72,6 +78,6 @@ fn places_are_those_of_the_standard(rt: HostRuntime) {
         (HashOption::ByHandle, b"10/1", 1, 0),
     ];
     for (option, handle, servers, wanted) in cases {
-        assert_eq!(rt; place(option, handle, servers), Some(wanted));
+        is_same(&rt, place(option, handle, servers), Some(wanted));
     }
 }

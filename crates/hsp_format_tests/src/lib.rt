@@ -12,6 +12,8 @@ mod names_tests;
 #[cfg(test)]
 mod record_tests;
 #[cfg(test)]
+mod same;
+#[cfg(test)]
 mod tables_tests;
 #[cfg(test)]
 mod text_tests;

@@ -1,3 +1,4 @@
+use crate::same::is_same;
 use hsp_names::*;
 use std::test::Fail;
 
@@ -22,7 +23,7 @@ fn faults_are_told_in_their_order(rt: HostRuntime) {
         (b"10/\xff", Some(HandleFault::NotUtf8)),
     ];
     for (octets, wanted) in cases {
-        assert_eq!(rt; fault_of(octets), wanted);
+        is_same(&rt, fault_of(octets), wanted);
     }
 }
 
@@ -32,20 +33,20 @@ fn length_is_limited(rt: HostRuntime) {
     octets[0] = b'1';
     octets[1] = b'0';
     octets[2] = b'/';
-    assert_eq!(rt; fault_of(&octets), Some(HandleFault::TooLong));
-    assert_eq!(rt; fault_of(&octets[..4096]), None);
+    is_same(&rt, fault_of(&octets), Some(HandleFault::TooLong));
+    is_same(&rt, fault_of(&octets[..4096]), None);
 }
 
 #[test]
 fn parts_are_lent(rt: HostRuntime) -> Result<(), Fail> {
     let handle = HandleRef::parse(b"10.abc/a/b").ok().ok_or("no handle")?;
-    assert_eq!(rt; handle.bytes(), b"10.abc/a/b".as_slice());
-    assert_eq!(rt; handle.naming_authority(), b"10.abc".as_slice());
-    assert_eq!(rt; handle.local_name(), b"a/b".as_slice());
+    is_same(&rt, handle.bytes(), b"10.abc/a/b".as_slice());
+    is_same(&rt, handle.naming_authority(), b"10.abc".as_slice());
+    is_same(&rt, handle.local_name(), b"a/b".as_slice());
     let mut segments = handle.segments();
-    assert_eq!(rt; segments.next(), Some(b"10".as_slice()));
-    assert_eq!(rt; segments.next(), Some(b"abc".as_slice()));
-    assert_eq!(rt; segments.next(), None);
+    is_same(&rt, segments.next(), Some(b"10".as_slice()));
+    is_same(&rt, segments.next(), Some(b"abc".as_slice()));
+    is_same(&rt, segments.next(), None);
     Ok(())
 }
 
@@ -63,8 +64,8 @@ fn accepted_after_reading(octets: &[u8]) -> Option<HandleRef<'_>> {
 #[test]
 fn accepted_handles_have_the_same_parts(rt: HostRuntime) -> Result<(), Fail> {
     let handle = accepted_after_reading(b"10.abc/a/b").ok_or("no handle")?;
-    assert_eq!(rt; handle.bytes(), b"10.abc/a/b".as_slice());
-    assert_eq!(rt; handle.naming_authority(), b"10.abc".as_slice());
-    assert_eq!(rt; handle.local_name(), b"a/b".as_slice());
+    is_same(&rt, handle.bytes(), b"10.abc/a/b".as_slice());
+    is_same(&rt, handle.naming_authority(), b"10.abc".as_slice());
+    is_same(&rt, handle.local_name(), b"a/b".as_slice());
     Ok(())
 }

@@ -1,5 +1,6 @@
 // The worked cases, and the readers of a record that has something in every field.
 
+use crate::same::is_same;
 use hsp_record::*;
 use std::alloc::{AllocError, Global};
 use std::test::Fail;
@@ -100,7 +101,7 @@ fn sites_come_back(rt: HostRuntime) -> Result<(), Fail> {
     ] {
         let site = site_of(rt.alloc(), octets).ok().ok_or("no record")?;
         let spelled = site_spelling(rt.alloc(), &site).ok().ok_or("no spelling")?;
-        assert_eq!(rt; spelled.as_slice(), octets);
+        is_same(&rt, spelled.as_slice(), octets);
     }
     Ok(())
 }
@@ -108,23 +109,23 @@ fn sites_come_back(rt: HostRuntime) -> Result<(), Fail> {
 #[test]
 fn fields_are_read(rt: HostRuntime) -> Result<(), Fail> {
     let site = site_of(rt.alloc(), FULL_SITE).ok().ok_or("no record")?;
-    assert_eq!(rt; site.version(), 4);
-    assert_eq!(rt; site.protocol(), (2, 1));
-    assert_eq!(rt; site.serial(), 5);
-    assert_eq!(rt; site.mask(), 6);
-    assert_eq!(rt; site.option_octet(), 2);
-    assert_eq!(rt; site.filter(), b"f".as_slice());
-    assert_eq!(rt; site.attribute_count(), 1);
+    is_same(&rt, site.version(), 4);
+    is_same(&rt, site.protocol(), (2, 1));
+    is_same(&rt, site.serial(), 5);
+    is_same(&rt, site.mask(), 6);
+    is_same(&rt, site.option_octet(), 2);
+    is_same(&rt, site.filter(), b"f".as_slice());
+    assert!(rt; site.attribute_count() == 1);
     let (name, value) = site.attribute(0);
-    assert_eq!(rt; name, b"a".as_slice());
-    assert_eq!(rt; value, b"bc".as_slice());
-    assert_eq!(rt; site.server_count(), 1);
+    is_same(&rt, name, b"a".as_slice());
+    is_same(&rt, value, b"bc".as_slice());
+    assert!(rt; site.server_count() == 1);
     let server = site.server(0);
-    assert_eq!(rt; server.id(), 9);
-    assert_eq!(rt; server.address(), *b"addressofserver9");
-    assert_eq!(rt; server.key(), b"key".as_slice());
-    assert_eq!(rt; server.interface_count(), 1);
-    assert_eq!(rt; server.interface(0), (1, 2, 2641));
+    is_same(&rt, server.id(), 9);
+    is_same(&rt, server.address(), *b"addressofserver9");
+    is_same(&rt, server.key(), b"key".as_slice());
+    assert!(rt; server.interface_count() == 1);
+    is_same(&rt, server.interface(0), (1, 2, 2641));
     Ok(())
 }
 
@@ -132,13 +133,15 @@ fn fields_are_read(rt: HostRuntime) -> Result<(), Fail> {
 fn site_faults_are_told(rt: HostRuntime) {
     let mut octets = [0; 49];
     octets[..48].copy_from_slice(&SITE);
-    assert_eq!(rt;
+    is_same(
+        &rt,
         site_fault(rt.alloc(), &octets),
-        Some(RecordFault::Trailing { at: 48 })
+        Some(RecordFault::Trailing { at: 48 }),
     );
-    assert_eq!(rt;
+    is_same(
+        &rt,
         site_fault(rt.alloc(), &SITE[..47]),
-        Some(RecordFault::Truncated { at: 44 })
+        Some(RecordFault::Truncated { at: 44 }),
     );
     for (count, wanted) in [
         ([0, 0, 0, 1], RecordFault::Truncated { at: 20 }),
@@ -147,12 +150,13 @@ fn site_faults_are_told(rt: HostRuntime) {
         ([255, 255, 255, 255], RecordFault::TooManyServers),
     ] {
         octets[16..20].copy_from_slice(&count);
-        assert_eq!(rt; site_fault(rt.alloc(), &octets[..20]), Some(wanted));
+        is_same(&rt, site_fault(rt.alloc(), &octets[..20]), Some(wanted));
     }
     octets[16] = 255;
-    assert_eq!(rt;
+    is_same(
+        &rt,
         site_fault(rt.alloc(), &octets[..17]),
-        Some(RecordFault::Truncated { at: 16 })
+        Some(RecordFault::Truncated { at: 16 }),
     );
 }
 
@@ -218,18 +222,20 @@ fn forged_lengths_reach_past_the_end(rt: HostRuntime) {
         let mut octets = [0; 53];
         octets.copy_from_slice(REFERRING);
         octets[place..place + 4].copy_from_slice(&[255; 4]);
-        assert_eq!(rt;
+        is_same(
+            &rt,
             values_fault(rt.alloc(), &octets),
-            Some(RecordFault::Truncated { at })
+            Some(RecordFault::Truncated { at }),
         );
     }
     for (place, at) in [(0, 4), (8, 28), (16, 31), (20, 24)] {
         let mut octets = [0; 31];
         octets.copy_from_slice(BODY);
         octets[place..place + 4].copy_from_slice(&[255; 4]);
-        assert_eq!(rt;
+        is_same(
+            &rt,
             decode_request(&octets).err(),
-            Some(RecordFault::Truncated { at })
+            Some(RecordFault::Truncated { at }),
         );
     }
 }
@@ -239,35 +245,38 @@ fn forged_counts_take_no_memory(rt: HostRuntime) {
     for (place, len, at) in [(8, 12, 12), (12, 16, 16), (40, 48, 44), (44, 48, 48)] {
         let mut octets = SITE;
         octets[place..place + 4].copy_from_slice(&[255; 4]);
-        assert_eq!(rt;
+        is_same(
+            &rt,
             decode_site(rt.alloc(), &octets[..len]).err(),
-            Some(RecordFault::Truncated { at })
+            Some(RecordFault::Truncated { at }),
         );
     }
-    assert_eq!(rt;
+    is_same(
+        &rt,
         decode_values(rt.alloc(), &[255; 4]).err(),
-        Some(RecordFault::Truncated { at: 4 })
+        Some(RecordFault::Truncated { at: 4 }),
     );
 }
 
 #[test]
 fn value_lists_come_back(rt: HostRuntime) -> Result<(), Fail> {
     let octets = joined(rt.alloc(), &[ONE_VALUE, &[0, 0, 0, 48], &SITE, &[0; 18]])?;
-    assert_eq!(rt; octets.len(), 89);
+    is_same(&rt, octets.len(), 89);
     let (_, cut) = octets.split_last().ok_or("no octets")?;
-    assert_eq!(rt;
+    is_same(
+        &rt,
         values_fault(rt.alloc(), cut),
-        Some(RecordFault::Truncated { at: 85 })
+        Some(RecordFault::Truncated { at: 85 }),
     );
     let list = list_of(rt.alloc(), &octets).ok().ok_or("no list")?;
-    assert_eq!(rt; list.len(), 1);
+    is_same(&rt, list.len(), 1);
     assert!(rt; list.find(2).is_none());
     let value = list.find(1).ok_or("no value of index 1")?;
-    assert_eq!(rt; value.index(), 1);
-    assert_eq!(rt; value.type_octets(), b"HS_SITE".as_slice());
-    assert_eq!(rt; value.octets(), SITE.as_slice());
+    is_same(&rt, value.index(), 1);
+    is_same(&rt, value.type_octets(), b"HS_SITE".as_slice());
+    is_same(&rt, value.octets(), SITE.as_slice());
     let spelled = list_spelling(rt.alloc(), &list).ok().ok_or("no spelling")?;
-    assert_eq!(rt; spelled.as_slice(), octets.as_slice());
+    is_same(&rt, spelled.as_slice(), octets.as_slice());
     Ok(())
 }
 
@@ -288,7 +297,7 @@ fn long_lists_come_back(rt: HostRuntime) -> Result<(), Fail> {
         Ok(octets) => octets,
     };
     let list = list_of(rt.alloc(), &octets).ok().ok_or("no list")?;
-    assert_eq!(rt; list.len(), 1001);
+    is_same(&rt, list.len(), 1001);
     assert!(rt; list.find(1000).is_some());
     let spelled = list_spelling(rt.alloc(), &list).ok().ok_or("no spelling")?;
     assert!(rt; spelled == octets);
@@ -314,7 +323,7 @@ fn large_sites_come_back(rt: HostRuntime) -> Result<(), Fail> {
     };
     let site = site_of(rt.alloc(), &octets).ok().ok_or("no record")?;
     let spelled = site_spelling(rt.alloc(), &site).ok().ok_or("no spelling")?;
-    assert_eq!(rt; spelled.len(), 65_584);
+    is_same(&rt, spelled.len(), 65_584);
     assert!(rt; spelled == octets);
     Ok(())
 }
@@ -323,10 +332,10 @@ fn large_sites_come_back(rt: HostRuntime) -> Result<(), Fail> {
 fn references_and_no_values_come_back(rt: HostRuntime) -> Result<(), Fail> {
     for (octets, len) in [([0; 4].as_slice(), 0), (REFERRING, 1)] {
         let list = list_of(rt.alloc(), octets).ok().ok_or("no list")?;
-        assert_eq!(rt; list.len(), len);
-        assert_eq!(rt; list.is_empty(), len == 0);
+        is_same(&rt, list.len(), len);
+        is_same(&rt, list.is_empty(), len == 0);
         let spelled = list_spelling(rt.alloc(), &list).ok().ok_or("no spelling")?;
-        assert_eq!(rt; spelled.as_slice(), octets);
+        is_same(&rt, spelled.as_slice(), octets);
     }
     Ok(())
 }
@@ -337,18 +346,21 @@ fn value_faults_are_told(rt: HostRuntime) {
     octets[3] = 2;
     octets[7] = 1;
     octets[37] = 1;
-    assert_eq!(rt;
+    is_same(
+        &rt,
         values_fault(rt.alloc(), &octets),
-        Some(RecordFault::IndexTwice { index: 1 })
+        Some(RecordFault::IndexTwice { index: 1 }),
     );
-    assert_eq!(rt;
+    is_same(
+        &rt,
         values_fault(rt.alloc(), &octets[..37]),
-        Some(RecordFault::Truncated { at: 34 })
+        Some(RecordFault::Truncated { at: 34 }),
     );
     octets[3] = 1;
-    assert_eq!(rt;
+    is_same(
+        &rt,
         values_fault(rt.alloc(), &octets),
-        Some(RecordFault::Trailing { at: 34 })
+        Some(RecordFault::Trailing { at: 34 }),
     );
 }
 
@@ -370,8 +382,8 @@ fn request_bodies_are_read(rt: HostRuntime) {
     ];
     for (body, wanted) in cases {
         match (decode_request(body), wanted) {
-            (Ok(request), Ok(handle)) => assert_eq!(rt; request.handle(), handle),
-            (Err(fault), Err(expected)) => assert_eq!(rt; fault, expected),
+            (Ok(request), Ok(handle)) => is_same(&rt, request.handle(), handle),
+            (Err(fault), Err(expected)) => is_same(&rt, fault, expected),
             _ => assert!(rt; false, "{body:?}"),
         }
     }

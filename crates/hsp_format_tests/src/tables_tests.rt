@@ -1,3 +1,4 @@
+use crate::same::{is_same, is_same_of};
 use hsp_names::HandleFault;
 use hsp_tables::*;
 use hsp_text::push_whole;
@@ -50,7 +51,7 @@ fn settings_of(alloc: Global, text: &[u8]) -> Result<Settings, TableFault> {
 
 // The fault is the wanted one.
 fn is_fault(rt: &impl Abort, text: &[u8], answer: Option<TableFault>, wanted: Option<TableFault>) {
-    assert_eq!(rt; answer, wanted, "{text:?}");
+    is_same_of(rt, &text, answer, wanted);
 }
 
 #[test]
@@ -65,13 +66,13 @@ fn the_base_demand_is_read(rt: HostRuntime) -> Result<(), Fail> {
     for text in [DEMAND, marked, dressed] {
         match demand_of(rt.alloc(), text) {
             Ok(demand) => {
-                assert_eq!(rt; demand.len(), 3);
+                is_same(&rt, demand.len(), 3);
                 for (number, (region, handle, count)) in rows.iter().enumerate() {
                     if number < 3 && demand.len() == 3 {
                         let row = demand.row(number as u32);
-                        assert_eq!(rt; row.region, *region);
-                        assert_eq!(rt; row.handle.bytes(), *handle);
-                        assert_eq!(rt; row.count, *count);
+                        is_same(&rt, row.region, *region);
+                        is_same(&rt, row.handle.bytes(), *handle);
+                        is_same(&rt, row.count, *count);
                     }
                 }
             }
@@ -91,17 +92,17 @@ fn the_base_costs_are_read(rt: HostRuntime) -> Result<(), Fail> {
     ];
     match costs_of(rt.alloc(), COSTS) {
         Ok(costs) => {
-            assert_eq!(rt; costs.len(), 4);
+            is_same(&rt, costs.len(), 4);
             for (number, (region, site, cost)) in rows.iter().enumerate() {
                 if number < 4 && costs.len() == 4 {
                     let row = costs.row(number as u32);
-                    assert_eq!(rt; row.region, *region);
-                    assert_eq!(rt; row.site, *site);
-                    assert_eq!(rt; row.cost, *cost);
-                    assert_eq!(rt; costs.find(region, site), Some(*cost));
+                    is_same(&rt, row.region, *region);
+                    is_same(&rt, row.site, *site);
+                    is_same(&rt, row.cost, *cost);
+                    is_same(&rt, costs.find(region, site), Some(*cost));
                 }
             }
-            assert_eq!(rt; costs.find(b"E", b"r1"), None);
+            is_same(&rt, costs.find(b"E", b"r1"), None);
         }
         Err(fault) => panic!(rt; "{fault:?}"),
     }
@@ -119,17 +120,17 @@ fn the_base_capacities_are_read(rt: HostRuntime) -> Result<(), Fail> {
     ];
     match capacity_of(rt.alloc(), CAPACITY) {
         Ok(capacities) => {
-            assert_eq!(rt; capacities.len(), 5);
+            is_same(&rt, capacities.len(), 5);
             for (number, (site, server_id, capacity)) in rows.iter().enumerate() {
                 if number < 5 && capacities.len() == 5 {
                     let row = capacities.row(number as u32);
-                    assert_eq!(rt; row.site, *site);
-                    assert_eq!(rt; row.server_id, *server_id);
-                    assert_eq!(rt; row.capacity, *capacity);
-                    assert_eq!(rt; capacities.find(site, *server_id), Some(*capacity));
+                    is_same(&rt, row.site, *site);
+                    is_same(&rt, row.server_id, *server_id);
+                    is_same(&rt, row.capacity, *capacity);
+                    is_same(&rt, capacities.find(site, *server_id), Some(*capacity));
                 }
             }
-            assert_eq!(rt; capacities.find(b"E", 1), None);
+            is_same(&rt, capacities.find(b"E", 1), None);
         }
         Err(fault) => panic!(rt; "{fault:?}"),
     }
@@ -140,10 +141,10 @@ fn the_base_capacities_are_read(rt: HostRuntime) -> Result<(), Fail> {
 fn the_base_settings_are_read(rt: HostRuntime) -> Result<(), Fail> {
     match settings_of(rt.alloc(), SETTINGS) {
         Ok(settings) => {
-            assert_eq!(rt; settings.len(), 2);
-            assert_eq!(rt; settings.host_count(), 0);
-            assert_eq!(rt; settings.name(0), b"E".as_slice());
-            assert_eq!(rt; settings.name(1), b"W".as_slice());
+            assert!(rt; settings.len() == 2);
+            assert!(rt; settings.host_count() == 0);
+            is_same(&rt, settings.name(0), b"E".as_slice());
+            is_same(&rt, settings.name(1), b"W".as_slice());
             assert!(rt;
                 matches!(settings.source(0), Source::Octets(octets) if octets == RECORD_OF_E)
             );
@@ -336,16 +337,16 @@ fn numbers_of_settings(rt: HostRuntime) -> Result<(), Fail> {
         b"[[site]]\nname = \"E\"\nindex = 0x10\n[[host]]\naddress = \"0123456789abcdefABCDEF0123456789\"\nlimit = 1_000_000_000_000\n";
     match settings_of(rt.alloc(), text) {
         Ok(settings) => {
-            assert_eq!(rt; settings.len(), 1);
-            assert_eq!(rt; settings.host_count(), 1);
+            assert!(rt; settings.len() == 1);
+            assert!(rt; settings.host_count() == 1);
             assert!(rt; matches!(settings.source(0), Source::Index(16)));
             let (address, limit) = settings.host(0);
             let octets = [
                 0x01, 0x23, 0x45, 0x67, 0x89, 0xab, 0xcd, 0xef, 0xab, 0xcd, 0xef, 0x01, 0x23, 0x45,
                 0x67, 0x89,
             ];
-            assert_eq!(rt; address, octets);
-            assert_eq!(rt; limit, 1_000_000_000_000);
+            is_same(&rt, address, octets);
+            is_same(&rt, limit, 1_000_000_000_000);
         }
         Err(fault) => panic!(rt; "{fault:?}"),
     }

@@ -1,3 +1,4 @@
+use crate::same::is_same;
 use hsp_text::*;
 use std::alloc::{AllocError, Global};
 use std::io;
@@ -17,16 +18,21 @@ fn whole_numbers_are_read(rt: HostRuntime) {
         (b"999999999999999999999999999999", Err(WholeFault::TooLarge)),
     ];
     for (text, wanted) in cases {
-        assert_eq!(rt; read_whole(text, 1_000_000), wanted);
+        is_same(&rt, read_whole(text, 1_000_000), wanted);
     }
 }
 
 #[test]
 fn the_greatest_number_is_read(rt: HostRuntime) {
-    assert_eq!(rt; read_whole(b"18446744073709551615", u64::MAX), Ok(u64::MAX));
-    assert_eq!(rt;
+    is_same(
+        &rt,
+        read_whole(b"18446744073709551615", u64::MAX),
+        Ok(u64::MAX),
+    );
+    is_same(
+        &rt,
         read_whole(b"18446744073709551616", u64::MAX),
-        Err(WholeFault::TooLarge)
+        Err(WholeFault::TooLarge),
     );
 }
 
@@ -39,10 +45,10 @@ fn digits_are_appended(rt: HostRuntime) -> Result<(), Fail> {
     };
     // A refused growth leaves `out` as it was, and the second call finds memory.
     if push_whole(&mut out, 10).is_err() {
-        assert_eq!(rt; out.as_slice(), b"a".as_slice());
-        assert_eq!(rt; push_whole(&mut out, 10), Ok(()));
+        is_same(&rt, out.as_slice(), b"a".as_slice());
+        is_same(&rt, push_whole(&mut out, 10), Ok(()));
     }
-    assert_eq!(rt; out.as_slice(), b"a10".as_slice());
+    is_same(&rt, out.as_slice(), b"a10".as_slice());
     Ok(())
 }
 
@@ -58,18 +64,23 @@ fn names_are_told(rt: HostRuntime) {
         (&[b'x'; 65], false),
     ];
     for (text, wanted) in cases {
-        assert_eq!(rt; is_name(text), wanted);
+        is_same(&rt, is_name(text), wanted);
     }
 }
 
 #[test]
 fn lines_are_split(rt: HostRuntime) {
-    assert_eq!(rt;
+    is_same(
+        &rt,
         next_line(b"a b\nc\n"),
-        Some((b"a b".as_slice(), b"c\n".as_slice()))
+        Some((b"a b".as_slice(), b"c\n".as_slice())),
     );
-    assert_eq!(rt; next_line(b"\n"), Some((b"".as_slice(), b"".as_slice())));
-    assert_eq!(rt; next_line(b"c"), None);
+    is_same(
+        &rt,
+        next_line(b"\n"),
+        Some((b"".as_slice(), b"".as_slice())),
+    );
+    is_same(&rt, next_line(b"c"), None);
 }
 
 // Pieces of texts, one behind the other.
@@ -104,7 +115,7 @@ fn pieces_are_appended(rt: HostRuntime) -> Result<(), Fail> {
     let mut rest = out.as_slice();
     for piece in wanted {
         assert!(rt; rest.len() >= piece.len());
-        assert_eq!(rt; &rest[..piece.len()], piece);
+        is_same(&rt, &rest[..piece.len()], piece);
         rest = &rest[piece.len()..];
     }
     assert!(rt; rest.is_empty());
@@ -161,8 +172,8 @@ fn texts_are_written_whole_or_cut(rt: HostRuntime) -> Result<(), Fail> {
             room,
             fails,
         };
-        assert_eq!(rt; put_all(&mut writer, b"abcd"), wanted);
-        assert_eq!(rt; writer.taken.as_slice(), taken);
+        is_same(&rt, put_all(&mut writer, b"abcd"), wanted);
+        is_same(&rt, writer.taken.as_slice(), taken);
     }
     Ok(())
 }

@@ -1,7 +1,7 @@
 -- The lists of a network's links make a graph whose numbers fit.
 use Rattle.std.proofs.Common.{◌≡◌, ℕ, ◌+◌, ◌-◌, ◌*◌, ◌<◌, ◌≤◌, ◌⊎◌, inl, inr, List, length, slice_index, refl, ap, sym, ◌∙◌, arith, mul-zero}
 use Rattle.std.proofs.lemmas.Bool.{cases_lt}
-use Rattle.hsp_simplex.specs.Network.{Transport, IsNetwork, host_of}
+use Rattle.hsp_network.specs.Network.{Transport, IsNetwork, host_of}
 use Rattle.hsp_mincost.specs.Layout.{LinksOf, IsSmall, base_of, first_of, hosts_of, servers_of, host_node}
 use Rattle.hsp_mincost.specs.Graph.{Graph, Scale}
 use Rattle.hsp_mincost.proofs.Modelling.{node_low}

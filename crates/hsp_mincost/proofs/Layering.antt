@@ -1,6 +1,6 @@
 -- The links of a network, put together from their parts.
 use Rattle.std.proofs.Common.{◌≡◌, ℕ, ◌+◌, ◌-◌, ◌<◌, List, [], length, slice_index, slice_index_or, None, ap, sym, ◌∙◌, arith, zero-add}
-use Rattle.hsp_simplex.specs.Network.{Transport}
+use Rattle.hsp_network.specs.Network.{Transport}
 use Rattle.hsp_mincost.specs.Layout.{Appends, TailsOf, HeadsOf, CostsOf, CapacitiesOf, SuppliesOf, base_of, first_of, hosts_of, servers_of, host_node}
 
 module _ (net : Transport) where

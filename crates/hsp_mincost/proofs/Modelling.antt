@@ -1,9 +1,9 @@
 -- A flow on a network's links as a flow of the network.
 use Rattle.std.proofs.Common.{◌≡◌, ℕ, ◌+◌, ◌-◌, ◌<◌, ◌≤◌, inl, inr, true, false, List, length, slice_index, Option, Some, None, if◌then◌else◌, refl, ap, sym, ◌∙◌, arith}
 use Rattle.std.proofs.lemmas.Bool.{cases_eq, cases_lt}
-use Rattle.hsp_simplex.specs.Sums.{only, sum_below}
+use Rattle.hsp_network.specs.Sums.{only, sum_below}
 use Rattle.hsp_mincost.specs.Sums.{through}
-use Rattle.hsp_simplex.specs.Network.{Transport, IsNetwork, IsFeasible, HasPrices, HasLowPrices, host_of, sent, load, on_host, host_load, is_on, at_host}
+use Rattle.hsp_network.specs.Network.{Transport, IsNetwork, IsFeasible, HasPrices, HasLowPrices, host_of, sent, load, on_host, host_load, is_on, at_host}
 use Rattle.hsp_mincost.specs.Layout.{LinksOf, IsSmall, base_of, first_of, hosts_of, servers_of, host_node}
 use Rattle.hsp_mincost.specs.Residual.{Flow, Links, Sound}
 use Rattle.hsp_mincost.proofs.Sums.{only_here, only_there, sum_below_same, term_within}

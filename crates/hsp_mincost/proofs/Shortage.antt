@@ -1,8 +1,8 @@
 -- The sources that a search reached that didn't come to the sink demand more than the servers that they may use can take.
 use Rattle.std.proofs.Common.{◌≡◌, ℕ, ◌+◌, ◌<◌, ◌≤◌, ◌==◌, ◌&&◌, inl, inr, Bool, true, false, length, slice_index, Option, Some, None, is_none, min, if◌then◌else◌, refl, ap, sym, ◌∙◌, arith, eqb-true}
 use Rattle.std.proofs.lemmas.Bool.{cases_eq, cases_lt, cases_Bool, and_parts}
-use Rattle.hsp_simplex.specs.Sums.{only, sum_below}
-use Rattle.hsp_simplex.specs.Network.{Transport, IsNetwork, IsShort, host_of, sent, load, on_host, host_load, is_on, reaches, reached_capacity, capacity_of, demand_of}
+use Rattle.hsp_network.specs.Sums.{only, sum_below}
+use Rattle.hsp_network.specs.Network.{Transport, IsNetwork, IsShort, host_of, sent, load, on_host, host_load, is_on, reaches, reached_capacity, capacity_of, demand_of}
 use Rattle.hsp_mincost.specs.Layout.{LinksOf, IsSmall, base_of, first_of, hosts_of, servers_of, host_node}
 use Rattle.hsp_mincost.specs.Residual.{Flow, Links, SearchTree, Sound, from, to, width}
 use Rattle.hsp_mincost.specs.Search.{Closed, top}

@@ -1,7 +1,7 @@
 -- No flow, with the least cost of a node's links as its price.
 use Rattle.std.proofs.Common.{◌≡◌, ℕ, ◌+◌, ◌*◌, ◌++◌, ◌∷◌, [], ap, length-append, ◌<◌, ◌≤◌, mul-le-mul_right, inl, inr, true, false, List, length, slice_index, refl, ◌∙◌, arith}
 use Rattle.hsp_mincost.proofs.Appending.{longer}
-use Rattle.hsp_simplex.specs.Sums.{only}
+use Rattle.hsp_network.specs.Sums.{only}
 use Rattle.hsp_mincost.specs.Sums.{through}
 use Rattle.hsp_mincost.specs.Opening.{FirstPrices, LeastCost}
 use Rattle.hsp_mincost.specs.Residual.{AreOptimal, Flow, Links, Sound, nodes}

@@ -3,7 +3,7 @@ use Rattle.std.proofs.Common.{◌≡◌, ◌≢◌, ℕ, zero, suc, ◌+◌, ◌
 use Rattle.std.proofs.lemmas.Bool.{cases_eq}
 use Rattle.hsp_check.proofs.Summing.{sum_below_add, sum_below_one}
 pub use Rattle.hsp_check.proofs.Summing.{sum_below_same, sum_below_le}
-use Rattle.hsp_simplex.specs.Sums.{sum_below, only}
+use Rattle.hsp_network.specs.Sums.{sum_below, only}
 use Rattle.hsp_mincost.specs.Sums.{through}
 
 -- sums that differ in one term

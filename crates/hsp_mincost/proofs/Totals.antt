@@ -1,9 +1,9 @@
 -- Sums in parts, and sums of sums.
 use Rattle.std.proofs.Common.{◌≡◌, ◌≢◌, ℕ, zero, suc, ◌+◌, ◌<◌, ◌==◌, inl, inr, Bool, true, false, List, length, slice_index, Option, Some, None, is_none, if◌then◌else◌, refl, ap, ap₂, sym, ◌∙◌, arith}
 use Rattle.std.proofs.lemmas.Bool.{cases_Bool, cases_eq, or_cases}
-use Rattle.hsp_simplex.specs.Sums.{any_below, only, sum_below}
+use Rattle.hsp_network.specs.Sums.{any_below, only, sum_below}
 use Rattle.hsp_mincost.specs.Sums.{through}
-use Rattle.hsp_simplex.specs.Network.{is_on}
+use Rattle.hsp_network.specs.Network.{is_on}
 use Rattle.hsp_mincost.proofs.Sums.{only_here, only_split, only_there, only_zero, sum_below_same}
 pub use Rattle.hsp_check.proofs.Summing.{sum_below_zero, sum_below_one, sum_below_add}
 

@@ -5,7 +5,7 @@ use Rattle.std.proofs.lemmas.List.{get_or_past}
 use Rattle.hsp_mincost.specs.Frontier.{Changes, IsLeast}
 use Rattle.hsp_mincost.specs.Residual.{Flow, Links, SearchTree, distance, from, nodes}
 use Rattle.hsp_mincost.specs.Search.{Begun, Covers, Expanding, Running, Settled, Visit, settled_count, settled_test, top}
-use Rattle.hsp_simplex.specs.Sums.{sum_below}
+use Rattle.hsp_network.specs.Sums.{sum_below}
 use Rattle.hsp_mincost.proofs.Sums.{sum_below_low, sum_below_lt}
 use Rattle.hsp_mincost.proofs.Directions.{from_in}
 use Rattle.hsp_mincost.proofs.Searching.{fewer, taken, cases_option, root_only}

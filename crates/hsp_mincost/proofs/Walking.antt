@@ -1,7 +1,7 @@
 -- A path is augmented arc by arc, from the sink back to the root.
 use Rattle.std.proofs.Common.{◌≡◌, ◌≢◌, ℕ, ◌+◌, ◌-◌, ◌<◌, ◌≤◌, ◌⊎◌, inl, inr, Bool, true, false, length, slice_index, List, set, if◌then◌else◌, refl, ap, sym, ◌∙◌, arith, length-set, get_or-set_same, get_or-set_other, ne_eqb}
 use Rattle.std.proofs.lemmas.Bool.{cases_eq}
-use Rattle.hsp_simplex.specs.Sums.{only}
+use Rattle.hsp_network.specs.Sums.{only}
 use Rattle.hsp_mincost.specs.Sums.{through}
 use Rattle.hsp_mincost.specs.Residual.{Flow, IsBalanced, IsTree, Links, SearchTree, Sends, Sound, TreeArc, Walk, from, gives, nodes, predecessor, takes, to, way, width}
 use Rattle.hsp_mincost.proofs.Sums.{through_more, through_less}

@@ -1,7 +1,7 @@
 -- The links of a transportation network: node 0 is the sink, then come the hosts, the servers and the sources. The link of a host
 -- leads to the sink, that of a server to its host or to the sink, and each arc from its source to its server.
 use Rattle.std.specs.Prelude.{◌≡◌, ℕ, ◌+◌, ◌*◌, ◌<◌, List, length, slice_index, Option, Some, None}
-use Rattle.hsp_simplex.specs.Network.{Transport, host_of}
+use Rattle.hsp_network.specs.Network.{Transport, host_of}
 
 abbrev pub hosts_of : Transport → ℕ
 hosts_of net = length net.limits

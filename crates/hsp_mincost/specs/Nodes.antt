@@ -1,6 +1,6 @@
 -- How many nodes a network has, and how many a frontier may be asked for.
 use Rattle.std.specs.Prelude.{ℕ, ◌+◌, ◌≤◌, length}
-use Rattle.hsp_simplex.specs.Network.{Transport}
+use Rattle.hsp_network.specs.Network.{Transport}
 use Rattle.hsp_mincost.specs.Layout.{first_of}
 
 -- the sink, the hosts, the servers and the sources

@@ -1,11 +1,11 @@
 -- The links and the cost bounds of a network.
 use Rattle.std.specs.Prelude.{◌≡◌, ℕ, ◌≤◌}
-use Rattle.hsp_simplex.specs.Answer.{BoundsCosts}
+use Rattle.hsp_network.specs.Answer.{BoundsCosts}
 use Rattle.hsp_mincost.specs.Layout.{LinksOf, first_of}
 use Rattle.hsp_mincost.specs.declared.links.Links.{Links}
 use Rattle.hsp_mincost.specs.declared.links.LinkLists.{LinkLists}
-use Rattle.hsp_simplex.specs.Problem.{problem_of}
-use Rattle.hsp_simplex.specs.declared.network.Network.{Network}
+use Rattle.hsp_network.specs.Problem.{problem_of}
+use Rattle.hsp_network.specs.declared.network.Network.{Network}
 
 -- no bound of the network's costs is below `most`
 abbrev pub IsLeastBound : Network → ℕ → Type 0

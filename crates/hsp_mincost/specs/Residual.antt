@@ -2,7 +2,7 @@
 -- Link k leads from the node `tails[k]` to the node `heads[k]`; node 0 is the sink. A residual arc is a link with a direction:
 -- `true` along the link, over what room it has left, `false` against it, over what flows on it.
 use Rattle.std.specs.Prelude.{◌≡◌, ◌≢◌, ℕ, ◌+◌, ◌-◌, ◌<◌, ◌≤◌, ◌==◌, Bool, true, false, List, length, slice_index}
-use Rattle.hsp_simplex.specs.Sums.{only}
+use Rattle.hsp_network.specs.Sums.{only}
 use Rattle.hsp_mincost.specs.Sums.{through}
 pub use Rattle.hsp_mincost.specs.declared.links.Links.{Links}
 pub use Rattle.hsp_mincost.specs.declared.links.Flow.{Flow}

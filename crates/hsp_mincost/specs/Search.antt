@@ -1,6 +1,6 @@
 -- A search for the sink by Dijkstra's algorithm over reduced costs (Network Flows, sections 4.5 and 9.7), in the middle of its work.
 use Rattle.std.specs.Prelude.{◌≡◌, ◌≢◌, ℕ, ◌+◌, ◌*◌, ◌<◌, ◌≤◌, ◌&&◌, Bool, true, false, length, slice_index, slice_set, Option, Some, None, is_none, min, nat_lt, if◌then◌else◌}
-use Rattle.hsp_simplex.specs.Sums.{sum_below}
+use Rattle.hsp_network.specs.Sums.{sum_below}
 use Rattle.hsp_mincost.specs.Frontier.{Changes}
 use Rattle.hsp_mincost.specs.Residual.{AreRelaxed, Flow, IsOnPath, Links, SearchTree, Sound, distance, from, gives, nodes, predecessor, prices, takes, to, way, width}
 pub use Rattle.hsp_mincost.specs.declared.links.Visit.{Visit}

@@ -1,13 +1,13 @@
 ghost use Rattle.std.specs.Prelude.{◌≡◌, ℕ, ◌+◌, ◌-◌, ◌<◌, ◌≤◌, IfOk, length, slice_index};
-ghost use Rattle.hsp_simplex.specs.Answer.{IsMet, IsShortSet};
+ghost use Rattle.hsp_network.specs.Answer.{IsMet, IsShortSet};
 ghost use Rattle.hsp_mincost.specs.Layout.{IsSmall};
-ghost use Rattle.hsp_simplex.specs.Problem.{problem_of};
+ghost use Rattle.hsp_network.specs.Problem.{problem_of};
 ghost use Rattle.hsp_mincost.specs.Problem.{IsLinksOf};
 ghost use Rattle.hsp_mincost.specs.Residual.{nodes, prices};
 ghost use Rattle.hsp_mincost.specs.Search.{AreAllMet, HasStuckSource, Ready};
 
 use crate::links::{Flow, Links, SearchTree};
-use hsp_simplex::{Network, PricedFlow};
+use hsp_network::{Network, PricedFlow};
 use std::alloc::{AllocError, Global};
 
 /// By how much the price at the tail of each link from `start` up to `end` is above that at its head.

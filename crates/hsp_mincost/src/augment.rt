@@ -1,5 +1,5 @@
 ghost use Rattle.std.specs.Prelude.{◌≡◌, ◌≢◌, ℕ, ◌+◌, ◌<◌, ◌≤◌, length, slice_index};
-ghost use Rattle.hsp_simplex.specs.Sums.{only};
+ghost use Rattle.hsp_network.specs.Sums.{only};
 ghost use Rattle.hsp_mincost.specs.Residual.{IsTree, Sound, nodes, raised};
 
 use crate::links::{Flow, Links, SearchTree};

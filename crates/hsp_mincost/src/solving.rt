@@ -1,8 +1,8 @@
 ghost use Rattle.std.specs.Prelude.{◌≡◌, ℕ, ◌+◌, ◌<◌, IfOk, length, slice_index};
-ghost use Rattle.hsp_simplex.specs.Answer.{Answers};
+ghost use Rattle.hsp_network.specs.Answer.{Answers};
 ghost use Rattle.hsp_mincost.specs.Layout.{IsSmall};
 ghost use Rattle.hsp_mincost.specs.Nodes.{MayHaveUpTo, nodes_of};
-ghost use Rattle.hsp_simplex.specs.Problem.{problem_of};
+ghost use Rattle.hsp_network.specs.Problem.{problem_of};
 ghost use Rattle.hsp_mincost.specs.Problem.{AreLinksOf, IsLinksOf};
 ghost use Rattle.hsp_mincost.specs.Residual.{nodes};
 ghost use Rattle.hsp_mincost.specs.Search.{Ready};
@@ -14,7 +14,7 @@ use crate::links::{Flow, LinkLists, Links, Progress, SearchEffort, SearchTree};
 use crate::opening::first_prices;
 use crate::phase::meet_all;
 use crate::tables::{link_capacities, link_costs, link_heads, link_tails, node_supplies};
-use hsp_simplex::{Network, Outcome, greatest};
+use hsp_network::{Network, Outcome, greatest};
 use std::alloc::{AllocError, Global};
 
 /// Runs the solver from a flow with its prices.

@@ -1,8 +1,8 @@
 ghost use Rattle.std.specs.Prelude.{◌≡◌, ℕ, ◌+◌, ◌-◌, ◌<◌, ◌≤◌, [], IfOk, None, OnOk, length, replicate, slice_index, slice_index_or};
 ghost use Rattle.hsp_mincost.specs.Layout.{Appends, CapacitiesOf, CostsOf, HeadsOf, IsSmall, SuppliesOf, TailsOf, host_node};
-ghost use Rattle.hsp_simplex.specs.Problem.{problem_of};
+ghost use Rattle.hsp_network.specs.Problem.{problem_of};
 
-use hsp_simplex::Network;
+use hsp_network::Network;
 use std::alloc::{AllocError, Global};
 
 /// Appends each number, raised by `shift`.

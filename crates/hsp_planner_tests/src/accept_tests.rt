@@ -1,6 +1,7 @@
 // What the test accepts and what it refuses, on networks that are small enough to be solved by hand.
 
-use hsp_simplex::*;
+use crate::same::is_same;
+use hsp_network::*;
 use std::alloc::{AllocError, Global};
 use std::process::Abort;
 
@@ -39,7 +40,7 @@ fn judges_plan(rt: &impl Abort, alloc: Global, network: &Network<'_>, plan: Plan
         Err(_) => judged_plan(alloc, network, plan),
         answer => answer,
     };
-    assert_eq!(rt; answer.ok(), Some(right));
+    is_same(rt, answer.ok(), Some(right));
 }
 
 /// The set is judged so.
@@ -48,7 +49,7 @@ fn judges_set(rt: &impl Abort, alloc: Global, network: &Network<'_>, set: &[bool
         Err(_) => judged_set(alloc, network, set),
         answer => answer,
     };
-    assert_eq!(rt; answer.ok(), Some(right));
+    is_same(rt, answer.ok(), Some(right));
 }
 
 /// The first server and the host are full; the host's other server and the one on no host have room.

@@ -1,6 +1,7 @@
 ghost use Rattle.std.specs.Prelude.{IfOk};
 ghost use Rattle.hsp_instance.specs.Groups.{AreGroups};
 
+use crate::same::{is_same, is_same_of};
 use hsp_hash::HashOption;
 use hsp_instance::*;
 use hsp_record::{RecordFault, ValueList, decode_values};
@@ -159,14 +160,14 @@ fn the_sites_of_the_base_are_read(rt: HostRuntime) -> Result<(), Fail> {
     let settings = settings_of(alloc, SETTINGS).ok().ok_or("no settings")?;
     match sites_of(alloc, &settings, None) {
         Ok(sites) => {
-            assert_eq!(rt; sites.len(), 2);
-            assert_eq!(rt; sites.name(0), b"E".as_slice());
-            assert_eq!(rt; sites.name(1), b"W".as_slice());
-            assert_eq!(rt; sites.option(0), HashOption::ByLocal);
-            assert_eq!(rt; sites.server_count(0), 2);
-            assert_eq!(rt; sites.server_count(1), 3);
-            assert_eq!(rt; sites.first_server(0), 0);
-            assert_eq!(rt; sites.first_server(1), 2);
+            assert!(rt; sites.len() == 2);
+            is_same(&rt, sites.name(0), b"E".as_slice());
+            is_same(&rt, sites.name(1), b"W".as_slice());
+            is_same(&rt, sites.option(0), HashOption::ByLocal);
+            is_same(&rt, sites.server_count(0), 2);
+            is_same(&rt, sites.server_count(1), 3);
+            is_same(&rt, sites.first_server(0), 0);
+            is_same(&rt, sites.first_server(1), 2);
         }
         Err(fault) => panic!(rt; "{fault:?}"),
     }
@@ -193,10 +194,11 @@ fn bad_sites_have_their_first_fault(rt: HostRuntime) -> Result<(), Fail> {
         (FIRST_VALUE, BuildFault::NoValue { site: 0 }),
     ];
     for (settings, fault) in cases {
-        assert_eq!(rt;
+        is_same_of(
+            &rt,
+            &settings,
             sites_fault(alloc, settings, None)?,
             Some(fault),
-            "{settings:?}"
         );
     }
     Ok(())
@@ -209,14 +211,16 @@ fn sites_are_read_from_values(rt: HostRuntime) -> Result<(), Fail> {
     let others = one_value_twice(alloc, b"HS_SITF")?;
     let none = BuildFault::NoValue { site: 0 };
     let other = BuildFault::NotSiteValue { site: 0 };
-    assert_eq!(rt; sites_fault(alloc, FIRST_VALUE, Some(&values))?, None);
-    assert_eq!(rt;
+    is_same(&rt, sites_fault(alloc, FIRST_VALUE, Some(&values))?, None);
+    is_same(
+        &rt,
         sites_fault(alloc, SECOND_VALUE, Some(&values))?,
-        Some(none)
+        Some(none),
     );
-    assert_eq!(rt;
+    is_same(
+        &rt,
         sites_fault(alloc, FIRST_VALUE, Some(&others))?,
-        Some(other)
+        Some(other),
     );
     Ok(())
 }
@@ -229,8 +233,12 @@ fn the_servers_of_all_sites_are_counted_at_the_limits(rt: HostRuntime) -> Result
         Ok(values) => values,
     };
     let more = BuildFault::TooManyServers;
-    assert_eq!(rt; sites_fault(alloc, FIRST_VALUE, Some(&values))?, None);
-    assert_eq!(rt; sites_fault(alloc, BOTH_VALUES, Some(&values))?, Some(more));
+    is_same(&rt, sites_fault(alloc, FIRST_VALUE, Some(&values))?, None);
+    is_same(
+        &rt,
+        sites_fault(alloc, BOTH_VALUES, Some(&values))?,
+        Some(more),
+    );
     Ok(())
 }
 
@@ -352,15 +360,15 @@ fn fault_of(
 #[test]
 fn the_base_is_built(rt: HostRuntime) -> Result<(), Fail> {
     let base = instance_of(rt.alloc(), SETTINGS, BASE)?;
-    assert_eq!(rt; base.rows(), 3);
+    assert!(rt; base.rows() == 3);
     let (region, handle, count) = base.row(0);
-    assert_eq!(rt; region, b"r1".as_slice());
-    assert_eq!(rt; handle, b"10/1".as_slice());
-    assert_eq!(rt; count, 5);
+    is_same(&rt, region, b"r1".as_slice());
+    is_same(&rt, handle, b"10/1".as_slice());
+    is_same(&rt, count, 5);
     let sites = base.sites();
-    assert_eq!(rt; sites.len(), 2);
-    assert_eq!(rt; sites.server_count(1), 3);
-    assert_eq!(rt; sites.server_id(1, 2), 9);
+    assert!(rt; sites.len() == 2);
+    is_same(&rt, sites.server_count(1), 3);
+    is_same(&rt, sites.server_id(1, 2), 9);
     Ok(())
 }
 
@@ -374,11 +382,11 @@ fn servers_stand_site_by_site(rt: HostRuntime) -> Result<(), Fail> {
         (1, 1, 2, 10),
         (1, 2, 9, 10),
     ];
-    assert_eq!(rt; base.servers(), 5);
-    assert_eq!(rt; base.hosts(), 0);
+    assert!(rt; base.servers() == 5);
+    assert!(rt; base.hosts() == 0);
     for (number, server) in servers.iter().enumerate() {
-        assert_eq!(rt; base.server(number as u32), *server);
-        assert_eq!(rt; base.host_of(number as u32), None);
+        is_same(&rt, base.server(number as u32), *server);
+        is_same(&rt, base.host_of(number as u32), None);
     }
     Ok(())
 }
@@ -386,10 +394,10 @@ fn servers_stand_site_by_site(rt: HostRuntime) -> Result<(), Fail> {
 #[test]
 fn rows_are_found_by_region_and_handle(rt: HostRuntime) -> Result<(), Fail> {
     let base = instance_of(rt.alloc(), SETTINGS, BASE)?;
-    assert_eq!(rt; base.find_row(b"r1", b"10/2"), Some(1));
-    assert_eq!(rt; base.find_row(b"r2", b"10/3"), Some(2));
-    assert_eq!(rt; base.find_row(b"r2", b"10/2"), None);
-    assert_eq!(rt; base.find_row(b"10/1", b"r1"), None);
+    is_same(&rt, base.find_row(b"r1", b"10/2"), Some(1));
+    is_same(&rt, base.find_row(b"r2", b"10/3"), Some(2));
+    is_same(&rt, base.find_row(b"r2", b"10/2"), None);
+    is_same(&rt, base.find_row(b"10/1", b"r1"), None);
     Ok(())
 }
 
@@ -399,10 +407,10 @@ fn to(site: u32, server: u32, cost: u64) -> Arc {
 
 // The places are 1, 0 and 1 at E and 2, 1 and 0 at W.
 fn arcs_of_the_base(rt: &impl Abort, base: &Instance) {
-    assert_eq!(rt; base.rows(), 3);
-    assert_eq!(rt; base.arcs(0), [to(0, 1, 1), to(1, 4, 4)].as_slice());
-    assert_eq!(rt; base.arcs(1), [to(0, 0, 1), to(1, 3, 4)].as_slice());
-    assert_eq!(rt; base.arcs(2), [to(0, 1, 2), to(1, 2, 3)].as_slice());
+    assert!(rt; base.rows() == 3);
+    is_same(rt, base.arcs(0), [to(0, 1, 1), to(1, 4, 4)].as_slice());
+    is_same(rt, base.arcs(1), [to(0, 0, 1), to(1, 3, 4)].as_slice());
+    is_same(rt, base.arcs(2), [to(0, 1, 2), to(1, 2, 3)].as_slice());
 }
 
 #[test]
@@ -414,9 +422,9 @@ fn arcs_go_to_the_responsible_servers(rt: HostRuntime) -> Result<(), Fail> {
         ..BASE
     };
     let less = instance_of(rt.alloc(), SETTINGS, tables)?;
-    assert_eq!(rt; less.rows(), 3);
-    assert_eq!(rt; less.arcs(0), [to(1, 4, 4)].as_slice());
-    assert_eq!(rt; less.arcs(2).len(), 0);
+    assert!(rt; less.rows() == 3);
+    is_same(&rt, less.arcs(0), [to(1, 4, 4)].as_slice());
+    is_same(&rt, less.arcs(2).len(), 0);
     Ok(())
 }
 
@@ -435,13 +443,13 @@ fn servers_stand_on_hosts(rt: HostRuntime) -> Result<(), Fail> {
         Ok(settings) => settings,
     };
     let instance = instance_of(alloc, settings.as_slice(), BASE)?;
-    assert_eq!(rt; instance.hosts(), 1);
-    assert_eq!(rt; instance.host(0), (1u128.to_be_bytes(), 8));
-    assert_eq!(rt; instance.servers(), 5);
-    assert_eq!(rt; instance.host_of(0), Some(0));
-    assert_eq!(rt; instance.host_of(1), Some(0));
-    assert_eq!(rt; instance.host_of(2), None);
-    assert_eq!(rt; instance.host_of(4), None);
+    assert!(rt; instance.hosts() == 1);
+    is_same(&rt, instance.host(0), (1u128.to_be_bytes(), 8));
+    assert!(rt; instance.servers() == 5);
+    is_same(&rt, instance.host_of(0), Some(0));
+    is_same(&rt, instance.host_of(1), Some(0));
+    is_same(&rt, instance.host_of(2), None);
+    is_same(&rt, instance.host_of(4), None);
     Ok(())
 }
 
@@ -461,9 +469,10 @@ fn a_site_of_the_costs_that_is_not_there_is_told(rt: HostRuntime) -> Result<(), 
     let late: &[u8] = b"region,site,cost\nr1,E,1\nr2,X,1\n";
     for (costs, row) in [(UNKNOWN_COST, 0), (late, 1)] {
         let wanted = Some(unknown_site(Table::Costs, row));
-        assert_eq!(rt;
+        is_same(
+            &rt,
             fault_of(alloc, SETTINGS, Tables { costs, ..BASE })?,
-            wanted
+            wanted,
         );
     }
     Ok(())
@@ -482,7 +491,7 @@ fn a_site_or_server_of_the_capacities_that_is_not_there_is_told(
     ];
     for (capacity, fault) in cases {
         let found = fault_of(alloc, SETTINGS, Tables { capacity, ..BASE })?;
-        assert_eq!(rt; found, Some(fault));
+        is_same(&rt, found, Some(fault));
     }
     Ok(())
 }
@@ -498,7 +507,7 @@ fn a_server_without_capacity_is_told(rt: HostRuntime) -> Result<(), Fail> {
         capacity: lacking,
         ..BASE
     };
-    assert_eq!(rt; fault_of(rt.alloc(), SETTINGS, tables)?, Some(fault));
+    is_same(&rt, fault_of(rt.alloc(), SETTINGS, tables)?, Some(fault));
     Ok(())
 }
 
@@ -511,9 +520,9 @@ fn sites_are_tried_before_costs_and_these_before_capacities(rt: HostRuntime) -> 
         ..BASE
     };
     let no_server = Some(BuildFault::NoServer { site: 0 });
-    assert_eq!(rt; fault_of(alloc, NO_SERVER, tables)?, no_server);
+    is_same(&rt, fault_of(alloc, NO_SERVER, tables)?, no_server);
     let unknown = Some(unknown_site(Table::Costs, 0));
-    assert_eq!(rt; fault_of(alloc, SETTINGS, tables)?, unknown);
+    is_same(&rt, fault_of(alloc, SETTINGS, tables)?, unknown);
     Ok(())
 }
 
@@ -539,10 +548,10 @@ fn an_instance_is_built_from_values(rt: HostRuntime) -> Result<(), Fail> {
     };
     match built_from(alloc, FIRST_VALUE, &octets, tables)? {
         Ok(instance) => {
-            assert_eq!(rt; instance.servers(), 1);
-            assert_eq!(rt; instance.server(0), (0, 0, 0, 6));
-            assert_eq!(rt; instance.rows(), 3);
-            assert_eq!(rt; instance.arcs(2), [to(0, 0, 2)].as_slice());
+            assert!(rt; instance.servers() == 1);
+            is_same(&rt, instance.server(0), (0, 0, 0, 6));
+            assert!(rt; instance.rows() == 3);
+            is_same(&rt, instance.arcs(2), [to(0, 0, 2)].as_slice());
         }
         Err(fault) => panic!(rt; "{fault:?}"),
     }
@@ -552,11 +561,11 @@ fn an_instance_is_built_from_values(rt: HostRuntime) -> Result<(), Fail> {
 // The first two of three rows are in one group.
 fn two_are_alike(rt: &impl Abort, alloc: Global, instance: &Instance) -> Result<(), Fail> {
     let found = groups_of(alloc, instance)?;
-    assert_eq!(rt; instance.rows(), 3);
-    assert_eq!(rt; found.len(), 2);
-    assert_eq!(rt; found.of(0), 0);
-    assert_eq!(rt; found.of(1), 0);
-    assert_eq!(rt; found.of(2), 1);
+    assert!(rt; instance.rows() == 3);
+    assert!(rt; found.len() == 2);
+    is_same(rt, found.of(0), 0);
+    is_same(rt, found.of(1), 0);
+    is_same(rt, found.of(2), 1);
     Ok(())
 }
 
@@ -569,7 +578,7 @@ fn rows_of_one_region_and_the_same_arcs_are_in_one_group(rt: HostRuntime) -> Res
     };
     two_are_alike(&rt, alloc, &instance_of(alloc, SETTINGS, alike)?)?;
     let base = instance_of(alloc, SETTINGS, BASE)?;
-    assert_eq!(rt; groups_of(alloc, &base)?.len(), 3);
+    is_same(&rt, groups_of(alloc, &base)?.len(), 3);
     Ok(())
 }
 
@@ -669,16 +678,16 @@ fn instance_at_the_limit(alloc: Global, texts: &LimitTexts) -> Result<Instance, 
 
 // The last row has an arc to each site, of the cost of its number.
 fn all_is_at_the_limit(rt: &impl Abort, instance: &Instance) {
-    assert_eq!(rt; instance.rows(), 8192);
-    assert_eq!(rt; instance.servers(), 1024);
-    assert_eq!(rt; instance.server(1023), (31, 31, 31, 1023));
-    assert_eq!(rt; instance.find_row(b"r63", b"10/8191"), Some(8191));
+    assert!(rt; instance.rows() == 8192);
+    assert!(rt; instance.servers() == 1024);
+    is_same(rt, instance.server(1023), (31, 31, 31, 1023));
+    is_same(rt, instance.find_row(b"r63", b"10/8191"), Some(8191));
     let arcs = instance.arcs(8191);
-    assert_eq!(rt; arcs.len(), 32);
+    assert!(rt; arcs.len() == 32);
     for (site, arc) in arcs.iter().enumerate() {
-        assert_eq!(rt; arc.site as usize, site);
-        assert_eq!(rt; arc.server as usize / 32, site);
-        assert_eq!(rt; arc.cost as usize, site);
+        is_same(rt, arc.site as usize, site);
+        is_same(rt, arc.server as usize / 32, site);
+        is_same(rt, arc.cost as usize, site);
     }
 }
 
@@ -691,9 +700,9 @@ fn an_instance_at_the_limits_is_built(rt: HostRuntime) -> Result<(), Fail> {
     };
     let instance = instance_at_the_limit(alloc, &texts)?;
     all_is_at_the_limit(&rt, &instance);
-    assert_eq!(rt; instance.rows(), 8192);
+    assert!(rt; instance.rows() == 8192);
     let found = groups_of(alloc, &instance)?;
-    assert_eq!(rt; found.of(0), 0);
+    is_same(&rt, found.of(0), 0);
     assert!(rt; 64 <= found.len() && found.len() <= 2048);
     Ok(())
 }

@@ -1,9 +1,10 @@
 ghost use Rattle.std.specs.Prelude.{ℕ};
 ghost use Rattle.hsp_mincost.specs.Layout.{IsSmall};
-ghost use Rattle.hsp_simplex.specs.Problem.{problem_of};
+ghost use Rattle.hsp_network.specs.Problem.{problem_of};
 
+use crate::same::is_same;
 use hsp_mincost::{Frontier, HeapFrontier, ScanFrontier, SearchEffort, minimum_cost_flow};
-use hsp_simplex::{Network, Outcome};
+use hsp_network::{Network, Outcome};
 use std::alloc::{AllocError, Global};
 use std::process::Abort;
 
@@ -30,7 +31,7 @@ fn takes_by_key<F: Frontier>(rt: &impl Abort, alloc: Global)
         Err(AllocError) => taken_by_key::<F>(alloc),
         taken => taken,
     };
-    assert_eq!(rt; taken, Ok([Some((3, 1)), Some((1, 2)), None]));
+    is_same(rt, taken, Ok([Some((3, 1)), Some((1, 2)), None]));
 }
 
 /// A key that is lowered, and one behind it: what comes out until none is held.
@@ -65,12 +66,12 @@ fn forgets_old_keys<F: Frontier>(rt: &impl Abort, alloc: Global)
         Err(AllocError) => taken_once_lowered::<F>(alloc),
         taken => taken,
     };
-    assert_eq!(rt; lowered, Ok([Some((0, 3)), None, Some((0, 5)), None]));
+    is_same(rt, lowered, Ok([Some((0, 3)), None, Some((0, 5)), None]));
     let empty = match empty_once_cleared::<F>(alloc) {
         Err(AllocError) => empty_once_cleared::<F>(alloc),
         empty => empty,
     };
-    assert_eq!(rt; empty, Ok([false, true]));
+    is_same(rt, empty, Ok([false, true]));
 }
 
 #[test]
@@ -134,7 +135,7 @@ fn meets<F: Frontier>(rt: &impl Abort, alloc: Global, network: &Network, flows: 
     requires nodes { (nodes : ℕ) → F.may_have nodes }
 {
     match outcome_of::<F>(alloc, network) {
-        Ok(Outcome::Met(plan)) => assert_eq!(rt; plan.flows.as_slice(), flows),
+        Ok(Outcome::Met(plan)) => is_same(rt, plan.flows.as_slice(), flows),
         Ok(Outcome::Short(_)) => panic!(rt; "a shortage came"),
         Err(AllocError) => panic!(rt; "memory ran out"),
     }
@@ -146,7 +147,7 @@ fn lacks<F: Frontier>(rt: &impl Abort, alloc: Global, network: &Network, short: 
     requires nodes { (nodes : ℕ) → F.may_have nodes }
 {
     match outcome_of::<F>(alloc, network) {
-        Ok(Outcome::Short(reached)) => assert_eq!(rt; reached.as_slice(), short),
+        Ok(Outcome::Short(reached)) => is_same(rt, reached.as_slice(), short),
         Ok(Outcome::Met(_)) => panic!(rt; "a plan came"),
         Err(AllocError) => panic!(rt; "memory ran out"),
     }
@@ -266,6 +267,6 @@ fn effort_is_added(rt: HostRuntime) {
         outcome = minimum_cost_flow::<HeapFrontier>(rt.alloc(), &network, &mut effort);
     }
     assert!(rt; outcome.is_ok());
-    assert_eq!(rt; (effort.searches, effort.augmentations), (9, 9));
+    is_same(&rt, (effort.searches, effort.augmentations), (9, 9));
     assert!(rt; effort.settled > 7);
 }

@@ -1,9 +1,9 @@
 // Proposals for networks that can be worked by hand. Want of memory is no answer: each call is made once more then, and has
 // to succeed.
 
-use hsp_simplex::{
-    Network, NetworkLists, Outcome, PricedFlow, SimplexEffort, propose, propose_counted,
-};
+use crate::same::is_same;
+use hsp_network::{Network, NetworkLists, Outcome, PricedFlow};
+use hsp_simplex::{SimplexEffort, propose, propose_counted};
 use std::alloc::{AllocError, Global};
 use std::process::Abort;
 
@@ -38,10 +38,10 @@ fn meets(rt: &impl Abort, alloc: Global, lists: NetworkLists<'_>, wanted: &Wante
     let plan = plan_of(alloc, lists);
     assert!(rt; plan.is_some());
     if let Some(plan) = plan {
-        assert_eq!(rt; plan.flows.as_slice(), wanted.flows);
-        assert_eq!(rt; plan.source_prices.as_slice(), wanted.sources);
-        assert_eq!(rt; plan.server_prices.as_slice(), wanted.servers);
-        assert_eq!(rt; plan.host_prices.as_slice(), wanted.hosts);
+        is_same(rt, plan.flows.as_slice(), wanted.flows);
+        is_same(rt, plan.source_prices.as_slice(), wanted.sources);
+        is_same(rt, plan.server_prices.as_slice(), wanted.servers);
+        is_same(rt, plan.host_prices.as_slice(), wanted.hosts);
     }
 }
 
@@ -59,7 +59,7 @@ fn lacks(rt: &impl Abort, alloc: Global, lists: NetworkLists<'_>, short: &[bool]
     let set = set_of(alloc, lists);
     assert!(rt; set.is_some());
     if let Some(set) = set {
-        assert_eq!(rt; set.as_slice(), short);
+        is_same(rt, set.as_slice(), short);
     }
 }
 
@@ -177,8 +177,8 @@ fn servers_that_tie_share_a_source_without_prices(rt: HostRuntime) {
     if let Some(plan) = plan {
         let flows = plan.flows.as_slice();
         assert!(rt; flows == [4, 0].as_slice() || flows == [0, 4].as_slice());
-        assert_eq!(rt; plan.source_prices.as_slice(), [3].as_slice());
-        assert_eq!(rt; plan.server_prices.as_slice(), [0, 0].as_slice());
+        is_same(&rt, plan.source_prices.as_slice(), [3].as_slice());
+        is_same(&rt, plan.server_prices.as_slice(), [0, 0].as_slice());
     }
 }
 
@@ -198,8 +198,8 @@ fn equal_arcs_carry_one_demand(rt: HostRuntime) {
     if let Some(plan) = plan {
         let flows = plan.flows.as_slice();
         assert!(rt; flows == [0, 5, 0].as_slice() || flows == [0, 0, 5].as_slice());
-        assert_eq!(rt; plan.source_prices.as_slice(), [2].as_slice());
-        assert_eq!(rt; plan.server_prices.as_slice(), [0].as_slice());
+        is_same(&rt, plan.source_prices.as_slice(), [2].as_slice());
+        is_same(&rt, plan.server_prices.as_slice(), [0].as_slice());
     }
 }
 
@@ -237,8 +237,8 @@ fn zero_capacity_takes_nothing_and_costs_enough(rt: HostRuntime) {
     let plan = plan_of(rt.alloc(), lists);
     assert!(rt; plan.is_some());
     if let Some(plan) = plan {
-        assert_eq!(rt; plan.flows.as_slice(), [0, 3].as_slice());
-        assert_eq!(rt; plan.source_prices.as_slice(), [4].as_slice());
+        is_same(&rt, plan.flows.as_slice(), [0, 3].as_slice());
+        is_same(&rt, plan.source_prices.as_slice(), [4].as_slice());
         assert!(rt; plan.server_prices.len() == 2);
         for (server, price) in plan.server_prices.iter().enumerate() {
             assert!(rt;

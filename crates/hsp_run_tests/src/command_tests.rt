@@ -1,3 +1,4 @@
+use crate::same::is_same;
 use hsp_command::*;
 use std::alloc::{AllocError, Global};
 use std::process::Abort;
@@ -92,16 +93,17 @@ fn gives(rt: &impl Abort, alloc: Global, line: &[u8], wanted: &str) -> Result<()
         Some(text) => text,
         None => shown(alloc, &order).ok_or("no memory")?,
     };
-    assert_eq!(rt; text.as_str(), wanted);
+    is_same(rt, text.as_str(), wanted);
     Ok(())
 }
 
 // The words of the line are no order.
 fn refused(rt: &impl Abort, alloc: Global, line: &[u8]) -> Result<(), Fail> {
     let words = words_of(alloc, line)?.ok_or("no words")?;
-    assert_eq!(rt;
+    is_same(
+        rt,
         order_of(alloc, words.as_slice()).err(),
-        Some(CommandFault::Usage)
+        Some(CommandFault::Usage),
     );
     Ok(())
 }
@@ -113,7 +115,7 @@ fn is_displayed(rt: &impl Abort, alloc: Global, fault: &CommandFault, wanted: &s
         text => text,
     };
     match text {
-        Ok(text) => assert_eq!(rt; text.as_str(), wanted),
+        Ok(text) => is_same(rt, text.as_str(), wanted),
         Err(AllocError) => panic!(rt; "no text of {fault:?}"),
     }
 }
@@ -127,9 +129,9 @@ fn faults_are_displayed(rt: HostRuntime) {
 #[test]
 fn words_stand_between_spaces(rt: HostRuntime) -> Result<(), Fail> {
     let words = words_of(rt.alloc(), b"a  b")?.ok_or("no words")?;
-    assert_eq!(rt; words.len(), 2);
-    assert_eq!(rt; words[0].as_str(), "a");
-    assert_eq!(rt; words[1].as_str(), "b");
+    assert!(rt; words.len() == 2);
+    is_same(&rt, words[0].as_str(), "a");
+    is_same(&rt, words[1].as_str(), "b");
     Ok(())
 }
 

@@ -1,5 +1,6 @@
 use crate::line_tests::Broken;
 use crate::run_tests::{BASE, CHEAPER_PLAN, LACKING, PLAN, SHORTAGE, Texts, inputs_of};
+use crate::same::is_same;
 use hsp_check::Reason;
 use hsp_dispatch::{LogFault, LogSums};
 use hsp_runs::*;
@@ -134,7 +135,7 @@ fn logs_are_answered(rt: HostRuntime) -> Result<(), Fail> {
     for (log, sums, text) in cases {
         let ended = run_twice(rt.alloc(), BASE, PLAN, log, 100)?;
         assert!(rt; ended.answer == Ok(sums));
-        assert_eq!(rt; ended.page.taken.as_slice(), text);
+        is_same(&rt, ended.page.taken.as_slice(), text);
     }
     Ok(())
 }
@@ -166,7 +167,7 @@ fn logs_are_answered_up_to_a_fault(rt: HostRuntime) -> Result<(), Fail> {
     for (log, room, fault, text) in cases {
         let ended = run_twice(rt.alloc(), BASE, PLAN, log, room)?;
         assert!(rt; ended.answer == Err(Fault::Log(fault)));
-        assert_eq!(rt; ended.page.taken.as_slice(), text);
+        is_same(&rt, ended.page.taken.as_slice(), text);
     }
     Ok(())
 }
@@ -198,7 +199,7 @@ fn reads_fail(
         let log = Cut { log: LOG, good };
         let ended = run_twice(alloc, BASE, PLAN, log, 100)?;
         assert!(rt; ended.answer == Err(Fault::Log(LogFault::ReadFailed)));
-        assert_eq!(rt; ended.page.taken.len(), lines);
+        assert!(rt; ended.page.taken.len() == lines);
         assert!(rt; LINES.starts_with(ended.page.taken.as_slice()));
     }
     Ok(())
@@ -219,7 +220,7 @@ fn logs_are_answered_up_to_each_octet_that_cannot_be_written(rt: HostRuntime) ->
     for room in 0..LINES.len() {
         let ended = run_twice(rt.alloc(), BASE, PLAN, LOG, room)?;
         assert!(rt; ended.answer == Err(Fault::Log(LogFault::WriteFailed)));
-        assert_eq!(rt; ended.page.taken.len(), room);
+        assert!(rt; ended.page.taken.len() == room);
         assert!(rt; LINES.starts_with(ended.page.taken.as_slice()));
     }
     Ok(())
@@ -233,7 +234,7 @@ fn what_is_not_accepted_answers_nothing(rt: HostRuntime) -> Result<(), Fail> {
     ];
     for (texts, cert, fault) in cases {
         let ended = run_twice(rt.alloc(), texts, cert, LOG, 100)?;
-        assert_eq!(rt; status_of(&fault), 3);
+        is_same(&rt, status_of(&fault), 3);
         assert!(rt; ended.answer == Err(fault));
         assert!(rt; ended.page.taken.is_empty());
     }
@@ -274,8 +275,8 @@ fn faults_of_logs_have_their_lines(rt: HostRuntime) -> Result<(), Fail> {
             Err(AllocError) => fault_line(rt.alloc(), &fault)?,
             Ok(line) => line,
         };
-        assert_eq!(rt; line.as_slice(), wanted);
-        assert_eq!(rt; status_of(&fault), status);
+        is_same(&rt, line.as_slice(), wanted);
+        is_same(&rt, status_of(&fault), status);
     }
     Ok(())
 }
@@ -286,9 +287,10 @@ fn sums_have_their_line(rt: HostRuntime) -> Result<(), Fail> {
         Err(AllocError) => sums_line(rt.alloc(), &SUMS)?,
         Ok(line) => line,
     };
-    assert_eq!(rt;
+    is_same(
+        &rt,
         line.as_slice(),
-        b"assigned 3 spent 1 unknown 1\n".as_slice()
+        b"assigned 3 spent 1 unknown 1\n".as_slice(),
     );
     Ok(())
 }

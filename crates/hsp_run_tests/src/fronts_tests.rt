@@ -1,6 +1,7 @@
 use crate::dispatch_tests::{Cut, Page, page_of};
 use crate::line_tests::Broken;
 use crate::run_tests::{BASE, CHEAPER_PLAN, LACKING, PLAN, SHORTAGE, Texts, inputs_of};
+use crate::same::is_same;
 use hsp_check::Reason;
 use hsp_dispatch::{FrontSums, LogFault};
 use hsp_runs::*;
@@ -110,7 +111,7 @@ fn fronts_answer_by_their_shares(rt: HostRuntime) -> Result<(), Fail> {
     for (fronts, log, sums, text) in cases {
         let ended = run_twice(rt.alloc(), Asked { fronts, ..TWO }, log, 100)?;
         assert!(rt; ended.answer == Ok(sums));
-        assert_eq!(rt; ended.page.taken.as_slice(), text);
+        is_same(&rt, ended.page.taken.as_slice(), text);
     }
     Ok(())
 }
@@ -184,7 +185,7 @@ fn events_are_answered_up_to_a_fault(rt: HostRuntime) -> Result<(), Fail> {
     for (log, room, fault, text) in cases {
         let ended = run_twice(rt.alloc(), TWO, log, room)?;
         assert!(rt; ended.answer == Err(Fault::Log(fault)));
-        assert_eq!(rt; ended.page.taken.as_slice(), text);
+        is_same(&rt, ended.page.taken.as_slice(), text);
     }
     Ok(())
 }
@@ -224,7 +225,7 @@ fn reads_fail(
     for good in from..until {
         let ended = run_twice(alloc, TWO, Cut { log: LOG, good }, 100)?;
         assert!(rt; ended.answer == Err(Fault::Log(LogFault::ReadFailed)));
-        assert_eq!(rt; ended.page.taken.len(), lines);
+        assert!(rt; ended.page.taken.len() == lines);
         assert!(rt; LINES.starts_with(ended.page.taken.as_slice()));
     }
     Ok(())
@@ -247,7 +248,7 @@ fn events_are_answered_up_to_each_octet_that_cannot_be_written(
     for room in 0..LINES.len() {
         let ended = run_twice(rt.alloc(), TWO, LOG, room)?;
         assert!(rt; ended.answer == Err(Fault::Log(LogFault::WriteFailed)));
-        assert_eq!(rt; ended.page.taken.len(), room);
+        assert!(rt; ended.page.taken.len() == room);
         assert!(rt; LINES.starts_with(ended.page.taken.as_slice()));
     }
     Ok(())
@@ -259,7 +260,7 @@ fn no_number_of_fronts_has_its_line(rt: HostRuntime) -> Result<(), Fail> {
         Err(AllocError) => fault_line(rt.alloc(), &Fault::BadFronts)?,
         Ok(line) => line,
     };
-    assert_eq!(rt; line.as_slice(), b"hsplan: BadFronts\n".as_slice());
-    assert_eq!(rt; status_of(&Fault::BadFronts), 1);
+    is_same(&rt, line.as_slice(), b"hsplan: BadFronts\n".as_slice());
+    is_same(&rt, status_of(&Fault::BadFronts), 1);
     Ok(())
 }

@@ -1,3 +1,4 @@
+use crate::same::is_same;
 use hsp_cert::CertFault;
 use hsp_check::Reason;
 use hsp_dispatch::LogFault;
@@ -42,7 +43,7 @@ impl Read for Run {
 // The answer is the wanted one.
 fn answers(rt: &impl Abort, answer: Result<Vec<u8>, Fault>, wanted: &Result<&[u8], Fault>) {
     match (answer, wanted) {
-        (Ok(text), Ok(wanted)) => assert_eq!(rt; text.as_slice(), *wanted),
+        (Ok(text), Ok(wanted)) => is_same(rt, text.as_slice(), *wanted),
         (Err(fault), Err(wanted)) => assert!(rt; fault == *wanted, "{fault:?}"),
         (Err(fault), Ok(_)) => panic!(rt; "{fault:?}"),
         (Ok(_), Err(wanted)) => panic!(rt; "an answer came in place of {wanted:?}"),
@@ -238,10 +239,10 @@ pub(crate) fn is_told(rt: &impl Abort, alloc: Global, fault: &Fault, wanted: &[u
         line => line,
     };
     match line {
-        Ok(line) => assert_eq!(rt; line.as_slice(), wanted),
+        Ok(line) => is_same(rt, line.as_slice(), wanted),
         Err(AllocError) => panic!(rt; "no line of {fault:?}"),
     }
-    assert_eq!(rt; status_of(fault), status);
+    is_same(rt, status_of(fault), status);
 }
 
 // This is the line of a fault in the input.
@@ -439,7 +440,7 @@ fn is_displayed(rt: &impl Abort, alloc: Global, fault: &Fault, wanted: &str) {
         text => text,
     };
     match text {
-        Ok(text) => assert_eq!(rt; text.as_str(), wanted),
+        Ok(text) => is_same(rt, text.as_str(), wanted),
         Err(AllocError) => panic!(rt; "no text of {fault:?}"),
     }
 }
@@ -503,7 +504,7 @@ fn first_lines_are_read(rt: HostRuntime) -> Result<(), Fail> {
             Err(AllocError) => first_line(rt.alloc(), text)?,
             Ok(found) => found,
         };
-        assert_eq!(rt; found.ok_or("no line")?.as_slice(), wanted);
+        is_same(&rt, found.ok_or("no line")?.as_slice(), wanted);
     }
     Ok(())
 }
@@ -541,7 +542,7 @@ fn whole_files_are_read(rt: HostRuntime) -> Result<(), Fail> {
         Err(AllocError) => read_file(rt.alloc(), text)?,
         Ok(found) => found,
     };
-    assert_eq!(rt; found.ok_or("no file")?.as_slice(), text);
+    is_same(&rt, found.ok_or("no file")?.as_slice(), text);
     Ok(())
 }
 

@@ -1,4 +1,5 @@
 use crate::run_tests::{BASE, CHEAPER_PLAN, LACKING, PLAN, SHORTAGE, Texts, UNASKED, inputs_of};
+use crate::same::is_same;
 use hsp_cert::CertFault;
 use hsp_check::Reason;
 use hsp_runs::*;
@@ -47,7 +48,7 @@ fn reports_are_of_their_kinds(rt: HostRuntime) -> Result<(), Fail> {
     ];
     for (texts, cert, kind, wanted) in cases {
         let text = report_twice(rt.alloc(), texts, cert, kind)?;
-        assert_eq!(rt; text.as_slice(), wanted);
+        is_same(&rt, text.as_slice(), wanted);
     }
     Ok(())
 }

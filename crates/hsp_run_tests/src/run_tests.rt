@@ -1,4 +1,5 @@
 use crate::line_tests::{SETTINGS, is_told, list_of};
+use crate::same::is_same;
 use hsp_cert::CertFault;
 use hsp_check::{Reason, Verdict};
 use hsp_instance::BuildFault;
@@ -116,7 +117,7 @@ fn checks(
     cert: &[u8],
     wanted: &Result<Verdict, Fault>,
 ) {
-    assert_eq!(rt; judged_twice(alloc, texts, cert), *wanted);
+    is_same(rt, judged_twice(alloc, texts, cert), *wanted);
 }
 
 const USES: &[u8] = b"use 0 0 5\nuse 1 0 4\nuse 2 0 1\nuse 2 1 2\n";
@@ -297,8 +298,8 @@ fn verdicts_have_their_lines(rt: HostRuntime) -> Result<(), Fail> {
             Err(AllocError) => verdict_line(rt.alloc(), &verdict)?,
             Ok(line) => line,
         };
-        assert_eq!(rt; line.as_slice(), wanted);
-        assert_eq!(rt; verdict_status(&verdict), status);
+        is_same(&rt, line.as_slice(), wanted);
+        is_same(&rt, verdict_status(&verdict), status);
     }
     Ok(())
 }
@@ -475,7 +476,7 @@ fn shortages_are_told(rt: HostRuntime) -> Result<(), Fail> {
     for (texts, wanted) in cases {
         let plan = planned(rt.alloc(), texts)?;
         assert!(rt; plan.is_short());
-        assert_eq!(rt; plan.bytes(), wanted);
+        is_same(&rt, plan.bytes(), wanted);
     }
     Ok(())
 }
@@ -490,7 +491,7 @@ fn nothing_asked_for_is_planned(rt: HostRuntime) -> Result<(), Fail> {
         b"HSPLAN 1\nPLAN\ncost 0\nserver 0 0\nserver 1 0\nserver 2 0\nserver 3 0\nserver 4 0\nEND\n";
     let plan = planned(rt.alloc(), nothing)?;
     assert!(rt; !plan.is_short());
-    assert_eq!(rt; plan.bytes(), wanted);
+    is_same(&rt, plan.bytes(), wanted);
     let no_query = Texts {
         demand: b"region,handle,count\nr3,10/1,0\n",
         ..BASE
@@ -507,7 +508,7 @@ fn nothing_is_planned_for_inputs_with_a_fault(rt: HostRuntime) {
         ..BASE
     };
     let told = planned(rt.alloc(), no_table).err();
-    assert_eq!(rt; told, Some(Fault::Demand(TableFault::Header)));
+    is_same(&rt, told, Some(Fault::Demand(TableFault::Header)));
 }
 
 pub(crate) const PLAN: &[u8] =

@@ -8,8 +8,8 @@
 // tail.
 
 use crate::lists::{ABSENT, get_or, increase, number_of};
-use crate::network::Network;
 use crate::star::{Arc, ForwardStar};
+use hsp_network::Network;
 use std::alloc::{AllocError, Global};
 use std::ops::Range;
 

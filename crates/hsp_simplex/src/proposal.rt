@@ -1,13 +1,12 @@
 // The network simplex from a network to an outcome.
 
-use crate::accept::greatest;
 use crate::first_prices::Guide;
 use crate::graph::Graph;
 use crate::lists::saturating_sum;
-use crate::network::{Network, Outcome};
 use crate::regret::by_regret;
 use crate::shortage::total_capacity;
 use crate::tree::{SimplexEffort, Tree};
+use hsp_network::{Network, Outcome, greatest};
 use std::alloc::{AllocError, Global};
 
 /// An outcome that may be the network's; `None` where the network is too large for the solver's numbers, with a cost
@@ -15,7 +14,7 @@ use std::alloc::{AllocError, Global};
 /// the solver gave up after many pivots. The proposal is the same for the same network. An error says that memory is
 /// wanting.
 ///
-/// No clause says more of it, since nothing rests on it: a proposal counts where the test `accepts` says so, which
+/// No clause says more of it, since nothing rests on it: a proposal counts where the test `hsp_network::accepts` says so, which
 /// knows nothing of how it came about. A mistake here would cost time alone.
 pub fn propose(alloc: Global, network: &Network<'_>) -> Result<Option<Outcome>, AllocError> {
     let mut effort = SimplexEffort {

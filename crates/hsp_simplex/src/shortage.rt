@@ -6,7 +6,7 @@
 
 use crate::graph::{Graph, ROOT};
 use crate::lists::{get_or, increase, mark, set};
-use crate::network::Network;
+use hsp_network::Network;
 use std::alloc::{AllocError, Global};
 
 /// What all servers can take together, or the greatest number where that is above it.

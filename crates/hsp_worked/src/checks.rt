@@ -2,6 +2,7 @@
 use crate::inputs::{
     BASE, EIGHT, Numbers, ONE_SERVER, TWO, Texts, instance_of, judged, plan, shortage,
 };
+use crate::same::is_same;
 use hsp_cert::Certificate;
 use hsp_check::{PlanSums, Reason, Verdict, check, plan_sums, reached_servers};
 use hsp_instance::Instance;
@@ -55,12 +56,16 @@ fn a_best_plan_is_summed(rt: HostRuntime) {
     let base = instance_of(&rt, alloc, BASE);
     let certificate = plan(&rt, alloc, BEST);
     let sums = summed_twice(&rt, alloc, &base, &certificate);
-    assert_eq!(rt; sums.loads.rows.as_slice(), [5, 4, 3].as_slice());
-    assert_eq!(rt; sums.loads.servers.as_slice(), [4, 6, 2, 0, 0].as_slice());
+    is_same(&rt, sums.loads.rows.as_slice(), [5, 4, 3].as_slice());
+    is_same(
+        &rt,
+        sums.loads.servers.as_slice(),
+        [4, 6, 2, 0, 0].as_slice(),
+    );
     assert!(rt; sums.loads.hosts.is_empty());
-    assert_eq!(rt; sums.cost, 17);
-    assert_eq!(rt; sums.demand_worth, 23);
-    assert_eq!(rt; sums.capacity_worth, 6);
+    is_same(&rt, sums.cost, 17);
+    is_same(&rt, sums.demand_worth, 23);
+    is_same(&rt, sums.capacity_worth, 6);
 }
 
 // The servers that a short set reaches, where it is valid.
@@ -98,7 +103,7 @@ fn a_short_set_reaches_its_servers(rt: HostRuntime) {
     let instance = instance_of(&rt, alloc, texts);
     let certificate = shortage(&rt, alloc, &[2], 9, 8);
     let servers = reached_twice(&rt, alloc, &instance, &certificate);
-    assert_eq!(rt; servers.as_slice(), [1, 2].as_slice());
+    is_same(&rt, servers.as_slice(), [1, 2].as_slice());
 }
 
 #[test]

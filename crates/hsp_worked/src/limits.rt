@@ -2,6 +2,7 @@
 use crate::checks::{reached_twice, summed_twice};
 use crate::inputs::{Texts, instance_of};
 use crate::plans::{is_plan, planned, solved};
+use crate::same::is_same;
 use hsp_flow::HeapFrontier;
 use hsp_text::push_whole;
 use std::alloc::{AllocError, Global};
@@ -135,13 +136,13 @@ fn a_plan_at_the_limits_is_summed(rt: HostRuntime) {
     let certificate = solved(&rt, rt.alloc(), lent(&texts));
     let instance = instance_of(&rt, rt.alloc(), lent(&texts));
     let sums = summed_twice(&rt, rt.alloc(), &instance, &certificate);
-    assert_eq!(rt; sums.cost, 182_784_000_000);
-    assert_eq!(rt; sums.loads.rows.len(), 8192);
+    is_same(&rt, sums.cost, 182_784_000_000);
+    assert!(rt; sums.loads.rows.len() == 8192);
     for load in sums.loads.rows.as_slice() {
-        assert_eq!(rt; *load, 1_000_000);
+        is_same(&rt, *load, 1_000_000);
     }
-    assert_eq!(rt; sums.loads.servers.len(), 1024);
-    assert_eq!(rt; sums.loads.servers.first(), Some(&5_000_000));
+    assert!(rt; sums.loads.servers.len() == 1024);
+    is_same(&rt, sums.loads.servers.first(), Some(&5_000_000));
 }
 
 // With one query less at the last server of place 0 the 277 rows of that place fall short.
@@ -150,9 +151,9 @@ fn a_shortage_at_the_limits_is_found(rt: HostRuntime) {
     let texts = texts_of(&rt, rt.alloc(), 8192, 121_999_999);
     let certificate = solved(&rt, rt.alloc(), lent(&texts));
     let short = certificate.as_short().expect(&rt, "a shortage came");
-    assert_eq!(rt; short.rows().len(), 277);
-    assert_eq!(rt; short.demand(), 277_000_000);
-    assert_eq!(rt; short.capacity(), 276_999_999);
+    assert!(rt; short.rows().len() == 277);
+    is_same(&rt, short.demand(), 277_000_000);
+    is_same(&rt, short.capacity(), 276_999_999);
 }
 
 // They reach the server of place 0 at each of the 32 sites.
@@ -162,10 +163,10 @@ fn a_shortage_at_the_limits_reaches_its_servers(rt: HostRuntime) {
     let certificate = solved(&rt, rt.alloc(), lent(&texts));
     let instance = instance_of(&rt, rt.alloc(), lent(&texts));
     let servers = reached_twice(&rt, rt.alloc(), &instance, &certificate);
-    assert_eq!(rt; servers.len(), 32);
+    assert!(rt; servers.len() == 32);
     for (site, server) in servers.iter().enumerate() {
-        assert_eq!(rt; *server as usize / 32, site);
-        assert_eq!(rt; *server % 32, 0);
+        is_same(&rt, *server as usize / 32, site);
+        is_same(&rt, *server % 32, 0);
     }
 }
 

@@ -3,6 +3,7 @@
 ghost use Rattle.std.specs.Prelude.{ℕ, ⊤, None, slice_index_or, vec_len};
 
 use crate::inputs::{BASE, EIGHT, MOST, ONE_SERVER, TWO_SITES_OF_ONE, Texts, instance_of, judged};
+use crate::same::is_same;
 use hsp_cert::{Certificate, UseLine};
 use hsp_check::Verdict;
 use hsp_flow::{Effort, Frontier, HeapFrontier, ScanFrontier, solve, solve_counted, solve_with};
@@ -30,9 +31,9 @@ pub(crate) fn is_plan(
     uses: Option<&[UseLine]>,
 ) {
     let best = certificate.as_best().expect(rt, "a plan came");
-    assert_eq!(rt; best.cost(), cost);
+    is_same(rt, best.cost(), cost);
     if let Some(uses) = uses {
-        assert_eq!(rt; best.uses(), uses);
+        is_same(rt, best.uses(), uses);
     }
 }
 
@@ -50,7 +51,7 @@ type Set = (&'static [u32], u64, u64);
 // The certificate is that of this short set.
 fn is_short(rt: &impl Abort, certificate: &Certificate, wanted: Set) {
     let short = certificate.as_short().expect(rt, "a shortage came");
-    assert_eq!(rt; (short.rows(), short.demand(), short.capacity()), wanted);
+    is_same(rt, (short.rows(), short.demand(), short.capacity()), wanted);
 }
 
 // Both frontiers give this short set.
@@ -219,8 +220,8 @@ fn rows_of_one_kind_are_one_node(rt: HostRuntime) {
     };
     let certificate = planned::<Narrow>(&rt, rt.alloc(), texts);
     let best = certificate.as_best().expect(&rt, "a plan came");
-    assert_eq!(rt; best.cost(), 20);
-    assert_eq!(rt; best.uses().len(), 20);
+    is_same(&rt, best.cost(), 20);
+    assert!(rt; best.uses().len() == 20);
 }
 
 // How many searches the loop begins for the instance of the texts.
@@ -250,7 +251,7 @@ fn kinds_of_rows_are_searched_from(rt: HostRuntime) {
     let uses = [used(0, 0, 5), used(1, 0, 1), used(1, 1, 3), used(2, 1, 3)];
     let certificate = planned::<ScanFrontier>(&rt, rt.alloc(), TWO_KINDS);
     is_plan(&rt, &certificate, 15, Some(&uses));
-    assert_eq!(rt; searches(&rt, rt.alloc(), TWO_KINDS), 3);
+    is_same(&rt, searches(&rt, rt.alloc(), TWO_KINDS), 3);
 }
 
 // With 5 at Y the second kind gets 2, and its last search finds no way.
@@ -262,7 +263,7 @@ fn kinds_of_rows_fall_short(rt: HostRuntime) {
     };
     let certificate = planned::<ScanFrontier>(&rt, rt.alloc(), texts);
     is_short(&rt, &certificate, (&[0, 1, 2], 12, 11));
-    assert_eq!(rt; searches(&rt, rt.alloc(), texts), 4);
+    is_same(&rt, searches(&rt, rt.alloc(), texts), 4);
 }
 
 #[test]

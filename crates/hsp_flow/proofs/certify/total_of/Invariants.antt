@@ -1,5 +1,5 @@
 use Rattle.std.proofs.Common.{◌≡◌, ◌≤◌, ◌*◌, ◌^◌, slice_index}
-use Rattle.hsp_simplex.specs.Sums.{sum_below}
+use Rattle.hsp_network.specs.Sums.{sum_below}
 use Rattle.hsp_flow.proofs.certify.total_of.Given as goal
 
 abbrev pub invariant-loop-place : goal.invariant-loop-place

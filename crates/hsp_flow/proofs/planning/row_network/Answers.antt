@@ -1,5 +1,5 @@
 use Rattle.std.proofs.Common.{sym, subst}
-use Rattle.hsp_simplex.specs.Network.{IsNetwork}
+use Rattle.hsp_network.specs.Network.{IsNetwork}
 use Rattle.hsp_flow.proofs.Limits.{network_is}
 use Rattle.hsp_flow.proofs.planning.row_network.Goals as goal
 

@@ -1,7 +1,7 @@
 use Rattle.std.proofs.Common.{◌∙◌, length, ap}
 use Rattle.std.proofs.lemmas.List.{length-map}
 use Rattle.hsp_instance.specs.Instance.{Row}
-use Rattle.hsp_simplex.specs.Network.{Transport}
+use Rattle.hsp_network.specs.Network.{Transport}
 use Rattle.hsp_flow.proofs.Limits.{few_nodes, small_is}
 use Rattle.hsp_flow.proofs.planning.solve_rows.Goals as goal
 

@@ -1,6 +1,6 @@
 use Rattle.std.proofs.Common.{◌≡◌, ◌≤◌, false, slice_index_or, subst, arith}
 use Rattle.std.proofs.Math.Facts.{Fits-below}
-use Rattle.hsp_simplex.specs.Network.{Transport, capacity_of, demand_of}
+use Rattle.hsp_network.specs.Network.{Transport, capacity_of, demand_of}
 use Rattle.hsp_flow.specs.Planning.{transport_of}
 use Rattle.hsp_flow.proofs.Claiming.{short_is, short_valid}
 use Rattle.hsp_flow.proofs.Limits.{demand_low}

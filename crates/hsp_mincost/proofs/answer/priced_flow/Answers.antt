@@ -1,7 +1,7 @@
 use Rattle.std.proofs.Common.{◌≡◌, ℕ, ◌+◌, ◌-◌, ◌*◌, ◌<◌, length, slice_index, ap, ◌∙◌, arith, mul-le-mul_left}
 use Rattle.hsp_mincost.specs.Layout.{base_of, first_of, hosts_of, servers_of, host_node}
-use Rattle.hsp_simplex.specs.Network.{host_of}
-use Rattle.hsp_simplex.specs.Problem.{problem_of}
+use Rattle.hsp_network.specs.Network.{host_of}
+use Rattle.hsp_network.specs.Problem.{problem_of}
 use Rattle.hsp_mincost.proofs.Modelling.{feasible, has_prices, low_prices}
 use Rattle.hsp_mincost.proofs.answer.priced_flow.Goals as goal
 

@@ -1,6 +1,6 @@
 use Rattle.std.proofs.Common.{◌≡◌, ℕ, ◌+◌, ◌-◌, ◌<◌, false, length, nat_lt, slice_index, slice_index_or, ap, sym, ◌∙◌, arith, lt-ltb, ltb-true}
 use Rattle.hsp_mincost.specs.Layout.{first_of}
-use Rattle.hsp_simplex.specs.Problem.{problem_of}
+use Rattle.hsp_network.specs.Problem.{problem_of}
 use Rattle.hsp_mincost.proofs.Shortage.{is_short}
 use Rattle.hsp_mincost.proofs.answer.short_set.Goals as goal
 

@@ -1,5 +1,5 @@
 use Rattle.std.proofs.Common.{◌≡◌, ◌+◌, ◌*◌, ◌<◌, length, refl, arith, add-mul, one-mul}
-use Rattle.hsp_simplex.specs.Problem.{problem_of}
+use Rattle.hsp_network.specs.Problem.{problem_of}
 use Rattle.hsp_mincost.proofs.Building.{costs_fit, graph_of, scale_of}
 use Rattle.hsp_mincost.proofs.solving.solve_links.Goals as goal
 

@@ -1,0 +1,9 @@
+use Rattle.std.proofs.Common.{◌≡◌, ◌≤◌, ◌*◌, ◌^◌}
+use Rattle.hsp_network.specs.Reached.{hosted_sum}
+use Rattle.hsp_network.proofs.accept_set.hosted_room.Given as goal
+
+abbrev pub invariant-loop-host : goal.invariant-loop-host
+invariant-loop-host l = record {
+  sum : l.sum ≡ hosted_sum l.limits l.rooms l.host;
+  small : l.sum ≤ l.host * 2 ^ 64;
+}

@@ -1,0 +1,9 @@
+use Rattle.std.proofs.Common.{◌≡◌, ◌≤◌, ◌*◌, ◌^◌}
+use Rattle.hsp_network.specs.Reached.{flagged_sum}
+use Rattle.hsp_network.proofs.accept_set.sum_flagged.Given as goal
+
+abbrev pub invariant-loop-place : goal.invariant-loop-place
+invariant-loop-place l = record {
+  sum : l.sum ≡ flagged_sum l.numbers l.flags l.place;
+  small : l.sum ≤ l.place * 2 ^ 64;
+}
