@@ -1,13 +1,12 @@
 // The table of capacities: how many queries the server of an identifier can take at a site.
 
-ghost use Rattle.std.specs.Prelude.{◌≡◌, ◌<◌, ◌==◌, ◌&&◌, ◌⊎◌, [], Some, Ok, Err, length, option_map, slice_get, OnOk, IfErr};
+ghost use Rattle.std.specs.Prelude.{◌≡◌, ◌<◌, ◌==◌, ◌&&◌, ◌⊎◌, Some, Ok, Err, length, option_map, slice_get, OnOk, IfErr};
 ghost use Rattle.std.specs.List.{find};
 ghost use Rattle.std.specs.Str.{bytes_eq};
 ghost use Rattle.csv.specs.Records.{fields_of};
-ghost use Rattle.hsp_csv.specs.Records.{IsKnown, IsReading, records_left, records_of};
+ghost use Rattle.hsp_csv.specs.Records.{records_of};
 ghost use Rattle.hsp_tables.specs.declared.fault.TableFault.TheVariants.{OutOfMemory};
 ghost use Rattle.hsp_text.specs.Answers.{Gives, GivesUnless};
-ghost use Rattle.hsp_tables.specs.Fields.{lent};
 ghost use Rattle.hsp_tables.specs.InTurn.{with_row};
 ghost use Rattle.hsp_tables.specs.Table.{row_after, table_of};
 ghost use Rattle.hsp_tables.specs.Capacities.{AreCapacities, CapacityEntry, capacity_in, capacity_table};
@@ -16,7 +15,7 @@ ghost use Rattle.hsp_tables.specs.Rows.{capacity_shown};
 use crate::fault::TableFault;
 use crate::fields::{name_in, number_in, three_fields};
 use crate::keyed::ServerRows;
-use csv::{ByteRecord, Reader};
+use csv::ByteRecord;
 use hsp_csv::{read_records, take_header, take_record};
 use hsp_text::limits::{GREATEST_CAPACITY, MOST_CAPACITY_ROWS};
 use std::alloc::Global;
@@ -120,30 +119,6 @@ fn add_record(alloc: Global, rows: &mut ServerRows, fields: &ByteRecord) -> Resu
     Ok(())
 }
 
-// Reads the table of the records that are left.
-fn read_rows(
-    alloc: Global,
-    rows: &mut ServerRows,
-    records: &mut Reader<&[u8]>,
-) -> Result<(), TableFault>
-    requires reading { IsReading records.old }
-    requires known { IsKnown lent records.old }
-    requires none { rows.old ≡ [] }
-    ensures ok { OnOk result
-        (table_of capacity_table (records_left lent records.old) ≡ Ok rows.new) }
-    ensures err { IfErr result (λ e. (e ≡ OutOfMemory)
-        ⊎ (table_of capacity_table (records_left lent records.old) ≡ Err e)) }
-{
-    let mut fields = ByteRecord::new(alloc);
-    if !take_header(records, &mut fields, &HEADER)? {
-        return Err(TableFault::Header);
-    }
-    'rows: while take_record(records, &mut fields)? {
-        add_record(alloc, rows, &fields)?;
-    }
-    Ok(())
-}
-
 /// The capacities that a text of comma-separated values spells, or its first fault.
 ///
 /// The header is `site,server_id,capacity`. The order of faults is: Header; then record by record TooManyRows (this record is
@@ -153,7 +128,13 @@ pub fn read_capacity(alloc: Global, text: &[u8]) -> Result<Capacities, TableFaul
         table_of capacity_table (records_of text.now)) }
 {
     let mut records = read_records(alloc, text);
+    let mut fields = ByteRecord::new(alloc);
+    if !take_header(&mut records, &mut fields, &HEADER)? {
+        return Err(TableFault::Header);
+    }
     let mut rows = ServerRows::new(alloc);
-    read_rows(alloc, &mut rows, &mut records)?;
+    'rows: while take_record(&mut records, &mut fields)? {
+        add_record(alloc, &mut rows, &fields)?;
+    }
     Ok(Capacities { rows })
 }

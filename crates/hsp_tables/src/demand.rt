@@ -1,11 +1,10 @@
 // The table of demand: how many queries for a handle come from a region.
 
-ghost use Rattle.std.specs.Prelude.{◌≡◌, ◌<◌, ◌⊎◌, [], Some, Ok, Err, length, map, slice_get, OnOk, IfErr};
+ghost use Rattle.std.specs.Prelude.{◌≡◌, ◌<◌, ◌⊎◌, Some, Ok, Err, length, map, slice_get, OnOk, IfErr};
 ghost use Rattle.csv.specs.Records.{fields_of};
-ghost use Rattle.hsp_csv.specs.Records.{IsKnown, IsReading, records_left, records_of};
+ghost use Rattle.hsp_csv.specs.Records.{records_of};
 ghost use Rattle.hsp_tables.specs.declared.fault.TableFault.TheVariants.{OutOfMemory};
 ghost use Rattle.hsp_text.specs.Answers.{Gives, GivesUnless};
-ghost use Rattle.hsp_tables.specs.Fields.{lent};
 ghost use Rattle.hsp_tables.specs.InTurn.{with_row};
 ghost use Rattle.hsp_tables.specs.Table.{row_after, table_of};
 ghost use Rattle.hsp_tables.specs.Demand.{AreDemand, demand_in, demand_regions, demand_table};
@@ -15,7 +14,7 @@ ghost use Rattle.hsp_tables.specs.Rows.{demand_shown};
 use crate::fault::TableFault;
 use crate::fields::{handle_in, name_in, number_in, three_fields};
 use crate::keyed::{PairRow, PairRows, Regions};
-use csv::{ByteRecord, Reader};
+use csv::ByteRecord;
 use hsp_csv::{read_records, take_header, take_record};
 use hsp_names::HandleRef;
 use hsp_text::limits::{GREATEST_COUNT, MOST_DEMAND_ROWS, MOST_REGIONS};
@@ -129,31 +128,6 @@ fn add_record(
     Ok(())
 }
 
-// Reads the table of the records that are left.
-fn read_rows(
-    alloc: Global,
-    rows: &mut PairRows,
-    records: &mut Reader<&[u8]>,
-) -> Result<(), TableFault>
-    requires reading { IsReading records.old }
-    requires known { IsKnown lent records.old }
-    requires none { map demand_entry rows.old ≡ [] }
-    ensures ok { OnOk result
-        (table_of demand_table (records_left lent records.old) ≡ Ok (map demand_entry rows.new)) }
-    ensures err { IfErr result (λ e. (e ≡ OutOfMemory)
-        ⊎ (table_of demand_table (records_left lent records.old) ≡ Err e)) }
-{
-    let mut fields = ByteRecord::new(alloc);
-    if !take_header(records, &mut fields, &HEADER)? {
-        return Err(TableFault::Header);
-    }
-    let mut regions = Regions::new(alloc);
-    'rows: while take_record(records, &mut fields)? {
-        add_record(alloc, rows, &mut regions, &fields)?;
-    }
-    Ok(())
-}
-
 /// The demand that a text of comma-separated values spells, or its first fault.
 ///
 /// The header is `region,handle,count`. The order of faults is: Header; then record by record TooManyRows (this record is one
@@ -163,7 +137,14 @@ pub fn read_demand(alloc: Global, text: &[u8]) -> Result<Demand, TableFault>
         table_of demand_table (records_of text.now)) }
 {
     let mut records = read_records(alloc, text);
+    let mut fields = ByteRecord::new(alloc);
+    if !take_header(&mut records, &mut fields, &HEADER)? {
+        return Err(TableFault::Header);
+    }
     let mut rows = PairRows::new(alloc);
-    read_rows(alloc, &mut rows, &mut records)?;
+    let mut regions = Regions::new(alloc);
+    'rows: while take_record(&mut records, &mut fields)? {
+        add_record(alloc, &mut rows, &mut regions, &fields)?;
+    }
     Ok(Demand { rows })
 }

@@ -1,18 +1,18 @@
 use Rattle.std.proofs.Common.{◌≡◌, length, map}
-use Rattle.hsp_csv.specs.Records.{IsKnown, IsReading, records_left}
+use Rattle.hsp_csv.specs.Records.{IsKnown, IsReading, records_left, records_of}
 use Rattle.hsp_tables.specs.Demand.{demand_regions, demand_table}
 use Rattle.hsp_tables.specs.Fields.{lent}
 use Rattle.hsp_tables.specs.InTurn.{rows_after}
 use Rattle.hsp_tables.specs.Keyed.{demand_entry}
 use Rattle.hsp_tables.specs.Table.{row_after, table_of}
-use Rattle.hsp_tables.proofs.demand.read_rows.Given as goal
+use Rattle.hsp_tables.proofs.demand.read_demand.Given as goal
 
 abbrev pub invariant-rows : goal.invariant-rows
 invariant-rows l = record {
   reading : IsReading l.records;
   known : IsKnown lent l.records;
   regions : l.regions ≡ demand_regions (map demand_entry l.rows);
-  so_far : rows_after (row_after demand_table) (map demand_entry l.rows) (records_left lent l.records) ≡ table_of demand_table (records_left lent l.fn.records);
+  so_far : rows_after (row_after demand_table) (map demand_entry l.rows) (records_left lent l.records) ≡ table_of demand_table (records_of l.fn.text);
 }
 
 abbrev pub decreases-rows : goal.decreases-rows
