@@ -2,7 +2,7 @@
 
 use hsp_instance::{Instance, build};
 use hsp_tables::{
-    Capacities, Costs, Demand, Settings, read_capacity, read_costs, read_demand, read_settings,
+    Capacities, Costs, Demand, read_capacity, read_costs, read_demand, read_settings,
 };
 use std::alloc::Global;
 
@@ -25,9 +25,10 @@ fn rows_of(alloc: Global, demand: &[u8], costs: &[u8], capacity: &[u8]) -> Optio
     })
 }
 
-fn built(alloc: Global, settings: &Settings, rows: &Rows) -> Option<Instance> {
+fn built(alloc: Global, settings: &[u8], rows: &Rows) -> Option<Instance> {
+    let settings = read_settings(alloc, settings).ok()?;
     let (demand, costs, capacity) = (&rows.demand, &rows.costs, &rows.capacity);
-    build(alloc, settings, None, demand, costs, capacity).ok()
+    build(alloc, &settings, None, demand, costs, capacity).ok()
 }
 
 /// The instance of the texts, whose records stand in the settings.
@@ -38,7 +39,6 @@ pub(crate) fn instance_by(
     costs: &[u8],
     capacity: &[u8],
 ) -> Option<Instance> {
-    let settings = read_settings(alloc, settings).ok()?;
     let rows = rows_of(alloc, demand, costs, capacity)?;
-    built(alloc, &settings, &rows)
+    built(alloc, settings, &rows)
 }

@@ -1,22 +1,12 @@
 use crate::same::is_same;
-use crate::worked::{certificate, dispatcher, instance};
+use crate::worked::{held_dispatcher, held_instance};
 use hsp_dispatch::*;
 use hsp_names::HandleRef;
+use std::process::Abort;
 
-#[test]
-fn queries_go_by_the_plan(rt: HostRuntime) {
-    let alloc = rt.alloc();
-    // Where memory runs out once, it is there at the second call.
-    let instance = instance(alloc)
-        .or(instance(alloc))
-        .expect(&rt, "the instance is built");
-    let certificate = certificate(alloc)
-        .or(certificate(alloc))
-        .expect(&rt, "the plan is in order");
-    let first = dispatcher(alloc, &instance, &certificate);
-    let second = dispatcher(alloc, &instance, &certificate);
-    let mut dispatcher = first.or(second).expect(&rt, "the plan is valid");
-    let handle = HandleRef::parse(b"10/3").expect(&rt, "the handle is one");
+// The last row's queries go to the first site and then to the second, as the plan sends them.
+fn goes_by_the_plan(rt: &impl Abort, dispatcher: &mut Dispatcher<'_>) {
+    let handle = HandleRef::parse(b"10/3").expect(rt, "the handle is one");
     let by_hash = Answer::Assigned {
         site: 0,
         place: 1,
@@ -28,9 +18,16 @@ fn queries_go_by_the_plan(rt: HostRuntime) {
         server_id: 1,
     };
     for wanted in [by_hash, later, later, Answer::Spent] {
-        is_same(&rt, dispatcher.assign(b"r2", handle), wanted);
+        is_same(rt, dispatcher.assign(b"r2", handle), wanted);
     }
-    is_same(&rt, dispatcher.assign(b"r9", handle), Answer::Unknown);
+    is_same(rt, dispatcher.assign(b"r9", handle), Answer::Unknown);
+}
+
+#[test]
+fn queries_go_by_the_plan(rt: HostRuntime) {
+    let instance = held_instance(&rt, rt.alloc());
+    let mut dispatcher = held_dispatcher(&rt, rt.alloc(), &instance);
+    goes_by_the_plan(&rt, &mut dispatcher);
     for (row, site, left) in [
         (2, 0, 0),
         (2, 1, 0),

@@ -1,6 +1,7 @@
 use crate::same::is_same;
-use crate::worked::{certificate, certificate_of, fronts, instance, instance_of};
+use crate::worked::{certificate_of, fronts, held_fronts, held_instance, instance_of};
 use hsp_dispatch::*;
+use hsp_instance::Instance;
 use hsp_names::HandleRef;
 use std::alloc::Global;
 use std::process::Abort;
@@ -17,17 +18,8 @@ fn assigned(site: u32, place: u32, server_id: u32) -> FrontAnswer {
 
 #[test]
 fn fronts_hold_their_shares(rt: HostRuntime) {
-    let alloc = rt.alloc();
-    // Where memory runs out once, it is there at the second call.
-    let instance = instance(alloc)
-        .or(instance(alloc))
-        .expect(&rt, "the instance is built");
-    let certificate = certificate(alloc)
-        .or(certificate(alloc))
-        .expect(&rt, "the plan is in order");
-    let first = fronts(alloc, &instance, &certificate, 2);
-    let second = fronts(alloc, &instance, &certificate, 2);
-    let fronts = first.or(second).expect(&rt, "the plan is valid");
+    let instance = held_instance(&rt, rt.alloc());
+    let fronts = held_fronts(&rt, rt.alloc(), &instance, 2);
     for (row, site, lefts) in [
         (0, 0, [3, 2, 0]),
         (1, 0, [2, 2, 0]),
@@ -45,19 +37,8 @@ fn fronts_hold_their_shares(rt: HostRuntime) {
     }
 }
 
-#[test]
-fn fronts_answer_by_their_shares(rt: HostRuntime) {
-    let alloc = rt.alloc();
-    // Where memory runs out once, it is there at the second call.
-    let instance = instance(alloc)
-        .or(instance(alloc))
-        .expect(&rt, "the instance is built");
-    let certificate = certificate(alloc)
-        .or(certificate(alloc))
-        .expect(&rt, "the plan is in order");
-    let first = fronts(alloc, &instance, &certificate, 2);
-    let second = fronts(alloc, &instance, &certificate, 2);
-    let mut fronts = first.or(second).expect(&rt, "the plan is valid");
+// What two fronts answer, in turn.
+fn answer_by_their_shares(rt: &impl Abort, fronts: &mut Fronts<'_>) {
     let spent = FrontAnswer::Answered(Answer::Spent);
     let unknown = FrontAnswer::Answered(Answer::Unknown);
     for (front, region, handle, wanted) in [
@@ -69,9 +50,16 @@ fn fronts_answer_by_their_shares(rt: HostRuntime) {
         (2, b"r2", b"10/3", FrontAnswer::NoFront),
         (0, b"r9", b"10/1", unknown),
     ] {
-        let handle = HandleRef::parse(handle).expect(&rt, "the handle is one");
-        is_same(&rt, fronts.assign(front, region, handle), wanted);
+        let handle = HandleRef::parse(handle).expect(rt, "the handle is one");
+        is_same(rt, fronts.assign(front, region, handle), wanted);
     }
+}
+
+#[test]
+fn fronts_answer_by_their_shares(rt: HostRuntime) {
+    let instance = held_instance(&rt, rt.alloc());
+    let mut fronts = held_fronts(&rt, rt.alloc(), &instance, 2);
+    answer_by_their_shares(&rt, &mut fronts);
     let left = [
         fronts.left(0, 0, 0),
         fronts.left(1, 0, 0),
@@ -104,41 +92,46 @@ fn uses_both_sites(
     }
 }
 
+// What is left at both sites for the last row, as two fronts use it up by turns.
+fn use_up_both_sites(rt: &impl Abort, fronts: &mut Fronts<'_>) {
+    is_same(rt, [fronts.left(0, 2, 0), fronts.left(0, 2, 1)], [2, 3]);
+    is_same(rt, [fronts.left(1, 2, 0), fronts.left(1, 2, 1)], [1, 2]);
+    uses_both_sites(rt, fronts, 0, &[(0, [1, 3]), (0, [0, 3]), (1, [0, 2])]);
+    uses_both_sites(
+        rt,
+        fronts,
+        1,
+        &[(0, [0, 2]), (1, [0, 1]), (1, [0, 0]), (NO_SITE, [0, 0])],
+    );
+    uses_both_sites(
+        rt,
+        fronts,
+        0,
+        &[(1, [0, 1]), (1, [0, 0]), (NO_SITE, [0, 0])],
+    );
+}
+
+// Two fronts by the plan of an instance whose last row asks for eight queries, None where memory ran out.
+fn two_fronts(alloc: Global, instance: &Instance) -> Option<Fronts<'_>> {
+    let certificate = certificate_of(alloc, 30, [5, 4, 3, 5])?;
+    fronts(alloc, instance, &certificate, 2)
+}
+
 #[test]
 fn a_front_uses_up_one_site_after_the_other(rt: HostRuntime) {
     let alloc = rt.alloc();
     let demand = b"region,handle,count\nr1,10/1,5\nr1,10/2,4\nr2,10/3,8\n";
     let capacity = b"site,server_id,capacity\nE,7,10\nE,3,8\nW,1,6\nW,2,10\nW,9,10\n";
     // Where memory runs out once, it is there at the second call.
-    let instance = instance_of(alloc, demand, capacity)
-        .or(instance_of(alloc, demand, capacity))
-        .expect(&rt, "the instance is built");
-    let certificate = certificate_of(alloc, 30, [5, 4, 3, 5])
-        .or(certificate_of(alloc, 30, [5, 4, 3, 5]))
-        .expect(&rt, "the plan is in order");
-    let first = fronts(alloc, &instance, &certificate, 2);
-    let second = fronts(alloc, &instance, &certificate, 2);
-    let mut fronts = first.or(second).expect(&rt, "the plan is valid");
-    is_same(&rt, [fronts.left(0, 2, 0), fronts.left(0, 2, 1)], [2, 3]);
-    is_same(&rt, [fronts.left(1, 2, 0), fronts.left(1, 2, 1)], [1, 2]);
-    uses_both_sites(
-        &rt,
-        &mut fronts,
-        0,
-        &[(0, [1, 3]), (0, [0, 3]), (1, [0, 2])],
-    );
-    uses_both_sites(
-        &rt,
-        &mut fronts,
-        1,
-        &[(0, [0, 2]), (1, [0, 1]), (1, [0, 0]), (NO_SITE, [0, 0])],
-    );
-    uses_both_sites(
-        &rt,
-        &mut fronts,
-        0,
-        &[(1, [0, 1]), (1, [0, 0]), (NO_SITE, [0, 0])],
-    );
+    let instance = match instance_of(alloc, demand, capacity) {
+        Some(instance) => instance,
+        None => instance_of(alloc, demand, capacity).expect(&rt, "the instance is built"),
+    };
+    let mut fronts = match two_fronts(alloc, &instance) {
+        Some(fronts) => fronts,
+        None => two_fronts(alloc, &instance).expect(&rt, "the plan is valid"),
+    };
+    use_up_both_sites(&rt, &mut fronts);
 }
 
 // The counts of the first row, and what each front has of them before it takes one, and what the first has of the second row.
@@ -153,11 +146,8 @@ struct Wide {
     next: u64,
 }
 
-// Fronts of which each has the share, None where memory ran out.
-fn has_the_share(rt: &impl Abort, alloc: Global, wide: Wide) -> Option<()> {
-    let instance = instance_of(alloc, wide.demand, wide.capacity)?;
-    let certificate = certificate_of(alloc, wide.cost, [wide.count, 4, 1, 2])?;
-    let mut fronts = fronts(alloc, &instance, &certificate, wide.many)?;
+// Each front has its share of the first row, and one less behind an answer.
+fn take_of_each(rt: &impl Abort, fronts: &mut Fronts<'_>, wide: Wide) {
     let handle = HandleRef::parse(b"10/1").expect(rt, "the handle is one");
     for front in 0..wide.many {
         is_same(rt, fronts.left(front, 0, 0), wide.share);
@@ -169,6 +159,14 @@ fn has_the_share(rt: &impl Abort, alloc: Global, wide: Wide) -> Option<()> {
         [fronts.left(0, 1, 0), fronts.left(0, 2, 0)],
         [wide.next, 1],
     );
+}
+
+// Fronts of which each has the share, None where memory ran out.
+fn has_the_share(rt: &impl Abort, alloc: Global, wide: Wide) -> Option<()> {
+    let instance = instance_of(alloc, wide.demand, wide.capacity)?;
+    let certificate = certificate_of(alloc, wide.cost, [wide.count, 4, 1, 2])?;
+    let mut fronts = fronts(alloc, &instance, &certificate, wide.many)?;
+    take_of_each(rt, &mut fronts, wide);
     Some(())
 }
 

@@ -305,6 +305,20 @@ fn is_shortage(
 }
 
 // The report of loads of a plan.
+fn loads_in(
+    rt: &impl Abort,
+    alloc: Global,
+    instance: &Instance,
+    certificate: &Certificate,
+) -> Result<Vec<u8>, Fail> {
+    is_plan(rt, alloc, instance, certificate)?;
+    match load_report(alloc, instance, certificate) {
+        Ok(text) => Ok(text),
+        Err(AllocError) => Ok(load_report(alloc, instance, certificate)?),
+    }
+}
+
+// The same, of the instance of texts.
 fn loads_of(
     rt: &impl Abort,
     alloc: Global,
@@ -312,14 +326,24 @@ fn loads_of(
     certificate: &Certificate,
 ) -> Result<Vec<u8>, Fail> {
     let instance = instance_twice(alloc, texts)?;
-    is_plan(rt, alloc, &instance, certificate)?;
-    match load_report(alloc, &instance, certificate) {
-        Ok(text) => Ok(text),
-        Err(AllocError) => Ok(load_report(alloc, &instance, certificate)?),
-    }
+    loads_in(rt, alloc, &instance, certificate)
 }
 
 // The report of regions of a plan.
+fn regions_in(
+    rt: &impl Abort,
+    alloc: Global,
+    instance: &Instance,
+    certificate: &Certificate,
+) -> Result<Vec<u8>, Fail> {
+    is_plan(rt, alloc, instance, certificate)?;
+    match region_report(alloc, instance, certificate) {
+        Ok(text) => Ok(text),
+        Err(AllocError) => Ok(region_report(alloc, instance, certificate)?),
+    }
+}
+
+// The same, of the instance of texts.
 fn regions_of(
     rt: &impl Abort,
     alloc: Global,
@@ -327,14 +351,24 @@ fn regions_of(
     certificate: &Certificate,
 ) -> Result<Vec<u8>, Fail> {
     let instance = instance_twice(alloc, texts)?;
-    is_plan(rt, alloc, &instance, certificate)?;
-    match region_report(alloc, &instance, certificate) {
-        Ok(text) => Ok(text),
-        Err(AllocError) => Ok(region_report(alloc, &instance, certificate)?),
-    }
+    regions_in(rt, alloc, &instance, certificate)
 }
 
 // The report of a short set.
+fn shortage_in(
+    rt: &impl Abort,
+    alloc: Global,
+    instance: &Instance,
+    certificate: &Certificate,
+) -> Result<Vec<u8>, Fail> {
+    is_shortage(rt, alloc, instance, certificate)?;
+    match shortage_report(alloc, instance, certificate) {
+        Ok(text) => Ok(text),
+        Err(AllocError) => Ok(shortage_report(alloc, instance, certificate)?),
+    }
+}
+
+// The same, of the instance of texts.
 fn shortage_of(
     rt: &impl Abort,
     alloc: Global,
@@ -342,11 +376,7 @@ fn shortage_of(
     certificate: &Certificate,
 ) -> Result<Vec<u8>, Fail> {
     let instance = instance_twice(alloc, texts)?;
-    is_shortage(rt, alloc, &instance, certificate)?;
-    match shortage_report(alloc, &instance, certificate) {
-        Ok(text) => Ok(text),
-        Err(AllocError) => Ok(shortage_report(alloc, &instance, certificate)?),
-    }
+    shortage_in(rt, alloc, &instance, certificate)
 }
 
 // The text is the wanted one.

@@ -1,4 +1,4 @@
-// The worked instance and its plan. None stands for want of memory.
+// The worked instance and its plan. None stands for want of memory; where something is held, it was made once more then.
 
 use crate::building::instance_by;
 use hsp_cert::{Certificate, UseLine};
@@ -7,6 +7,7 @@ use hsp_dispatch::{Dispatcher, Fronts};
 use hsp_instance::Instance;
 use hsp_text::limits::MOST_FRONTS;
 use std::alloc::Global;
+use std::process::Abort;
 
 const SETTINGS: &[u8] =
     b"[[site]]\nname = \"E\"\nrecord = \"00010200000100010000000000000000000000020000000700000000000000000000000000000001000000000000000000000003000000000000000000000000000000010000000000000000\"\n[[site]]\nname = \"W\"\nrecord = \"0001020000010001000000000000000000000003000000010000000000000000000000000000000200000000000000000000000200000000000000000000000000000002000000000000000000000009000000000000000000000000000000020000000000000000\"\n";
@@ -85,4 +86,37 @@ pub(crate) fn fronts<'a>(
 pub(crate) fn best_fronts(alloc: Global, instance: &Instance, many: u32) -> Option<Fronts<'_>> {
     let certificate = certificate(alloc)?;
     fronts(alloc, instance, &certificate, many)
+}
+
+/// The worked instance.
+pub(crate) fn held_instance(rt: &impl Abort, alloc: Global) -> Instance {
+    match instance(alloc) {
+        Some(instance) => instance,
+        None => instance(alloc).expect(rt, "the instance is built"),
+    }
+}
+
+/// A dispatcher by its best plan.
+pub(crate) fn held_dispatcher<'a>(
+    rt: &impl Abort,
+    alloc: Global,
+    instance: &'a Instance,
+) -> Dispatcher<'a> {
+    match best_dispatcher(alloc, instance) {
+        Some(dispatcher) => dispatcher,
+        None => best_dispatcher(alloc, instance).expect(rt, "the plan is valid"),
+    }
+}
+
+/// So many fronts by its best plan.
+pub(crate) fn held_fronts<'a>(
+    rt: &impl Abort,
+    alloc: Global,
+    instance: &'a Instance,
+    many: u32,
+) -> Fronts<'a> {
+    match best_fronts(alloc, instance, many) {
+        Some(fronts) => fronts,
+        None => best_fronts(alloc, instance, many).expect(rt, "the plan is valid"),
+    }
 }

@@ -1,5 +1,5 @@
 // Transportation networks with hosts: the problem, what may become of it, and the test that accepts an outcome
-// (Ahuja, Magnanti and Orlin, Network Flows, chapters 9 and 16).
+// (Ahuja, Magnanti and Orlin, Network Flows, chapter 9).
 #![tactic(auto)]
 
 mod accept;
