@@ -44,20 +44,32 @@ fn use_count(certificate: &Certificate) -> usize {
     }
 }
 
-// Reads the text of a certificate, which was written in that time, and prints the times.
-fn measure_reading<R: AllocGlobal + Clock + CpuClock + Print>(
+// Prints how large the certificate is, the times of writing it, and those of reading it, which ends here.
+fn print_times<R: Clock + CpuClock + Print>(
     rt: &R,
-    text: &[u8],
+    certificate: &Certificate,
+    octets: usize,
     written: &Times,
+    reading: &Watch,
 ) -> Result<(), Failure> {
-    let reading = Watch::start(rt)?;
-    let certificate = read_cert(rt.alloc(), text)?;
     let read = reading.times(rt)?;
-    let (uses, octets) = (use_count(&certificate), text.len());
+    let uses = use_count(certificate);
     println!(rt;
         "certificate of {uses} uses: {octets} octets written in {written}, read in {read}"
     )?;
     Ok(())
+}
+
+// Reads the text, whose writing ends here, and prints the times.
+fn measure_reading<R: AllocGlobal + Clock + CpuClock + Print>(
+    rt: &R,
+    text: &[u8],
+    writing: &Watch,
+) -> Result<(), Failure> {
+    let written = writing.times(rt)?;
+    let reading = Watch::start(rt)?;
+    let certificate = read_cert(rt.alloc(), text)?;
+    print_times(rt, &certificate, text.len(), &written, &reading)
 }
 
 // Writes the certificate and reads its text, and prints the times.
@@ -67,8 +79,7 @@ fn measure_writing<R: AllocGlobal + Clock + CpuClock + Print>(
 ) -> Result<(), Failure> {
     let writing = Watch::start(rt)?;
     let text = write_cert(rt.alloc(), certificate)?;
-    let written = writing.times(rt)?;
-    measure_reading(rt, &text, &written)
+    measure_reading(rt, &text, &writing)
 }
 
 /// Writes and reads the certificate with the longest text, and prints the times of both.

@@ -6,36 +6,36 @@ use crate::size::LARGEST;
 use crate::tables::{Tables, build_instance, read_texts};
 use crate::watch::{Times, Watch};
 use hsp_instance::Instance;
-use std::io;
 use std::rt::Clock;
 use std::time::CpuClock;
 
-// Prints how large the instance is, and the times of reading its texts and of building it.
-fn print_times<R: Print>(
+// Prints how large the instance is, the times of reading its texts, and those of building it, which ends here.
+fn print_times<R: Clock + CpuClock + Print>(
     rt: &R,
     instance: &Instance,
     octets: usize,
     read: &Times,
-    built: &Times,
-) -> io::Result<()> {
+    building: &Watch,
+) -> Result<(), Failure> {
+    let built = building.times(rt)?;
     let (rows, servers) = (instance.rows(), instance.servers());
     println!(rt;
         "instance of {rows} rows and {servers} servers: {octets} octets read in {read}, built in {built}"
-    )
+    )?;
+    Ok(())
 }
 
-// Builds the instance of the tables, which were read from so many octets, and prints the times.
+// Builds the instance of the tables, whose reading from so many octets ends here, and prints the times.
 fn measure_building<R: AllocGlobal + Clock + CpuClock + Print>(
     rt: &R,
     tables: &Tables<'_>,
     octets: usize,
-    read: &Times,
+    reading: &Watch,
 ) -> Result<(), Failure> {
+    let read = reading.times(rt)?;
     let building = Watch::start(rt)?;
     let instance = build_instance(rt.alloc(), tables)?;
-    let built = building.times(rt)?;
-    print_times(rt, &instance, octets, read, &built)?;
-    Ok(())
+    print_times(rt, &instance, octets, &read, &building)
 }
 
 // Reads the texts and builds their instance, and prints the times.
@@ -45,8 +45,7 @@ fn measure_reading<R: AllocGlobal + Clock + CpuClock + Print>(
 ) -> Result<(), Failure> {
     let reading = Watch::start(rt)?;
     let tables = read_texts(rt.alloc(), texts)?;
-    let read = reading.times(rt)?;
-    measure_building(rt, &tables, texts.octets(), &read)
+    measure_building(rt, &tables, texts.octets(), &reading)
 }
 
 /// Reads the texts of the largest instance, builds it, and prints the times of both.

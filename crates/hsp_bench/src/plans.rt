@@ -147,15 +147,23 @@ fn measure_way<R: AllocGlobal + Clock + CpuClock + Print>(
     measure_check(rt, instance, way, &solved)
 }
 
-/// Plans an instance of the size by a proposal and by searches, checks both certificates, and prints the times.
+// Plans the instance by a proposal and by searches, checks both certificates, and prints the times.
+fn measure_ways<R: AllocGlobal + Clock + CpuClock + Print>(
+    rt: &R,
+    instance: &Instance,
+) -> Result<(), Failure> {
+    measure_way(rt, instance, &Way::Proposal)?;
+    measure_way(rt, instance, &Way::Searches)
+}
+
+/// The same of an instance of the size, which it prints first.
 pub(crate) fn measure_plan<R: AllocGlobal + Clock + CpuClock + Print>(
     rt: &R,
     size: &Size,
 ) -> Result<(), Failure> {
-    let instance = instance_of_size(rt.alloc(), size)?;
     print_size(rt, size)?;
-    measure_way(rt, &instance, &Way::Proposal)?;
-    measure_way(rt, &instance, &Way::Searches)
+    let instance = instance_of_size(rt.alloc(), size)?;
+    measure_ways(rt, &instance)
 }
 
 // Plans instances of one number of rows with less and less capacity.

@@ -67,6 +67,22 @@ fn is_yes(
     Ok(verdict == Verdict::Yes)
 }
 
+// What both certificates tell, and whether the checker says Yes to both.
+fn judged(
+    alloc: Global,
+    instance: &Instance,
+    effort: &Effort,
+    proposed: &Certificate,
+    searched: &Certificate,
+) -> Result<Planned, AllocError> {
+    Ok(Planned {
+        is_taken: effort.proposals > 0,
+        cost: cost_of(proposed),
+        searched: cost_of(searched),
+        is_valid: is_yes(alloc, instance, proposed)? && is_yes(alloc, instance, searched)?,
+    })
+}
+
 // Plans by searches too, and checks the certificate of this and that of the proposal.
 fn compare(
     alloc: Global,
@@ -75,12 +91,7 @@ fn compare(
     proposed: &Certificate,
 ) -> Result<Planned, AllocError> {
     let searched = solve_with::<HeapFrontier>(alloc, instance)?;
-    Ok(Planned {
-        is_taken: effort.proposals > 0,
-        cost: cost_of(proposed),
-        searched: cost_of(&searched),
-        is_valid: is_yes(alloc, instance, proposed)? && is_yes(alloc, instance, &searched)?,
-    })
+    judged(alloc, instance, effort, proposed, &searched)
 }
 
 // Plans an instance by both solvers, and checks both certificates.
