@@ -4,7 +4,9 @@ use crate::same::is_same;
 use hsp_cert::{Certificate, UseLine};
 use hsp_check::{Verdict, check};
 use hsp_instance::{Instance, build};
-use hsp_tables::{read_capacity, read_costs, read_demand, read_settings};
+use hsp_tables::{
+    Capacities, Costs, Demand, Settings, read_capacity, read_costs, read_demand, read_settings,
+};
 use std::alloc::{AllocError, Global};
 use std::process::Abort;
 
@@ -48,15 +50,41 @@ pub const ONE_SERVER: &[u8] =
 pub const TWO_SITES_OF_ONE: &[u8] =
     b"[[site]]\nname = \"X\"\nrecord = \"000102000001000100000000000000000000000100000007000000000000000000000000000000010000000000000000\"\n[[site]]\nname = \"Y\"\nrecord = \"000102000001000100000000000000000000000100000007000000000000000000000000000000010000000000000000\"\n";
 
-// What is built of the texts, and None where memory ran out or the texts are bad.
-fn built(alloc: Global, texts: Texts<'_>) -> Option<Instance> {
-    let mut settings = Vec::from_slice(alloc, texts.sites).ok()?;
-    settings.extend_from_slice(texts.hosts).ok()?;
-    let settings = read_settings(alloc, settings.as_slice()).ok()?;
+// What the texts of the tables spell.
+#[derive(Drop)]
+struct Tables {
+    demand: Demand,
+    costs: Costs,
+    capacity: Capacities,
+}
+
+// None stands for want of memory, and for bad texts, in these four.
+fn tables_of(alloc: Global, texts: Texts<'_>) -> Option<Tables> {
     let demand = read_demand(alloc, texts.demand).ok()?;
     let costs = read_costs(alloc, texts.costs).ok()?;
     let capacity = read_capacity(alloc, texts.capacity).ok()?;
-    build(alloc, &settings, None, &demand, &costs, &capacity).ok()
+    Some(Tables {
+        demand,
+        costs,
+        capacity,
+    })
+}
+
+fn settings_of(alloc: Global, texts: Texts<'_>) -> Option<Settings> {
+    let mut text = Vec::from_slice(alloc, texts.sites).ok()?;
+    text.extend_from_slice(texts.hosts).ok()?;
+    read_settings(alloc, text.as_slice()).ok()
+}
+
+fn built_by(alloc: Global, texts: Texts<'_>, tables: &Tables) -> Option<Instance> {
+    let settings = settings_of(alloc, texts)?;
+    let (demand, costs, capacity) = (&tables.demand, &tables.costs, &tables.capacity);
+    build(alloc, &settings, None, demand, costs, capacity).ok()
+}
+
+fn built(alloc: Global, texts: Texts<'_>) -> Option<Instance> {
+    let tables = tables_of(alloc, texts)?;
+    built_by(alloc, texts, &tables)
 }
 
 /// The instance of the texts.
