@@ -117,7 +117,7 @@ fn checks(
     cert: &[u8],
     wanted: &Result<Verdict, Fault>,
 ) {
-    is_same(rt, judged_twice(alloc, texts, cert), *wanted);
+    is_same(rt, &judged_twice(alloc, texts, cert), wanted);
 }
 
 const USES: &[u8] = b"use 0 0 5\nuse 1 0 4\nuse 2 0 1\nuse 2 1 2\n";
