@@ -111,26 +111,38 @@ fn use_up_both_sites(rt: &impl Abort, fronts: &mut Fronts<'_>) {
     );
 }
 
-// Two fronts by the plan of an instance whose last row asks for eight queries, None where memory ran out.
-fn two_fronts(alloc: Global, instance: &Instance) -> Option<Fronts<'_>> {
+// An instance whose last row asks for eight queries, None where memory ran out.
+fn uneven(alloc: Global) -> Option<Instance> {
+    let demand = b"region,handle,count\nr1,10/1,5\nr1,10/2,4\nr2,10/3,8\n";
+    let capacity = b"site,server_id,capacity\nE,7,10\nE,3,8\nW,1,6\nW,2,10\nW,9,10\n";
+    instance_of(alloc, demand, capacity)
+}
+
+// Where memory runs out once, it is there at the second call.
+fn held_uneven(rt: &impl Abort, alloc: Global) -> Instance {
+    match uneven(alloc) {
+        Some(instance) => instance,
+        None => uneven(alloc).expect(rt, "the instance is built"),
+    }
+}
+
+// Two fronts by its plan, None where memory ran out.
+fn uneven_fronts(alloc: Global, instance: &Instance) -> Option<Fronts<'_>> {
     let certificate = certificate_of(alloc, 30, [5, 4, 3, 5])?;
     fronts(alloc, instance, &certificate, 2)
 }
 
+fn held_uneven_fronts<'a>(rt: &impl Abort, alloc: Global, instance: &'a Instance) -> Fronts<'a> {
+    match uneven_fronts(alloc, instance) {
+        Some(fronts) => fronts,
+        None => uneven_fronts(alloc, instance).expect(rt, "the plan is valid"),
+    }
+}
+
 #[test]
 fn a_front_uses_up_one_site_after_the_other(rt: HostRuntime) {
-    let alloc = rt.alloc();
-    let demand = b"region,handle,count\nr1,10/1,5\nr1,10/2,4\nr2,10/3,8\n";
-    let capacity = b"site,server_id,capacity\nE,7,10\nE,3,8\nW,1,6\nW,2,10\nW,9,10\n";
-    // Where memory runs out once, it is there at the second call.
-    let instance = match instance_of(alloc, demand, capacity) {
-        Some(instance) => instance,
-        None => instance_of(alloc, demand, capacity).expect(&rt, "the instance is built"),
-    };
-    let mut fronts = match two_fronts(alloc, &instance) {
-        Some(fronts) => fronts,
-        None => two_fronts(alloc, &instance).expect(&rt, "the plan is valid"),
-    };
+    let instance = held_uneven(&rt, rt.alloc());
+    let mut fronts = held_uneven_fronts(&rt, rt.alloc(), &instance);
     use_up_both_sites(&rt, &mut fronts);
 }
 
