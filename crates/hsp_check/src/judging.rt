@@ -17,7 +17,7 @@ use crate::verdict::{Reason, Verdict};
 use hsp_cert::UseLine;
 
 /// A plan that is laid on a network: its cost, its uses and its prices, and its loads.
-#[derive(Clone, Copy, Debug)]
+#[derive(Clone, Copy)]
 pub(crate) struct LaidPlan<'a, 's> {
     pub(crate) lists: NetworkLists<'a>,
     pub(crate) prices: PriceLists<'a>,

@@ -8,7 +8,7 @@ use crate::sums::LaidArc;
 
 /// A network as lists: what each row asks for, what each server and each host can take, the host that each server stands on, and
 /// the arcs.
-#[derive(Clone, Copy, Debug)]
+#[derive(Clone, Copy)]
 pub(crate) struct NetworkLists<'a> {
     pub(crate) demands: &'a [u64],
     pub(crate) capacities: &'a [u64],

@@ -8,7 +8,7 @@ use crate::arc::NetworkArc;
 use crate::sums::LaidArc;
 
 /// The prices of the rows, of the servers and of the hosts, and the host that each server stands on.
-#[derive(Clone, Copy, Debug)]
+#[derive(Clone, Copy)]
 pub(crate) struct PriceLists<'a> {
     pub(crate) rows: &'a [u64],
     pub(crate) servers: &'a [u64],

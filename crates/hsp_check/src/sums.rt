@@ -18,7 +18,7 @@ pub struct LaidArc {
 }
 
 /// The row of an arc, or its server.
-#[derive(Clone, Copy, Debug)]
+#[derive(Clone, Copy)]
 pub(crate) enum End {
     Row,
     Server,

@@ -18,7 +18,7 @@ use hsp_instance::Instance;
 use hsp_names::HandleRef;
 
 /// How an entry is answered.
-#[derive(Clone, Copy, Debug, PartialEq, Eq)]
+#[derive(Clone, Copy)]
 pub(crate) enum Given {
     /// By the server of a number among all servers.
     Server(u32),

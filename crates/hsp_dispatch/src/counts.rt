@@ -7,7 +7,7 @@ use std::alloc::{AllocError, Global};
 use std::marker::Model;
 
 // Counts of so many octets each.
-#[derive(Debug, Drop)]
+#[derive(Drop)]
 pub(crate) enum Widths {
     One(Vec<u8>),
     Two(Vec<u16>),
@@ -15,7 +15,7 @@ pub(crate) enum Widths {
 }
 
 /// A list of counts, in one octet each where all of them are below 256, and in two where all are below 65,536.
-#[derive(Debug, Drop)]
+#[derive(Drop)]
 pub(crate) struct Counts {
     widths: Widths,
 }

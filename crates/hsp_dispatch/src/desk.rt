@@ -16,7 +16,7 @@ use hsp_instance::Instance;
 use std::alloc::Global;
 
 /// The form of a log, and the number of one of its rows.
-#[derive(Clone, Copy, Debug)]
+#[derive(Clone, Copy)]
 pub(crate) struct Place {
     pub(crate) form: Form,
     pub(crate) row: u32,

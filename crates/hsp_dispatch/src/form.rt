@@ -9,7 +9,7 @@ use csv::ByteRecord;
 use hsp_csv::is_header;
 
 /// What the second field of a log's rows holds.
-#[derive(Clone, Copy, Debug, PartialEq, Eq)]
+#[derive(Clone, Copy, PartialEq, Eq)]
 pub(crate) enum Form {
     /// A handle.
     Handles,

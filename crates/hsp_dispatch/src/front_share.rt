@@ -9,7 +9,7 @@ ghost use Rattle.hsp_dispatch.specs.Standings.{cells_left, left_among, shares_in
 use crate::share::Cell;
 
 /// How many fronts there are, and the number of one of them.
-#[derive(Clone, Copy, Debug)]
+#[derive(Clone, Copy)]
 pub(crate) struct Front {
     pub(crate) fronts: u32,
     pub(crate) number: u32,
@@ -17,7 +17,7 @@ pub(crate) struct Front {
 
 /// The number of the cell of a row at which a front stands, and what it has left there. Where that is nothing, it has nothing left
 /// of the row.
-#[derive(Clone, Copy, Debug, PartialEq, Eq)]
+#[derive(Clone, Copy)]
 pub(crate) struct Standing {
     pub(crate) cell: u32,
     pub(crate) left: u32,

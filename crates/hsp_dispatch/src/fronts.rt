@@ -7,7 +7,7 @@ ghost use Rattle.hsp_instance.specs.Instance.{IsInstance};
 ghost use Rattle.hsp_check.specs.Uses.{table};
 ghost use Rattle.hsp_dispatch.specs.Fronts.{AreFrontsOf, IsTakenAt, IsTakenOf, answer_among, fronts_of, held_at, left_at_front};
 ghost use Rattle.hsp_dispatch.specs.Lines.{IsAmong};
-ghost use Rattle.hsp_dispatch.specs.Shares.{AreUsesOf, IsPlanFor, first_answer, plan_of, query, taken_answer};
+ghost use Rattle.hsp_dispatch.specs.Shares.{AreUsesOf, HoldsTable, IsHeld, IsPlanFor, first_answer, holding, plan_of, query, taken_answer};
 ghost use Rattle.hsp_dispatch.specs.Standings.{all_sums, sums_of};
 ghost use Rattle.hsp_dispatch.specs.Steps.{TakesAt, entry_of};
 ghost use Rattle.hsp_dispatch.specs.declared.fault.LogFault.TheVariants.{BadHandle};
@@ -72,6 +72,24 @@ fn push_sums(sums: &mut Vec<u32>, row: &RowCells, fronts: u32) -> Result<(), All
     Ok(())
 }
 
+// The cells that uses of the instance give each row.
+fn rows_by(
+    alloc: Global,
+    instance: &Instance,
+    uses: &[UseLine],
+) -> Result<Vec<RowCells>, AllocError>
+    requires { AreUsesOf instance.now uses.now }
+    ensures held { IfOk result (λ rows. IsHeld (holding instance.now rows.items)) }
+    ensures table { IfOk result (λ rows. HoldsTable uses.now (holding instance.now rows.items)) }
+{
+    let shares = share_out(alloc, instance, uses)?;
+    let mut rows = Vec::with_capacity(alloc, shares.len())?;
+    for share in &shares {
+        rows.push(RowCells::new(share.cells(alloc)?))?;
+    }
+    Ok(rows)
+}
+
 // How much each front has of each row at first.
 fn sums_in(alloc: Global, rows: &[RowCells], fronts: u32) -> Result<Vec<u32>, AllocError>
     requires { 0 < fronts }
@@ -117,11 +135,7 @@ impl<'a> Fronts<'a> {
         requires some { 0 < fronts }
         ensures { IfOk result (AreFrontsOf instance.now (table uses.now) fronts) }
     {
-        let shares = share_out(alloc, instance, uses)?;
-        let mut rows = Vec::with_capacity(alloc, shares.len())?;
-        for share in &shares {
-            rows.push(RowCells::new(share.cells(alloc)?))?;
-        }
+        let rows = rows_by(alloc, instance, uses)?;
         let lefts = Counts::of(alloc, sums_in(alloc, &rows, fronts)?)?;
         let plan = PlanCells::of(alloc, rows)?;
         Ok(Fronts {

@@ -9,7 +9,7 @@ use std::alloc::{AllocError, Global};
 use std::marker::Model;
 
 // A line with its LF.
-#[derive(Debug, Drop)]
+#[derive(Drop)]
 struct Line {
     text: Vec<u8>,
 }
@@ -23,7 +23,7 @@ impl Model for Line {
 }
 
 /// For each server of an instance the line of a query that is assigned to it.
-#[derive(Debug, Drop)]
+#[derive(Drop)]
 pub(crate) struct ServerLines {
     lines: Vec<Line>,
 }

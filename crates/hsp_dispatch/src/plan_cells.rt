@@ -12,7 +12,7 @@ use std::marker::Model;
 
 /// The cells that a plan gives each row. The server of each row that has one cell alone stands in a list of its own, two octets a
 /// row, so that most queries read no cell.
-#[derive(Debug, Drop)]
+#[derive(Drop)]
 pub(crate) struct PlanCells {
     rows: Vec<RowCells>,
     soles: Vec<u16>,

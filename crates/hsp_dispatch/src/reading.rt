@@ -13,7 +13,7 @@ use hsp_csv::take_record;
 use std::io::Read;
 
 /// An entry whose parts are lent.
-#[derive(Clone, Copy, Debug)]
+#[derive(Clone, Copy)]
 pub(crate) struct LentEntry<'a> {
     pub(crate) region: &'a [u8],
     pub(crate) handle: &'a [u8],

@@ -11,7 +11,7 @@ use crate::share::Cell;
 use std::marker::Model;
 
 /// The cells that a plan gives a row.
-#[derive(Debug, Drop)]
+#[derive(Drop)]
 pub(crate) struct RowCells {
     cells: Vec<Cell>,
 }

@@ -7,7 +7,7 @@ use std::alloc::{AllocError, Global};
 use std::marker::Model;
 
 /// What is left of a row's number at a site, and the server there that is responsible for the row's handle.
-#[derive(Clone, Copy, Debug, PartialEq, Eq)]
+#[derive(Clone, Copy)]
 pub(crate) struct Cell {
     pub(crate) site: u32,
     pub(crate) server: u32,
@@ -16,7 +16,7 @@ pub(crate) struct Cell {
 
 /// What is left for a row: cells in ascending order of their sites, each with something left. The first stands in place, so that
 /// most queries touch no other memory; it is spent where nothing is left.
-#[derive(Debug, Drop)]
+#[derive(Drop)]
 pub(crate) struct RowShare {
     first: Cell,
     more: Vec<Cell>,

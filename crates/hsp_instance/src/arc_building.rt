@@ -1,11 +1,13 @@
 // The arcs of the rows of demand.
 
 ghost use Rattle.std.specs.Prelude.{◌≡◌, ◌≤◌, ◌<◌, ◌+◌, ◌++◌, length, map, OnOk, IfOk};
+ghost use Rattle.std.specs.List.{AllByRecursion};
 ghost use Rattle.hsp_names.specs.Lent.{octets_of};
+ghost use Rattle.hsp_tables.specs.Rows.{demand_shown};
 ghost use Rattle.hsp_text.specs.declared.limits.TheConstants.{MOST_SERVERS};
 ghost use Rattle.hsp_instance.specs.Building.{arc_to};
 ghost use Rattle.hsp_instance.specs.Instance.{AreSites};
-ghost use Rattle.hsp_instance.specs.RegionCosts.{arcs_by, arcs_of};
+ghost use Rattle.hsp_instance.specs.RegionCosts.{HasCosts, arcs_by, arcs_of};
 
 use crate::arc::Arc;
 use crate::digests::Digests;
@@ -13,11 +15,11 @@ use crate::instance::ArcList;
 use crate::region_costs::{RegionCosts, costs_there, place_of};
 use crate::sites::Site;
 use hsp_names::HandleRef;
-use hsp_tables::{Costs, Demand};
+use hsp_tables::{Costs, Demand, DemandRow};
 use std::alloc::{AllocError, Global};
 
 // The number of a site, and that of its first server among the servers of all sites.
-#[derive(Clone, Copy, Debug)]
+#[derive(Clone, Copy)]
 struct Numbers {
     site: u32,
     first: u32,
@@ -76,6 +78,25 @@ fn arcs_by(
     Ok(ArcList { arcs })
 }
 
+// The arcs of a row. What queries from its region cost is put among what is known, where it is not there yet.
+fn arcs_of_row(
+    alloc: Global,
+    known: &mut RegionCosts,
+    costs: &Costs,
+    sites: &[Site],
+    row: DemandRow<'_>,
+) -> Result<ArcList, AllocError>
+    requires sites { AreSites sites.now }
+    requires known { AllByRecursion (HasCosts costs.now sites.now) known.old.entries }
+    ensures known { OnOk result (AllByRecursion (HasCosts costs.now sites.now) known.new.entries) }
+    ensures arcs { IfOk result
+        (λ arcs. arcs ≡ arcs_of costs.now sites.now (demand_shown row.entry)) }
+{
+    let place = place_of(alloc, known, costs, sites, row.region)?;
+    let arcs = arcs_by(alloc, row.handle, sites, costs_there(known, place))?;
+    Ok(arcs)
+}
+
 // The arcs of each row.
 #[tactic(auto, using(crate::proofs::Lists::take_whole))]
 pub(crate) fn arcs_of(
@@ -90,10 +111,8 @@ pub(crate) fn arcs_of(
     let mut known: RegionCosts = RegionCosts::new(alloc);
     let mut lists = Vec::with_capacity(alloc, demand.len() as usize)?;
     for number in 0..demand.len() {
-        let row = demand.row(number);
-        let place = place_of(alloc, &mut known, costs, sites, row.region)?;
-        let found = costs_there(&known, place);
-        lists.push(arcs_by(alloc, row.handle, sites, found)?)?;
+        let arcs = arcs_of_row(alloc, &mut known, costs, sites, demand.row(number))?;
+        lists.push(arcs)?;
     }
     Ok(lists)
 }

@@ -9,7 +9,7 @@ use hsp_names::HandleRef;
 use std::marker::Model;
 
 // A handle, and those of its digests that a site asked for.
-#[derive(Debug, Drop)]
+#[derive(Drop)]
 pub(crate) struct Digests<'a> {
     handle: HandleRef<'a>,
     by_na: Option<[u8; 16]>,

@@ -11,7 +11,7 @@ use std::alloc::{AllocError, Global};
 use std::hash::Hash;
 
 // What the rows of a group share.
-#[derive(Clone, Copy, Debug, PartialEq, Eq, Hash)]
+#[derive(Clone, Copy, PartialEq, Eq, Hash)]
 struct Kind<'a> {
     region: &'a [u8],
     arcs: &'a [Arc],

@@ -9,7 +9,7 @@ use crate::sites::Sites;
 use std::marker::Model;
 
 // A server.
-#[derive(Debug, Drop)]
+#[derive(Drop)]
 pub(crate) struct Server {
     pub(crate) site: u32,
     pub(crate) place: u32,
@@ -33,7 +33,7 @@ impl Model for Server {
 }
 
 // A host.
-#[derive(Debug, Drop)]
+#[derive(Drop)]
 pub(crate) struct Host {
     pub(crate) address: [u8; 16],
     pub(crate) limit: u64,
@@ -48,7 +48,7 @@ impl Model for Host {
 }
 
 // The arcs of a row.
-#[derive(Debug, Drop)]
+#[derive(Drop)]
 pub(crate) struct ArcList {
     pub(crate) arcs: Vec<Arc>,
 }

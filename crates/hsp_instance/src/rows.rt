@@ -19,7 +19,7 @@ use std::hash::{Hash, Hasher};
 use std::marker::Model;
 
 // The region and the handle by which a row is found. Their octets lie one after the other, so that a lookup reads one place.
-#[derive(Debug, Drop)]
+#[derive(Drop)]
 struct RowKey {
     octets: Vec<u8>,
     cut: usize,
@@ -89,7 +89,7 @@ impl Hash for RowKey {
 }
 
 // The same, lent.
-#[derive(Clone, Copy, Debug, PartialEq, Eq, Hash)]
+#[derive(Clone, Copy, PartialEq, Eq, Hash)]
 struct LentKey<'a> {
     region: &'a [u8],
     handle: &'a [u8],

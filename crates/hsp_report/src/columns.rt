@@ -7,7 +7,7 @@ use hsp_text::{push_aligned, push_wide};
 use std::alloc::AllocError;
 
 /// A number and the width of its column.
-#[derive(Clone, Copy, Debug)]
+#[derive(Clone, Copy)]
 pub(crate) struct Column {
     width: usize,
     number: u128,

@@ -4,6 +4,7 @@ use Rattle.hsp_names.specs.Lent.{octets_of}
 use Rattle.hsp_instance.specs.Instance.{Site}
 use Rattle.hsp_instance.proofs.ArcLists.{arcs_next}
 use Rattle.hsp_instance.proofs.SiteSums.{servers_of-first, servers_of-taken, servers_within}
+use Rattle.std.proofs.lemmas.Grind.{common_steps}
 use Rattle.hsp_instance.proofs.arc_building.arcs_by.Goals as goal
 
 pub push_arc-requires-clause-first : goal.push_arc-requires-clause-first
@@ -57,3 +58,9 @@ loop-number-preserved c =
       so_far = rw (c.in_ok-push_arc.ensures.arcs, c.loop-number.invariant.same, long, append_assoc, ← next) c.loop-number.invariant.so_far;
       same = c.in_ok-push_arc.ensures.same ∙ c.loop-number.invariant.same;
     }
+
+pub push_arc-requires-clause-some : goal.push_arc-requires-clause-some
+push_arc-requires-clause-some c = grind (arith, common_steps)
+
+pub returns : goal.returns
+returns c = grind (arith, common_steps)

@@ -3,6 +3,7 @@ use Rattle.std.proofs.lemmas.Option.{slice_get_read}
 use Rattle.hsp_instance.specs.Building.{cost_of}
 use Rattle.hsp_instance.specs.Instance.{Site}
 use Rattle.hsp_instance.proofs.Lists.{map_take_next}
+use Rattle.std.proofs.lemmas.Grind.{common_steps}
 use Rattle.hsp_instance.proofs.region_costs.costs_at.Goals as goal
 
 pub loop-site-preserved : goal.loop-site-preserved
@@ -14,3 +15,6 @@ loop-site-preserved c =
     let name : c.as_slice.result.now ≡ c.site-item.result.name = c.as_slice.ensures.value ∙ ap (λ (site : Site). site.name) c.site.view_is in
     let found : c.find.result ≡ cost_there c.site-item.result = c.find.ensures ∙ ap (cost_of c.args.costs.now c.args.region.now) name in
     rw (next, c.in_ok-push.ensures.items, c.loop-site.invariant, found) refl
+
+pub returns : goal.returns
+returns c = grind (arith, common_steps)

@@ -3,6 +3,7 @@ use Rattle.hsp_tables.specs.Rows.{demand_shown}
 use Rattle.hsp_instance.specs.Building.{row_of}
 use Rattle.hsp_instance.proofs.Lists.{map_take_next}
 use Rattle.hsp_instance.proofs.NewRows.{not_before, rows_before}
+use Rattle.std.proofs.lemmas.Grind.{common_steps}
 use Rattle.hsp_instance.proofs.rows.rows_of.Goals as goal
 
 pub loop-number-preserved : goal.loop-number-preserved
@@ -20,3 +21,6 @@ pub push-requires-clause-new : goal.push-requires-clause-new
 push-requires-clause-new c =
     let new = not_before c.args.demand.now c.loop-number.number (demand_shown c.row-row.result) c.len-number-end.ensures.rows.keyed.apart c.row-row.ensures in
     rw (c.bytes.ensures.octets, c.loop-number.invariant) new
+
+pub returns-clause-ok : goal.returns-clause-ok
+returns-clause-ok c = grind (arith, common_steps)

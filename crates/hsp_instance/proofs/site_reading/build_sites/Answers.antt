@@ -6,6 +6,7 @@ use Rattle.hsp_instance.specs.Instance.{IsSite, Site}
 use Rattle.hsp_instance.proofs.SiteNames.{named_push, names_apart, next_is_name}
 use Rattle.hsp_instance.proofs.SiteSums.{no_sites, servers_of-push, sites_push}
 use Rattle.hsp_instance.proofs.SitesInTurn.{fault_is_first, next_goes_on, site_is_checked}
+use Rattle.std.proofs.lemmas.Grind.{common_steps}
 use Rattle.hsp_instance.proofs.site_reading.build_sites.Goals as goal
 
 pub returns-in_err-octets : goal.returns-in_err-octets
@@ -42,3 +43,6 @@ sites-preserved c =
 
 pub sites-init : goal.sites-init
 sites-init c = rw c.new-sites.ensures.items (record { count = refl; before = refl; within = no_sites; named = tt; so_far = λ answer rest. rest })
+
+pub returns : goal.returns
+returns c = grind (arith, common_steps)

@@ -1,5 +1,5 @@
 use Rattle.std.proofs.Common.{◌≡◌, take}
-use Rattle.hsp_dispatch.proofs.fronts.Fronts.over.Given as goal
+use Rattle.hsp_dispatch.proofs.fronts.rows_by.Given as goal
 
 -- the rows so far have the cells of their shares
 abbrev pub invariant-loop-share : goal.invariant-loop-share
