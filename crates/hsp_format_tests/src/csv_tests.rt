@@ -1,5 +1,7 @@
+ghost use Rattle.hsp_csv.specs.Records.{IsReading};
+
 use crate::same::is_same;
-use csv::ByteRecord;
+use csv::{ByteRecord, Reader};
 use hsp_csv::*;
 use std::alloc::{AllocError, Global};
 use std::io;
@@ -38,28 +40,35 @@ fn little(good: usize) -> OneByOne<'static> {
     }
 }
 
-// Writes a record as its fields, each in brackets, and an LF.
+// Writes a field in brackets.
+fn write_field(out: &mut Vec<u8>, field: &[u8]) -> Result<(), AllocError> {
+    out.extend_from_slice(b"[")?;
+    out.extend_from_slice(field)?;
+    out.extend_from_slice(b"]")
+}
+
+// Writes a record as its fields, and an LF.
 fn write_record(out: &mut Vec<u8>, record: &ByteRecord) -> Result<(), AllocError> {
     for i in 0..record.len() {
         if let Some(field) = record.get(i) {
-            out.push(b'[')?;
-            out.extend_from_slice(field)?;
-            out.push(b']')?;
+            write_field(out, field)?;
         }
     }
-    out.push(b'\n')?;
-    Ok(())
+    out.extend_from_slice(b"\n")
 }
 
-// The first ten records that a reader gives, and the fault at which it stopped. Where that is want of memory, the tests read
-// once more: where one growth is refused, the second reading is that of ample memory.
-fn first_ten<R: Read + Drop>(alloc: Global, text: R, out: &mut Vec<u8>) -> Option<RecordsFault> {
-    let mut reader = read_records(alloc, text);
-    let mut record = ByteRecord::new(alloc);
+// Writes the first ten records that a reader gives, and tells the fault at which it stopped.
+fn write_ten<R: Read>(
+    reader: &mut Reader<R>,
+    record: &mut ByteRecord,
+    out: &mut Vec<u8>,
+) -> Option<RecordsFault>
+    requires { IsReading reader.old }
+{
     for _ in 0..10 {
-        match take_record(&mut reader, &mut record) {
+        match take_record(reader, record) {
             Ok(true) => {
-                if write_record(out, &record).is_err() {
+                if write_record(out, record).is_err() {
                     return Some(RecordsFault::OutOfMemory);
                 }
             }
@@ -68,6 +77,14 @@ fn first_ten<R: Read + Drop>(alloc: Global, text: R, out: &mut Vec<u8>) -> Optio
         }
     }
     None
+}
+
+// The same of a text. Where the fault is want of memory, the tests read once more: where one growth is refused, the second reading is
+// that of ample memory.
+fn first_ten<R: Read + Drop>(alloc: Global, text: R, out: &mut Vec<u8>) -> Option<RecordsFault> {
+    let mut reader = read_records(alloc, text);
+    let mut record = ByteRecord::new(alloc);
+    write_ten(&mut reader, &mut record, out)
 }
 
 // Room for what is read. Where a growth is refused, the second call finds memory.
@@ -151,13 +168,24 @@ fn headers_are_told(rt: HostRuntime) {
     }
 }
 
-// Whether a text has a header, read to its end.
-fn headed<R: Read + Drop>(alloc: Global, text: R, header: &[&[u8]]) -> Result<bool, RecordsFault> {
-    let mut reader = read_records(alloc, text);
-    let mut record = ByteRecord::new(alloc);
-    let found = take_header(&mut reader, &mut record, header)?;
-    if found != is_header(&record, header) {
+// Whether a reader gives a header. An answer that the record taken belies is turned round.
+fn takes_header<R: Read>(
+    reader: &mut Reader<R>,
+    record: &mut ByteRecord,
+    header: &[&[u8]],
+) -> Result<bool, RecordsFault>
+    requires { IsReading reader.old }
+{
+    let found = take_header(reader, record, header)?;
+    if found != is_header(record, header) {
         return Ok(!found);
     }
     Ok(found)
+}
+
+// The same of a text, read to its end.
+fn headed<R: Read + Drop>(alloc: Global, text: R, header: &[&[u8]]) -> Result<bool, RecordsFault> {
+    let mut reader = read_records(alloc, text);
+    let mut record = ByteRecord::new(alloc);
+    takes_header(&mut reader, &mut record, header)
 }

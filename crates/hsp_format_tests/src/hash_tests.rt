@@ -1,23 +1,26 @@
 use crate::same::is_same;
 use hsp_hash::*;
 use hsp_names::HandleRef;
-use std::test::Fail;
+use std::process::Abort;
 
 fn place(option: HashOption, handle: &[u8], servers: u32) -> Option<u32> {
-    let handle = HandleRef::parse(handle).ok()?;
-    if servers == 0 {
-        return None;
+    match HandleRef::parse(handle) {
+        Ok(handle) if servers > 0 => Some(server_number(option, handle, servers)),
+        _ => None,
     }
-    Some(server_number(option, handle, servers))
 }
 
 #[test]
 fn options_have_their_octets(rt: HostRuntime) {
-    is_same(&rt, HashOption::of_octet(0), Some(HashOption::ByNa));
-    is_same(&rt, HashOption::of_octet(1), Some(HashOption::ByLocal));
-    is_same(&rt, HashOption::of_octet(2), Some(HashOption::ByHandle));
-    is_same(&rt, HashOption::of_octet(3), None);
-    is_same(&rt, HashOption::of_octet(255), None);
+    for (octet, wanted) in [
+        (0, Some(HashOption::ByNa)),
+        (1, Some(HashOption::ByLocal)),
+        (2, Some(HashOption::ByHandle)),
+        (3, None),
+        (255, None),
+    ] {
+        is_same(&rt, HashOption::of_octet(octet), wanted);
+    }
 }
 
 // The MD5 of each local name, as RFC 1321's algorithm gives it.
@@ -31,29 +34,23 @@ const DIGESTS_OF_LOCAL_NAMES: [(&[u8], u128); 7] = [
     (b"10/A", 0x7fc56270e7a70fa81a5935b72eacbe29),
 ];
 
-#[test]
-fn digests_are_md5(rt: HostRuntime) -> Result<(), Fail> {
-    for (handle, wanted) in DIGESTS_OF_LOCAL_NAMES {
-        let handle = HandleRef::parse(handle).ok().ok_or("no handle")?;
-        is_same(
-            &rt,
-            digest_of(HashOption::ByLocal, handle),
-            wanted.to_be_bytes(),
-        );
-    }
-    Ok(())
+// The digest of a handle by an option is this one.
+fn is_digest(rt: &impl Abort, option: HashOption, handle: &[u8], wanted: u128) {
+    let handle = HandleRef::parse(handle).expect(rt, "the handle is one");
+    is_same(rt, digest_of(option, handle), wanted.to_be_bytes());
 }
 
 #[test]
-fn naming_authorities_are_hashed(rt: HostRuntime) -> Result<(), Fail> {
-    let handle = HandleRef::parse(b"10/1").ok().ok_or("no handle")?;
-    let wanted: u128 = 0xd3d9446802a44259755d38e6d163e820;
-    is_same(
-        &rt,
-        digest_of(HashOption::ByNa, handle),
-        wanted.to_be_bytes(),
-    );
-    Ok(())
+fn digests_are_md5(rt: HostRuntime) {
+    for (handle, wanted) in DIGESTS_OF_LOCAL_NAMES {
+        is_digest(&rt, HashOption::ByLocal, handle, wanted);
+    }
+}
+
+#[test]
+fn naming_authorities_are_hashed(rt: HostRuntime) {
+    let wanted = 0xd3d9446802a44259755d38e6d163e820;
+    is_digest(&rt, HashOption::ByNa, b"10/1", wanted);
 }
 
 #[test]

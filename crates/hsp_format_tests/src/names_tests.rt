@@ -1,6 +1,6 @@
 use crate::same::is_same;
 use hsp_names::*;
-use std::test::Fail;
+use std::process::Abort;
 
 fn fault_of(octets: &[u8]) -> Option<HandleFault> {
     match HandleRef::parse(octets) {
@@ -37,17 +37,21 @@ fn length_is_limited(rt: HostRuntime) {
     is_same(&rt, fault_of(&octets[..4096]), None);
 }
 
+// The parts of 10.abc/a/b.
+fn has_its_parts(rt: &impl Abort, handle: HandleRef<'_>) {
+    is_same(rt, handle.bytes(), b"10.abc/a/b".as_slice());
+    is_same(rt, handle.naming_authority(), b"10.abc".as_slice());
+    is_same(rt, handle.local_name(), b"a/b".as_slice());
+}
+
 #[test]
-fn parts_are_lent(rt: HostRuntime) -> Result<(), Fail> {
-    let handle = HandleRef::parse(b"10.abc/a/b").ok().ok_or("no handle")?;
-    is_same(&rt, handle.bytes(), b"10.abc/a/b".as_slice());
-    is_same(&rt, handle.naming_authority(), b"10.abc".as_slice());
-    is_same(&rt, handle.local_name(), b"a/b".as_slice());
+fn parts_are_lent(rt: HostRuntime) {
+    let handle = HandleRef::parse(b"10.abc/a/b").expect(&rt, "the handle is one");
+    has_its_parts(&rt, handle);
     let mut segments = handle.segments();
-    is_same(&rt, segments.next(), Some(b"10".as_slice()));
-    is_same(&rt, segments.next(), Some(b"abc".as_slice()));
-    is_same(&rt, segments.next(), None);
-    Ok(())
+    for wanted in [Some(b"10".as_slice()), Some(b"abc".as_slice()), None] {
+        is_same(&rt, segments.next(), wanted);
+    }
 }
 
 // The handle of octets that are read and then accepted.
@@ -62,10 +66,7 @@ fn accepted_after_reading(octets: &[u8]) -> Option<HandleRef<'_>> {
 }
 
 #[test]
-fn accepted_handles_have_the_same_parts(rt: HostRuntime) -> Result<(), Fail> {
-    let handle = accepted_after_reading(b"10.abc/a/b").ok_or("no handle")?;
-    is_same(&rt, handle.bytes(), b"10.abc/a/b".as_slice());
-    is_same(&rt, handle.naming_authority(), b"10.abc".as_slice());
-    is_same(&rt, handle.local_name(), b"a/b".as_slice());
-    Ok(())
+fn accepted_handles_have_the_same_parts(rt: HostRuntime) {
+    let handle = accepted_after_reading(b"10.abc/a/b").expect(&rt, "the handle is one");
+    has_its_parts(&rt, handle);
 }

@@ -1,9 +1,10 @@
 // The worked cases, and the readers of a record that has something in every field.
 
-use crate::same::is_same;
+use crate::same::{is_same, is_same_of};
 use hsp_record::*;
 use std::alloc::{AllocError, Global};
-use std::test::Fail;
+use std::fmt::Debug;
+use std::process::Abort;
 
 /// A site of one server, 7, in 48 octets.
 const SITE: [u8; 48] = [
@@ -32,19 +33,11 @@ const BODY: &[u8] = b"\0\0\0\x0410/3\0\0\0\x01\0\0\0\x01\0\0\0\x01\0\0\0\x07HS_S
 /// The fields of a value of index 1 before the length of its data, in a list of one.
 const ONE_VALUE: &[u8] = b"\0\0\0\x01\0\0\0\x01\0\0\0\x07HS_SITE";
 
-fn joined_once(alloc: Global, parts: &[&[u8]]) -> Result<Vec<u8>, AllocError> {
-    let mut octets = Vec::new(alloc);
-    for part in parts {
-        octets.extend_from_slice(part)?;
-    }
-    Ok(octets)
-}
-
-// The same, once more where a growth was refused.
-fn joined(alloc: Global, parts: &[&[u8]]) -> Result<Vec<u8>, AllocError> {
-    match joined_once(alloc, parts) {
-        Err(AllocError) => joined_once(alloc, parts),
-        octets => octets,
+// Parts of octets, one behind the other. Where a growth is refused, the second joining finds memory.
+fn joined(rt: &impl Abort, alloc: Global, parts: &[&[u8]]) -> Vec<u8> {
+    match parts.concat(alloc) {
+        Ok(octets) => octets,
+        Err(AllocError) => parts.concat(alloc).expect(rt, "there is memory"),
     }
 }
 
@@ -85,8 +78,26 @@ fn values_fault(alloc: Global, octets: &[u8]) -> Option<RecordFault> {
     list_of(alloc, octets).err()
 }
 
+// The fault is that the octets end in the field that begins here.
+fn is_cut<C: Debug>(rt: &impl Abort, case: &C, fault: Option<RecordFault>, at: usize) {
+    is_same_of(rt, case, fault, Some(RecordFault::Truncated { at }));
+}
+
+// The record of the octets is spelled as them.
+fn site_comes_back(rt: &impl Abort, alloc: Global, octets: &[u8]) {
+    let site = site_of(alloc, octets).expect(rt, "there is a record");
+    let spelled = site_spelling(alloc, &site).expect(rt, "there is memory");
+    assert!(rt; spelled.as_slice() == octets);
+}
+
+// The list is spelled as these octets.
+fn list_comes_back(rt: &impl Abort, alloc: Global, list: &ValueList, octets: &[u8]) {
+    let spelled = list_spelling(alloc, list).expect(rt, "there is memory");
+    assert!(rt; spelled.as_slice() == octets);
+}
+
 #[test]
-fn sites_come_back(rt: HostRuntime) -> Result<(), Fail> {
+fn sites_come_back(rt: HostRuntime) {
     let mut no_server = [0; 20];
     no_server.copy_from_slice(&SITE[..20]);
     no_server[19] = 0;
@@ -99,34 +110,40 @@ fn sites_come_back(rt: HostRuntime) -> Result<(), Fail> {
         no_server.as_slice(),
         third_option.as_slice(),
     ] {
-        let site = site_of(rt.alloc(), octets).ok().ok_or("no record")?;
-        let spelled = site_spelling(rt.alloc(), &site).ok().ok_or("no spelling")?;
-        is_same(&rt, spelled.as_slice(), octets);
+        site_comes_back(&rt, rt.alloc(), octets);
     }
-    Ok(())
+}
+
+// What stands before the servers of the full site.
+fn has_its_head(rt: &impl Abort, site: &SiteRecord) {
+    is_same(rt, site.version(), 4);
+    is_same(rt, site.protocol(), (2, 1));
+    is_same(rt, site.serial(), 5);
+    is_same(rt, site.mask(), 6);
+    is_same(rt, site.option_octet(), 2);
+    is_same(rt, site.filter(), b"f".as_slice());
+    assert!(rt; site.attribute_count() == 1);
+    let (name, value) = site.attribute(0);
+    is_same(rt, name, b"a".as_slice());
+    is_same(rt, value, b"bc".as_slice());
+}
+
+// The server of the full site.
+fn has_its_server(rt: &impl Abort, site: &SiteRecord) {
+    assert!(rt; site.server_count() == 1);
+    let server = site.server(0);
+    is_same(rt, server.id(), 9);
+    is_same(rt, server.address(), *b"addressofserver9");
+    is_same(rt, server.key(), b"key".as_slice());
+    assert!(rt; server.interface_count() == 1);
+    is_same(rt, server.interface(0), (1, 2, 2641));
 }
 
 #[test]
-fn fields_are_read(rt: HostRuntime) -> Result<(), Fail> {
-    let site = site_of(rt.alloc(), FULL_SITE).ok().ok_or("no record")?;
-    is_same(&rt, site.version(), 4);
-    is_same(&rt, site.protocol(), (2, 1));
-    is_same(&rt, site.serial(), 5);
-    is_same(&rt, site.mask(), 6);
-    is_same(&rt, site.option_octet(), 2);
-    is_same(&rt, site.filter(), b"f".as_slice());
-    assert!(rt; site.attribute_count() == 1);
-    let (name, value) = site.attribute(0);
-    is_same(&rt, name, b"a".as_slice());
-    is_same(&rt, value, b"bc".as_slice());
-    assert!(rt; site.server_count() == 1);
-    let server = site.server(0);
-    is_same(&rt, server.id(), 9);
-    is_same(&rt, server.address(), *b"addressofserver9");
-    is_same(&rt, server.key(), b"key".as_slice());
-    assert!(rt; server.interface_count() == 1);
-    is_same(&rt, server.interface(0), (1, 2, 2641));
-    Ok(())
+fn fields_are_read(rt: HostRuntime) {
+    let site = site_of(rt.alloc(), FULL_SITE).expect(&rt, "there is a record");
+    has_its_head(&rt, &site);
+    has_its_server(&rt, &site);
 }
 
 #[test]
@@ -138,11 +155,7 @@ fn site_faults_are_told(rt: HostRuntime) {
         site_fault(rt.alloc(), &octets),
         Some(RecordFault::Trailing { at: 48 }),
     );
-    is_same(
-        &rt,
-        site_fault(rt.alloc(), &SITE[..47]),
-        Some(RecordFault::Truncated { at: 44 }),
-    );
+    is_cut(&rt, &47, site_fault(rt.alloc(), &SITE[..47]), 44);
     for (count, wanted) in [
         ([0, 0, 0, 1], RecordFault::Truncated { at: 20 }),
         ([0, 0, 4, 0], RecordFault::Truncated { at: 20 }),
@@ -153,11 +166,7 @@ fn site_faults_are_told(rt: HostRuntime) {
         is_same(&rt, site_fault(rt.alloc(), &octets[..20]), Some(wanted));
     }
     octets[16] = 255;
-    is_same(
-        &rt,
-        site_fault(rt.alloc(), &octets[..17]),
-        Some(RecordFault::Truncated { at: 16 }),
-    );
+    is_cut(&rt, &17, site_fault(rt.alloc(), &octets[..17]), 16);
 }
 
 // Where the last of the fields begins that a text of so many octets reaches.
@@ -181,11 +190,7 @@ fn every_cut_is_told(rt: HostRuntime) {
     for (octets, fields) in sites {
         for n in 0..octets.len() {
             let at = last_field(fields, n);
-            assert_eq!(rt;
-                site_fault(rt.alloc(), &octets[..n]),
-                Some(RecordFault::Truncated { at }),
-                "at {n}"
-            );
+            is_cut(&rt, &n, site_fault(rt.alloc(), &octets[..n]), at);
         }
     }
 }
@@ -195,11 +200,7 @@ fn every_cut_of_a_list_is_told(rt: HostRuntime) {
     let fields = [0, 4, 8, 12, 19, 23, 24, 25, 29, 37, 41, 45, 49];
     for n in 0..REFERRING.len() {
         let at = last_field(&fields, n);
-        assert_eq!(rt;
-            values_fault(rt.alloc(), &REFERRING[..n]),
-            Some(RecordFault::Truncated { at }),
-            "at {n}"
-        );
+        is_cut(&rt, &n, values_fault(rt.alloc(), &REFERRING[..n]), at);
     }
 }
 
@@ -208,11 +209,7 @@ fn every_cut_of_a_body_is_told(rt: HostRuntime) {
     let fields = [0, 4, 8, 12, 16, 20, 24];
     for n in 0..BODY.len() {
         let at = last_field(&fields, n);
-        assert_eq!(rt;
-            decode_request(&BODY[..n]).err(),
-            Some(RecordFault::Truncated { at }),
-            "at {n}"
-        );
+        is_cut(&rt, &n, decode_request(&BODY[..n]).err(), at);
     }
 }
 
@@ -222,22 +219,19 @@ fn forged_lengths_reach_past_the_end(rt: HostRuntime) {
         let mut octets = [0; 53];
         octets.copy_from_slice(REFERRING);
         octets[place..place + 4].copy_from_slice(&[255; 4]);
-        is_same(
-            &rt,
-            values_fault(rt.alloc(), &octets),
-            Some(RecordFault::Truncated { at }),
-        );
+        is_cut(&rt, &place, values_fault(rt.alloc(), &octets), at);
     }
     for (place, at) in [(0, 4), (8, 28), (16, 31), (20, 24)] {
         let mut octets = [0; 31];
         octets.copy_from_slice(BODY);
         octets[place..place + 4].copy_from_slice(&[255; 4]);
-        is_same(
-            &rt,
-            decode_request(&octets).err(),
-            Some(RecordFault::Truncated { at }),
-        );
+        is_cut(&rt, &place, decode_request(&octets).err(), at);
     }
+}
+
+// The fault of a site that is decoded once.
+fn first_site_fault(alloc: Global, octets: &[u8]) -> Option<RecordFault> {
+    decode_site(alloc, octets).err()
 }
 
 #[test]
@@ -245,99 +239,99 @@ fn forged_counts_take_no_memory(rt: HostRuntime) {
     for (place, len, at) in [(8, 12, 12), (12, 16, 16), (40, 48, 44), (44, 48, 48)] {
         let mut octets = SITE;
         octets[place..place + 4].copy_from_slice(&[255; 4]);
-        is_same(
+        is_cut(
             &rt,
-            decode_site(rt.alloc(), &octets[..len]).err(),
-            Some(RecordFault::Truncated { at }),
+            &place,
+            first_site_fault(rt.alloc(), &octets[..len]),
+            at,
         );
     }
-    is_same(
-        &rt,
-        decode_values(rt.alloc(), &[255; 4]).err(),
-        Some(RecordFault::Truncated { at: 4 }),
-    );
+    let count = [255; 4];
+    is_cut(&rt, &count, decode_values(rt.alloc(), &count).err(), 4);
+}
+
+// The one value of a list is the site of one server, of index 1.
+fn has_the_site(rt: &impl Abort, list: &ValueList) {
+    is_same(rt, list.len(), 1);
+    assert!(rt; list.find(2).is_none());
+    let value = list.find(1).expect(rt, "there is a value of index 1");
+    is_same(rt, value.index(), 1);
+    is_same(rt, value.type_octets(), b"HS_SITE".as_slice());
+    is_same(rt, value.octets(), SITE.as_slice());
 }
 
 #[test]
-fn value_lists_come_back(rt: HostRuntime) -> Result<(), Fail> {
-    let octets = joined(rt.alloc(), &[ONE_VALUE, &[0, 0, 0, 48], &SITE, &[0; 18]])?;
-    is_same(&rt, octets.len(), 89);
-    let (_, cut) = octets.split_last().ok_or("no octets")?;
-    is_same(
+fn value_lists_come_back(rt: HostRuntime) {
+    let octets = joined(
         &rt,
-        values_fault(rt.alloc(), cut),
-        Some(RecordFault::Truncated { at: 85 }),
+        rt.alloc(),
+        &[ONE_VALUE, &[0, 0, 0, 48], &SITE, &[0; 18]],
     );
-    let list = list_of(rt.alloc(), &octets).ok().ok_or("no list")?;
-    is_same(&rt, list.len(), 1);
-    assert!(rt; list.find(2).is_none());
-    let value = list.find(1).ok_or("no value of index 1")?;
-    is_same(&rt, value.index(), 1);
-    is_same(&rt, value.type_octets(), b"HS_SITE".as_slice());
-    is_same(&rt, value.octets(), SITE.as_slice());
-    let spelled = list_spelling(rt.alloc(), &list).ok().ok_or("no spelling")?;
-    is_same(&rt, spelled.as_slice(), octets.as_slice());
-    Ok(())
+    is_same(&rt, octets.len(), 89);
+    let (_, cut) = octets.split_last().expect(&rt, "there are octets");
+    is_cut(&rt, &88, values_fault(rt.alloc(), cut), 85);
+    let list = list_of(rt.alloc(), &octets).expect(&rt, "there is a list");
+    has_the_site(&rt, &list);
+    list_comes_back(&rt, rt.alloc(), &list, &octets);
 }
 
 // A list of 1,001 values without data, of the indices from 0 on.
 fn long_list(alloc: Global) -> Result<Vec<u8>, AllocError> {
     let mut octets = Vec::from_slice(alloc, &1001u32.to_be_bytes())?;
     for index in 0..1001u32 {
-        octets.extend_from_slice(&index.to_be_bytes())?;
-        octets.extend_from_slice(&[0; 26])?;
+        let mut value = [0; 30];
+        value[..4].copy_from_slice(&index.to_be_bytes());
+        octets.extend_from_slice(&value)?;
     }
     Ok(octets)
 }
 
-#[test]
-fn long_lists_come_back(rt: HostRuntime) -> Result<(), Fail> {
-    let octets = match long_list(rt.alloc()) {
-        Err(AllocError) => long_list(rt.alloc())?,
+// The same. Where a growth is refused, the second call finds memory.
+fn held_long_list(rt: &impl Abort, alloc: Global) -> Vec<u8> {
+    match long_list(alloc) {
         Ok(octets) => octets,
-    };
-    let list = list_of(rt.alloc(), &octets).ok().ok_or("no list")?;
+        Err(AllocError) => long_list(alloc).expect(rt, "there is memory"),
+    }
+}
+
+#[test]
+fn long_lists_come_back(rt: HostRuntime) {
+    let octets = held_long_list(&rt, rt.alloc());
+    let list = list_of(rt.alloc(), &octets).expect(&rt, "there is a list");
     is_same(&rt, list.len(), 1001);
     assert!(rt; list.find(1000).is_some());
-    let spelled = list_spelling(rt.alloc(), &list).ok().ok_or("no spelling")?;
-    assert!(rt; spelled == octets);
-    Ok(())
+    list_comes_back(&rt, rt.alloc(), &list, &octets);
 }
 
 // A site of one server with a key of 65,536 octets.
 fn large_site(alloc: Global) -> Result<Vec<u8>, AllocError> {
-    let mut octets = Vec::from_slice(alloc, &SITE[..40])?;
-    octets.extend_from_slice(&65_536u32.to_be_bytes())?;
-    for _ in 0..1024 {
-        octets.extend_from_slice(&[7; 64])?;
-    }
-    octets.extend_from_slice(&[0; 4])?;
-    Ok(octets)
+    let key = vec![in alloc; 7; 65_536]?;
+    [&SITE[..40], &65_536u32.to_be_bytes(), &key, &[0; 4]].concat(alloc)
 }
 
-#[test]
-fn large_sites_come_back(rt: HostRuntime) -> Result<(), Fail> {
-    let octets = match large_site(rt.alloc()) {
-        Err(AllocError) => large_site(rt.alloc())?,
+// The same. Where a growth is refused, the second call finds memory.
+fn held_large_site(rt: &impl Abort, alloc: Global) -> Vec<u8> {
+    match large_site(alloc) {
         Ok(octets) => octets,
-    };
-    let site = site_of(rt.alloc(), &octets).ok().ok_or("no record")?;
-    let spelled = site_spelling(rt.alloc(), &site).ok().ok_or("no spelling")?;
-    is_same(&rt, spelled.len(), 65_584);
-    assert!(rt; spelled == octets);
-    Ok(())
+        Err(AllocError) => large_site(alloc).expect(rt, "there is memory"),
+    }
 }
 
 #[test]
-fn references_and_no_values_come_back(rt: HostRuntime) -> Result<(), Fail> {
+fn large_sites_come_back(rt: HostRuntime) {
+    let octets = held_large_site(&rt, rt.alloc());
+    is_same(&rt, octets.len(), 65_584);
+    site_comes_back(&rt, rt.alloc(), &octets);
+}
+
+#[test]
+fn references_and_no_values_come_back(rt: HostRuntime) {
     for (octets, len) in [([0; 4].as_slice(), 0), (REFERRING, 1)] {
-        let list = list_of(rt.alloc(), octets).ok().ok_or("no list")?;
+        let list = list_of(rt.alloc(), octets).expect(&rt, "there is a list");
         is_same(&rt, list.len(), len);
         is_same(&rt, list.is_empty(), len == 0);
-        let spelled = list_spelling(rt.alloc(), &list).ok().ok_or("no spelling")?;
-        is_same(&rt, spelled.as_slice(), octets);
+        list_comes_back(&rt, rt.alloc(), &list, octets);
     }
-    Ok(())
 }
 
 #[test]
@@ -351,17 +345,22 @@ fn value_faults_are_told(rt: HostRuntime) {
         values_fault(rt.alloc(), &octets),
         Some(RecordFault::IndexTwice { index: 1 }),
     );
-    is_same(
-        &rt,
-        values_fault(rt.alloc(), &octets[..37]),
-        Some(RecordFault::Truncated { at: 34 }),
-    );
+    is_cut(&rt, &37, values_fault(rt.alloc(), &octets[..37]), 34);
     octets[3] = 1;
     is_same(
         &rt,
         values_fault(rt.alloc(), &octets),
         Some(RecordFault::Trailing { at: 34 }),
     );
+}
+
+// The body is a request for the handle, or has the fault.
+fn is_body(rt: &impl Abort, body: &[u8], wanted: Result<&[u8], RecordFault>) {
+    match (decode_request(body), wanted) {
+        (Ok(request), Ok(handle)) => is_same(rt, request.handle(), handle),
+        (Err(fault), Err(expected)) => is_same(rt, fault, expected),
+        _ => assert!(rt; false, "{body:?}"),
+    }
 }
 
 #[test]
@@ -381,10 +380,6 @@ fn request_bodies_are_read(rt: HostRuntime) {
         ),
     ];
     for (body, wanted) in cases {
-        match (decode_request(body), wanted) {
-            (Ok(request), Ok(handle)) => is_same(&rt, request.handle(), handle),
-            (Err(fault), Err(expected)) => is_same(&rt, fault, expected),
-            _ => assert!(rt; false, "{body:?}"),
-        }
+        is_body(&rt, body, wanted);
     }
 }

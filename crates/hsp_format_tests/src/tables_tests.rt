@@ -4,7 +4,6 @@ use hsp_tables::*;
 use hsp_text::push_whole;
 use std::alloc::{AllocError, Global};
 use std::process::Abort;
-use std::test::Fail;
 
 const DEMAND: &[u8] = b"region,handle,count\nr1,10/1,5\nr1,10/2,4\nr2,10/3,3\n";
 
@@ -54,63 +53,59 @@ fn is_fault(rt: &impl Abort, text: &[u8], answer: Option<TableFault>, wanted: Op
     is_same_of(rt, &text, answer, wanted);
 }
 
-#[test]
-fn the_base_demand_is_read(rt: HostRuntime) -> Result<(), Fail> {
-    let marked = b"\xEF\xBB\xBFregion,handle,count\nr1,10/1,5\nr1,10/2,4\nr2,10/3,3\n";
-    let dressed = b"region,handle,count\r\n\"r1\",10/1,5\r\n\r\n\nr1,\"10/2\",4\nr2,10/3,\"3\"";
+// The rows of the base's demand.
+fn is_the_base_demand(rt: &impl Abort, demand: &Demand) {
     let rows: [(&[u8], &[u8], u64); 3] = [
         (b"r1", b"10/1", 5),
         (b"r1", b"10/2", 4),
         (b"r2", b"10/3", 3),
     ];
-    for text in [DEMAND, marked, dressed] {
-        match demand_of(rt.alloc(), text) {
-            Ok(demand) => {
-                is_same(&rt, demand.len(), 3);
-                for (number, (region, handle, count)) in rows.iter().enumerate() {
-                    if number < 3 && demand.len() == 3 {
-                        let row = demand.row(number as u32);
-                        is_same(&rt, row.region, *region);
-                        is_same(&rt, row.handle.bytes(), *handle);
-                        is_same(&rt, row.count, *count);
-                    }
-                }
-            }
-            Err(fault) => panic!(rt; "{fault:?}"),
-        }
+    assert!(rt; demand.len() == 3);
+    for (number, (region, handle, count)) in rows.iter().enumerate() {
+        let row = demand.row(number as u32);
+        is_same(rt, row.region, *region);
+        is_same(rt, row.handle.bytes(), *handle);
+        is_same(rt, row.count, *count);
     }
-    Ok(())
 }
 
 #[test]
-fn the_base_costs_are_read(rt: HostRuntime) -> Result<(), Fail> {
+fn the_base_demand_is_read(rt: HostRuntime) {
+    let marked = b"\xEF\xBB\xBFregion,handle,count\nr1,10/1,5\nr1,10/2,4\nr2,10/3,3\n";
+    let dressed = b"region,handle,count\r\n\"r1\",10/1,5\r\n\r\n\nr1,\"10/2\",4\nr2,10/3,\"3\"";
+    for text in [DEMAND, marked, dressed] {
+        let demand = demand_of(rt.alloc(), text).expect(&rt, "the demand is read");
+        is_the_base_demand(&rt, &demand);
+    }
+}
+
+// The rows of the base's costs, in their order and by what they are found by.
+fn are_the_base_costs(rt: &impl Abort, costs: &Costs) {
     let rows: [(&[u8], &[u8], u64); 4] = [
         (b"r1", b"E", 1),
         (b"r1", b"W", 4),
         (b"r2", b"E", 2),
         (b"r2", b"W", 3),
     ];
-    match costs_of(rt.alloc(), COSTS) {
-        Ok(costs) => {
-            is_same(&rt, costs.len(), 4);
-            for (number, (region, site, cost)) in rows.iter().enumerate() {
-                if number < 4 && costs.len() == 4 {
-                    let row = costs.row(number as u32);
-                    is_same(&rt, row.region, *region);
-                    is_same(&rt, row.site, *site);
-                    is_same(&rt, row.cost, *cost);
-                    is_same(&rt, costs.find(region, site), Some(*cost));
-                }
-            }
-            is_same(&rt, costs.find(b"E", b"r1"), None);
-        }
-        Err(fault) => panic!(rt; "{fault:?}"),
+    assert!(rt; costs.len() == 4);
+    for (number, (region, site, cost)) in rows.iter().enumerate() {
+        let row = costs.row(number as u32);
+        is_same(rt, row.region, *region);
+        is_same(rt, row.site, *site);
+        is_same(rt, row.cost, *cost);
+        is_same(rt, costs.find(region, site), Some(*cost));
     }
-    Ok(())
+    is_same(rt, costs.find(b"E", b"r1"), None);
 }
 
 #[test]
-fn the_base_capacities_are_read(rt: HostRuntime) -> Result<(), Fail> {
+fn the_base_costs_are_read(rt: HostRuntime) {
+    let costs = costs_of(rt.alloc(), COSTS).expect(&rt, "the costs are read");
+    are_the_base_costs(&rt, &costs);
+}
+
+// The rows of the base's capacities, in their order and by what they are found by.
+fn are_the_base_capacities(rt: &impl Abort, capacities: &Capacities) {
     let rows: [(&[u8], u32, u64); 5] = [
         (b"E", 7, 10),
         (b"E", 3, 6),
@@ -118,47 +113,41 @@ fn the_base_capacities_are_read(rt: HostRuntime) -> Result<(), Fail> {
         (b"W", 2, 10),
         (b"W", 9, 10),
     ];
-    match capacity_of(rt.alloc(), CAPACITY) {
-        Ok(capacities) => {
-            is_same(&rt, capacities.len(), 5);
-            for (number, (site, server_id, capacity)) in rows.iter().enumerate() {
-                if number < 5 && capacities.len() == 5 {
-                    let row = capacities.row(number as u32);
-                    is_same(&rt, row.site, *site);
-                    is_same(&rt, row.server_id, *server_id);
-                    is_same(&rt, row.capacity, *capacity);
-                    is_same(&rt, capacities.find(site, *server_id), Some(*capacity));
-                }
-            }
-            is_same(&rt, capacities.find(b"E", 1), None);
-        }
-        Err(fault) => panic!(rt; "{fault:?}"),
+    assert!(rt; capacities.len() == 5);
+    for (number, (site, server_id, capacity)) in rows.iter().enumerate() {
+        let row = capacities.row(number as u32);
+        is_same(rt, row.site, *site);
+        is_same(rt, row.server_id, *server_id);
+        is_same(rt, row.capacity, *capacity);
+        is_same(rt, capacities.find(site, *server_id), Some(*capacity));
     }
-    Ok(())
+    is_same(rt, capacities.find(b"E", 1), None);
 }
 
 #[test]
-fn the_base_settings_are_read(rt: HostRuntime) -> Result<(), Fail> {
-    match settings_of(rt.alloc(), SETTINGS) {
-        Ok(settings) => {
-            assert!(rt; settings.len() == 2);
-            assert!(rt; settings.host_count() == 0);
-            is_same(&rt, settings.name(0), b"E".as_slice());
-            is_same(&rt, settings.name(1), b"W".as_slice());
-            assert!(rt;
-                matches!(settings.source(0), Source::Octets(octets) if octets == RECORD_OF_E)
-            );
-            assert!(rt;
-                matches!(settings.source(1), Source::Octets(octets) if octets.len() == 104)
-            );
-        }
-        Err(fault) => panic!(rt; "{fault:?}"),
-    }
-    Ok(())
+fn the_base_capacities_are_read(rt: HostRuntime) {
+    let capacities = capacity_of(rt.alloc(), CAPACITY).expect(&rt, "the capacities are read");
+    are_the_base_capacities(&rt, &capacities);
+}
+
+// The sites of the base's settings.
+fn are_the_base_settings(rt: &impl Abort, settings: &Settings) {
+    assert!(rt; settings.len() == 2);
+    assert!(rt; settings.host_count() == 0);
+    is_same(rt, settings.name(0), b"E".as_slice());
+    is_same(rt, settings.name(1), b"W".as_slice());
+    assert!(rt; matches!(settings.source(0), Source::Octets(octets) if octets == RECORD_OF_E));
+    assert!(rt; matches!(settings.source(1), Source::Octets(octets) if octets.len() == 104));
 }
 
 #[test]
-fn faults_of_demand(rt: HostRuntime) -> Result<(), Fail> {
+fn the_base_settings_are_read(rt: HostRuntime) {
+    let settings = settings_of(rt.alloc(), SETTINGS).expect(&rt, "the settings are read");
+    are_the_base_settings(&rt, &settings);
+}
+
+#[test]
+fn faults_of_demand(rt: HostRuntime) {
     let twice = Some(TableFault::RowTwice { row: 1 });
     let number = Some(TableFault::BadNumber { row: 0 });
     let fields = Some(TableFault::Fields { row: 0 });
@@ -193,11 +182,10 @@ fn faults_of_demand(rt: HostRuntime) -> Result<(), Fail> {
     for (text, wanted) in cases {
         is_fault(&rt, text, demand_of(rt.alloc(), text).err(), wanted);
     }
-    Ok(())
 }
 
 #[test]
-fn faults_of_costs(rt: HostRuntime) -> Result<(), Fail> {
+fn faults_of_costs(rt: HostRuntime) {
     let number = Some(TableFault::BadNumber { row: 0 });
     let cases: [(&[u8], Option<TableFault>); 4] = [
         (b"region,handle,count\n", Some(TableFault::Header)),
@@ -214,11 +202,10 @@ fn faults_of_costs(rt: HostRuntime) -> Result<(), Fail> {
     for (text, wanted) in cases {
         is_fault(&rt, text, costs_of(rt.alloc(), text).err(), wanted);
     }
-    Ok(())
 }
 
 #[test]
-fn faults_of_capacity(rt: HostRuntime) -> Result<(), Fail> {
+fn faults_of_capacity(rt: HostRuntime) {
     let twice = Some(TableFault::RowTwice { row: 1 });
     let number = Some(TableFault::BadNumber { row: 0 });
     let cases: [(&[u8], Option<TableFault>); 4] = [
@@ -233,11 +220,10 @@ fn faults_of_capacity(rt: HostRuntime) -> Result<(), Fail> {
     for (text, wanted) in cases {
         is_fault(&rt, text, capacity_of(rt.alloc(), text).err(), wanted);
     }
-    Ok(())
 }
 
 #[test]
-fn faults_of_settings(rt: HostRuntime) -> Result<(), Fail> {
+fn faults_of_settings(rt: HostRuntime) {
     let bad = Some(TableFault::BadSite { site: 0 });
     let cases: [(&[u8], Option<TableFault>); 22] = [
         (b"", None),
@@ -275,20 +261,18 @@ fn faults_of_settings(rt: HostRuntime) -> Result<(), Fail> {
     for (text, wanted) in cases {
         is_fault(&rt, text, settings_of(rt.alloc(), text).err(), wanted);
     }
-    Ok(())
 }
 
 #[test]
-fn long_texts_that_are_no_toml(rt: HostRuntime) -> Result<(), Fail> {
+fn long_texts_that_are_no_toml(rt: HostRuntime) {
     let text =
         b"[[site]]\nname = \"E\"\nindex = 1\n[[site]]\nname = \"F\"\nindex = 2\n[[site]]\nname = \"G\"\nindex = 3\n[[site]]\nname = \"H\"\nindex = 4\n[[site\n";
     let answer = settings_of(rt.alloc(), text).err();
     is_fault(&rt, text, answer, Some(TableFault::NotToml));
-    Ok(())
 }
 
 #[test]
-fn faults_of_hosts(rt: HostRuntime) -> Result<(), Fail> {
+fn faults_of_hosts(rt: HostRuntime) {
     let bad = Some(TableFault::BadHost { host: 0 });
     let twice = Some(TableFault::HostTwice { host: 1 });
     let cases: [(&[u8], Option<TableFault>); 11] = [
@@ -328,145 +312,162 @@ fn faults_of_hosts(rt: HostRuntime) -> Result<(), Fail> {
     for (text, wanted) in cases {
         is_fault(&rt, text, settings_of(rt.alloc(), text).err(), wanted);
     }
-    Ok(())
+}
+
+// A site's index that is written in base 16, and a host's limit whose digits stand in threes.
+fn are_the_numbers(rt: &impl Abort, settings: &Settings) {
+    assert!(rt; settings.len() == 1);
+    assert!(rt; settings.host_count() == 1);
+    assert!(rt; matches!(settings.source(0), Source::Index(16)));
+    let (address, limit) = settings.host(0);
+    let octets: u128 = 0x01234567_89abcdef_abcdef01_23456789;
+    is_same(rt, address, octets.to_be_bytes());
+    is_same(rt, limit, 1_000_000_000_000);
 }
 
 #[test]
-fn numbers_of_settings(rt: HostRuntime) -> Result<(), Fail> {
+fn numbers_of_settings(rt: HostRuntime) {
     let text =
         b"[[site]]\nname = \"E\"\nindex = 0x10\n[[host]]\naddress = \"0123456789abcdefABCDEF0123456789\"\nlimit = 1_000_000_000_000\n";
-    match settings_of(rt.alloc(), text) {
-        Ok(settings) => {
-            assert!(rt; settings.len() == 1);
-            assert!(rt; settings.host_count() == 1);
-            assert!(rt; matches!(settings.source(0), Source::Index(16)));
-            let (address, limit) = settings.host(0);
-            let octets = [
-                0x01, 0x23, 0x45, 0x67, 0x89, 0xab, 0xcd, 0xef, 0xab, 0xcd, 0xef, 0x01, 0x23, 0x45,
-                0x67, 0x89,
-            ];
-            is_same(&rt, address, octets);
-            is_same(&rt, limit, 1_000_000_000_000);
-        }
-        Err(fault) => panic!(rt; "{fault:?}"),
-    }
-    Ok(())
+    let settings = settings_of(rt.alloc(), text).expect(&rt, "the settings are read");
+    are_the_numbers(&rt, &settings);
 }
 
-// A head, and then for each number from `first` on the number between two texts.
-fn numbered_once(
-    alloc: Global,
-    head: &[u8],
-    before: &[u8],
-    after: &[u8],
+// A head, and then for each number from the first on the number between two texts.
+#[derive(Clone, Copy)]
+struct Numbered<'a> {
+    head: &'a [u8],
+    before: &'a [u8],
+    after: &'a [u8],
     first: u64,
     end: u64,
-) -> Result<Vec<u8>, AllocError> {
+}
+
+fn push_between(
+    text: &mut Vec<u8>,
+    before: &[u8],
+    number: u64,
+    after: &[u8],
+) -> Result<(), AllocError> {
+    text.extend_from_slice(before)?;
+    push_whole(text, number)?;
+    text.extend_from_slice(after)
+}
+
+fn numbered_once(alloc: Global, numbered: Numbered<'_>) -> Result<Vec<u8>, AllocError> {
     let mut text = Vec::with_capacity(alloc, 200_000)?;
-    text.extend_from_slice(head)?;
-    for number in first..end {
-        text.extend_from_slice(before)?;
-        push_whole(&mut text, number)?;
-        text.extend_from_slice(after)?;
+    text.extend_from_slice(numbered.head)?;
+    for number in numbered.first..numbered.end {
+        push_between(&mut text, numbered.before, number, numbered.after)?;
     }
     Ok(text)
 }
 
-// The same, once more where a growth was refused.
-fn numbered(
-    alloc: Global,
-    head: &[u8],
-    before: &[u8],
-    after: &[u8],
-    first: u64,
-    end: u64,
-) -> Result<Vec<u8>, AllocError> {
-    match numbered_once(alloc, head, before, after, first, end) {
-        Err(_) => numbered_once(alloc, head, before, after, first, end),
-        text => text,
+// The text of the numbers. Where a growth is refused, the second call finds memory.
+fn text_of(rt: &impl Abort, alloc: Global, numbered: Numbered<'_>) -> Vec<u8> {
+    match numbered_once(alloc, numbered) {
+        Ok(text) => text,
+        Err(AllocError) => numbered_once(alloc, numbered).expect(rt, "there is memory"),
     }
 }
 
 #[test]
-fn demand_at_the_limits(rt: HostRuntime) -> Result<(), Fail> {
+fn demand_at_the_limits(rt: HostRuntime) {
     let head = b"region,handle,count\n";
-    for (before, after, end, wanted) in [
-        (b"r1,10/".as_slice(), b",1\n".as_slice(), 8192, None),
-        (
-            b"r1,10/".as_slice(),
-            b",1\n".as_slice(),
-            8193,
-            Some(TableFault::TooManyRows),
-        ),
-        (b"r".as_slice(), b",10/1,1\n".as_slice(), 64, None),
-        (
-            b"r".as_slice(),
-            b",10/1,1\n".as_slice(),
-            65,
-            Some(TableFault::TooManyRegions),
-        ),
-    ] {
-        let text = numbered(rt.alloc(), head, before, after, 0, end)?;
+    let rows: [(&[u8], &[u8], u64, Option<TableFault>); 4] = [
+        (b"r1,10/", b",1\n", 8192, None),
+        (b"r1,10/", b",1\n", 8193, Some(TableFault::TooManyRows)),
+        (b"r", b",10/1,1\n", 64, None),
+        (b"r", b",10/1,1\n", 65, Some(TableFault::TooManyRegions)),
+    ];
+    for (before, after, end, wanted) in rows {
+        let numbered = Numbered {
+            head,
+            before,
+            after,
+            first: 0,
+            end,
+        };
+        let text = text_of(&rt, rt.alloc(), numbered);
         let answer = demand_of(rt.alloc(), text.as_slice()).err();
         is_fault(&rt, before, answer, wanted);
     }
-    Ok(())
 }
 
 #[test]
-fn costs_at_the_limits(rt: HostRuntime) -> Result<(), Fail> {
+fn costs_at_the_limits(rt: HostRuntime) {
     let head = b"region,site,cost\n";
-    for (before, after, end, wanted) in [
-        (b"r1,s".as_slice(), b",1\n".as_slice(), 2048, None),
-        (
-            b"r1,s".as_slice(),
-            b",1\n".as_slice(),
-            2049,
-            Some(TableFault::TooManyRows),
-        ),
-        (
-            b"r".as_slice(),
-            b",E,1\n".as_slice(),
-            65,
-            Some(TableFault::TooManyRegions),
-        ),
-    ] {
-        let text = numbered(rt.alloc(), head, before, after, 0, end)?;
+    let rows: [(&[u8], &[u8], u64, Option<TableFault>); 3] = [
+        (b"r1,s", b",1\n", 2048, None),
+        (b"r1,s", b",1\n", 2049, Some(TableFault::TooManyRows)),
+        (b"r", b",E,1\n", 65, Some(TableFault::TooManyRegions)),
+    ];
+    for (before, after, end, wanted) in rows {
+        let numbered = Numbered {
+            head,
+            before,
+            after,
+            first: 0,
+            end,
+        };
+        let text = text_of(&rt, rt.alloc(), numbered);
         let answer = costs_of(rt.alloc(), text.as_slice()).err();
         is_fault(&rt, before, answer, wanted);
     }
-    Ok(())
 }
 
 #[test]
-fn capacity_at_the_limits(rt: HostRuntime) -> Result<(), Fail> {
-    let head = b"site,server_id,capacity\n";
+fn capacity_at_the_limits(rt: HostRuntime) {
     for (end, wanted) in [(1024, None), (1025, Some(TableFault::TooManyRows))] {
-        let text = numbered(rt.alloc(), head, b"E,", b",1\n", 0, end)?;
+        let numbered = Numbered {
+            head: b"site,server_id,capacity\n",
+            before: b"E,",
+            after: b",1\n",
+            first: 0,
+            end,
+        };
+        let text = text_of(&rt, rt.alloc(), numbered);
         let answer = capacity_of(rt.alloc(), text.as_slice()).err();
         is_fault(&rt, b"E", answer, wanted);
     }
-    Ok(())
+}
+
+// The settings of so many numbered tables have the fault, if any.
+fn are_settings(
+    rt: &impl Abort,
+    alloc: Global,
+    numbered: Numbered<'_>,
+    wanted: Option<TableFault>,
+) {
+    let text = text_of(rt, alloc, numbered);
+    let answer = settings_of(alloc, text.as_slice()).err();
+    is_fault(rt, numbered.before, answer, wanted);
 }
 
 #[test]
-fn sites_at_the_limits(rt: HostRuntime) -> Result<(), Fail> {
-    let before = b"[[site]]\nname = \"s";
+fn sites_at_the_limits(rt: HostRuntime) {
     for (end, wanted) in [(32, None), (33, Some(TableFault::TooManySites))] {
-        let text = numbered(rt.alloc(), b"", before, b"\"\nindex = 1\n", 0, end)?;
-        let answer = settings_of(rt.alloc(), text.as_slice()).err();
-        is_fault(&rt, before, answer, wanted);
+        let numbered = Numbered {
+            head: b"",
+            before: b"[[site]]\nname = \"s",
+            after: b"\"\nindex = 1\n",
+            first: 0,
+            end,
+        };
+        are_settings(&rt, rt.alloc(), numbered, wanted);
     }
-    Ok(())
 }
 
 #[test]
-fn hosts_at_the_limits(rt: HostRuntime) -> Result<(), Fail> {
-    let before = b"[[host]]\naddress = \"0000000000000000000000000000";
+fn hosts_at_the_limits(rt: HostRuntime) {
     for (end, wanted) in [(2024, None), (2025, Some(TableFault::TooManyHosts))] {
-        let text = numbered(rt.alloc(), b"", before, b"\"\nlimit = 1\n", 1000, end)?;
-        let answer = settings_of(rt.alloc(), text.as_slice()).err();
-        is_fault(&rt, before, answer, wanted);
+        let numbered = Numbered {
+            head: b"",
+            before: b"[[host]]\naddress = \"0000000000000000000000000000",
+            after: b"\"\nlimit = 1\n",
+            first: 1000,
+            end,
+        };
+        are_settings(&rt, rt.alloc(), numbered, wanted);
     }
-    Ok(())
 }

@@ -3,7 +3,7 @@ use hsp_text::*;
 use std::alloc::{AllocError, Global};
 use std::io;
 use std::io::{ErrorKind, Write};
-use std::test::Fail;
+use std::process::Abort;
 
 #[test]
 fn whole_numbers_are_read(rt: HostRuntime) {
@@ -24,32 +24,29 @@ fn whole_numbers_are_read(rt: HostRuntime) {
 
 #[test]
 fn the_greatest_number_is_read(rt: HostRuntime) {
-    is_same(
-        &rt,
-        read_whole(b"18446744073709551615", u64::MAX),
-        Ok(u64::MAX),
-    );
-    is_same(
-        &rt,
-        read_whole(b"18446744073709551616", u64::MAX),
-        Err(WholeFault::TooLarge),
-    );
+    let greatest = read_whole(b"18446744073709551615", u64::MAX);
+    is_same(&rt, greatest, Ok(u64::MAX));
+    let greater = read_whole(b"18446744073709551616", u64::MAX);
+    is_same(&rt, greater, Err(WholeFault::TooLarge));
+}
+
+// The text of one letter. Where this growth is refused, the second finds memory.
+fn letter(rt: &impl Abort, alloc: Global) -> Vec<u8> {
+    match Vec::from_slice(alloc, b"a") {
+        Ok(out) => out,
+        Err(AllocError) => Vec::from_slice(alloc, b"a").expect(rt, "there is memory"),
+    }
 }
 
 #[test]
-fn digits_are_appended(rt: HostRuntime) -> Result<(), Fail> {
-    // Where this growth is refused, the second finds memory.
-    let mut out = match Vec::from_slice(rt.alloc(), b"a") {
-        Ok(out) => out,
-        Err(_) => Vec::from_slice(rt.alloc(), b"a")?,
-    };
+fn digits_are_appended(rt: HostRuntime) {
+    let mut out = letter(&rt, rt.alloc());
     // A refused growth leaves `out` as it was, and the second call finds memory.
     if push_whole(&mut out, 10).is_err() {
         is_same(&rt, out.as_slice(), b"a".as_slice());
         is_same(&rt, push_whole(&mut out, 10), Ok(()));
     }
     is_same(&rt, out.as_slice(), b"a10".as_slice());
-    Ok(())
 }
 
 #[test]
@@ -70,40 +67,47 @@ fn names_are_told(rt: HostRuntime) {
 
 #[test]
 fn lines_are_split(rt: HostRuntime) {
-    is_same(
-        &rt,
-        next_line(b"a b\nc\n"),
-        Some((b"a b".as_slice(), b"c\n".as_slice())),
-    );
-    is_same(
-        &rt,
-        next_line(b"\n"),
-        Some((b"".as_slice(), b"".as_slice())),
-    );
-    is_same(&rt, next_line(b"c"), None);
+    let cases: [(&[u8], Option<(&[u8], &[u8])>); 3] = [
+        (b"a b\nc\n", Some((b"a b", b"c\n"))),
+        (b"\n", Some((b"", b""))),
+        (b"c", None),
+    ];
+    for (text, wanted) in cases {
+        is_same(&rt, next_line(text), wanted);
+    }
 }
 
 // Pieces of texts, one behind the other.
-fn pieces(alloc: Global) -> Result<Vec<u8>, AllocError> {
-    let mut out = Vec::new(alloc);
-    push_line(&mut out, b"use", &[0, 12, 18_446_744_073_709_551_615])?;
-    push_line(&mut out, b"END", &[])?;
-    push_number(&mut out, 7)?;
-    push_aligned(&mut out, 23, 5)?;
-    push_aligned(&mut out, 0, 1)?;
-    push_aligned(&mut out, 12_345, 3)?;
-    push_wide(&mut out, u128::MAX)?;
-    push_wide(&mut out, 20_000_000_000_000_000_000)?;
-    Ok(out)
+fn push_pieces(out: &mut Vec<u8>) -> Result<(), AllocError> {
+    push_line(out, b"use", &[0, 12, 18_446_744_073_709_551_615])?;
+    push_line(out, b"END", &[])?;
+    push_number(out, 7)?;
+    push_aligned(out, 23, 5)?;
+    push_aligned(out, 0, 1)?;
+    push_aligned(out, 12_345, 3)?;
+    push_wide(out, u128::MAX)?;
+    push_wide(out, 20_000_000_000_000_000_000)
+}
+
+// The text is these pieces, one behind the other.
+fn are_pieces(rt: &impl Abort, text: &[u8], pieces: &[&[u8]]) {
+    let mut rest = text;
+    for piece in pieces {
+        assert!(rt; rest.len() >= piece.len());
+        is_same(rt, &rest[..piece.len()], *piece);
+        rest = &rest[piece.len()..];
+    }
+    assert!(rt; rest.is_empty());
 }
 
 #[test]
-fn pieces_are_appended(rt: HostRuntime) -> Result<(), Fail> {
+fn pieces_are_appended(rt: HostRuntime) {
+    let mut out = Vec::new(rt.alloc());
     // Where a growth is refused, the second call finds memory.
-    let out = match pieces(rt.alloc()) {
-        Ok(out) => out,
-        Err(_) => pieces(rt.alloc())?,
-    };
+    if push_pieces(&mut out).is_err() {
+        out.clear();
+        is_same(&rt, push_pieces(&mut out), Ok(()));
+    }
     let wanted: [&[u8]; 6] = [
         b"use 0 12 18446744073709551615\n",
         b"END\n",
@@ -112,14 +116,7 @@ fn pieces_are_appended(rt: HostRuntime) -> Result<(), Fail> {
         b"340282366920938463463374607431768211455",
         b"20000000000000000000",
     ];
-    let mut rest = out.as_slice();
-    for piece in wanted {
-        assert!(rt; rest.len() >= piece.len());
-        is_same(&rt, &rest[..piece.len()], piece);
-        rest = &rest[piece.len()..];
-    }
-    assert!(rt; rest.is_empty());
-    Ok(())
+    are_pieces(&rt, out.as_slice(), &wanted);
 }
 
 // Takes at most `step` octets a call, and none once `room` were taken: then a write fails, or takes 0 octets.
@@ -151,8 +148,16 @@ impl Write for Narrow {
     }
 }
 
+// Room for four octets. Where this growth is refused, the second finds memory.
+fn space(rt: &impl Abort, alloc: Global) -> Vec<u8> {
+    match Vec::with_capacity(alloc, 4) {
+        Ok(space) => space,
+        Err(AllocError) => Vec::with_capacity(alloc, 4).expect(rt, "there is memory"),
+    }
+}
+
 #[test]
-fn texts_are_written_whole_or_cut(rt: HostRuntime) -> Result<(), Fail> {
+fn texts_are_written_whole_or_cut(rt: HostRuntime) {
     let cases: [(usize, usize, bool, Result<(), WriteFailed>, &[u8]); 5] = [
         (1, 4, true, Ok(()), b"abcd"),
         (3, 4, true, Ok(()), b"abcd"),
@@ -161,13 +166,8 @@ fn texts_are_written_whole_or_cut(rt: HostRuntime) -> Result<(), Fail> {
         (9, 0, false, Err(WriteFailed), b""),
     ];
     for (step, room, fails, wanted, taken) in cases {
-        // Where this growth is refused, the second finds memory.
-        let space = match Vec::with_capacity(rt.alloc(), 4) {
-            Ok(space) => space,
-            Err(_) => Vec::with_capacity(rt.alloc(), 4)?,
-        };
         let mut writer = Narrow {
-            taken: space,
+            taken: space(&rt, rt.alloc()),
             step,
             room,
             fails,
@@ -175,5 +175,4 @@ fn texts_are_written_whole_or_cut(rt: HostRuntime) -> Result<(), Fail> {
         is_same(&rt, put_all(&mut writer, b"abcd"), wanted);
         is_same(&rt, writer.taken.as_slice(), taken);
     }
-    Ok(())
 }

@@ -1,5 +1,5 @@
 use Rattle.hsp_csv.specs.Records.{IsReading}
-use Rattle.hsp_format_tests.proofs.csv_tests.first_ten.Given as goal
+use Rattle.hsp_format_tests.proofs.csv_tests.write_ten.Given as goal
 
 abbrev pub invariant-loop : goal.invariant-loop
 invariant-loop g l = IsReading l.reader
