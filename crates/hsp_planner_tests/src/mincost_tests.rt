@@ -153,6 +153,22 @@ fn lacks<F: Frontier>(rt: &impl Abort, alloc: Global, network: &Network, short: 
     }
 }
 
+/// Both frontiers meet every source by these flows.
+fn both_meet(rt: &impl Abort, alloc: Global, network: &Network, flows: &[u64])
+    requires { IsSmall (problem_of network.now) }
+{
+    meets::<ScanFrontier>(rt, alloc, network, flows);
+    meets::<HeapFrontier>(rt, alloc, network, flows);
+}
+
+/// Both frontiers find these sources short.
+fn both_lack(rt: &impl Abort, alloc: Global, network: &Network, short: &[bool])
+    requires { IsSmall (problem_of network.now) }
+{
+    lacks::<ScanFrontier>(rt, alloc, network, short);
+    lacks::<HeapFrontier>(rt, alloc, network, short);
+}
+
 #[test]
 fn later_source_pushes_an_earlier_one_off(rt: HostRuntime) {
     let network = Network {
@@ -164,8 +180,7 @@ fn later_source_pushes_an_earlier_one_off(rt: HostRuntime) {
         servers: &[0, 1, 0],
         costs: &[1, 3, 1],
     };
-    meets::<ScanFrontier>(&rt, rt.alloc(), &network, &[0, 5, 5]);
-    meets::<HeapFrontier>(&rt, rt.alloc(), &network, &[0, 5, 5]);
+    both_meet(&rt, rt.alloc(), &network, &[0, 5, 5]);
 }
 
 #[test]
@@ -179,8 +194,7 @@ fn server_without_capacity_takes_nothing(rt: HostRuntime) {
         servers: &[0, 1],
         costs: &[0, 7],
     };
-    meets::<ScanFrontier>(&rt, rt.alloc(), &network, &[0, 2]);
-    meets::<HeapFrontier>(&rt, rt.alloc(), &network, &[0, 2]);
+    both_meet(&rt, rt.alloc(), &network, &[0, 2]);
 }
 
 #[test]
@@ -194,8 +208,7 @@ fn host_is_full_before_its_servers(rt: HostRuntime) {
         servers: &[0, 2, 1, 2],
         costs: &[1, 6, 1, 2],
     };
-    meets::<ScanFrontier>(&rt, rt.alloc(), &network, &[4, 0, 1, 2]);
-    meets::<HeapFrontier>(&rt, rt.alloc(), &network, &[4, 0, 1, 2]);
+    both_meet(&rt, rt.alloc(), &network, &[4, 0, 1, 2]);
 }
 
 #[test]
@@ -209,8 +222,7 @@ fn host_is_short(rt: HostRuntime) {
         servers: &[0, 1],
         costs: &[2, 2],
     };
-    lacks::<ScanFrontier>(&rt, rt.alloc(), &network, &[true, true]);
-    lacks::<HeapFrontier>(&rt, rt.alloc(), &network, &[true, true]);
+    both_lack(&rt, rt.alloc(), &network, &[true, true]);
 }
 
 #[test]
@@ -224,8 +236,7 @@ fn shared_server_is_short(rt: HostRuntime) {
         servers: &[0, 0, 1],
         costs: &[1, 1, 1],
     };
-    lacks::<ScanFrontier>(&rt, rt.alloc(), &network, &[true, true, false]);
-    lacks::<HeapFrontier>(&rt, rt.alloc(), &network, &[true, true, false]);
+    both_lack(&rt, rt.alloc(), &network, &[true, true, false]);
 }
 
 #[test]
@@ -239,8 +250,7 @@ fn source_without_arcs_is_short(rt: HostRuntime) {
         servers: &[0],
         costs: &[3],
     };
-    lacks::<ScanFrontier>(&rt, rt.alloc(), &network, &[false, true]);
-    lacks::<HeapFrontier>(&rt, rt.alloc(), &network, &[false, true]);
+    both_lack(&rt, rt.alloc(), &network, &[false, true]);
 }
 
 /// Each source is met by one path, and so by one search.
