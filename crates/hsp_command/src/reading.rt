@@ -153,8 +153,8 @@ fn check_of(alloc: Global, matches: &ArgMatches<'_>) -> Result<Order, CommandFau
     ensures usage { result ≡ Err fault.Usage → (order : Order)
         → IsOrderIn order (codes "check") (rows_of (found_of matches.now)) → ⊥ }
 {
-    let inputs = inputs_of(alloc, matches)?;
     let plan = needed_of(alloc, matches, "plan")?;
+    let inputs = inputs_of(alloc, matches)?;
     Ok(Order::Check { inputs, plan })
 }
 
@@ -164,10 +164,10 @@ fn dispatch_of(alloc: Global, matches: &ArgMatches<'_>) -> Result<Order, Command
     ensures usage { result ≡ Err fault.Usage → (order : Order)
         → IsOrderIn order (codes "dispatch") (rows_of (found_of matches.now)) → ⊥ }
 {
-    let inputs = inputs_of(alloc, matches)?;
     let plan = needed_of(alloc, matches, "plan")?;
     let log = needed_of(alloc, matches, "log")?;
     let fronts = word_of(alloc, matches, "fronts")?;
+    let inputs = inputs_of(alloc, matches)?;
     Ok(Order::Dispatch {
         inputs,
         plan,
@@ -189,19 +189,30 @@ fn kind_of(word: &Word) -> Option<Kind>
     }
 }
 
+// The kind of report that is asked for.
+fn needed_kind_of(alloc: Global, matches: &ArgMatches<'_>) -> Result<Kind, CommandFault>
+    ensures given { IfOk result
+        (λ kind. first_of (codes "kind") (rows_of (found_of matches.now)) ≡ Some (kind_word kind)) }
+    ensures absent { result ≡ Err fault.Usage → (kind : Kind)
+        → first_of (codes "kind") (rows_of (found_of matches.now)) ≡ Some (kind_word kind) → ⊥ }
+{
+    let word = needed_of(alloc, matches, "kind")?;
+    match kind_of(&word) {
+        Some(kind) => Ok(kind),
+        None => Err(CommandFault::Usage),
+    }
+}
+
 fn report_of(alloc: Global, matches: &ArgMatches<'_>) -> Result<Order, CommandFault>
     ensures order { IfOk result
         (λ order. IsOrderIn order (codes "report") (rows_of (found_of matches.now))) }
     ensures usage { result ≡ Err fault.Usage → (order : Order)
         → IsOrderIn order (codes "report") (rows_of (found_of matches.now)) → ⊥ }
 {
-    let inputs = inputs_of(alloc, matches)?;
+    let kind = needed_kind_of(alloc, matches)?;
     let plan = needed_of(alloc, matches, "plan")?;
-    let word = needed_of(alloc, matches, "kind")?;
-    match kind_of(&word) {
-        Some(kind) => Ok(Order::Report { inputs, plan, kind }),
-        None => Err(CommandFault::Usage),
-    }
+    let inputs = inputs_of(alloc, matches)?;
+    Ok(Order::Report { inputs, plan, kind })
 }
 
 // The order of a subcommand with its values.

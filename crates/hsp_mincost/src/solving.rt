@@ -5,7 +5,7 @@ ghost use Rattle.hsp_mincost.specs.Nodes.{MayHaveUpTo, nodes_of};
 ghost use Rattle.hsp_network.specs.Problem.{problem_of};
 ghost use Rattle.hsp_mincost.specs.Problem.{AreLinksOf, IsLinksOf};
 ghost use Rattle.hsp_mincost.specs.Residual.{nodes};
-ghost use Rattle.hsp_mincost.specs.Search.{Ready};
+ghost use Rattle.hsp_mincost.specs.Search.{Blank, Ready};
 
 use crate::answer::{priced_flow, short_set};
 use crate::frontier::Frontier;
@@ -16,6 +16,30 @@ use crate::phase::meet_all;
 use crate::tables::{link_capacities, link_costs, link_heads, link_tails, node_supplies};
 use hsp_network::{Network, Outcome, greatest};
 use std::alloc::{AllocError, Global};
+
+/// Runs the solver from a flow with its prices, by searches whose tree is blank at first.
+fn search_from<F: Frontier>(
+    alloc: Global,
+    network: &Network,
+    links: &Links,
+    flow: &mut Flow,
+    progress: &mut Progress,
+) -> Result<Outcome, AllocError>
+    requires links_of { IsLinksOf network.now links.now }
+    requires small { IsSmall (problem_of network.now) }
+    requires ready { Ready links.now flow.old }
+    requires blank { Blank links.now progress.old.tree }
+    requires nodes { MayHaveUpTo F.may_have (nodes links.now) }
+    ensures { IfOk result (Answers (problem_of network.now)) }
+{
+    let nodes = links.supplies.len();
+    let mut frontier = F::with_nodes(alloc, nodes as u32)?;
+    if meet_all(&mut frontier, links, flow, progress)? {
+        return Ok(Outcome::Met(priced_flow(alloc, network, links, flow)?));
+    }
+    let set = short_set(alloc, network, links, flow, &progress.tree)?;
+    Ok(Outcome::Short(set))
+}
 
 /// Runs the solver from a flow with its prices.
 fn solve_from<F: Frontier>(
@@ -46,14 +70,9 @@ fn solve_from<F: Frontier>(
         tree,
         effort: *effort,
     };
-    let mut frontier = F::with_nodes(alloc, nodes as u32)?;
-    let met = meet_all(&mut frontier, links, flow, &mut progress)?;
+    let outcome = search_from::<F>(alloc, network, links, flow, &mut progress);
     *effort = progress.effort;
-    if met {
-        return Ok(Outcome::Met(priced_flow(alloc, network, links, flow)?));
-    }
-    let set = short_set(alloc, network, links, flow, &progress.tree)?;
-    Ok(Outcome::Short(set))
+    outcome
 }
 
 /// Runs the solver over a network's links, from no flow.

@@ -40,16 +40,39 @@ pub fn propose_counted(
         return Ok(Some(Outcome::Short(all)));
     }
     let graph = Graph::new(alloc, network, greatest_cost, total_demand)?;
-    let guide = Guide::new(alloc, &graph)?;
-    let order = by_regret(alloc, &graph, &guide)?;
-    let mut tree = Tree::greedy(alloc, &graph, &guide, &order)?;
-    let is_optimal = tree.optimize(&graph, &guide.candidates);
+    outcome_of(alloc, &graph, effort)
+}
+
+// The first tree, made of the arcs by their sources' regrets.
+fn first_tree(alloc: Global, graph: &Graph, guide: &Guide) -> Result<Tree, AllocError> {
+    let order = by_regret(alloc, graph, guide)?;
+    Tree::greedy(alloc, graph, guide, &order)
+}
+
+// The outcome that the pivots from the first tree come to, if they end.
+fn guided_outcome(
+    alloc: Global,
+    graph: &Graph,
+    guide: &Guide,
+    effort: &mut SimplexEffort,
+) -> Result<Option<Outcome>, AllocError> {
+    let mut tree = first_tree(alloc, graph, guide)?;
+    let is_optimal = tree.optimize(graph, &guide.candidates);
     effort.add(&tree.effort);
-    if is_optimal {
-        Ok(Some(tree.outcome(alloc, &graph)?))
-    } else {
-        Ok(None)
+    if !is_optimal {
+        return Ok(None);
     }
+    Ok(Some(tree.outcome(alloc, graph)?))
+}
+
+// The same, by the first prices of the graph.
+fn outcome_of(
+    alloc: Global,
+    graph: &Graph,
+    effort: &mut SimplexEffort,
+) -> Result<Option<Outcome>, AllocError> {
+    let guide = Guide::new(alloc, graph)?;
+    guided_outcome(alloc, graph, &guide, effort)
 }
 
 // Whether the network's numbers have room in the solver's.
