@@ -15,5 +15,10 @@ def free():
         return next(int(line.split()[1]) for line in lines if line.startswith("MemAvailable:"))
 
 
+def lanes():
+    """How many checks run side by side."""
+    return max(1, min(len(os.sched_getaffinity(0)), free() // EACH))
+
+
 if __name__ == "__main__":
-    print(max(1, min(len(os.sched_getaffinity(0)), free() // EACH)))
+    print(lanes())

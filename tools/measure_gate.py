@@ -1,0 +1,82 @@
+#!/usr/bin/env python3
+"""Runs `rt ci`, and tells the seconds of a processor that each crate took: its proof, the proof that its must-fail edits begin with, the
+edits, and its tests. What rt kept of an earlier run on the machine is not proved again, and has no seconds here.
+
+A check is a process of its own. Once a second each is asked for the processor's time that it took, so that up to a second of each is missed.
+
+    tools/measure_gate.py [--jobs N] [--log FILE]      checks side by side as in `make test`, or N; the log is what rt ci prints
+"""
+import argparse
+import collections
+import os
+import re
+import subprocess
+import time
+
+import lanes
+
+TOP = os.path.dirname(os.path.dirname(os.path.abspath(__file__)))
+KINDS = ("proof", "before the edits", "edits", "tests")
+TICK = os.sysconf("SC_CLK_TCK")
+
+
+def kind_of(words):
+    """What a check of the prover is for, by its words."""
+    if "--test" in words:
+        return "tests"
+    if "--incremental" not in words:
+        return "proof"
+    return "before the edits" if words[words.index("--incremental") + 1].endswith("/seed") else "edits"
+
+
+def checks_of(parent):
+    """The checks that run below a process: for each, by its number and its start, the crate, the kind and the seconds so far."""
+    for number in filter(str.isdigit, os.listdir("/proc")):
+        try:
+            with open(f"/proc/{number}/stat") as file:
+                fields = file.read().rpartition(")")[2].split()
+            if int(fields[1]) != parent:
+                continue
+            with open(f"/proc/{number}/cmdline") as file:
+                words = file.read().split("\0")
+            if "--crate-name" in words and os.path.basename(words[0]) == "rattle":
+                crate = words[words.index("--crate-name") + 1]
+                yield (number, fields[19]), (crate, kind_of(words), sum(map(int, fields[11:15])) / TICK)
+        except (FileNotFoundError, ProcessLookupError):
+            continue
+
+
+def measured(jobs, log):
+    """Runs rt ci to its end: its status, the seconds by the clock, and what checks took by crate and kind."""
+    began, seen = time.monotonic(), {}
+    run = subprocess.Popen(["rt", "ci"], cwd=TOP, env={**os.environ, "RT_JOBS": str(jobs)}, stdout=log, stderr=subprocess.STDOUT)
+    while run.poll() is None:
+        seen.update(checks_of(run.pid))
+        time.sleep(1)
+    took = collections.Counter()
+    for crate, kind, seconds in seen.values():
+        took[crate, kind] += seconds
+    return run.returncode, time.monotonic() - began, took
+
+
+def main():
+    arguments = argparse.ArgumentParser(description="the seconds of a processor that rt ci takes, by crates")
+    arguments.add_argument("--jobs", type=int, default=lanes.lanes())
+    arguments.add_argument("--log", default="/tmp/rt-ci.log")
+    given = arguments.parse_args()
+    with open(given.log, "w", encoding="utf-8") as log:
+        status, clock, took = measured(given.jobs, log)
+    print(f"| Crate | {' | '.join(it.capitalize() for it in KINDS)} |")
+    print("|---" * (len(KINDS) + 1) + "|")
+    for crate in dict.fromkeys(crate for crate, _ in took):
+        print(f"| `{crate}` | {' | '.join(str(round(took[crate, kind])) for kind in KINDS)} |")
+    for kind in KINDS:
+        print(f"{kind}: {sum(seconds for (_, it), seconds in took.items() if it == kind) / 60:.0f} minutes")
+    print(f"{sum(took.values()) / 60:.0f} minutes of a processor, {clock / 60:.0f} by the clock, {given.jobs} checks side by side")
+    with open(given.log, encoding="utf-8") as log:
+        print(log.read().splitlines()[-1])
+    return status
+
+
+if __name__ == "__main__":
+    raise SystemExit(main())
