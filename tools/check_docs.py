@@ -144,7 +144,7 @@ def there_of(crate):
 def wrong_counts():
     """The counts of docs/GATE.md that are others than those of what is there, and how many it has."""
     there = {it: there_of(it) for it in crates_of()}
-    told = {named(it[0])[0]: it[2:] for it in rows(text_of("docs/GATE.md")) if len(it) == 5 and named(it[0])}
+    told = {named(it[0])[0]: it[4:] for it in rows(text_of("docs/GATE.md")) if len(it) == 7 and named(it[0])}
     faults = [f"docs/GATE.md counts a crate that is none: {it}" for it in told if it not in there]
     for crate, counts in there.items():
         wanted = [str(it) for it in counts]
