@@ -2,17 +2,22 @@ use crate::same::is_same;
 use hsp_command::*;
 use std::alloc::{AllocError, Global};
 use std::process::Abort;
-use std::test::Fail;
 
-// The words of a line. Want of memory is met by a second call: where one growth is refused, it answers as with ample memory.
-fn words_of(alloc: Global, line: &[u8]) -> Result<Option<Vec<String>>, AllocError> {
+// The words of a line. Want of memory is met by a second call, here and below: where one growth is
+// refused, it answers as with ample memory.
+fn words_of(rt: &impl Abort, alloc: Global, line: &[u8]) -> Option<Vec<String>> {
     match split_words(alloc, line) {
-        Err(AllocError) => split_words(alloc, line),
-        answer => answer,
+        Ok(words) => words,
+        Err(AllocError) => split_words(alloc, line).expect(rt, "there is memory"),
     }
 }
 
-// The order of the words, by a second call where the first tells want of memory.
+// The words of a line that is text.
+fn held_words(rt: &impl Abort, alloc: Global, line: &[u8]) -> Vec<String> {
+    words_of(rt, alloc, line).expect(rt, "there are words")
+}
+
+// The order of the words.
 fn order_of(alloc: Global, words: &[String]) -> Result<Order, CommandFault> {
     match read_command(alloc, words) {
         Err(CommandFault::OutOfMemory) => read_command(alloc, words),
@@ -40,10 +45,7 @@ fn shown(alloc: Global, order: &Order) -> Option<String> {
             values,
             handle,
         } => shown_values(alloc, "sites", settings.as_str(), or_none(values), handle),
-        Order::Site { index, file } => {
-            let (index, file) = (or_none(index), file.as_str());
-            format!(in alloc; "site|{index}|{file}").ok()
-        }
+        Order::Site { index, file } => shown_record(alloc, or_none(index), file),
         Order::Plan { inputs } => shown_inputs(alloc, "plan", inputs, ""),
         Order::Check { inputs, plan } => shown_inputs(alloc, "check", inputs, plan.as_str()),
         Order::Dispatch {
@@ -51,16 +53,8 @@ fn shown(alloc: Global, order: &Order) -> Option<String> {
             plan,
             log,
             fronts,
-        } => {
-            let shown = shown_inputs(alloc, "dispatch", inputs, plan.as_str())?;
-            let (shown, log, fronts) = (shown.as_str(), log.as_str(), or_none(fronts));
-            format!(in alloc; "{shown}|{log}|{fronts}").ok()
-        }
-        Order::Report { inputs, plan, kind } => {
-            let shown = shown_inputs(alloc, "report", inputs, plan.as_str())?;
-            let shown = shown.as_str();
-            format!(in alloc; "{shown}|{kind:?}").ok()
-        }
+        } => shown_log(alloc, inputs, plan, log, or_none(fronts)),
+        Order::Report { inputs, plan, kind } => shown_report(alloc, inputs, plan, *kind),
     }
 }
 
@@ -75,49 +69,66 @@ fn shown_values(
     format!(in alloc; "{name}|{first}|{second}|{handle}").ok()
 }
 
+fn shown_record(alloc: Global, index: &str, file: &Word) -> Option<String> {
+    let file = file.as_str();
+    format!(in alloc; "site|{index}|{file}").ok()
+}
+
 fn shown_inputs(alloc: Global, name: &str, inputs: &InputFiles, plan: &str) -> Option<String> {
     let (settings, demand) = (inputs.settings.as_str(), inputs.demand.as_str());
     let (costs, capacity) = (inputs.costs.as_str(), inputs.capacity.as_str());
-    let values = match &inputs.values {
-        Some(values) => values.as_str(),
-        None => "none",
-    };
+    let values = or_none(&inputs.values);
     format!(in alloc; "{name}|{settings}|{values}|{demand}|{costs}|{capacity}|{plan}").ok()
 }
 
-// The words of the line give the order.
-fn gives(rt: &impl Abort, alloc: Global, line: &[u8], wanted: &str) -> Result<(), Fail> {
-    let words = words_of(alloc, line)?.ok_or("no words")?;
-    let order = order_of(alloc, words.as_slice()).ok().ok_or("no order")?;
-    let text = match shown(alloc, &order) {
+fn shown_log(
+    alloc: Global,
+    inputs: &InputFiles,
+    plan: &Word,
+    log: &Word,
+    fronts: &str,
+) -> Option<String> {
+    let shown = shown_inputs(alloc, "dispatch", inputs, plan.as_str())?;
+    let (shown, log) = (shown.as_str(), log.as_str());
+    format!(in alloc; "{shown}|{log}|{fronts}").ok()
+}
+
+fn shown_report(alloc: Global, inputs: &InputFiles, plan: &Word, kind: Kind) -> Option<String> {
+    let shown = shown_inputs(alloc, "report", inputs, plan.as_str())?;
+    let shown = shown.as_str();
+    format!(in alloc; "{shown}|{kind:?}").ok()
+}
+
+// The order is shown so.
+fn is_shown(rt: &impl Abort, alloc: Global, order: &Order, wanted: &str) {
+    let text = match shown(alloc, order) {
         Some(text) => text,
-        None => shown(alloc, &order).ok_or("no memory")?,
+        None => shown(alloc, order).expect(rt, "there is memory"),
     };
     is_same(rt, text.as_str(), wanted);
-    Ok(())
+}
+
+// The words of the line give the order.
+fn gives(rt: &impl Abort, alloc: Global, line: &[u8], wanted: &str) {
+    let words = held_words(rt, alloc, line);
+    let order = order_of(alloc, &words).expect(rt, "the words are an order");
+    is_shown(rt, alloc, &order, wanted);
 }
 
 // The words of the line are no order.
-fn refused(rt: &impl Abort, alloc: Global, line: &[u8]) -> Result<(), Fail> {
-    let words = words_of(alloc, line)?.ok_or("no words")?;
-    is_same(
-        rt,
-        order_of(alloc, words.as_slice()).err(),
-        Some(CommandFault::Usage),
-    );
-    Ok(())
+fn refused(rt: &impl Abort, alloc: Global, line: &[u8]) {
+    let words = held_words(rt, alloc, line);
+    let fault = order_of(alloc, &words).err();
+    is_same(rt, fault, Some(CommandFault::Usage));
 }
 
 // The fault is displayed so.
 fn is_displayed(rt: &impl Abort, alloc: Global, fault: &CommandFault, wanted: &str) {
     let text = match fault.to_string(alloc) {
-        Err(AllocError) => fault.to_string(alloc),
-        text => text,
+        Ok(text) => text,
+        Err(AllocError) => fault.to_string(alloc).expect(rt, "there is memory"),
     };
-    match text {
-        Ok(text) => is_same(rt, text.as_str(), wanted),
-        Err(AllocError) => panic!(rt; "no text of {fault:?}"),
-    }
+    is_same(rt, text.as_str(), wanted);
 }
 
 #[test]
@@ -127,98 +138,97 @@ fn faults_are_displayed(rt: HostRuntime) {
 }
 
 #[test]
-fn words_stand_between_spaces(rt: HostRuntime) -> Result<(), Fail> {
-    let words = words_of(rt.alloc(), b"a  b")?.ok_or("no words")?;
+fn words_stand_between_spaces(rt: HostRuntime) {
+    let words = held_words(&rt, rt.alloc(), b"a  b");
     assert!(rt; words.len() == 2);
     is_same(&rt, words[0].as_str(), "a");
     is_same(&rt, words[1].as_str(), "b");
-    Ok(())
 }
 
 #[test]
 fn octets_that_are_no_text_are_no_words(rt: HostRuntime) {
-    let found = words_of(rt.alloc(), b"a \xff");
-    assert!(rt; matches!(found, Ok(None)));
+    let found = words_of(&rt, rt.alloc(), b"a \xff");
+    assert!(rt; found.is_none());
 }
 
 #[test]
-fn places_are_ordered(rt: HostRuntime) -> Result<(), Fail> {
+fn places_are_ordered(rt: HostRuntime) {
     gives(
         &rt,
         rt.alloc(),
         b"locate --option local --servers 2 10/3",
         "place|local|2|10/3",
-    )
+    );
 }
 
 #[test]
-fn a_word_behind_two_dashes_is_no_option(rt: HostRuntime) -> Result<(), Fail> {
+fn a_word_behind_two_dashes_is_no_option(rt: HostRuntime) {
     gives(
         &rt,
         rt.alloc(),
         b"locate --servers=-1 --option= -- -x/1",
         "place||-1|-x/1",
-    )
+    );
 }
 
 #[test]
-fn sites_are_ordered(rt: HostRuntime) -> Result<(), Fail> {
+fn sites_are_ordered(rt: HostRuntime) {
     gives(
         &rt,
         rt.alloc(),
         b"locate --settings s 10/3",
         "sites|s|none|10/3",
-    )
+    );
 }
 
 #[test]
-fn sites_with_values_are_ordered(rt: HostRuntime) -> Result<(), Fail> {
+fn sites_with_values_are_ordered(rt: HostRuntime) {
     gives(
         &rt,
         rt.alloc(),
         b"locate 10/3 --values v --settings s",
         "sites|s|v|10/3",
-    )
+    );
 }
 
 #[test]
-fn a_record_is_ordered(rt: HostRuntime) -> Result<(), Fail> {
-    gives(&rt, rt.alloc(), b"site f", "site|none|f")?;
-    gives(&rt, rt.alloc(), b"site --index 1 f", "site|1|f")
+fn a_record_is_ordered(rt: HostRuntime) {
+    gives(&rt, rt.alloc(), b"site f", "site|none|f");
+    gives(&rt, rt.alloc(), b"site --index 1 f", "site|1|f");
 }
 
 #[test]
-fn a_plan_is_ordered(rt: HostRuntime) -> Result<(), Fail> {
+fn a_plan_is_ordered(rt: HostRuntime) {
     gives(
         &rt,
         rt.alloc(),
         b"plan --settings s --demand d --costs c --capacity k",
         "plan|s|none|d|c|k|",
-    )
+    );
 }
 
 #[test]
-fn a_check_is_ordered(rt: HostRuntime) -> Result<(), Fail> {
+fn a_check_is_ordered(rt: HostRuntime) {
     gives(
         &rt,
         rt.alloc(),
         b"check --settings s --values v --demand d --costs c --capacity k --plan p",
         "check|s|v|d|c|k|p",
-    )
+    );
 }
 
 #[test]
-fn a_dispatch_is_ordered(rt: HostRuntime) -> Result<(), Fail> {
+fn a_dispatch_is_ordered(rt: HostRuntime) {
     gives(
         &rt,
         rt.alloc(),
         b"dispatch --settings s --demand d --costs c --capacity k --plan p --log l",
         "dispatch|s|none|d|c|k|p|l|none",
-    )
+    );
 }
 
 #[test]
-fn a_dispatch_at_fronts_is_ordered(rt: HostRuntime) -> Result<(), Fail> {
+fn a_dispatch_at_fronts_is_ordered(rt: HostRuntime) {
     let cases: [(&[u8], &str); 3] = [
         (
             b"dispatch --settings s --demand d --costs c --capacity k --plan p --log l --fronts 2",
@@ -234,13 +244,12 @@ fn a_dispatch_at_fronts_is_ordered(rt: HostRuntime) -> Result<(), Fail> {
         ),
     ];
     for (line, wanted) in cases {
-        gives(&rt, rt.alloc(), line, wanted)?;
+        gives(&rt, rt.alloc(), line, wanted);
     }
-    Ok(())
 }
 
 #[test]
-fn a_report_is_ordered(rt: HostRuntime) -> Result<(), Fail> {
+fn a_report_is_ordered(rt: HostRuntime) {
     let cases: [(&[u8], &str); 3] = [
         (
             b"report --settings s --demand d --costs c --capacity k --plan p --kind load",
@@ -256,13 +265,12 @@ fn a_report_is_ordered(rt: HostRuntime) -> Result<(), Fail> {
         ),
     ];
     for (line, wanted) in cases {
-        gives(&rt, rt.alloc(), line, wanted)?;
+        gives(&rt, rt.alloc(), line, wanted);
     }
-    Ok(())
 }
 
 #[test]
-fn other_words_are_no_order(rt: HostRuntime) -> Result<(), Fail> {
+fn other_words_are_no_order(rt: HostRuntime) {
     let lines: [&[u8]; 24] = [
         b"",
         b"locate",
@@ -290,7 +298,6 @@ fn other_words_are_no_order(rt: HostRuntime) -> Result<(), Fail> {
         b"report --settings s --demand d --costs c --capacity k --plan p --kind Load",
     ];
     for line in lines {
-        refused(&rt, rt.alloc(), line)?;
+        refused(&rt, rt.alloc(), line);
     }
-    Ok(())
 }

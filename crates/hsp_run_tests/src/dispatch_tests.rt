@@ -1,4 +1,4 @@
-use crate::line_tests::Broken;
+use crate::line_tests::{Broken, is_told};
 use crate::run_tests::{BASE, CHEAPER_PLAN, LACKING, PLAN, SHORTAGE, Texts, inputs_of};
 use crate::same::is_same;
 use hsp_check::Reason;
@@ -7,7 +7,6 @@ use hsp_runs::*;
 use std::alloc::{AllocError, Global};
 use std::io::{self, Read, Write};
 use std::process::Abort;
-use std::test::Fail;
 
 // Takes an octet a call while there is room, and then none.
 #[derive(Drop)]
@@ -34,12 +33,12 @@ impl Write for Page {
 }
 
 // A page with room for so many octets. Where this growth is refused, the second finds memory.
-pub(crate) fn page_of(alloc: Global, room: usize) -> Result<Page, AllocError> {
+pub(crate) fn page_of(rt: &impl Abort, alloc: Global, room: usize) -> Page {
     let taken = match Vec::with_capacity(alloc, room) {
         Ok(taken) => taken,
-        Err(_) => Vec::with_capacity(alloc, room)?,
+        Err(AllocError) => Vec::with_capacity(alloc, room).expect(rt, "there is memory"),
     };
-    Ok(Page { taken, room })
+    Page { taken, room }
 }
 
 // Gives an octet of a log a call, and fails once so many were given.
@@ -71,34 +70,58 @@ struct Ended {
     page: Page,
 }
 
+// A plan of inputs.
+#[derive(Clone, Copy)]
+struct Asked<'a> {
+    texts: Texts<'a>,
+    cert: &'a [u8],
+}
+
+const BASE_PLAN: Asked<'static> = Asked {
+    texts: BASE,
+    cert: PLAN,
+};
+
 fn run_once<R: Read + Drop>(
+    rt: &impl Abort,
     alloc: Global,
-    texts: Texts<'_>,
-    cert: &[u8],
+    asked: Asked<'_>,
     log: R,
     room: usize,
-) -> Result<Ended, AllocError> {
-    let mut page = page_of(alloc, room)?;
-    let answer = match inputs_of(alloc, texts) {
-        Some(inputs) => dispatch_run(alloc, &inputs, cert, log, &mut page),
-        None => Err(Fault::OutOfMemory),
-    };
-    Ok(Ended { answer, page })
+) -> Ended {
+    let mut page = page_of(rt, alloc, room);
+    let inputs = inputs_of(rt, alloc, asked.texts);
+    let answer = dispatch_run(alloc, &inputs, asked.cert, log, &mut page);
+    Ended { answer, page }
 }
 
 // The run over a log. Where a growth is refused, the second call finds memory.
 fn run_twice<R: Read + Copy + Drop>(
+    rt: &impl Abort,
     alloc: Global,
-    texts: Texts<'_>,
-    cert: &[u8],
+    asked: Asked<'_>,
     log: R,
     room: usize,
-) -> Result<Ended, AllocError> {
-    let first = run_once(alloc, texts, cert, log, room)?;
+) -> Ended {
+    let first = run_once(rt, alloc, asked, log, room);
     match first.answer {
-        Err(Fault::OutOfMemory) => run_once(alloc, texts, cert, log, room),
-        _ => Ok(first),
+        Err(Fault::OutOfMemory) => run_once(rt, alloc, asked, log, room),
+        _ => first,
     }
+}
+
+// The run has this answer, and this text stands on the page.
+fn has_ended(rt: &impl Abort, ended: &Ended, answer: Result<LogSums, Fault>, text: &[u8]) {
+    is_same(rt, &ended.answer, &answer);
+    is_same(rt, ended.page.taken.as_slice(), text);
+}
+
+// The run has stopped at the fault, behind so many octets of the lines.
+fn has_stopped(rt: &impl Abort, ended: &Ended, fault: LogFault, count: usize) {
+    is_same(rt, &ended.answer, &Err(Fault::Log(fault)));
+    let taken = ended.page.taken.as_slice();
+    assert!(rt; taken.len() == count);
+    assert!(rt; LINES.starts_with(taken));
 }
 
 const LOG: &[u8] = b"region,handle\nr2,10/3\nr2,10/3\nr2,10/3\nr2,10/3\nr9,10/3\n";
@@ -118,7 +141,7 @@ const NO_SUMS: LogSums = LogSums {
 };
 
 #[test]
-fn logs_are_answered(rt: HostRuntime) -> Result<(), Fail> {
+fn logs_are_answered(rt: HostRuntime) {
     let one = LogSums {
         assigned: 1,
         ..NO_SUMS
@@ -133,15 +156,13 @@ fn logs_are_answered(rt: HostRuntime) -> Result<(), Fail> {
         (b"region,handle\n", NO_SUMS, b""),
     ];
     for (log, sums, text) in cases {
-        let ended = run_twice(rt.alloc(), BASE, PLAN, log, 100)?;
-        assert!(rt; ended.answer == Ok(sums));
-        is_same(&rt, ended.page.taken.as_slice(), text);
+        let ended = run_twice(&rt, rt.alloc(), BASE_PLAN, log, 100);
+        has_ended(&rt, &ended, Ok(sums), text);
     }
-    Ok(())
 }
 
 #[test]
-fn logs_are_answered_up_to_a_fault(rt: HostRuntime) -> Result<(), Fail> {
+fn logs_are_answered_up_to_a_fault(rt: HostRuntime) {
     let cases: [(&[u8], usize, LogFault, &[u8]); 5] = [
         (b"", 100, LogFault::Header, b""),
         (
@@ -165,84 +186,61 @@ fn logs_are_answered_up_to_a_fault(rt: HostRuntime) -> Result<(), Fail> {
         (LOG, 20, LogFault::WriteFailed, &LINES[..20]),
     ];
     for (log, room, fault, text) in cases {
-        let ended = run_twice(rt.alloc(), BASE, PLAN, log, room)?;
-        assert!(rt; ended.answer == Err(Fault::Log(fault)));
-        is_same(&rt, ended.page.taken.as_slice(), text);
+        let ended = run_twice(&rt, rt.alloc(), BASE_PLAN, log, room);
+        has_ended(&rt, &ended, Err(Fault::Log(fault)), text);
     }
-    Ok(())
 }
 
 #[test]
-fn a_log_that_cannot_be_read_is_told(rt: HostRuntime) -> Result<(), Fail> {
-    let first = run_once(rt.alloc(), BASE, PLAN, Broken, 100)?;
-    let ended = match first.answer {
-        Err(Fault::OutOfMemory) => run_once(rt.alloc(), BASE, PLAN, Broken, 100)?,
-        _ => first,
-    };
-    assert!(rt; ended.answer == Err(Fault::Log(LogFault::ReadFailed)));
-    assert!(rt; ended.page.taken.is_empty());
-    Ok(())
+fn a_log_that_cannot_be_read_is_told(rt: HostRuntime) {
+    let ended = run_twice(&rt, rt.alloc(), BASE_PLAN, Broken, 100);
+    has_stopped(&rt, &ended, LogFault::ReadFailed, 0);
 }
 
 // Up to how many octets of the log no further row is read whole, and how many octets the lines of the rows before have.
 const ROWS: [(usize, usize); 6] = [(22, 0), (30, 15), (38, 30), (46, 45), (54, 51), (55, 59)];
 
 // A reader that fails behind each octet from one on, up to another, tells so behind so many octets of lines.
-fn reads_fail(
-    rt: &impl Abort,
-    alloc: Global,
-    from: usize,
-    until: usize,
-    lines: usize,
-) -> Result<(), Fail> {
+fn reads_fail(rt: &impl Abort, alloc: Global, from: usize, until: usize, lines: usize) {
     for good in from..until {
         let log = Cut { log: LOG, good };
-        let ended = run_twice(alloc, BASE, PLAN, log, 100)?;
-        assert!(rt; ended.answer == Err(Fault::Log(LogFault::ReadFailed)));
-        assert!(rt; ended.page.taken.len() == lines);
-        assert!(rt; LINES.starts_with(ended.page.taken.as_slice()));
+        let ended = run_twice(rt, alloc, BASE_PLAN, log, 100);
+        has_stopped(rt, &ended, LogFault::ReadFailed, lines);
     }
-    Ok(())
 }
 
 #[test]
-fn logs_are_answered_up_to_each_octet_that_cannot_be_read(rt: HostRuntime) -> Result<(), Fail> {
+fn logs_are_answered_up_to_each_octet_that_cannot_be_read(rt: HostRuntime) {
     let mut from = 0;
     for (until, lines) in ROWS {
-        reads_fail(&rt, rt.alloc(), from, until, lines)?;
+        reads_fail(&rt, rt.alloc(), from, until, lines);
         from = until;
     }
-    Ok(())
 }
 
 #[test]
-fn logs_are_answered_up_to_each_octet_that_cannot_be_written(rt: HostRuntime) -> Result<(), Fail> {
+fn logs_are_answered_up_to_each_octet_that_cannot_be_written(rt: HostRuntime) {
     for room in 0..LINES.len() {
-        let ended = run_twice(rt.alloc(), BASE, PLAN, LOG, room)?;
-        assert!(rt; ended.answer == Err(Fault::Log(LogFault::WriteFailed)));
-        assert!(rt; ended.page.taken.len() == room);
-        assert!(rt; LINES.starts_with(ended.page.taken.as_slice()));
+        let ended = run_twice(&rt, rt.alloc(), BASE_PLAN, LOG, room);
+        has_stopped(&rt, &ended, LogFault::WriteFailed, room);
     }
-    Ok(())
 }
 
 #[test]
-fn what_is_not_accepted_answers_nothing(rt: HostRuntime) -> Result<(), Fail> {
+fn what_is_not_accepted_answers_nothing(rt: HostRuntime) {
     let cases: [(Texts<'_>, &[u8], Fault); 2] = [
         (BASE, CHEAPER_PLAN, Fault::Refused(Reason::Cost)),
         (LACKING, SHORTAGE, Fault::WrongKind),
     ];
     for (texts, cert, fault) in cases {
-        let ended = run_twice(rt.alloc(), texts, cert, LOG, 100)?;
         is_same(&rt, status_of(&fault), 3);
-        assert!(rt; ended.answer == Err(fault));
-        assert!(rt; ended.page.taken.is_empty());
+        let ended = run_twice(&rt, rt.alloc(), Asked { texts, cert }, LOG, 100);
+        has_ended(&rt, &ended, Err(fault), b"");
     }
-    Ok(())
 }
 
 #[test]
-fn faults_of_logs_have_their_lines(rt: HostRuntime) -> Result<(), Fail> {
+fn faults_of_logs_have_their_lines(rt: HostRuntime) {
     let cases: [(LogFault, u8, &[u8]); 8] = [
         (LogFault::ReadFailed, 5, b"hsplan: log: ReadFailed\n"),
         (LogFault::WriteFailed, 5, b"hsplan: log: WriteFailed\n"),
@@ -270,27 +268,19 @@ fn faults_of_logs_have_their_lines(rt: HostRuntime) -> Result<(), Fail> {
         ),
     ];
     for (fault, status, wanted) in cases {
-        let fault = Fault::Log(fault);
-        let line = match fault_line(rt.alloc(), &fault) {
-            Err(AllocError) => fault_line(rt.alloc(), &fault)?,
-            Ok(line) => line,
-        };
-        is_same(&rt, line.as_slice(), wanted);
-        is_same(&rt, status_of(&fault), status);
+        is_told(&rt, rt.alloc(), &Fault::Log(fault), wanted, status);
     }
-    Ok(())
 }
 
 #[test]
-fn sums_have_their_line(rt: HostRuntime) -> Result<(), Fail> {
+fn sums_have_their_line(rt: HostRuntime) {
     let line = match sums_line(rt.alloc(), &SUMS) {
-        Err(AllocError) => sums_line(rt.alloc(), &SUMS)?,
         Ok(line) => line,
+        Err(AllocError) => sums_line(rt.alloc(), &SUMS).expect(&rt, "there is memory"),
     };
     is_same(
         &rt,
         line.as_slice(),
         b"assigned 3 spent 1 unknown 1\n".as_slice(),
     );
-    Ok(())
 }

@@ -1,14 +1,13 @@
 use crate::dispatch_tests::{Cut, Page, page_of};
-use crate::line_tests::Broken;
+use crate::line_tests::{Broken, is_told};
 use crate::run_tests::{BASE, CHEAPER_PLAN, LACKING, PLAN, SHORTAGE, Texts, inputs_of};
 use crate::same::is_same;
 use hsp_check::Reason;
 use hsp_dispatch::{FrontSums, LogFault};
 use hsp_runs::*;
-use std::alloc::{AllocError, Global};
+use std::alloc::Global;
 use std::io::Read;
 use std::process::Abort;
-use std::test::Fail;
 
 // What a run answers, and the page that it has written on.
 #[derive(Drop)]
@@ -32,31 +31,45 @@ const TWO: Asked<'static> = Asked {
 };
 
 fn run_once<R: Read + Drop>(
+    rt: &impl Abort,
     alloc: Global,
     asked: Asked<'_>,
     log: R,
     room: usize,
-) -> Result<Ended, AllocError> {
-    let mut page = page_of(alloc, room)?;
-    let answer = match inputs_of(alloc, asked.texts) {
-        Some(inputs) => fronts_run(alloc, &inputs, asked.cert, asked.fronts, log, &mut page),
-        None => Err(Fault::OutOfMemory),
-    };
-    Ok(Ended { answer, page })
+) -> Ended {
+    let mut page = page_of(rt, alloc, room);
+    let inputs = inputs_of(rt, alloc, asked.texts);
+    let answer = fronts_run(alloc, &inputs, asked.cert, asked.fronts, log, &mut page);
+    Ended { answer, page }
 }
 
 // The run over a log. Where a growth is refused, the second call finds memory.
 fn run_twice<R: Read + Copy + Drop>(
+    rt: &impl Abort,
     alloc: Global,
     asked: Asked<'_>,
     log: R,
     room: usize,
-) -> Result<Ended, AllocError> {
-    let first = run_once(alloc, asked, log, room)?;
+) -> Ended {
+    let first = run_once(rt, alloc, asked, log, room);
     match first.answer {
-        Err(Fault::OutOfMemory) => run_once(alloc, asked, log, room),
-        _ => Ok(first),
+        Err(Fault::OutOfMemory) => run_once(rt, alloc, asked, log, room),
+        _ => first,
     }
+}
+
+// The run has this answer, and this text stands on the page.
+fn has_ended(rt: &impl Abort, ended: &Ended, answer: Result<FrontSums, Fault>, text: &[u8]) {
+    is_same(rt, &ended.answer, &answer);
+    is_same(rt, ended.page.taken.as_slice(), text);
+}
+
+// The run has stopped at the fault, behind so many octets of the lines.
+fn has_stopped(rt: &impl Abort, ended: &Ended, fault: LogFault, count: usize) {
+    is_same(rt, &ended.answer, &Err(Fault::Log(fault)));
+    let taken = ended.page.taken.as_slice();
+    assert!(rt; taken.len() == count);
+    assert!(rt; LINES.starts_with(taken));
 }
 
 const LOG: &[u8] =
@@ -80,7 +93,7 @@ const NO_SUMS: FrontSums = FrontSums {
 };
 
 #[test]
-fn fronts_answer_by_their_shares(rt: HostRuntime) -> Result<(), Fail> {
+fn fronts_answer_by_their_shares(rt: HostRuntime) {
     let alone = FrontSums {
         assigned: 1,
         no_front: 5,
@@ -109,51 +122,46 @@ fn fronts_answer_by_their_shares(rt: HostRuntime) -> Result<(), Fail> {
         (b"2", b"front,region,handle\n", NO_SUMS, b""),
     ];
     for (fronts, log, sums, text) in cases {
-        let ended = run_twice(rt.alloc(), Asked { fronts, ..TWO }, log, 100)?;
-        assert!(rt; ended.answer == Ok(sums));
-        is_same(&rt, ended.page.taken.as_slice(), text);
+        let ended = run_twice(&rt, rt.alloc(), Asked { fronts, ..TWO }, log, 100);
+        has_ended(&rt, &ended, Ok(sums), text);
     }
-    Ok(())
+}
+
+// The word is no number of fronts, and nothing is written.
+fn has_bad_fronts(rt: &impl Abort, alloc: Global, asked: Asked<'_>) {
+    let ended = run_twice(rt, alloc, asked, LOG, 100);
+    has_ended(rt, &ended, Err(Fault::BadFronts), b"");
 }
 
 #[test]
-fn no_number_of_fronts_is_refused_first(rt: HostRuntime) -> Result<(), Fail> {
+fn no_number_of_fronts_is_refused_first(rt: HostRuntime) {
     let words: [&[u8]; 8] = [b"0", b"65", b"x", b"", b"-1", b"02", b"2 ", b"4294967298"];
     for fronts in words {
-        let asked = [
-            Asked { fronts, ..TWO },
-            Asked {
-                texts: LACKING,
-                cert: b"",
-                fronts,
-            },
-        ];
-        for asked in asked {
-            let ended = run_twice(rt.alloc(), asked, LOG, 100)?;
-            assert!(rt; ended.answer == Err(Fault::BadFronts));
-            assert!(rt; ended.page.taken.is_empty());
-        }
+        has_bad_fronts(&rt, rt.alloc(), Asked { fronts, ..TWO });
+        let lacking = Asked {
+            texts: LACKING,
+            cert: b"",
+            fronts,
+        };
+        has_bad_fronts(&rt, rt.alloc(), lacking);
     }
-    Ok(())
 }
 
 #[test]
-fn what_is_not_accepted_answers_no_front(rt: HostRuntime) -> Result<(), Fail> {
+fn what_is_not_accepted_answers_no_front(rt: HostRuntime) {
     let cases: [(Texts<'_>, &[u8], Fault); 2] = [
         (BASE, CHEAPER_PLAN, Fault::Refused(Reason::Cost)),
         (LACKING, SHORTAGE, Fault::WrongKind),
     ];
     for (texts, cert, fault) in cases {
         let asked = Asked { texts, cert, ..TWO };
-        let ended = run_twice(rt.alloc(), asked, LOG, 100)?;
-        assert!(rt; ended.answer == Err(fault));
-        assert!(rt; ended.page.taken.is_empty());
+        let ended = run_twice(&rt, rt.alloc(), asked, LOG, 100);
+        has_ended(&rt, &ended, Err(fault), b"");
     }
-    Ok(())
 }
 
 #[test]
-fn events_are_answered_up_to_a_fault(rt: HostRuntime) -> Result<(), Fail> {
+fn events_are_answered_up_to_a_fault(rt: HostRuntime) {
     let cases: [(&[u8], usize, LogFault, &[u8]); 6] = [
         (b"region,handle\nr1,10/1\n", 100, LogFault::Header, b""),
         (
@@ -183,23 +191,15 @@ fn events_are_answered_up_to_a_fault(rt: HostRuntime) -> Result<(), Fail> {
         (LOG, 20, LogFault::WriteFailed, &LINES[..20]),
     ];
     for (log, room, fault, text) in cases {
-        let ended = run_twice(rt.alloc(), TWO, log, room)?;
-        assert!(rt; ended.answer == Err(Fault::Log(fault)));
-        is_same(&rt, ended.page.taken.as_slice(), text);
+        let ended = run_twice(&rt, rt.alloc(), TWO, log, room);
+        has_ended(&rt, &ended, Err(Fault::Log(fault)), text);
     }
-    Ok(())
 }
 
 #[test]
-fn events_that_cannot_be_read_are_told(rt: HostRuntime) -> Result<(), Fail> {
-    let first = run_once(rt.alloc(), TWO, Broken, 100)?;
-    let ended = match first.answer {
-        Err(Fault::OutOfMemory) => run_once(rt.alloc(), TWO, Broken, 100)?,
-        _ => first,
-    };
-    assert!(rt; ended.answer == Err(Fault::Log(LogFault::ReadFailed)));
-    assert!(rt; ended.page.taken.is_empty());
-    Ok(())
+fn events_that_cannot_be_read_are_told(rt: HostRuntime) {
+    let ended = run_twice(&rt, rt.alloc(), TWO, Broken, 100);
+    has_stopped(&rt, &ended, LogFault::ReadFailed, 0);
 }
 
 // Up to how many octets of the log no further row is read whole, and how many octets the lines of the rows before have.
@@ -215,52 +215,37 @@ const ROWS: [(usize, usize); 8] = [
 ];
 
 // A reader that fails behind each octet from one on, up to another, tells so behind so many octets of lines.
-fn reads_fail(
-    rt: &impl Abort,
-    alloc: Global,
-    from: usize,
-    until: usize,
-    lines: usize,
-) -> Result<(), Fail> {
+fn reads_fail(rt: &impl Abort, alloc: Global, from: usize, until: usize, lines: usize) {
     for good in from..until {
-        let ended = run_twice(alloc, TWO, Cut { log: LOG, good }, 100)?;
-        assert!(rt; ended.answer == Err(Fault::Log(LogFault::ReadFailed)));
-        assert!(rt; ended.page.taken.len() == lines);
-        assert!(rt; LINES.starts_with(ended.page.taken.as_slice()));
+        let ended = run_twice(rt, alloc, TWO, Cut { log: LOG, good }, 100);
+        has_stopped(rt, &ended, LogFault::ReadFailed, lines);
     }
-    Ok(())
 }
 
 #[test]
-fn events_are_answered_up_to_each_octet_that_cannot_be_read(rt: HostRuntime) -> Result<(), Fail> {
+fn events_are_answered_up_to_each_octet_that_cannot_be_read(rt: HostRuntime) {
     let mut from = 0;
     for (until, lines) in ROWS {
-        reads_fail(&rt, rt.alloc(), from, until, lines)?;
+        reads_fail(&rt, rt.alloc(), from, until, lines);
         from = until;
     }
-    Ok(())
 }
 
 #[test]
-fn events_are_answered_up_to_each_octet_that_cannot_be_written(
-    rt: HostRuntime,
-) -> Result<(), Fail> {
+fn events_are_answered_up_to_each_octet_that_cannot_be_written(rt: HostRuntime) {
     for room in 0..LINES.len() {
-        let ended = run_twice(rt.alloc(), TWO, LOG, room)?;
-        assert!(rt; ended.answer == Err(Fault::Log(LogFault::WriteFailed)));
-        assert!(rt; ended.page.taken.len() == room);
-        assert!(rt; LINES.starts_with(ended.page.taken.as_slice()));
+        let ended = run_twice(&rt, rt.alloc(), TWO, LOG, room);
+        has_stopped(&rt, &ended, LogFault::WriteFailed, room);
     }
-    Ok(())
 }
 
 #[test]
-fn no_number_of_fronts_has_its_line(rt: HostRuntime) -> Result<(), Fail> {
-    let line = match fault_line(rt.alloc(), &Fault::BadFronts) {
-        Err(AllocError) => fault_line(rt.alloc(), &Fault::BadFronts)?,
-        Ok(line) => line,
-    };
-    is_same(&rt, line.as_slice(), b"hsplan: BadFronts\n".as_slice());
-    is_same(&rt, status_of(&Fault::BadFronts), 1);
-    Ok(())
+fn no_number_of_fronts_has_its_line(rt: HostRuntime) {
+    is_told(
+        &rt,
+        rt.alloc(),
+        &Fault::BadFronts,
+        b"hsplan: BadFronts\n",
+        1,
+    );
 }

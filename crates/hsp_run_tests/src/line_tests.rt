@@ -1,3 +1,4 @@
+use crate::held::{copied, copied_if_any, joined};
 use crate::same::is_same;
 use hsp_cert::CertFault;
 use hsp_check::Reason;
@@ -10,10 +11,9 @@ use hsp_tables::TableFault;
 use std::alloc::{AllocError, Global};
 use std::io::{self, Read};
 use std::process::Abort;
-use std::test::Fail;
 
 // A reader whose every read fails.
-#[derive(Drop)]
+#[derive(Clone, Copy, Drop)]
 pub(crate) struct Broken;
 
 impl Read for Broken {
@@ -23,7 +23,7 @@ impl Read for Broken {
 }
 
 // A reader of so many octets of one kind.
-#[derive(Drop)]
+#[derive(Clone, Copy, Drop)]
 struct Run {
     octet: u8,
     left: usize,
@@ -40,14 +40,16 @@ impl Read for Run {
     }
 }
 
+// What is wanted of an answer: its text, or its fault.
+type Wanted<'a> = Result<&'a [u8], &'a Fault>;
+
 // The answer is the wanted one.
-fn answers(rt: &impl Abort, answer: Result<Vec<u8>, Fault>, wanted: &Result<&[u8], Fault>) {
-    match (answer, wanted) {
-        (Ok(text), Ok(wanted)) => is_same(rt, text.as_slice(), *wanted),
-        (Err(fault), Err(wanted)) => assert!(rt; fault == *wanted, "{fault:?}"),
-        (Err(fault), Ok(_)) => panic!(rt; "{fault:?}"),
-        (Ok(_), Err(wanted)) => panic!(rt; "an answer came in place of {wanted:?}"),
-    }
+fn answers(rt: &impl Abort, answer: &Result<Vec<u8>, Fault>, wanted: Wanted<'_>) {
+    let told = match answer {
+        Ok(text) => Ok(text.as_slice()),
+        Err(fault) => Err(fault),
+    };
+    is_same(rt, told, wanted);
 }
 
 // The answer of `locate`, from the texts of its inputs.
@@ -57,41 +59,31 @@ enum Asked<'a> {
     Sites(&'a [u8], Option<&'a [u8]>),
 }
 
-fn inputs_of(alloc: Global, asked: Asked<'_>) -> Result<Locate, AllocError> {
+fn inputs_of(rt: &impl Abort, alloc: Global, asked: Asked<'_>) -> Locate {
     match asked {
-        Asked::Place(option, servers) => Ok(Locate::Place {
-            option: Vec::from_slice(alloc, option)?,
-            servers: Vec::from_slice(alloc, servers)?,
-        }),
-        Asked::Sites(settings, None) => Ok(Locate::Sites {
-            settings: Vec::from_slice(alloc, settings)?,
-            values: None,
-        }),
-        Asked::Sites(settings, Some(values)) => Ok(Locate::Sites {
-            settings: Vec::from_slice(alloc, settings)?,
-            values: Some(Vec::from_slice(alloc, values)?),
-        }),
+        Asked::Place(option, servers) => Locate::Place {
+            option: copied(rt, alloc, option),
+            servers: copied(rt, alloc, servers),
+        },
+        Asked::Sites(settings, values) => Locate::Sites {
+            settings: copied(rt, alloc, settings),
+            values: copied_if_any(rt, alloc, values),
+        },
     }
 }
 
-fn located(alloc: Global, asked: Asked<'_>, handle: &[u8]) -> Result<Vec<u8>, Fault> {
-    let inputs = inputs_of(alloc, asked)?;
-    locate_run(alloc, &inputs, handle)
+// The answer of `locate`. Where a growth is refused, the second call finds memory, here and below.
+fn located(alloc: Global, inputs: &Locate, handle: &[u8]) -> Result<Vec<u8>, Fault> {
+    match locate_run(alloc, inputs, handle) {
+        Err(Fault::OutOfMemory) => locate_run(alloc, inputs, handle),
+        answer => answer,
+    }
 }
 
-// The answer of `locate` is the wanted one. Where a growth is refused, the second call finds memory, here and below.
-fn locates(
-    rt: &impl Abort,
-    alloc: Global,
-    asked: Asked<'_>,
-    handle: &[u8],
-    wanted: &Result<&[u8], Fault>,
-) {
-    let answer = match located(alloc, asked, handle) {
-        Err(Fault::OutOfMemory) => located(alloc, asked, handle),
-        answer => answer,
-    };
-    answers(rt, answer, wanted);
+// The answer of `locate` is the wanted one.
+fn locates(rt: &impl Abort, alloc: Global, asked: Asked<'_>, handle: &[u8], wanted: Wanted<'_>) {
+    let inputs = inputs_of(rt, alloc, asked);
+    answers(rt, &located(alloc, &inputs, handle), wanted);
 }
 
 #[test]
@@ -108,7 +100,7 @@ fn places_are_printed(rt: HostRuntime) {
             rt.alloc(),
             Asked::Place(option, servers),
             handle,
-            &Ok(wanted),
+            Ok(wanted),
         );
     }
 }
@@ -129,7 +121,7 @@ fn servers_at_sites_are_printed(rt: HostRuntime) {
             rt.alloc(),
             Asked::Sites(SETTINGS, None),
             handle,
-            &Ok(wanted),
+            Ok(wanted),
         );
     }
     locates(
@@ -137,7 +129,7 @@ fn servers_at_sites_are_printed(rt: HostRuntime) {
         rt.alloc(),
         Asked::Sites(b"", None),
         b"10/3",
-        &Ok(b"".as_slice()),
+        Ok(b"".as_slice()),
     );
 }
 
@@ -149,7 +141,7 @@ fn refuses(rt: &impl Abort, alloc: Global, cases: [(&[u8], Option<&[u8]>, &[u8],
             alloc,
             Asked::Sites(settings, values),
             handle,
-            &Err(wanted),
+            Err(&wanted),
         );
     }
 }
@@ -202,13 +194,12 @@ fn sites_without_a_value_or_a_server_are_refused(rt: HostRuntime) {
 }
 
 #[test]
-fn sites_are_located_by_values(rt: HostRuntime) -> Result<(), Fail> {
-    let list = list_of(rt.alloc(), b"HS_SITE")?;
+fn sites_are_located_by_values(rt: HostRuntime) {
+    let list = list_of(&rt, rt.alloc(), b"HS_SITE");
     let settings: &[u8] = b"[[site]]\nname = \"X\"\nindex = 1\n";
     let asked = Asked::Sites(settings, Some(list.as_slice()));
     let wanted: &[u8] = b"X 0 7\n";
-    locates(&rt, rt.alloc(), asked, b"10/3", &Ok(wanted));
-    Ok(())
+    locates(&rt, rt.alloc(), asked, b"10/3", Ok(wanted));
 }
 
 #[test]
@@ -227,22 +218,19 @@ fn the_first_fault_is_told(rt: HostRuntime) {
             rt.alloc(),
             Asked::Place(option, servers),
             handle,
-            &Err(wanted),
+            Err(&wanted),
         );
     }
 }
 
 // The fault has this line and this status.
 pub(crate) fn is_told(rt: &impl Abort, alloc: Global, fault: &Fault, wanted: &[u8], status: u8) {
-    let line = match fault_line(alloc, fault) {
-        Err(AllocError) => fault_line(alloc, fault),
-        line => line,
-    };
-    match line {
-        Ok(line) => is_same(rt, line.as_slice(), wanted),
-        Err(AllocError) => panic!(rt; "no line of {fault:?}"),
-    }
     is_same(rt, status_of(fault), status);
+    let line = match fault_line(alloc, fault) {
+        Ok(line) => line,
+        Err(AllocError) => fault_line(alloc, fault).expect(rt, "there is memory"),
+    };
+    is_same(rt, line.as_slice(), wanted);
 }
 
 // This is the line of a fault in the input.
@@ -436,13 +424,10 @@ fn faults_of_what_tables_name_have_their_lines(rt: HostRuntime) {
 // The fault is displayed so.
 fn is_displayed(rt: &impl Abort, alloc: Global, fault: &Fault, wanted: &str) {
     let text = match fault.to_string(alloc) {
-        Err(AllocError) => fault.to_string(alloc),
-        text => text,
+        Ok(text) => text,
+        Err(AllocError) => fault.to_string(alloc).expect(rt, "there is memory"),
     };
-    match text {
-        Ok(text) => is_same(rt, text.as_str(), wanted),
-        Err(AllocError) => panic!(rt; "no text of {fault:?}"),
-    }
+    is_same(rt, text.as_str(), wanted);
 }
 
 #[test]
@@ -491,8 +476,16 @@ fn faults_of_inputs_are_displayed(rt: HostRuntime) {
     }
 }
 
+// The first line that a reader gives.
+fn line_of<R: Read + Copy + Drop>(rt: &impl Abort, alloc: Global, reader: R) -> Option<Vec<u8>> {
+    match first_line(alloc, reader) {
+        Ok(found) => found,
+        Err(AllocError) => first_line(alloc, reader).expect(rt, "there is memory"),
+    }
+}
+
 #[test]
-fn first_lines_are_read(rt: HostRuntime) -> Result<(), Fail> {
+fn first_lines_are_read(rt: HostRuntime) {
     let cases: [(&[u8], &[u8]); 4] = [
         (b"a  b\nc", b"a  b"),
         (b"c", b"c"),
@@ -500,13 +493,9 @@ fn first_lines_are_read(rt: HostRuntime) -> Result<(), Fail> {
         (b"\n\n", b""),
     ];
     for (text, wanted) in cases {
-        let found = match first_line(rt.alloc(), text) {
-            Err(AllocError) => first_line(rt.alloc(), text)?,
-            Ok(found) => found,
-        };
-        is_same(&rt, found.ok_or("no line")?.as_slice(), wanted);
+        let line = line_of(&rt, rt.alloc(), text).expect(&rt, "there is a line");
+        is_same(&rt, line.as_slice(), wanted);
     }
-    Ok(())
 }
 
 #[test]
@@ -520,46 +509,42 @@ fn run_of(octet: u8, left: usize) -> Run {
 }
 
 // Whether a line of so many octets is read.
-fn is_line(alloc: Global, left: usize) -> Result<bool, AllocError> {
-    let found = match first_line(alloc, run_of(b'x', left)) {
-        Err(AllocError) => first_line(alloc, run_of(b'x', left))?,
+fn is_line(rt: &impl Abort, alloc: Global, left: usize) -> bool {
+    let found = line_of(rt, alloc, run_of(b'x', left));
+    found.is_some()
+}
+
+#[test]
+fn first_lines_are_limited(rt: HostRuntime) {
+    assert!(rt; !is_line(&rt, rt.alloc(), 65_537));
+    assert!(rt; is_line(&rt, rt.alloc(), 65_536));
+}
+
+// The whole file that a reader gives.
+fn file_of<R: Read + Copy + Drop>(rt: &impl Abort, alloc: Global, reader: R) -> Option<Vec<u8>> {
+    match read_file(alloc, reader) {
         Ok(found) => found,
-    };
-    Ok(found.is_some())
+        Err(AllocError) => read_file(alloc, reader).expect(rt, "there is memory"),
+    }
 }
 
 #[test]
-fn first_lines_are_limited(rt: HostRuntime) -> Result<(), Fail> {
-    assert!(rt; !is_line(rt.alloc(), 65_537)?);
-    assert!(rt; is_line(rt.alloc(), 65_536)?);
-    Ok(())
-}
-
-#[test]
-fn whole_files_are_read(rt: HostRuntime) -> Result<(), Fail> {
+fn whole_files_are_read(rt: HostRuntime) {
     let text: &[u8] = b"a\nb";
-    let found = match read_file(rt.alloc(), text) {
-        Err(AllocError) => read_file(rt.alloc(), text)?,
-        Ok(found) => found,
-    };
-    is_same(&rt, found.ok_or("no file")?.as_slice(), text);
-    Ok(())
+    let file = file_of(&rt, rt.alloc(), text).expect(&rt, "there is a file");
+    is_same(&rt, file.as_slice(), text);
 }
 
 // Whether a file of so many octets is read.
-fn is_file(alloc: Global, left: usize) -> Result<bool, AllocError> {
-    let found = match read_file(alloc, run_of(0, left)) {
-        Err(AllocError) => read_file(alloc, run_of(0, left))?,
-        Ok(found) => found,
-    };
-    Ok(found.is_some())
+fn is_file(rt: &impl Abort, alloc: Global, left: usize) -> bool {
+    let found = file_of(rt, alloc, run_of(0, left));
+    found.is_some()
 }
 
 #[test]
-fn whole_files_are_limited(rt: HostRuntime) -> Result<(), Fail> {
-    assert!(rt; !is_file(rt.alloc(), 67_108_865)?);
-    assert!(rt; is_file(rt.alloc(), 67_108_864)?);
-    Ok(())
+fn whole_files_are_limited(rt: HostRuntime) {
+    assert!(rt; !is_file(&rt, rt.alloc(), 67_108_865));
+    assert!(rt; is_file(&rt, rt.alloc(), 67_108_864));
 }
 
 // A site of one server: 48 octets.
@@ -572,77 +557,53 @@ const ONE_SERVER_TEXT: &[u8] =
     b"version 1\nprotocol 2 0\nserial 1\nmask 0\noption 1\nfilter 0\nattributes 0\nservers 1\nserver 0 7 00000000000000000000000000000001 0 0\n";
 
 // A list of one value with the index 1, this type and the site as its data.
-pub(crate) fn list_of(alloc: Global, type_octets: &[u8; 7]) -> Result<Vec<u8>, AllocError> {
-    match list_once(alloc, type_octets) {
-        Err(AllocError) => list_once(alloc, type_octets),
-        list => list,
-    }
+pub(crate) fn list_of(rt: &impl Abort, alloc: Global, type_octets: &[u8; 7]) -> Vec<u8> {
+    let parts: [&[u8]; 5] = [
+        &[0, 0, 0, 1, 0, 0, 0, 1, 0, 0, 0, 7],
+        type_octets,
+        &[0, 0, 0, 48],
+        &ONE_SERVER,
+        &[0; 18],
+    ];
+    joined(rt, alloc, &parts)
 }
 
-fn list_once(alloc: Global, type_octets: &[u8; 7]) -> Result<Vec<u8>, AllocError> {
-    let mut list = Vec::with_capacity(alloc, 89)?;
-    list.extend_from_slice(&[0, 0, 0, 1, 0, 0, 0, 1, 0, 0, 0, 7])?;
-    list.extend_from_slice(type_octets)?;
-    list.extend_from_slice(&[0, 0, 0, 48])?;
-    list.extend_from_slice(&ONE_SERVER)?;
-    list.extend_from_slice(&[0; 18])?;
-    Ok(list)
-}
-
-// The answer of `site`.
-fn prints(
-    rt: &impl Abort,
-    alloc: Global,
-    octets: &[u8],
-    index: Option<&[u8]>,
-    wanted: &Result<&[u8], Fault>,
-) {
+// The answer of `site` is the wanted one.
+fn prints(rt: &impl Abort, alloc: Global, octets: &[u8], index: Option<&[u8]>, wanted: Wanted<'_>) {
     let answer = match site_run(alloc, octets, index) {
         Err(Fault::OutOfMemory) => site_run(alloc, octets, index),
         answer => answer,
     };
-    answers(rt, answer, wanted);
+    answers(rt, &answer, wanted);
 }
 
 #[test]
-fn records_are_printed(rt: HostRuntime) -> Result<(), Fail> {
-    prints(&rt, rt.alloc(), &ONE_SERVER, None, &Ok(ONE_SERVER_TEXT));
+fn records_are_printed(rt: HostRuntime) {
+    prints(&rt, rt.alloc(), &ONE_SERVER, None, Ok(ONE_SERVER_TEXT));
     let mut longer = [0u8; 49];
     longer[..48].copy_from_slice(&ONE_SERVER);
-    prints(
-        &rt,
-        rt.alloc(),
-        &longer,
-        None,
-        &Err(Fault::Site(RecordFault::Trailing { at: 48 })),
-    );
-    Ok(())
+    let trailing = Fault::Site(RecordFault::Trailing { at: 48 });
+    prints(&rt, rt.alloc(), &longer, None, Err(&trailing));
+}
+
+// The answer of `site` for an index of the values is the fault.
+fn refuses_index(rt: &impl Abort, alloc: Global, octets: &[u8], index: &[u8], fault: Fault) {
+    prints(rt, alloc, octets, Some(index), Err(&fault));
 }
 
 #[test]
-fn values_are_printed(rt: HostRuntime) -> Result<(), Fail> {
-    let list = list_of(rt.alloc(), b"HS_SITE")?;
-    let list = list.as_slice();
-    let cut: &[u8] = &[0, 0, 0, 1];
+fn values_are_printed(rt: HostRuntime) {
+    let list = list_of(&rt, rt.alloc(), b"HS_SITE");
+    prints(&rt, rt.alloc(), &list, Some(b"1"), Ok(ONE_SERVER_TEXT));
+    refuses_index(&rt, rt.alloc(), &list, b"2", Fault::NoValue);
+    refuses_index(&rt, rt.alloc(), &list, b"x", Fault::BadIndex);
+    refuses_index(&rt, rt.alloc(), &list, b"4294967296", Fault::BadIndex);
     let truncated = Fault::Values(RecordFault::Truncated { at: 4 });
-    let cases: [(&[u8], &[u8], Result<&[u8], Fault>); 5] = [
-        (list, b"1", Ok(ONE_SERVER_TEXT)),
-        (list, b"2", Err(Fault::NoValue)),
-        (list, b"x", Err(Fault::BadIndex)),
-        (list, b"4294967296", Err(Fault::BadIndex)),
-        (cut, b"1", Err(truncated)),
-    ];
-    for (octets, index, wanted) in cases {
-        prints(&rt, rt.alloc(), octets, Some(index), &wanted);
-    }
-    Ok(())
+    refuses_index(&rt, rt.alloc(), &[0, 0, 0, 1], b"1", truncated);
 }
 
 #[test]
-fn values_of_other_types_are_refused(rt: HostRuntime) -> Result<(), Fail> {
-    let list = list_of(rt.alloc(), b"HS_SITF")?;
-    let index: &[u8] = b"1";
-    let wanted = Err(Fault::NotSiteValue);
-    prints(&rt, rt.alloc(), list.as_slice(), Some(index), &wanted);
-    Ok(())
+fn values_of_other_types_are_refused(rt: HostRuntime) {
+    let list = list_of(&rt, rt.alloc(), b"HS_SITF");
+    refuses_index(&rt, rt.alloc(), &list, b"1", Fault::NotSiteValue);
 }

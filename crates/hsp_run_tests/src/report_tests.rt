@@ -5,29 +5,21 @@ use hsp_check::Reason;
 use hsp_runs::*;
 use hsp_tables::TableFault;
 use std::alloc::Global;
-use std::test::Fail;
+use std::process::Abort;
 
 // A report of a certificate of the texts. Where a growth is refused, the second call finds memory.
-fn report_twice(
+fn reported(
+    rt: &impl Abort,
     alloc: Global,
     texts: Texts<'_>,
     cert: &[u8],
     kind: ReportKind,
 ) -> Result<Vec<u8>, Fault> {
-    match report_once(alloc, texts, cert, kind) {
-        Err(Fault::OutOfMemory) => report_once(alloc, texts, cert, kind),
+    let inputs = inputs_of(rt, alloc, texts);
+    match report_run(alloc, &inputs, cert, kind) {
+        Err(Fault::OutOfMemory) => report_run(alloc, &inputs, cert, kind),
         answer => answer,
     }
-}
-
-fn report_once(
-    alloc: Global,
-    texts: Texts<'_>,
-    cert: &[u8],
-    kind: ReportKind,
-) -> Result<Vec<u8>, Fault> {
-    let inputs = inputs_of(alloc, texts).ok_or(Fault::OutOfMemory)?;
-    report_run(alloc, &inputs, cert, kind)
 }
 
 const LOADS: &[u8] =
@@ -40,17 +32,17 @@ const MISSING: &[u8] =
     b"short 9 - 8 = 1\n row   count region\n   2       9 r2\nplace     server   capacity site\n    1          3          6 E\n    0          1          2 W\n";
 
 #[test]
-fn reports_are_of_their_kinds(rt: HostRuntime) -> Result<(), Fail> {
+fn reports_are_of_their_kinds(rt: HostRuntime) {
     let cases: [(Texts<'_>, &[u8], ReportKind, &[u8]); 3] = [
         (BASE, PLAN, ReportKind::Load, LOADS),
         (BASE, PLAN, ReportKind::Region, REGIONS),
         (LACKING, SHORTAGE, ReportKind::Shortage, MISSING),
     ];
     for (texts, cert, kind, wanted) in cases {
-        let text = report_twice(rt.alloc(), texts, cert, kind)?;
+        let report = reported(&rt, rt.alloc(), texts, cert, kind);
+        let text = report.expect(&rt, "there is a report");
         is_same(&rt, text.as_slice(), wanted);
     }
-    Ok(())
 }
 
 #[test]
@@ -85,7 +77,7 @@ fn what_has_no_report_is_told(rt: HostRuntime) {
         ),
     ];
     for (texts, cert, kind, wanted) in cases {
-        let told = report_twice(rt.alloc(), texts, cert, kind).err();
-        assert!(rt; told == Some(wanted));
+        let told = reported(&rt, rt.alloc(), texts, cert, kind).err();
+        is_same(&rt, told, Some(wanted));
     }
 }

@@ -1,3 +1,4 @@
+use crate::held::{copied, copied_if_any, joined};
 use crate::line_tests::{SETTINGS, is_told, list_of};
 use crate::same::is_same;
 use hsp_cert::CertFault;
@@ -10,7 +11,6 @@ use hsp_tables::TableFault;
 use hsp_text::push_whole;
 use std::alloc::{AllocError, Global};
 use std::process::Abort;
-use std::test::Fail;
 
 const DEMAND: &[u8] = b"region,handle,count\nr1,10/1,5\nr1,10/2,4\nr2,10/3,3\n";
 
@@ -55,69 +55,34 @@ pub(crate) struct Texts<'a> {
     capacity: &'a [u8],
 }
 
-pub(crate) fn inputs_of(alloc: Global, texts: Texts<'_>) -> Option<Inputs> {
-    let values = match texts.values {
-        None => None,
-        Some(octets) => Some(Vec::from_slice(alloc, octets).ok()?),
-    };
-    Some(Inputs {
-        settings: Vec::from_slice(alloc, texts.settings).ok()?,
-        values,
-        demand: Vec::from_slice(alloc, texts.demand).ok()?,
-        costs: Vec::from_slice(alloc, texts.costs).ok()?,
-        capacity: Vec::from_slice(alloc, texts.capacity).ok()?,
-    })
-}
-
-// The text of a plan, from the texts of its uses and prices.
-fn plan_text(
-    alloc: Global,
-    cost: &[u8],
-    uses: &[u8],
-    prices: &[u8],
-) -> Result<Vec<u8>, AllocError> {
-    match plan_text_once(alloc, cost, uses, prices) {
-        Err(AllocError) => plan_text_once(alloc, cost, uses, prices),
-        text => text,
+pub(crate) fn inputs_of(rt: &impl Abort, alloc: Global, texts: Texts<'_>) -> Inputs {
+    Inputs {
+        settings: copied(rt, alloc, texts.settings),
+        values: copied_if_any(rt, alloc, texts.values),
+        demand: copied(rt, alloc, texts.demand),
+        costs: copied(rt, alloc, texts.costs),
+        capacity: copied(rt, alloc, texts.capacity),
     }
 }
 
-fn plan_text_once(
-    alloc: Global,
-    cost: &[u8],
-    uses: &[u8],
-    prices: &[u8],
-) -> Result<Vec<u8>, AllocError> {
-    let mut text = Vec::from_slice(alloc, b"HSPLAN 1\nPLAN\n")?;
-    text.extend_from_slice(cost)?;
-    text.extend_from_slice(uses)?;
-    text.extend_from_slice(prices)?;
-    text.extend_from_slice(b"END\n")?;
-    Ok(text)
+// The text of a plan, from the texts of its uses and prices.
+fn plan_text(rt: &impl Abort, alloc: Global, cost: &[u8], uses: &[u8], prices: &[u8]) -> Vec<u8> {
+    let parts: [&[u8]; 5] = [b"HSPLAN 1\nPLAN\n", cost, uses, prices, b"END\n"];
+    joined(rt, alloc, &parts)
 }
 
 // The verdict on a certificate of the texts. Where a growth is refused, the second call finds memory.
-fn judged_twice(alloc: Global, texts: Texts<'_>, cert: &[u8]) -> Result<Verdict, Fault> {
-    match judged_once(alloc, texts, cert) {
-        Err(Fault::OutOfMemory) => judged_once(alloc, texts, cert),
+fn judged(rt: &impl Abort, alloc: Global, texts: Texts<'_>, cert: &[u8]) -> Result<Verdict, Fault> {
+    let inputs = inputs_of(rt, alloc, texts);
+    match check_run(alloc, &inputs, cert) {
+        Err(Fault::OutOfMemory) => check_run(alloc, &inputs, cert),
         answer => answer,
     }
 }
 
-fn judged_once(alloc: Global, texts: Texts<'_>, cert: &[u8]) -> Result<Verdict, Fault> {
-    let inputs = inputs_of(alloc, texts).ok_or(Fault::OutOfMemory)?;
-    check_run(alloc, &inputs, cert)
-}
-
 // The verdict is the wanted one.
-fn checks(
-    rt: &impl Abort,
-    alloc: Global,
-    texts: Texts<'_>,
-    cert: &[u8],
-    wanted: &Result<Verdict, Fault>,
-) {
-    is_same(rt, &judged_twice(alloc, texts, cert), wanted);
+fn checks(rt: &impl Abort, alloc: Global, texts: Texts<'_>, cert: &[u8], wanted: Verdict) {
+    is_same(rt, judged(rt, alloc, texts, cert), Ok(wanted));
 }
 
 const USES: &[u8] = b"use 0 0 5\nuse 1 0 4\nuse 2 0 1\nuse 2 1 2\n";
@@ -126,7 +91,7 @@ const PRICES: &[u8] =
     b"row 0 2\nrow 1 1\nrow 2 3\nserver 0 0\nserver 1 1\nserver 2 0\nserver 3 0\nserver 4 0\n";
 
 #[test]
-fn plans_are_judged(rt: HostRuntime) -> Result<(), Fail> {
+fn plans_are_judged(rt: HostRuntime) {
     let uses: [(&[u8], &[u8], Verdict); 5] = [
         (b"cost 17\n", USES, Verdict::Yes),
         (b"cost 16\n", USES, Verdict::No(Reason::Cost)),
@@ -147,14 +112,13 @@ fn plans_are_judged(rt: HostRuntime) -> Result<(), Fail> {
         ),
     ];
     for (cost, uses, wanted) in uses {
-        let text = plan_text(rt.alloc(), cost, uses, PRICES)?;
-        checks(&rt, rt.alloc(), BASE, text.as_slice(), &Ok(wanted));
+        let text = plan_text(&rt, rt.alloc(), cost, uses, PRICES);
+        checks(&rt, rt.alloc(), BASE, &text, wanted);
     }
-    Ok(())
 }
 
 #[test]
-fn prices_are_judged(rt: HostRuntime) -> Result<(), Fail> {
+fn prices_are_judged(rt: HostRuntime) {
     let prices: [(&[u8], Reason); 4] = [
         (
             b"row 0 2\nrow 1 1\nrow 2 3\nserver 0 0\nserver 1 1\nserver 2 0\nserver 3 0\n",
@@ -174,11 +138,9 @@ fn prices_are_judged(rt: HostRuntime) -> Result<(), Fail> {
         ),
     ];
     for (prices, reason) in prices {
-        let text = plan_text(rt.alloc(), b"cost 17\n", USES, prices)?;
-        let wanted = Ok(Verdict::No(reason));
-        checks(&rt, rt.alloc(), BASE, text.as_slice(), &wanted);
+        let text = plan_text(&rt, rt.alloc(), b"cost 17\n", USES, prices);
+        checks(&rt, rt.alloc(), BASE, &text, Verdict::No(reason));
     }
-    Ok(())
 }
 
 #[test]
@@ -206,12 +168,12 @@ fn shortages_are_judged(rt: HostRuntime) {
         ),
     ];
     for (text, wanted) in sets {
-        checks(&rt, rt.alloc(), LACKING, text, &Ok(wanted));
+        checks(&rt, rt.alloc(), LACKING, text, wanted);
     }
 }
 
 #[test]
-fn equal_costs_leave_several_best_plans(rt: HostRuntime) -> Result<(), Fail> {
+fn equal_costs_leave_several_best_plans(rt: HostRuntime) {
     let texts = Texts {
         demand: b"region,handle,count\nr1,10/1,2\n",
         costs: b"region,site,cost\nr1,E,1\nr1,W,1\n",
@@ -220,15 +182,14 @@ fn equal_costs_leave_several_best_plans(rt: HostRuntime) -> Result<(), Fail> {
     let prices: &[u8] = b"row 0 1\nserver 0 0\nserver 1 0\nserver 2 0\nserver 3 0\nserver 4 0\n";
     let plans: [&[u8]; 3] = [b"use 0 0 2\n", b"use 0 0 1\nuse 0 1 1\n", b"use 0 1 2\n"];
     for uses in plans {
-        let text = plan_text(rt.alloc(), b"cost 2\n", uses, prices)?;
-        checks(&rt, rt.alloc(), texts, text.as_slice(), &Ok(Verdict::Yes));
+        let text = plan_text(&rt, rt.alloc(), b"cost 2\n", uses, prices);
+        checks(&rt, rt.alloc(), texts, &text, Verdict::Yes);
     }
-    Ok(())
 }
 
 #[test]
-fn sites_of_values_are_planned_for(rt: HostRuntime) -> Result<(), Fail> {
-    let list = list_of(rt.alloc(), b"HS_SITE")?;
+fn sites_of_values_are_planned_for(rt: HostRuntime) {
+    let list = list_of(&rt, rt.alloc(), b"HS_SITE");
     let texts = Texts {
         settings: b"[[site]]\nname = \"X\"\nindex = 1\n",
         values: Some(list.as_slice()),
@@ -236,14 +197,13 @@ fn sites_of_values_are_planned_for(rt: HostRuntime) -> Result<(), Fail> {
         costs: b"region,site,cost\nr1,X,1\n",
         capacity: b"site,server_id,capacity\nX,7,10\n",
     };
-    let text = plan_text(
-        rt.alloc(),
-        b"cost 1\n",
-        b"use 0 0 1\n",
-        b"row 0 1\nserver 0 0\n",
-    )?;
-    checks(&rt, rt.alloc(), texts, text.as_slice(), &Ok(Verdict::Yes));
-    Ok(())
+    let plan = b"HSPLAN 1\nPLAN\ncost 1\nuse 0 0 1\nrow 0 1\nserver 0 0\nEND\n";
+    checks(&rt, rt.alloc(), texts, plan, Verdict::Yes);
+}
+
+// The texts have the fault, as it is told for an empty certificate.
+fn has_fault(rt: &impl Abort, alloc: Global, texts: Texts<'_>, fault: Fault) {
+    is_same(rt, judged(rt, alloc, texts, b""), Err(fault));
 }
 
 #[test]
@@ -261,24 +221,37 @@ fn the_first_fault_of_the_inputs_is_told(rt: HostRuntime) {
         costs: b"x",
         capacity: b"y",
     };
-    let told = |texts: Texts<'_>, wanted: Fault| checks(&rt, rt.alloc(), texts, b"", &Err(wanted));
-    told(texts, Fault::Settings(TableFault::NotToml));
+    has_fault(&rt, rt.alloc(), texts, Fault::Settings(TableFault::NotToml));
     texts.settings = SETTINGS;
-    told(texts, Fault::Values(RecordFault::Truncated { at: 0 }));
+    has_fault(
+        &rt,
+        rt.alloc(),
+        texts,
+        Fault::Values(RecordFault::Truncated { at: 0 }),
+    );
     texts.values = Some(b"\0\0\0\0");
-    told(texts, Fault::Demand(TableFault::Header));
+    has_fault(&rt, rt.alloc(), texts, Fault::Demand(TableFault::Header));
     texts.demand = DEMAND;
-    told(texts, Fault::Costs(TableFault::Header));
+    has_fault(&rt, rt.alloc(), texts, Fault::Costs(TableFault::Header));
     texts.costs = COSTS;
-    told(texts, Fault::Capacity(TableFault::Header));
+    has_fault(&rt, rt.alloc(), texts, Fault::Capacity(TableFault::Header));
     texts.capacity = no_capacities;
-    told(texts, Fault::Build(no_capacity));
+    has_fault(&rt, rt.alloc(), texts, Fault::Build(no_capacity));
     texts.capacity = CAPACITY;
-    told(texts, Fault::Cert(CertFault::Ended));
+    has_fault(&rt, rt.alloc(), texts, Fault::Cert(CertFault::Ended));
+}
+
+// The verdict has this line. Where a growth is refused, the second call finds memory.
+fn has_line(rt: &impl Abort, alloc: Global, verdict: &Verdict, wanted: &[u8]) {
+    let line = match verdict_line(alloc, verdict) {
+        Ok(line) => line,
+        Err(AllocError) => verdict_line(alloc, verdict).expect(rt, "there is memory"),
+    };
+    is_same(rt, line.as_slice(), wanted);
 }
 
 #[test]
-fn verdicts_have_their_lines(rt: HostRuntime) -> Result<(), Fail> {
+fn verdicts_have_their_lines(rt: HostRuntime) {
     let cases: [(Verdict, &[u8], u8); 12] = [
         (Verdict::Yes, b"yes\n", 0),
         (Verdict::No(Reason::Shape), b"no 1 Shape\n", 3),
@@ -294,14 +267,9 @@ fn verdicts_have_their_lines(rt: HostRuntime) -> Result<(), Fail> {
         (Verdict::No(Reason::NotShort), b"no 11 NotShort\n", 3),
     ];
     for (verdict, wanted, status) in cases {
-        let line = match verdict_line(rt.alloc(), &verdict) {
-            Err(AllocError) => verdict_line(rt.alloc(), &verdict)?,
-            Ok(line) => line,
-        };
-        is_same(&rt, line.as_slice(), wanted);
         is_same(&rt, verdict_status(&verdict), status);
+        has_line(&rt, rt.alloc(), &verdict, wanted);
     }
-    Ok(())
 }
 
 #[test]
@@ -347,36 +315,47 @@ fn faults_of_tables_and_certificates_have_their_lines(rt: HostRuntime) {
 }
 
 // The text that `plan` answers. Where a growth is refused, the second call finds memory.
-fn planned(alloc: Global, texts: Texts<'_>) -> Result<PlanText, Fault> {
-    match planned_once(alloc, texts) {
-        Err(Fault::OutOfMemory) => planned_once(alloc, texts),
+fn planned(rt: &impl Abort, alloc: Global, texts: Texts<'_>) -> Result<PlanText, Fault> {
+    let inputs = inputs_of(rt, alloc, texts);
+    match plan_run(alloc, &inputs) {
+        Err(Fault::OutOfMemory) => plan_run(alloc, &inputs),
         answer => answer,
     }
 }
 
-fn planned_once(alloc: Global, texts: Texts<'_>) -> Result<PlanText, Fault> {
-    let inputs = inputs_of(alloc, texts).ok_or(Fault::OutOfMemory)?;
-    plan_run(alloc, &inputs)
+// The text for inputs with no fault.
+fn held_plan(rt: &impl Abort, alloc: Global, texts: Texts<'_>) -> PlanText {
+    planned(rt, alloc, texts).expect(rt, "the inputs have no fault")
+}
+
+// The text is a plan's, and begins so.
+fn is_plan_from(rt: &impl Abort, plan: &PlanText, start: &[u8]) {
+    assert!(rt; !plan.is_short());
+    assert!(rt; plan.bytes().starts_with(start));
+}
+
+// The text is of this kind, and the wanted one.
+fn is_text(rt: &impl Abort, plan: &PlanText, is_short: bool, wanted: &[u8]) {
+    is_same(rt, plan.is_short(), is_short);
+    is_same(rt, plan.bytes(), wanted);
 }
 
 // The plan's text begins so, and is valid.
-fn plans_from(rt: &impl Abort, alloc: Global, texts: Texts<'_>, start: &[u8]) -> Result<(), Fail> {
-    let plan = planned(alloc, texts)?;
-    assert!(rt; !plan.is_short());
-    assert!(rt; plan.bytes().starts_with(start));
-    checks(rt, alloc, texts, plan.bytes(), &Ok(Verdict::Yes));
+fn plans_from(rt: &impl Abort, alloc: Global, texts: Texts<'_>, start: &[u8]) {
+    let plan = held_plan(rt, alloc, texts);
+    is_plan_from(rt, &plan, start);
+    checks(rt, alloc, texts, plan.bytes(), Verdict::Yes);
     assert!(rt; plan.into_bytes().as_slice().starts_with(start));
-    Ok(())
 }
 
 #[test]
-fn plans_are_of_the_least_cost(rt: HostRuntime) -> Result<(), Fail> {
+fn plans_are_of_the_least_cost(rt: HostRuntime) {
     plans_from(
         &rt,
         rt.alloc(),
         BASE,
         b"HSPLAN 1\nPLAN\ncost 17\nuse 0 0 5\nuse 1 0 4\nuse 2 0 1\nuse 2 1 2\nrow 0 ",
-    )?;
+    );
     let reversed = Texts {
         demand: b"region,handle,count\nr2,10/3,3\nr1,10/2,4\nr1,10/1,5\n",
         ..BASE
@@ -386,32 +365,38 @@ fn plans_are_of_the_least_cost(rt: HostRuntime) -> Result<(), Fail> {
         rt.alloc(),
         reversed,
         b"HSPLAN 1\nPLAN\ncost 17\nuse 0 0 1\nuse 0 1 2\nuse 1 0 4\nuse 2 0 5\nrow 0 ",
-    )?;
-    Ok(())
+    );
+}
+
+// Adds a row of one query.
+fn push_row(text: &mut Vec<u8>, row: u64) -> Result<(), AllocError> {
+    text.extend_from_slice(b"r1,10/")?;
+    push_whole(text, row)?;
+    text.extend_from_slice(b",1\n")
 }
 
 // A query of each of 5,000 rows.
-fn many_once(alloc: Global) -> Result<Vec<u8>, AllocError> {
-    let mut text = Vec::from_slice(alloc, b"region,handle,count\n")?;
+fn push_many(text: &mut Vec<u8>) -> Result<(), AllocError> {
+    text.extend_from_slice(b"region,handle,count\n")?;
     for row in 0..5000 {
-        text.extend_from_slice(b"r1,10/")?;
-        push_whole(&mut text, row)?;
-        text.extend_from_slice(b",1\n")?;
+        push_row(text, row)?;
     }
-    Ok(text)
+    Ok(())
 }
 
 // Where a growth is refused, the second call finds memory.
-fn many_twice(alloc: Global) -> Result<Vec<u8>, AllocError> {
-    match many_once(alloc) {
-        Err(AllocError) => many_once(alloc),
-        text => text,
+fn many(rt: &impl Abort, alloc: Global) -> Vec<u8> {
+    let mut text = Vec::new(alloc);
+    if push_many(&mut text).is_err() {
+        text = Vec::new(alloc);
+        push_many(&mut text).expect(rt, "there is memory");
     }
+    text
 }
 
 #[test]
-fn many_rows_are_planned_and_judged(rt: HostRuntime) -> Result<(), Fail> {
-    let demand = many_twice(rt.alloc())?;
+fn many_rows_are_planned_and_judged(rt: HostRuntime) {
+    let demand = many(&rt, rt.alloc());
     let texts = Texts {
         demand: demand.as_slice(),
         costs: b"region,site,cost\nr1,E,1\n",
@@ -423,33 +408,22 @@ fn many_rows_are_planned_and_judged(rt: HostRuntime) -> Result<(), Fail> {
         rt.alloc(),
         texts,
         b"HSPLAN 1\nPLAN\ncost 5000\nuse 0 0 1\nuse 1 0 1\nuse 2 0 1\n",
-    )
-}
-
-// Two texts, one behind the other.
-fn joined(alloc: Global, first: &[u8], second: &[u8]) -> Result<Vec<u8>, AllocError> {
-    let mut text = Vec::from_slice(alloc, first)?;
-    text.extend_from_slice(second)?;
-    Ok(text)
+    );
 }
 
 #[test]
-fn hosts_limit_plans(rt: HostRuntime) -> Result<(), Fail> {
+fn hosts_limit_plans(rt: HostRuntime) {
     let host: &[u8] = b"[[host]]\naddress = \"00000000000000000000000000000001\"\nlimit = 8\n";
-    let settings = match joined(rt.alloc(), SETTINGS, host) {
-        Err(AllocError) => joined(rt.alloc(), SETTINGS, host)?,
-        Ok(settings) => settings,
-    };
+    let settings = joined(&rt, rt.alloc(), &[SETTINGS, host]);
     let limited = Texts {
         settings: settings.as_slice(),
         ..BASE
     };
-    plans_from(&rt, rt.alloc(), limited, b"HSPLAN 2\nPLAN\ncost 23\n")?;
-    Ok(())
+    plans_from(&rt, rt.alloc(), limited, b"HSPLAN 2\nPLAN\ncost 23\n");
 }
 
 #[test]
-fn shortages_are_told(rt: HostRuntime) -> Result<(), Fail> {
+fn shortages_are_told(rt: HostRuntime) {
     let unserved = Texts {
         demand: b"region,handle,count\nr3,10/1,1\n",
         ..BASE
@@ -474,30 +448,26 @@ fn shortages_are_told(rt: HostRuntime) -> Result<(), Fail> {
         ),
     ];
     for (texts, wanted) in cases {
-        let plan = planned(rt.alloc(), texts)?;
-        assert!(rt; plan.is_short());
-        is_same(&rt, plan.bytes(), wanted);
+        let plan = held_plan(&rt, rt.alloc(), texts);
+        is_text(&rt, &plan, true, wanted);
     }
-    Ok(())
 }
 
 #[test]
-fn nothing_asked_for_is_planned(rt: HostRuntime) -> Result<(), Fail> {
+fn nothing_asked_for_is_planned(rt: HostRuntime) {
     let nothing = Texts {
         demand: b"region,handle,count\n",
         ..BASE
     };
     let wanted: &[u8] =
         b"HSPLAN 1\nPLAN\ncost 0\nserver 0 0\nserver 1 0\nserver 2 0\nserver 3 0\nserver 4 0\nEND\n";
-    let plan = planned(rt.alloc(), nothing)?;
-    assert!(rt; !plan.is_short());
-    is_same(&rt, plan.bytes(), wanted);
+    let plan = held_plan(&rt, rt.alloc(), nothing);
+    is_text(&rt, &plan, false, wanted);
     let no_query = Texts {
         demand: b"region,handle,count\nr3,10/1,0\n",
         ..BASE
     };
-    plans_from(&rt, rt.alloc(), no_query, b"HSPLAN 1\nPLAN\ncost 0\nrow 0 ")?;
-    Ok(())
+    plans_from(&rt, rt.alloc(), no_query, b"HSPLAN 1\nPLAN\ncost 0\nrow 0 ");
 }
 
 #[test]
@@ -507,7 +477,7 @@ fn nothing_is_planned_for_inputs_with_a_fault(rt: HostRuntime) {
         costs: b"",
         ..BASE
     };
-    let told = planned(rt.alloc(), no_table).err();
+    let told = planned(&rt, rt.alloc(), no_table).err();
     is_same(&rt, told, Some(Fault::Demand(TableFault::Header)));
 }
 
