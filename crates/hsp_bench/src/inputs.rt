@@ -4,7 +4,7 @@ ghost use Rattle.std.specs.Prelude.{◌≤◌};
 
 use crate::random::Generator;
 use crate::size::Size;
-use crate::values::{settings_text, site_values};
+use crate::values::{push_settings, push_values};
 use std::alloc::{AllocError, Global};
 use std::fmt::Write;
 
@@ -22,6 +22,17 @@ pub struct Texts {
 }
 
 impl Texts {
+    /// Texts to which nothing was added yet.
+    pub(crate) fn new(alloc: Global) -> Texts {
+        Texts {
+            settings: String::new(alloc),
+            values: Vec::new(alloc),
+            demand: String::new(alloc),
+            costs: String::new(alloc),
+            capacity: String::new(alloc),
+        }
+    }
+
     /// How many octets the texts have together.
     pub(crate) fn octets(&self) -> usize {
         self.settings
@@ -42,53 +53,69 @@ fn servers_at(site: u32) -> u32
     if servers < 32 { servers } else { servers + 1 }
 }
 
-// How many servers each site has.
-fn all_servers(alloc: Global) -> Result<Vec<u32>, AllocError> {
-    let mut servers = Vec::new(alloc);
+// Adds how many servers each site has.
+fn push_servers(servers: &mut Vec<u32>) -> Result<(), AllocError> {
     for site in 0..SITES {
         servers.push(servers_at(site))?;
     }
-    Ok(servers)
+    Ok(())
 }
 
-// The limits of the hosts, all the same, three fifths of the capacity of all servers together.
-fn host_limits(alloc: Global, hosts: u16, all: u64) -> Result<Vec<u64>, AllocError> {
+// Adds the values of the sites, whose servers stand on so many hosts and some on one more.
+fn push_site_values(alloc: Global, octets: &mut Vec<u8>, hosts: u16) -> Result<(), AllocError> {
+    let mut servers = Vec::new(alloc);
+    push_servers(&mut servers)?;
+    push_values(octets, &servers, hosts)
+}
+
+// Adds the settings of the sites and of so many hosts. The limits of the hosts are all the same,
+// together three fifths of the capacity of all servers.
+fn push_site_settings(
+    alloc: Global,
+    text: &mut String,
+    hosts: u16,
+    all: u64,
+) -> Result<(), AllocError> {
     let limit = all.saturating_mul(3) / 5 / u64::from(hosts).max(1);
-    vec![in alloc; limit; usize::from(hosts)]
+    let limits = vec![in alloc; limit; usize::from(hosts)]?;
+    push_settings(text, SITES as usize, &limits)
 }
 
-// So many numbers from 1 to 1,000,000.
-fn counts(alloc: Global, generator: &mut Generator, rows: u32) -> Result<Vec<u64>, AllocError> {
-    let mut counts = Vec::new(alloc);
+// Adds so many numbers from 1 to 1,000,000.
+fn push_counts(
+    counts: &mut Vec<u64>,
+    generator: &mut Generator,
+    rows: u32,
+) -> Result<(), AllocError> {
     for _ in 0..rows {
         counts.push(1 + generator.below(1_000_000))?;
     }
-    Ok(counts)
+    Ok(())
 }
 
-// A row for each count, each of its own handle and of any region.
-fn demand_text(
-    alloc: Global,
+// Adds a row for each count, each of its own handle and of any region.
+fn push_demand(
+    text: &mut String,
     generator: &mut Generator,
     counts: &[u64],
-) -> Result<String, AllocError> {
-    let mut text = String::from_str(alloc, "region,handle,count\n")?;
+) -> Result<(), AllocError> {
+    text.push_str("region,handle,count\n")?;
     for (row, count) in counts.iter().enumerate() {
         let region = generator.below(64);
         writeln!(text, "r{region},10/{row},{count}")?;
     }
-    Ok(text)
+    Ok(())
 }
 
-// A cost for each of 64 regions and each site.
-fn costs_text(alloc: Global, generator: &mut Generator, most: u32) -> Result<String, AllocError> {
-    let mut text = String::from_str(alloc, "region,site,cost\n")?;
+// Adds a cost for each of 64 regions and each site.
+fn push_costs(text: &mut String, generator: &mut Generator, most: u32) -> Result<(), AllocError> {
+    text.push_str("region,site,cost\n")?;
     for pair in 0..2_048u32 {
         let (region, site) = (pair % 64, pair / 64);
         let cost = generator.below(u64::from(most) + 1);
         writeln!(text, "r{region},s{site},{cost}")?;
     }
-    Ok(text)
+    Ok(())
 }
 
 // A server, and its part of the capacity of all.
@@ -112,18 +139,17 @@ fn push_parts(
     Ok(())
 }
 
-// The parts of the servers of all sites, from 1 to 1,000.
-fn parts(alloc: Global, generator: &mut Generator) -> Result<Vec<Part>, AllocError> {
-    let mut parts = Vec::new(alloc);
+// Adds the parts of the servers of all sites, from 1 to 1,000.
+fn push_all_parts(parts: &mut Vec<Part>, generator: &mut Generator) -> Result<(), AllocError> {
     for site in 0..SITES {
-        push_parts(&mut parts, generator, site)?;
+        push_parts(parts, generator, site)?;
     }
-    Ok(parts)
+    Ok(())
 }
 
-// A capacity for each server, so many in all.
-fn capacity_text(alloc: Global, parts: &[Part], all: u64) -> Result<String, AllocError> {
-    let mut text = String::from_str(alloc, "site,server_id,capacity\n")?;
+// Adds a capacity for each part, so many in all.
+fn push_shares(text: &mut String, parts: &[Part], all: u64) -> Result<(), AllocError> {
+    text.push_str("site,server_id,capacity\n")?;
     let weights = parts
         .iter()
         .fold(0u64, |sum, part| sum.saturating_add(part.weight));
@@ -133,25 +159,57 @@ fn capacity_text(alloc: Global, parts: &[Part], all: u64) -> Result<String, Allo
         let capacity = all.saturating_mul(part.weight) / whole;
         writeln!(text, "s{site},{id},{capacity}")?;
     }
-    Ok(text)
+    Ok(())
 }
 
-/// The texts of an instance of 64 regions, 32 sites, 1,024 servers and 2,048 costs. The same size has the same texts.
-pub(crate) fn texts_of_size(alloc: Global, size: &Size) -> Result<Texts, AllocError> {
-    let mut generator = Generator::new();
-    let counts = counts(alloc, &mut generator, size.rows)?;
+// Adds a capacity for each server, so many in all.
+fn push_capacity(
+    alloc: Global,
+    text: &mut String,
+    generator: &mut Generator,
+    all: u64,
+) -> Result<(), AllocError> {
+    let mut parts = Vec::new(alloc);
+    push_all_parts(&mut parts, generator)?;
+    push_shares(text, &parts, all)
+}
+
+// Adds the texts of an instance with a row for each count.
+fn push_with_counts(
+    alloc: Global,
+    texts: &mut Texts,
+    generator: &mut Generator,
+    size: &Size,
+    counts: &[u64],
+) -> Result<(), AllocError> {
     let demand = counts
         .iter()
         .fold(0u64, |sum, count| sum.saturating_add(*count));
     let all = demand.saturating_mul(u64::from(size.percent)) / 100;
-    let parts = parts(alloc, &mut generator)?;
-    let servers = all_servers(alloc)?;
-    let limits = host_limits(alloc, size.hosts, all)?;
-    Ok(Texts {
-        settings: settings_text(alloc, servers.len(), &limits)?,
-        values: site_values(alloc, &servers, size.hosts)?,
-        demand: demand_text(alloc, &mut generator, &counts)?,
-        costs: costs_text(alloc, &mut generator, size.most)?,
-        capacity: capacity_text(alloc, &parts, all)?,
-    })
+    push_site_settings(alloc, &mut texts.settings, size.hosts, all)?;
+    push_site_values(alloc, &mut texts.values, size.hosts)?;
+    push_capacity(alloc, &mut texts.capacity, generator, all)?;
+    push_demand(&mut texts.demand, generator, counts)?;
+    push_costs(&mut texts.costs, generator, size.most)
+}
+
+// Draws the counts of the rows, and adds the texts.
+fn push_texts(
+    alloc: Global,
+    texts: &mut Texts,
+    generator: &mut Generator,
+    size: &Size,
+) -> Result<(), AllocError> {
+    let mut counts = Vec::new(alloc);
+    push_counts(&mut counts, generator, size.rows)?;
+    push_with_counts(alloc, texts, generator, size, &counts)
+}
+
+/// The texts of an instance of 64 regions, 32 sites, 1,024 servers and 2,048 costs. The same size
+/// has the same texts.
+pub(crate) fn texts_of_size(alloc: Global, size: &Size) -> Result<Texts, AllocError> {
+    let mut generator = Generator::new();
+    let mut texts = Texts::new(alloc);
+    push_texts(alloc, &mut texts, &mut generator, size)?;
+    Ok(texts)
 }

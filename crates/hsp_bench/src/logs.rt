@@ -45,24 +45,33 @@ fn push_entry(text: &mut Vec<u8>, instance: &Instance, row: u32) -> Result<(), A
 {
     let (region, handle, _) = instance.row(row);
     text.extend_from_slice(region)?;
-    text.push(b',')?;
+    text.extend_from_slice(b",")?;
     text.extend_from_slice(handle)?;
-    text.push(b'\n')?;
-    Ok(())
+    text.extend_from_slice(b"\n")
 }
 
-// A log of rows of the demand, each as likely as any other.
-fn log_text(alloc: Global, instance: &Instance) -> Result<Vec<u8>, AllocError> {
-    let mut generator = Generator::new();
-    let mut text = Vec::from_slice(alloc, b"region,handle\n")?;
+// Adds entries for rows of the demand, each as likely as any other.
+fn push_entries(
+    text: &mut Vec<u8>,
+    instance: &Instance,
+    generator: &mut Generator,
+) -> Result<(), AllocError> {
     let rows = instance.rows();
     if rows == 0 {
-        return Ok(text);
+        return Ok(());
     }
     for _ in 0..ROWS {
         let row = generator.below(u64::from(rows)) as u32;
-        push_entry(&mut text, instance, row)?;
+        push_entry(text, instance, row)?;
     }
+    Ok(())
+}
+
+// A log of rows of the demand.
+fn log_text(alloc: Global, instance: &Instance) -> Result<Vec<u8>, AllocError> {
+    let mut text = Vec::from_slice(alloc, b"region,handle\n")?;
+    let mut generator = Generator::new();
+    push_entries(&mut text, instance, &mut generator)?;
     Ok(text)
 }
 
@@ -101,21 +110,27 @@ fn count_found(alloc: Global, instance: &Instance, log: &[u8]) -> u32 {
     found
 }
 
-// Reads the records, then finds their rows as well, and prints the times.
-fn measure_steps<R: AllocGlobal + Clock + CpuClock + Print>(
+// Reads the records, and prints the times.
+fn measure_reading<R: AllocGlobal + Clock + CpuClock + Print>(
     rt: &R,
-    instance: &Instance,
     log: &[u8],
-) -> Result<(), Failure> {
+) -> io::Result<()> {
     let reading = Watch::start(rt)?;
     let records = count_records(rt.alloc(), log);
     let read = reading.times(rt)?;
-    println!(rt; "{records} records read in {read}")?;
+    println!(rt; "{records} records read in {read}")
+}
+
+// Reads the records and finds their rows, and prints the times.
+fn measure_finding<R: AllocGlobal + Clock + CpuClock + Print>(
+    rt: &R,
+    instance: &Instance,
+    log: &[u8],
+) -> io::Result<()> {
     let finding = Watch::start(rt)?;
     let rows = count_found(rt.alloc(), instance, log);
     let found = finding.times(rt)?;
-    println!(rt; "{rows} rows read and found in {found}")?;
-    Ok(())
+    println!(rt; "{rows} rows read and found in {found}")
 }
 
 // A dispatcher by a certificate that has to be a valid plan's.
@@ -137,11 +152,21 @@ fn planned_dispatcher(alloc: Global, instance: &Instance) -> Result<Dispatcher<'
     dispatcher_by(alloc, instance, &certificate)
 }
 
+// Answers the log on the writer, and says how many rows were assigned.
+fn answer_on(
+    alloc: Global,
+    log: &[u8],
+    writer: &mut BufWriter<Sink>,
+    dispatcher: &mut Dispatcher<'_>,
+) -> Result<u64, Failure> {
+    let sums = run_log(alloc, log, writer, dispatcher)?;
+    Ok(sums.assigned)
+}
+
 // Answers the log, and says how many rows were assigned.
 fn answer_log(alloc: Global, log: &[u8], dispatcher: &mut Dispatcher<'_>) -> Result<u64, Failure> {
     let mut writer = BufWriter::with_capacity(alloc, PIECE, Sink)?;
-    let sums = run_log(alloc, log, &mut writer, dispatcher)?;
-    Ok(sums.assigned)
+    answer_on(alloc, log, &mut writer, dispatcher)
 }
 
 // Answers the log, and prints the time.
@@ -157,6 +182,18 @@ fn measure_run<R: AllocGlobal + Clock + CpuClock + Print>(
     Ok(())
 }
 
+// Reads the log, finds its rows as well and answers it, and prints the times of each.
+fn measure_steps<R: AllocGlobal + Clock + CpuClock + Print>(
+    rt: &R,
+    instance: &Instance,
+    log: &[u8],
+    dispatcher: &mut Dispatcher<'_>,
+) -> Result<(), Failure> {
+    measure_reading(rt, log)?;
+    measure_finding(rt, instance, log)?;
+    measure_run(rt, log, dispatcher)
+}
+
 // Answers a log over the instance, and prints the times of the steps and of the whole.
 fn measure_answers<R: AllocGlobal + Clock + CpuClock + Print>(
     rt: &R,
@@ -164,8 +201,7 @@ fn measure_answers<R: AllocGlobal + Clock + CpuClock + Print>(
     dispatcher: &mut Dispatcher<'_>,
 ) -> Result<(), Failure> {
     let log = log_text(rt.alloc(), instance)?;
-    measure_steps(rt, instance, &log)?;
-    measure_run(rt, &log, dispatcher)
+    measure_steps(rt, instance, &log, dispatcher)
 }
 
 // Answers a log over the instance by its best plan.

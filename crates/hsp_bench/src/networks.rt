@@ -20,6 +20,18 @@ struct Lists {
 }
 
 impl Lists {
+    fn new(alloc: Global) -> Lists {
+        Lists {
+            demands: Vec::new(alloc),
+            capacities: Vec::new(alloc),
+            limits: Vec::new(alloc),
+            hosts: Vec::new(alloc),
+            sources: Vec::new(alloc),
+            servers: Vec::new(alloc),
+            costs: Vec::new(alloc),
+        }
+    }
+
     fn shown(&self) -> NetworkLists<'_> {
         NetworkLists {
             demands: &self.demands,
@@ -32,6 +44,28 @@ impl Lists {
         }
     }
 
+    // Adds so many sources, the servers up to `last` and so many hosts.
+    fn push_nodes(
+        &mut self,
+        generator: &mut Generator,
+        sources: u32,
+        last: u32,
+        hosts: u32,
+    ) -> Result<(), AllocError> {
+        let servers = last.saturating_add(1);
+        generator.push_numbers(&mut self.demands, sources, 9)?;
+        generator.push_numbers(&mut self.capacities, servers, 12)?;
+        generator.push_numbers(&mut self.limits, hosts, 20)?;
+        push_hosts(&mut self.hosts, generator, servers, hosts)
+    }
+
+    fn push_arc(&mut self, source: u32, server: u32, cost: u64) -> Result<(), AllocError> {
+        self.sources.push(source)?;
+        self.servers.push(server)?;
+        self.costs.push(cost)?;
+        Ok(())
+    }
+
     // Adds up to five arcs of the source, each to one of the servers up to `last` and of a cost up to `most`.
     fn push_arcs(
         &mut self,
@@ -41,57 +75,43 @@ impl Lists {
         most: u32,
     ) -> Result<(), AllocError> {
         for _ in 0..generator.up_to(5) {
-            self.sources.push(source)?;
-            self.servers.push(generator.up_to(last))?;
-            self.costs.push(u64::from(generator.up_to(most)))?;
+            let server = generator.up_to(last);
+            let cost = generator.up_to(most);
+            self.push_arc(source, server, u64::from(cost))?;
+        }
+        Ok(())
+    }
+
+    // Adds a network that is drawn: up to 6 sources, 6 servers and 3 hosts.
+    fn push_drawn(&mut self, generator: &mut Generator) -> Result<(), AllocError> {
+        let (sources, last, hosts) = (generator.up_to(6), generator.up_to(5), generator.up_to(3));
+        let most = generator.up_to(4);
+        self.push_nodes(generator, sources, last, hosts)?;
+        for source in 0..sources {
+            self.push_arcs(generator, source, last, most)?;
         }
         Ok(())
     }
 }
 
-// The host of each of so many servers: one of so many hosts, or none.
-fn drawn_hosts(
-    alloc: Global,
+// Adds the host of each of so many servers: one of so many hosts, or none.
+fn push_hosts(
+    homes: &mut Vec<Option<u32>>,
     generator: &mut Generator,
     servers: u32,
     hosts: u32,
-) -> Result<Vec<Option<u32>>, AllocError> {
-    let mut homes = Vec::new(alloc);
+) -> Result<(), AllocError> {
     for _ in 0..servers {
         homes.push(generator.up_to(hosts).checked_sub(1))?;
     }
-    Ok(homes)
+    Ok(())
 }
 
-// Lists of so many sources, of the servers up to `last` and of so many hosts, without an arc.
-fn lists_without_arcs(
-    alloc: Global,
-    generator: &mut Generator,
-    sources: u32,
-    last: u32,
-    hosts: u32,
-) -> Result<Lists, AllocError> {
-    let servers = last.saturating_add(1);
-    Ok(Lists {
-        demands: generator.numbers(alloc, sources, 0, 9)?,
-        capacities: generator.numbers(alloc, servers, 0, 12)?,
-        limits: generator.numbers(alloc, hosts, 0, 20)?,
-        hosts: drawn_hosts(alloc, generator, servers, hosts)?,
-        sources: Vec::new(alloc),
-        servers: Vec::new(alloc),
-        costs: Vec::new(alloc),
-    })
-}
-
-// The lists of a seed: up to 6 sources, 6 servers and 3 hosts.
+// The lists of a seed.
 fn drawn_lists(alloc: Global, seed: u32) -> Result<Lists, AllocError> {
     let mut generator = Generator::seeded(u64::from(seed));
-    let (sources, last, hosts) = (generator.up_to(6), generator.up_to(5), generator.up_to(3));
-    let most = generator.up_to(4);
-    let mut lists = lists_without_arcs(alloc, &mut generator, sources, last, hosts)?;
-    for source in 0..sources {
-        lists.push_arcs(&mut generator, source, last, most)?;
-    }
+    let mut lists = Lists::new(alloc);
+    lists.push_drawn(&mut generator)?;
     Ok(lists)
 }
 
@@ -106,37 +126,52 @@ struct Tally {
 }
 
 impl Tally {
-    // Notes what is proposed for the network.
-    fn note(&mut self, alloc: Global, network: &Network<'_>) -> Result<(), AllocError> {
-        let Some(outcome) = propose(alloc, network)? else {
-            self.declined = self.declined.saturating_add(1);
-            return Ok(());
-        };
-        if !accepts(alloc, network, &outcome)? {
-            self.refused = self.refused.saturating_add(1);
-        }
+    // Notes an outcome that is proposed for the network.
+    fn note_outcome(
+        &mut self,
+        alloc: Global,
+        network: &Network<'_>,
+        outcome: &Outcome,
+    ) -> Result<(), Failure> {
+        let is_accepted = accepts(alloc, network, outcome)?;
+        self.refused = self.refused.saturating_add(u64::from(!is_accepted));
         match outcome {
             Outcome::Met(_) => self.met = self.met.saturating_add(1),
             Outcome::Short(_) => self.short = self.short.saturating_add(1),
         }
         Ok(())
     }
-}
 
-// Notes what is proposed for the network of a seed.
-fn note_seed(alloc: Global, seed: u32, tally: &mut Tally) -> Result<(), Failure> {
-    let lists = drawn_lists(alloc, seed)?;
-    let Some(network) = Network::checked(lists.shown()) else {
-        return Err(Failure::Numbers);
-    };
-    tally.note(alloc, &network)?;
-    Ok(())
+    // Notes what is proposed for the network.
+    fn note(&mut self, alloc: Global, network: &Network<'_>) -> Result<(), Failure> {
+        match propose(alloc, network)? {
+            Some(outcome) => self.note_outcome(alloc, network, &outcome),
+            None => {
+                self.declined = self.declined.saturating_add(1);
+                Ok(())
+            }
+        }
+    }
+
+    // Notes what is proposed for the network of the lists.
+    fn note_lists(&mut self, alloc: Global, lists: &Lists) -> Result<(), Failure> {
+        match Network::checked(lists.shown()) {
+            Some(network) => self.note(alloc, &network),
+            None => Err(Failure::Numbers),
+        }
+    }
+
+    // Notes what is proposed for the network of a seed.
+    fn note_seed(&mut self, alloc: Global, seed: u32) -> Result<(), Failure> {
+        let lists = drawn_lists(alloc, seed)?;
+        self.note_lists(alloc, &lists)
+    }
 }
 
 fn tally_of(alloc: Global, many: u32) -> Result<Tally, Failure> {
     let mut tally = Tally::default();
     for seed in 0..many {
-        note_seed(alloc, seed, &mut tally)?;
+        tally.note_seed(alloc, seed)?;
     }
     Ok(tally)
 }

@@ -5,7 +5,7 @@ use crate::size::Size;
 use crate::tables::instance_of_size;
 use crate::watch::{Times, Watch};
 use hsp_cert::Certificate;
-use hsp_check::check;
+use hsp_check::{Verdict, check};
 use hsp_flow::{Effort, HeapFrontier, solve_counted, solve_proposed};
 use hsp_instance::Instance;
 use std::alloc::{AllocError, Global};
@@ -120,6 +120,20 @@ fn solve_by<R: AllocGlobal + Clock + CpuClock>(
     })
 }
 
+// Prints what the certificate shows, how long it took to find and to check, and the verdict.
+fn print_solved<R: Print>(
+    rt: &R,
+    way: &Way,
+    solved: &Solved,
+    verdict: &Verdict,
+    checked: &Times,
+) -> io::Result<()> {
+    let (shown, times) = (shown_by(&solved.certificate), solved.times);
+    println!(rt; "    {shown}, solved in {times}")?;
+    print_effort(rt, way, &solved.effort)?;
+    println!(rt; ", checked in {checked}: {verdict:?}")
+}
+
 // Checks the certificate, and prints what it shows and the times.
 fn measure_check<R: AllocGlobal + Clock + CpuClock + Print>(
     rt: &R,
@@ -130,10 +144,7 @@ fn measure_check<R: AllocGlobal + Clock + CpuClock + Print>(
     let checking = Watch::start(rt)?;
     let verdict = check(rt.alloc(), instance, &solved.certificate)?;
     let checked = checking.times(rt)?;
-    let (shown, times) = (shown_by(&solved.certificate), solved.times);
-    println!(rt; "    {shown}, solved in {times}")?;
-    print_effort(rt, way, &solved.effort)?;
-    println!(rt; ", checked in {checked}: {verdict:?}")?;
+    print_solved(rt, way, solved, &verdict, &checked)?;
     Ok(())
 }
 
@@ -166,36 +177,29 @@ pub(crate) fn measure_plan<R: AllocGlobal + Clock + CpuClock + Print>(
     measure_ways(rt, &instance)
 }
 
-// Plans instances of one number of rows with less and less capacity.
+// Less and less capacity, each with a number of hosts: 256 leave less than three fifths of it.
+const CAPACITIES: [(u32, u16); 7] = [
+    (200, 0),
+    (120, 0),
+    (105, 0),
+    (99, 0),
+    (400, 256),
+    (250, 256),
+    (200, 256),
+];
+
+// Plans instances of one number of rows with each of the capacities.
 fn measure_capacities<R: AllocGlobal + Clock + CpuClock + Print>(
     rt: &R,
     rows: u32,
     most: u32,
 ) -> Result<(), Failure> {
-    for percent in [200, 120, 105, 99] {
+    for (percent, hosts) in CAPACITIES {
         let size = Size {
             rows,
             percent,
             most,
-            hosts: 0,
-        };
-        measure_plan(rt, &size)?;
-    }
-    Ok(())
-}
-
-// Plans instances with less and less capacity, where the limits of 256 hosts leave less than three fifths of it.
-fn measure_hosts<R: AllocGlobal + Clock + CpuClock + Print>(
-    rt: &R,
-    rows: u32,
-    most: u32,
-) -> Result<(), Failure> {
-    for percent in [400, 250, 200] {
-        let size = Size {
-            rows,
-            percent,
-            most,
-            hosts: 256,
+            hosts,
         };
         measure_plan(rt, &size)?;
     }
@@ -213,7 +217,6 @@ pub(crate) fn measure_plans<R: AllocGlobal + Clock + CpuClock + Print>(
         (8_192, 10),
     ] {
         measure_capacities(rt, rows, most)?;
-        measure_hosts(rt, rows, most)?;
     }
     Ok(())
 }

@@ -8,6 +8,7 @@ use hsp_check::{Verdict, check};
 use hsp_flow::{Effort, HeapFrontier, solve_proposed, solve_with};
 use hsp_instance::Instance;
 use std::alloc::{AllocError, Global};
+use std::io;
 
 // What became of instances: how many, for how many a proposal was taken, how many have a plan and how many a shortage, for how
 // many the searches find another cost or kind, and for how many the checker refuses one of the two certificates.
@@ -24,21 +25,14 @@ struct Tally {
 impl Tally {
     // Notes what became of one instance.
     fn note(&mut self, planned: &Planned) {
+        let is_met = planned.cost.is_some();
+        let is_differing = planned.cost != planned.searched;
         self.planned = self.planned.saturating_add(1);
-        if planned.is_taken {
-            self.taken = self.taken.saturating_add(1);
-        }
-        if planned.cost.is_some() {
-            self.met = self.met.saturating_add(1);
-        } else {
-            self.short = self.short.saturating_add(1);
-        }
-        if planned.cost != planned.searched {
-            self.differing = self.differing.saturating_add(1);
-        }
-        if !planned.is_valid {
-            self.refused = self.refused.saturating_add(1);
-        }
+        self.taken = self.taken.saturating_add(u64::from(planned.is_taken));
+        self.met = self.met.saturating_add(u64::from(is_met));
+        self.short = self.short.saturating_add(u64::from(!is_met));
+        self.differing = self.differing.saturating_add(u64::from(is_differing));
+        self.refused = self.refused.saturating_add(u64::from(!planned.is_valid));
     }
 }
 
@@ -74,7 +68,7 @@ fn judged(
     effort: &Effort,
     proposed: &Certificate,
     searched: &Certificate,
-) -> Result<Planned, AllocError> {
+) -> Result<Planned, Failure> {
     Ok(Planned {
         is_taken: effort.proposals > 0,
         cost: cost_of(proposed),
@@ -89,13 +83,13 @@ fn compare(
     instance: &Instance,
     effort: &Effort,
     proposed: &Certificate,
-) -> Result<Planned, AllocError> {
+) -> Result<Planned, Failure> {
     let searched = solve_with::<HeapFrontier>(alloc, instance)?;
     judged(alloc, instance, effort, proposed, &searched)
 }
 
 // Plans an instance by both solvers, and checks both certificates.
-fn plan_both(alloc: Global, instance: &Instance) -> Result<Planned, AllocError> {
+fn plan_both(alloc: Global, instance: &Instance) -> Result<Planned, Failure> {
     let mut effort = Effort::default();
     let proposed = solve_proposed(alloc, instance, &mut effort)?;
     compare(alloc, instance, &effort, &proposed)
@@ -110,7 +104,7 @@ fn small_instance(alloc: Global, seed: u32) -> Result<Instance, Failure> {
 // Plans the small instance of a seed.
 fn plan_seed(alloc: Global, seed: u32) -> Result<Planned, Failure> {
     let instance = small_instance(alloc, seed)?;
-    Ok(plan_both(alloc, &instance)?)
+    plan_both(alloc, &instance)
 }
 
 fn tally_of(alloc: Global, many: u32) -> Result<Tally, Failure> {
@@ -122,13 +116,17 @@ fn tally_of(alloc: Global, many: u32) -> Result<Tally, Failure> {
     Ok(tally)
 }
 
-/// Plans so many small instances by proposals and by searches, and prints what became of them.
-pub(crate) fn count_proposals<R: AllocGlobal + Print>(rt: &R, many: u32) -> Result<(), Failure> {
-    let tally = tally_of(rt.alloc(), many)?;
+fn print_tally<R: Print>(rt: &R, tally: &Tally) -> io::Result<()> {
     let (taken, planned) = (tally.taken, tally.planned);
     let (met, short) = (tally.met, tally.short);
     let (differing, refused) = (tally.differing, tally.refused);
     print!(rt; "proposals: {taken} taken of {planned}, {met} met, {short} short, ")?;
-    println!(rt; "{differing} of another cost than by searches, {refused} refused by the checker")?;
+    println!(rt; "{differing} of another cost than by searches, {refused} refused by the checker")
+}
+
+/// Plans so many small instances by proposals and by searches, and prints what became of them.
+pub(crate) fn count_proposals<R: AllocGlobal + Print>(rt: &R, many: u32) -> Result<(), Failure> {
+    let tally = tally_of(rt.alloc(), many)?;
+    print_tally(rt, &tally)?;
     Ok(())
 }

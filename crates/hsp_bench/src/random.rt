@@ -2,7 +2,7 @@
 
 ghost use Rattle.std.specs.Prelude.{◌<◌};
 
-use std::alloc::{AllocError, Global};
+use std::alloc::AllocError;
 
 /// A linear congruential generator (Knuth, The Art of Computer Programming, volume 2, section 3.2.1).
 #[derive(Drop)]
@@ -29,24 +29,23 @@ impl Generator {
         self.state = product.wrapping_add(1_442_695_040_888_963_407);
         (self.state >> 33) % limit
     }
+
     /// The next number, at most `most`.
     pub(crate) fn up_to(&mut self, most: u32) -> u32 {
         let number = self.below(u64::from(most) + 1);
         u32::try_from(number).unwrap_or(most)
     }
 
-    /// So many numbers from `least` on, each at most `span` more.
-    pub(crate) fn numbers(
+    /// Adds so many numbers, each at most `most`.
+    pub(crate) fn push_numbers(
         &mut self,
-        alloc: Global,
+        numbers: &mut Vec<u64>,
         many: u32,
-        least: u32,
-        span: u32,
-    ) -> Result<Vec<u64>, AllocError> {
-        let mut numbers = Vec::new(alloc);
+        most: u32,
+    ) -> Result<(), AllocError> {
         for _ in 0..many {
-            numbers.push(u64::from(least) + u64::from(self.up_to(span)))?;
+            numbers.push(u64::from(self.up_to(most)))?;
         }
-        Ok(numbers)
+        Ok(())
     }
 }

@@ -2,7 +2,7 @@
 
 use crate::inputs::Texts;
 use crate::random::Generator;
-use crate::values::{settings_text, site_values};
+use crate::values::{push_settings, push_values};
 use std::alloc::{AllocError, Global};
 use std::fmt::Write;
 
@@ -46,23 +46,24 @@ fn drawn_shape(alloc: Global, generator: &mut Generator) -> Result<Shape, AllocE
     })
 }
 
-fn demand_text(
-    alloc: Global,
+// Adds a row of any region for each handle.
+fn push_demand(
+    text: &mut String,
     generator: &mut Generator,
     shape: &Shape,
-) -> Result<String, AllocError> {
-    let mut text = String::from_str(alloc, "region,handle,count\n")?;
+) -> Result<(), AllocError> {
+    text.push_str("region,handle,count\n")?;
     let last = shape.regions.saturating_sub(1);
     for row in 0..shape.rows {
         let region = generator.up_to(last);
         let count = generator.up_to(8).saturating_add(1);
         writeln!(text, "r{region},10/{row},{count}")?;
     }
-    Ok(text)
+    Ok(())
 }
 
 // Adds the costs of a region: five sites of six have one.
-fn push_costs(
+fn push_costs_of(
     text: &mut String,
     generator: &mut Generator,
     region: u32,
@@ -77,20 +78,21 @@ fn push_costs(
     Ok(())
 }
 
-fn costs_text(
-    alloc: Global,
+// Adds the costs of all regions.
+fn push_costs(
+    text: &mut String,
     generator: &mut Generator,
     shape: &Shape,
-) -> Result<String, AllocError> {
-    let mut text = String::from_str(alloc, "region,site,cost\n")?;
+) -> Result<(), AllocError> {
+    text.push_str("region,site,cost\n")?;
     for region in 0..shape.regions {
-        push_costs(&mut text, generator, region, shape)?;
+        push_costs_of(text, generator, region, shape)?;
     }
-    Ok(text)
+    Ok(())
 }
 
 // Adds the capacities of a site's servers.
-fn push_capacities(
+fn push_capacity_at(
     text: &mut String,
     generator: &mut Generator,
     site: usize,
@@ -104,30 +106,62 @@ fn push_capacities(
     Ok(())
 }
 
-fn capacity_text(
-    alloc: Global,
+// Adds the capacities of all servers.
+fn push_capacity(
+    text: &mut String,
     generator: &mut Generator,
     shape: &Shape,
-) -> Result<String, AllocError> {
-    let mut text = String::from_str(alloc, "site,server_id,capacity\n")?;
+) -> Result<(), AllocError> {
+    text.push_str("site,server_id,capacity\n")?;
     for site in 0..shape.servers.len() {
-        push_capacities(&mut text, generator, site, shape)?;
+        push_capacity_at(text, generator, site, shape)?;
     }
-    Ok(text)
+    Ok(())
+}
+
+// Adds the settings of the sites and of the hosts, whose limits are at most twice the greatest
+// capacity.
+fn push_drawn_settings(
+    alloc: Global,
+    text: &mut String,
+    generator: &mut Generator,
+    shape: &Shape,
+) -> Result<(), AllocError> {
+    let room = shape.capacity.saturating_mul(2);
+    let mut limits = Vec::new(alloc);
+    generator.push_numbers(&mut limits, u32::from(shape.hosts), room)?;
+    push_settings(text, shape.servers.len(), &limits)
+}
+
+// Adds the texts of an instance of the shape.
+fn push_with_shape(
+    alloc: Global,
+    texts: &mut Texts,
+    generator: &mut Generator,
+    shape: &Shape,
+) -> Result<(), AllocError> {
+    push_drawn_settings(alloc, &mut texts.settings, generator, shape)?;
+    push_values(&mut texts.values, &shape.servers, shape.hosts)?;
+    push_demand(&mut texts.demand, generator, shape)?;
+    push_costs(&mut texts.costs, generator, shape)?;
+    push_capacity(&mut texts.capacity, generator, shape)
+}
+
+// Draws the shape, and adds the texts.
+fn push_texts(
+    alloc: Global,
+    texts: &mut Texts,
+    generator: &mut Generator,
+) -> Result<(), AllocError> {
+    let shape = drawn_shape(alloc, generator)?;
+    push_with_shape(alloc, texts, generator, &shape)
 }
 
 /// The texts of the small instance of a seed: up to 12 rows, 4 regions, 4 sites of up to 4 servers, and 3 hosts. The same
 /// seed has the same texts.
 pub(crate) fn small_texts(alloc: Global, seed: u32) -> Result<Texts, AllocError> {
     let mut generator = Generator::seeded(u64::from(seed));
-    let shape = drawn_shape(alloc, &mut generator)?;
-    let room = shape.capacity.saturating_mul(2);
-    let limits = generator.numbers(alloc, u32::from(shape.hosts), 0, room)?;
-    Ok(Texts {
-        settings: settings_text(alloc, shape.servers.len(), &limits)?,
-        values: site_values(alloc, &shape.servers, shape.hosts)?,
-        demand: demand_text(alloc, &mut generator, &shape)?,
-        costs: costs_text(alloc, &mut generator, &shape)?,
-        capacity: capacity_text(alloc, &mut generator, &shape)?,
-    })
+    let mut texts = Texts::new(alloc);
+    push_texts(alloc, &mut texts, &mut generator)?;
+    Ok(texts)
 }
