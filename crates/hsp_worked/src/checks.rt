@@ -1,6 +1,6 @@
 // Certificates judged.
 use crate::inputs::{
-    BASE, EIGHT, Numbers, ONE_SERVER, TWO, Texts, instance_of, judged, plan, shortage,
+    BASE, EIGHT, Numbers, ONE_SERVER, Set, TWO, Texts, instance_of, judged, plan, shortage,
 };
 use crate::same::is_same;
 use hsp_cert::Certificate;
@@ -18,11 +18,49 @@ const BEST: Numbers = Numbers {
     hosts: &[],
 };
 
+// The certificate of the plan has this verdict.
+fn plan_has(
+    rt: &impl Abort,
+    alloc: Global,
+    instance: &Instance,
+    numbers: Numbers,
+    wanted: Verdict,
+) {
+    let certificate = plan(rt, alloc, numbers);
+    judged(rt, alloc, instance, &certificate, wanted);
+}
+
+// The plan of the instance of the texts is valid.
+fn is_valid(rt: &impl Abort, alloc: Global, texts: Texts<'_>, numbers: Numbers) {
+    let instance = instance_of(rt, alloc, texts);
+    plan_has(rt, alloc, &instance, numbers, Verdict::Yes);
+}
+
+// Plans of the instance of the texts have these verdicts.
+fn plans_have(rt: &impl Abort, alloc: Global, texts: Texts<'_>, cases: &[(Numbers, Verdict)]) {
+    let instance = instance_of(rt, alloc, texts);
+    for (numbers, wanted) in cases {
+        plan_has(rt, alloc, &instance, *numbers, *wanted);
+    }
+}
+
+// The certificate of the short set has this verdict.
+fn set_has(rt: &impl Abort, alloc: Global, instance: &Instance, set: Set, wanted: Verdict) {
+    let certificate = shortage(rt, alloc, set);
+    judged(rt, alloc, instance, &certificate, wanted);
+}
+
+// Short sets of the instance of the texts have these verdicts.
+fn sets_have(rt: &impl Abort, alloc: Global, texts: Texts<'_>, cases: &[(Set, Verdict)]) {
+    let instance = instance_of(rt, alloc, texts);
+    for (set, wanted) in cases {
+        set_has(rt, alloc, &instance, *set, *wanted);
+    }
+}
+
 #[test]
 fn a_best_plan_is_valid(rt: HostRuntime) {
-    let alloc = rt.alloc();
-    let base = instance_of(&rt, alloc, BASE);
-    judged(&rt, alloc, &base, &plan(&rt, alloc, BEST), Verdict::Yes);
+    is_valid(&rt, rt.alloc(), BASE, BEST);
 }
 
 // The sums of a plan that is valid.
@@ -50,22 +88,28 @@ pub(crate) fn summed_twice(
     }
 }
 
+// The sums of the plan of the instance of the texts.
+fn sums_of(rt: &impl Abort, alloc: Global, texts: Texts<'_>, numbers: Numbers) -> PlanSums {
+    let instance = instance_of(rt, alloc, texts);
+    let certificate = plan(rt, alloc, numbers);
+    summed_twice(rt, alloc, &instance, &certificate)
+}
+
+// The sums of the best plan of the base.
+fn are_best_sums(rt: &impl Abort, sums: &PlanSums) {
+    let loads = &sums.loads;
+    is_same(rt, loads.rows.as_slice(), [5, 4, 3].as_slice());
+    is_same(rt, loads.servers.as_slice(), [4, 6, 2, 0, 0].as_slice());
+    assert!(rt; loads.hosts.is_empty());
+    is_same(rt, sums.cost, 17);
+    is_same(rt, sums.demand_worth, 23);
+    is_same(rt, sums.capacity_worth, 6);
+}
+
 #[test]
 fn a_best_plan_is_summed(rt: HostRuntime) {
-    let alloc = rt.alloc();
-    let base = instance_of(&rt, alloc, BASE);
-    let certificate = plan(&rt, alloc, BEST);
-    let sums = summed_twice(&rt, alloc, &base, &certificate);
-    is_same(&rt, sums.loads.rows.as_slice(), [5, 4, 3].as_slice());
-    is_same(
-        &rt,
-        sums.loads.servers.as_slice(),
-        [4, 6, 2, 0, 0].as_slice(),
-    );
-    assert!(rt; sums.loads.hosts.is_empty());
-    is_same(&rt, sums.cost, 17);
-    is_same(&rt, sums.demand_worth, 23);
-    is_same(&rt, sums.capacity_worth, 6);
+    let sums = sums_of(&rt, rt.alloc(), BASE, BEST);
+    are_best_sums(&rt, &sums);
 }
 
 // The servers that a short set reaches, where it is valid.
@@ -93,346 +137,265 @@ pub(crate) fn reached_twice(
     }
 }
 
+// The servers that the short set of the instance of the texts reaches.
+fn servers_of(rt: &impl Abort, alloc: Global, texts: Texts<'_>, set: Set) -> Vec<u32> {
+    let instance = instance_of(rt, alloc, texts);
+    let certificate = shortage(rt, alloc, set);
+    reached_twice(rt, alloc, &instance, &certificate)
+}
+
+// The base, but that its last row asks for more than its servers can give.
+const LAST_ROW_SHORT: Texts<'static> = Texts {
+    demand: b"region,handle,count\nr1,10/1,5\nr1,10/2,4\nr2,10/3,9\n",
+    ..BASE
+};
+
 #[test]
 fn a_short_set_reaches_its_servers(rt: HostRuntime) {
-    let alloc = rt.alloc();
-    let texts = Texts {
-        demand: b"region,handle,count\nr1,10/1,5\nr1,10/2,4\nr2,10/3,9\n",
-        ..BASE
-    };
-    let instance = instance_of(&rt, alloc, texts);
-    let certificate = shortage(&rt, alloc, &[2], 9, 8);
-    let servers = reached_twice(&rt, alloc, &instance, &certificate);
+    let servers = servers_of(&rt, rt.alloc(), LAST_ROW_SHORT, (&[2], 9, 8));
     is_same(&rt, servers.as_slice(), [1, 2].as_slice());
 }
 
+const WRONG_SUMS: [(Numbers, Verdict); 5] = [
+    (Numbers { cost: 16, ..BEST }, Verdict::No(Reason::Cost)),
+    (
+        Numbers {
+            cost: 16,
+            servers: &[0, 1, 0, 0, 1],
+            ..BEST
+        },
+        Verdict::No(Reason::Cost),
+    ),
+    (
+        Numbers {
+            cost: 16,
+            uses: &[(0, 0, 4), (1, 0, 4), (2, 0, 1), (2, 1, 2)],
+            ..BEST
+        },
+        Verdict::No(Reason::RowSum),
+    ),
+    (
+        Numbers {
+            uses: &[(0, 0, 4), (1, 0, 4), (2, 0, 1), (2, 1, 2)],
+            ..BEST
+        },
+        Verdict::No(Reason::RowSum),
+    ),
+    (
+        Numbers {
+            uses: &[(0, 0, 5), (1, 0, 4), (2, 0, 3)],
+            ..BEST
+        },
+        Verdict::No(Reason::Load),
+    ),
+];
+
 #[test]
 fn sums_that_are_wrong_are_told(rt: HostRuntime) {
-    let alloc = rt.alloc();
-    let base = instance_of(&rt, alloc, BASE);
-    let cases = [
-        (Numbers { cost: 16, ..BEST }, Reason::Cost),
-        (
-            Numbers {
-                cost: 16,
-                servers: &[0, 1, 0, 0, 1],
-                ..BEST
-            },
-            Reason::Cost,
-        ),
-        (
-            Numbers {
-                cost: 16,
-                uses: &[(0, 0, 4), (1, 0, 4), (2, 0, 1), (2, 1, 2)],
-                ..BEST
-            },
-            Reason::RowSum,
-        ),
-        (
-            Numbers {
-                uses: &[(0, 0, 4), (1, 0, 4), (2, 0, 1), (2, 1, 2)],
-                ..BEST
-            },
-            Reason::RowSum,
-        ),
-        (
-            Numbers {
-                uses: &[(0, 0, 5), (1, 0, 4), (2, 0, 3)],
-                ..BEST
-            },
-            Reason::Load,
-        ),
-    ];
-    for (numbers, reason) in cases {
-        judged(
-            &rt,
-            alloc,
-            &base,
-            &plan(&rt, alloc, numbers),
-            Verdict::No(reason),
-        );
-    }
+    plans_have(&rt, rt.alloc(), BASE, &WRONG_SUMS);
 }
+
+const WRONG_SHAPES: [(Numbers, Verdict); 2] = [
+    (
+        Numbers {
+            servers: &[0, 1, 0, 0],
+            ..BEST
+        },
+        Verdict::No(Reason::Shape),
+    ),
+    (
+        Numbers {
+            uses: &[(0, 0, 5), (1, 2, 4), (2, 0, 1), (2, 1, 2)],
+            ..BEST
+        },
+        Verdict::No(Reason::NoSuchUse),
+    ),
+];
 
 #[test]
 fn shapes_that_are_wrong_are_told(rt: HostRuntime) {
-    let alloc = rt.alloc();
-    let base = instance_of(&rt, alloc, BASE);
-    let cases = [
-        (
-            Numbers {
-                servers: &[0, 1, 0, 0],
-                ..BEST
-            },
-            Reason::Shape,
-        ),
-        (
-            Numbers {
-                uses: &[(0, 0, 5), (1, 2, 4), (2, 0, 1), (2, 1, 2)],
-                ..BEST
-            },
-            Reason::NoSuchUse,
-        ),
-    ];
-    for (numbers, reason) in cases {
-        judged(
-            &rt,
-            alloc,
-            &base,
-            &plan(&rt, alloc, numbers),
-            Verdict::No(reason),
-        );
-    }
+    plans_have(&rt, rt.alloc(), BASE, &WRONG_SHAPES);
 }
+
+const WRONG_PRICES: [(Numbers, Verdict); 4] = [
+    (
+        Numbers {
+            servers: &[0, 1, 0, 0, 1],
+            ..BEST
+        },
+        Verdict::No(Reason::IdlePrice),
+    ),
+    (
+        Numbers {
+            rows: &[3, 1, 3],
+            ..BEST
+        },
+        Verdict::No(Reason::ArcPrice),
+    ),
+    (
+        Numbers {
+            rows: &[1, 1, 3],
+            ..BEST
+        },
+        Verdict::No(Reason::UsedArcPrice),
+    ),
+    (
+        Numbers {
+            rows: &[1000000000000, 1, 3],
+            ..BEST
+        },
+        Verdict::No(Reason::ArcPrice),
+    ),
+];
 
 #[test]
 fn prices_that_are_wrong_are_told(rt: HostRuntime) {
-    let alloc = rt.alloc();
-    let base = instance_of(&rt, alloc, BASE);
-    let cases = [
-        (
-            Numbers {
-                servers: &[0, 1, 0, 0, 1],
-                ..BEST
-            },
-            Reason::IdlePrice,
-        ),
-        (
-            Numbers {
-                rows: &[3, 1, 3],
-                ..BEST
-            },
-            Reason::ArcPrice,
-        ),
-        (
-            Numbers {
-                rows: &[1, 1, 3],
-                ..BEST
-            },
-            Reason::UsedArcPrice,
-        ),
-        (
-            Numbers {
-                rows: &[1000000000000, 1, 3],
-                ..BEST
-            },
-            Reason::ArcPrice,
-        ),
-    ];
-    for (numbers, reason) in cases {
-        judged(
-            &rt,
-            alloc,
-            &base,
-            &plan(&rt, alloc, numbers),
-            Verdict::No(reason),
-        );
-    }
+    plans_have(&rt, rt.alloc(), BASE, &WRONG_PRICES);
 }
+
+const SETS: [(Set, Verdict); 6] = [
+    ((&[2], 9, 8), Verdict::Yes),
+    ((&[2], 10, 8), Verdict::No(Reason::DemandSum)),
+    ((&[2], 9, 9), Verdict::No(Reason::CapacitySum)),
+    ((&[1], 4, 20), Verdict::No(Reason::NotShort)),
+    ((&[3], 9, 8), Verdict::No(Reason::Shape)),
+    ((&[2], 10000000000000000, 8), Verdict::No(Reason::DemandSum)),
+];
 
 #[test]
 fn short_sets_are_judged(rt: HostRuntime) {
-    let alloc = rt.alloc();
-    let texts = Texts {
-        demand: b"region,handle,count\nr1,10/1,5\nr1,10/2,4\nr2,10/3,9\n",
-        ..BASE
-    };
-    let instance = instance_of(&rt, alloc, texts);
-    let cases: [(&[u32], u64, u64, Verdict); 6] = [
-        (&[2], 9, 8, Verdict::Yes),
-        (&[2], 10, 8, Verdict::No(Reason::DemandSum)),
-        (&[2], 9, 9, Verdict::No(Reason::CapacitySum)),
-        (&[1], 4, 20, Verdict::No(Reason::NotShort)),
-        (&[3], 9, 8, Verdict::No(Reason::Shape)),
-        (&[2], 10000000000000000, 8, Verdict::No(Reason::DemandSum)),
-    ];
-    for (rows, demand, capacity, verdict) in cases {
-        judged(
-            &rt,
-            alloc,
-            &instance,
-            &shortage(&rt, alloc, rows, demand, capacity),
-            verdict,
-        );
-    }
+    sets_have(&rt, rt.alloc(), LAST_ROW_SHORT, &SETS);
 }
 
 #[test]
 fn the_empty_short_set_is_not_short(rt: HostRuntime) {
-    let alloc = rt.alloc();
-    let base = instance_of(&rt, alloc, BASE);
-    judged(
-        &rt,
-        alloc,
-        &base,
-        &shortage(&rt, alloc, &[], 0, 0),
-        Verdict::No(Reason::NotShort),
-    );
+    let not_short = Verdict::No(Reason::NotShort);
+    sets_have(&rt, rt.alloc(), BASE, &[((&[], 0, 0), not_short)]);
 }
+
+// A plan of one row of two queries, which costs as much at either site.
+const ONE_OF_SEVERAL: Numbers = Numbers {
+    cost: 2,
+    uses: &[(0, 0, 2)],
+    rows: &[1],
+    servers: &[0, 0, 0, 0, 0],
+    hosts: &[],
+};
+
+const SEVERAL: [(Numbers, Verdict); 3] = [
+    (ONE_OF_SEVERAL, Verdict::Yes),
+    (
+        Numbers {
+            uses: &[(0, 0, 1), (0, 1, 1)],
+            ..ONE_OF_SEVERAL
+        },
+        Verdict::Yes,
+    ),
+    (
+        Numbers {
+            uses: &[(0, 1, 2)],
+            ..ONE_OF_SEVERAL
+        },
+        Verdict::Yes,
+    ),
+];
 
 #[test]
 fn each_of_several_best_plans_is_valid(rt: HostRuntime) {
-    let alloc = rt.alloc();
     let texts = Texts {
         demand: b"region,handle,count\nr1,10/1,2\n",
         costs: b"region,site,cost\nr1,E,1\nr1,W,1\n",
         ..BASE
     };
-    let instance = instance_of(&rt, alloc, texts);
-    let all: [&[(u32, u32, u64)]; 3] = [&[(0, 0, 2)], &[(0, 0, 1), (0, 1, 1)], &[(0, 1, 2)]];
-    for uses in all {
-        let numbers = Numbers {
-            cost: 2,
-            uses,
-            rows: &[1],
-            servers: &[0, 0, 0, 0, 0],
-            hosts: &[],
-        };
-        judged(
-            &rt,
-            alloc,
-            &instance,
-            &plan(&rt, alloc, numbers),
-            Verdict::Yes,
-        );
-    }
+    plans_have(&rt, rt.alloc(), texts, &SEVERAL);
 }
+
+// The plan that uses nothing, of no rows.
+const NOTHING: Numbers = Numbers {
+    cost: 0,
+    uses: &[],
+    rows: &[],
+    servers: &[0, 0, 0, 0, 0],
+    hosts: &[],
+};
 
 #[test]
 fn an_empty_demand_has_an_empty_plan(rt: HostRuntime) {
-    let alloc = rt.alloc();
     let texts = Texts {
         demand: b"region,handle,count\n",
         ..BASE
     };
-    let instance = instance_of(&rt, alloc, texts);
-    let numbers = Numbers {
-        cost: 0,
-        uses: &[],
-        rows: &[],
-        servers: &[0, 0, 0, 0, 0],
-        hosts: &[],
-    };
-    judged(
-        &rt,
-        alloc,
-        &instance,
-        &plan(&rt, alloc, numbers),
-        Verdict::Yes,
-    );
+    is_valid(&rt, rt.alloc(), texts, NOTHING);
 }
 
 #[test]
 fn a_row_without_costs_is_short_where_it_asks(rt: HostRuntime) {
-    let alloc = rt.alloc();
     let asking = Texts {
         demand: b"region,handle,count\nr3,10/1,1\n",
         ..BASE
     };
-    let instance = instance_of(&rt, alloc, asking);
-    judged(
-        &rt,
-        alloc,
-        &instance,
-        &shortage(&rt, alloc, &[0], 1, 0),
-        Verdict::Yes,
-    );
+    sets_have(&rt, rt.alloc(), asking, &[((&[0], 1, 0), Verdict::Yes)]);
     let idle = Texts {
         demand: b"region,handle,count\nr3,10/1,0\n",
         ..BASE
     };
     let numbers = Numbers {
-        cost: 0,
-        uses: &[],
         rows: &[0],
-        servers: &[0, 0, 0, 0, 0],
-        hosts: &[],
+        ..NOTHING
     };
-    let instance = instance_of(&rt, alloc, idle);
-    judged(
-        &rt,
-        alloc,
-        &instance,
-        &plan(&rt, alloc, numbers),
-        Verdict::Yes,
-    );
+    is_valid(&rt, rt.alloc(), idle, numbers);
 }
+
+// A best plan of the base with a host that takes 8.
+const HOSTED: Numbers = Numbers {
+    cost: 23,
+    uses: &[(0, 0, 5), (1, 0, 2), (1, 1, 2), (2, 0, 1), (2, 1, 2)],
+    rows: &[4, 4, 5],
+    servers: &[0, 0, 2, 0, 0],
+    hosts: &[3],
+};
+
+const WITH_A_HOST: [(Numbers, Verdict); 3] = [
+    (HOSTED, Verdict::Yes),
+    (
+        Numbers {
+            hosts: &[2],
+            ..HOSTED
+        },
+        Verdict::No(Reason::ArcPrice),
+    ),
+    (BEST, Verdict::No(Reason::Shape)),
+];
 
 #[test]
 fn hosts_have_limits_and_prices(rt: HostRuntime) {
-    let alloc = rt.alloc();
-    let hosted = Texts {
+    let texts = Texts {
         hosts: EIGHT,
         ..BASE
     };
-    let numbers = Numbers {
-        cost: 23,
-        uses: &[(0, 0, 5), (1, 0, 2), (1, 1, 2), (2, 0, 1), (2, 1, 2)],
-        rows: &[4, 4, 5],
-        servers: &[0, 0, 2, 0, 0],
-        hosts: &[3],
-    };
-    let instance = instance_of(&rt, alloc, hosted);
-    let cheaper = Numbers {
-        hosts: &[2],
-        ..numbers
-    };
-    judged(
-        &rt,
-        alloc,
-        &instance,
-        &plan(&rt, alloc, numbers),
-        Verdict::Yes,
-    );
-    judged(
-        &rt,
-        alloc,
-        &instance,
-        &plan(&rt, alloc, cheaper),
-        Verdict::No(Reason::ArcPrice),
-    );
-    judged(
-        &rt,
-        alloc,
-        &instance,
-        &plan(&rt, alloc, BEST),
-        Verdict::No(Reason::Shape),
-    );
+    plans_have(&rt, rt.alloc(), texts, &WITH_A_HOST);
 }
 
 #[test]
 fn a_host_is_counted_once(rt: HostRuntime) {
-    let alloc = rt.alloc();
     let texts = Texts {
         hosts: TWO,
         costs: b"region,site,cost\nr1,E,1\nr2,E,2\n",
         ..BASE
     };
-    let instance = instance_of(&rt, alloc, texts);
-    judged(
-        &rt,
-        alloc,
-        &instance,
-        &shortage(&rt, alloc, &[0, 1, 2], 12, 2),
-        Verdict::Yes,
-    );
-    judged(
-        &rt,
-        alloc,
-        &instance,
-        &shortage(&rt, alloc, &[0, 1, 2], 12, 16),
-        Verdict::No(Reason::CapacitySum),
-    );
+    let cases: [(Set, Verdict); 2] = [
+        ((&[0, 1, 2], 12, 2), Verdict::Yes),
+        ((&[0, 1, 2], 12, 16), Verdict::No(Reason::CapacitySum)),
+    ];
+    sets_have(&rt, rt.alloc(), texts, &cases);
 }
 
 #[test]
 fn handles_of_one_hash_share_a_server(rt: HostRuntime) {
-    let alloc = rt.alloc();
     let texts = Texts {
         demand: b"region,handle,count\nr1,10/a,2\nr1,10/A,3\nr2,10/a,4\n",
         ..BASE
     };
-    let instance = instance_of(&rt, alloc, texts);
     let numbers = Numbers {
         cost: 16,
         uses: &[(0, 0, 2), (1, 0, 3), (2, 0, 1), (2, 1, 3)],
@@ -440,18 +403,11 @@ fn handles_of_one_hash_share_a_server(rt: HostRuntime) {
         servers: &[0, 1, 0, 0, 0],
         hosts: &[],
     };
-    judged(
-        &rt,
-        alloc,
-        &instance,
-        &plan(&rt, alloc, numbers),
-        Verdict::Yes,
-    );
+    is_valid(&rt, rt.alloc(), texts, numbers);
 }
 
 #[test]
 fn the_greatest_sums_are_judged(rt: HostRuntime) {
-    let alloc = rt.alloc();
     let texts = Texts {
         sites: ONE_SERVER,
         demand: TWENTY_ROWS,
@@ -459,7 +415,6 @@ fn the_greatest_sums_are_judged(rt: HostRuntime) {
         capacity: b"site,server_id,capacity\nX,7,20000000\n",
         ..BASE
     };
-    let instance = instance_of(&rt, alloc, texts);
     let numbers = Numbers {
         cost: 20000000000000,
         uses: TWENTY_USES,
@@ -467,13 +422,7 @@ fn the_greatest_sums_are_judged(rt: HostRuntime) {
         servers: &[999999000000],
         hosts: &[],
     };
-    judged(
-        &rt,
-        alloc,
-        &instance,
-        &plan(&rt, alloc, numbers),
-        Verdict::Yes,
-    );
+    is_valid(&rt, rt.alloc(), texts, numbers);
 }
 
 const TWENTY_ROWS: &[u8] =

@@ -3,9 +3,10 @@
 use crate::same::is_same;
 use hsp_cert::{Certificate, UseLine};
 use hsp_check::{Verdict, check};
-use hsp_instance::{Instance, build};
+use hsp_instance::{BuildFault, Instance, build};
 use hsp_tables::{
-    Capacities, Costs, Demand, Settings, read_capacity, read_costs, read_demand, read_settings,
+    Capacities, Costs, Demand, Settings, TableFault, read_capacity, read_costs, read_demand,
+    read_settings,
 };
 use std::alloc::{AllocError, Global};
 use std::process::Abort;
@@ -58,41 +59,82 @@ struct Tables {
     capacity: Capacities,
 }
 
-// None stands for want of memory, and for bad texts, in these four.
-fn tables_of(alloc: Global, texts: Texts<'_>) -> Option<Tables> {
-    let demand = read_demand(alloc, texts.demand).ok()?;
-    let costs = read_costs(alloc, texts.costs).ok()?;
-    let capacity = read_capacity(alloc, texts.capacity).ok()?;
-    Some(Tables {
-        demand,
-        costs,
-        capacity,
-    })
+fn demand_of(rt: &impl Abort, alloc: Global, text: &[u8]) -> Demand {
+    let demand = match read_demand(alloc, text) {
+        Err(TableFault::OutOfMemory) => read_demand(alloc, text),
+        answer => answer,
+    };
+    demand.expect(rt, "the demand is read")
 }
 
-fn settings_of(alloc: Global, texts: Texts<'_>) -> Option<Settings> {
-    let mut text = Vec::from_slice(alloc, texts.sites).ok()?;
-    text.extend_from_slice(texts.hosts).ok()?;
-    read_settings(alloc, text.as_slice()).ok()
+fn costs_of(rt: &impl Abort, alloc: Global, text: &[u8]) -> Costs {
+    let costs = match read_costs(alloc, text) {
+        Err(TableFault::OutOfMemory) => read_costs(alloc, text),
+        answer => answer,
+    };
+    costs.expect(rt, "the costs are read")
 }
 
-fn built_by(alloc: Global, texts: Texts<'_>, tables: &Tables) -> Option<Instance> {
-    let settings = settings_of(alloc, texts)?;
+fn capacity_of(rt: &impl Abort, alloc: Global, text: &[u8]) -> Capacities {
+    let capacity = match read_capacity(alloc, text) {
+        Err(TableFault::OutOfMemory) => read_capacity(alloc, text),
+        answer => answer,
+    };
+    capacity.expect(rt, "the capacities are read")
+}
+
+fn tables_of(rt: &impl Abort, alloc: Global, texts: Texts<'_>) -> Tables {
+    Tables {
+        demand: demand_of(rt, alloc, texts.demand),
+        costs: costs_of(rt, alloc, texts.costs),
+        capacity: capacity_of(rt, alloc, texts.capacity),
+    }
+}
+
+// The text of the settings: the sites, and the hosts behind them.
+fn settings_text(rt: &impl Abort, alloc: Global, texts: Texts<'_>) -> Vec<u8> {
+    match [texts.sites, texts.hosts].concat(alloc) {
+        Ok(text) => text,
+        Err(AllocError) => [texts.sites, texts.hosts]
+            .concat(alloc)
+            .expect(rt, "there is memory"),
+    }
+}
+
+fn settings_in(rt: &impl Abort, alloc: Global, text: &[u8]) -> Settings {
+    let settings = match read_settings(alloc, text) {
+        Err(TableFault::OutOfMemory) => read_settings(alloc, text),
+        answer => answer,
+    };
+    settings.expect(rt, "the settings are read")
+}
+
+fn settings_of(rt: &impl Abort, alloc: Global, texts: Texts<'_>) -> Settings {
+    let text = settings_text(rt, alloc, texts);
+    settings_in(rt, alloc, &text)
+}
+
+fn built(alloc: Global, settings: &Settings, tables: &Tables) -> Result<Instance, BuildFault> {
     let (demand, costs, capacity) = (&tables.demand, &tables.costs, &tables.capacity);
-    build(alloc, &settings, None, demand, costs, capacity).ok()
+    build(alloc, settings, None, demand, costs, capacity)
 }
 
-fn built(alloc: Global, texts: Texts<'_>) -> Option<Instance> {
-    let tables = tables_of(alloc, texts)?;
-    built_by(alloc, texts, &tables)
+fn built_twice(
+    alloc: Global,
+    settings: &Settings,
+    tables: &Tables,
+) -> Result<Instance, BuildFault> {
+    match built(alloc, settings, tables) {
+        Err(BuildFault::OutOfMemory) => built(alloc, settings, tables),
+        answer => answer,
+    }
 }
 
 /// The instance of the texts.
 pub(crate) fn instance_of(rt: &impl Abort, alloc: Global, texts: Texts<'_>) -> Instance {
-    match built(alloc, texts) {
-        Some(instance) => instance,
-        None => built(alloc, texts).expect(rt, "the instance is built"),
-    }
+    let settings = settings_of(rt, alloc, texts);
+    let tables = tables_of(rt, alloc, texts);
+    built_twice(alloc, &settings, &tables).expect(rt, "the instance is built")
 }
 
 /// The numbers of a plan's certificate.
@@ -105,48 +147,59 @@ pub struct Numbers {
     pub hosts: &'static [u64],
 }
 
-// The certificate of a plan, and None where memory ran out or the numbers are out of range.
-fn plan_once(alloc: Global, numbers: Numbers) -> Option<Certificate> {
+fn uses_once(alloc: Global, numbers: &[(u32, u32, u64)]) -> Result<Vec<UseLine>, AllocError> {
     let mut uses = Vec::new(alloc);
-    for (row, site, count) in numbers.uses {
+    for (row, site, count) in numbers {
         uses.push(UseLine {
             row: *row,
             site: *site,
             count: *count,
-        })
-        .ok()?;
+        })?;
     }
-    let rows = Vec::from_slice(alloc, numbers.rows).ok()?;
-    let servers = Vec::from_slice(alloc, numbers.servers).ok()?;
-    let hosts = Vec::from_slice(alloc, numbers.hosts).ok()?;
-    Certificate::best_with_hosts(numbers.cost, uses, rows, servers, hosts)
+    Ok(uses)
+}
+
+fn uses_of(rt: &impl Abort, alloc: Global, numbers: &[(u32, u32, u64)]) -> Vec<UseLine> {
+    match uses_once(alloc, numbers) {
+        Ok(uses) => uses,
+        Err(AllocError) => uses_once(alloc, numbers).expect(rt, "there is memory"),
+    }
+}
+
+fn prices_of(rt: &impl Abort, alloc: Global, prices: &[u64]) -> Vec<u64> {
+    match Vec::from_slice(alloc, prices) {
+        Ok(prices) => prices,
+        Err(AllocError) => Vec::from_slice(alloc, prices).expect(rt, "there is memory"),
+    }
 }
 
 /// The certificate of a plan.
 pub(crate) fn plan(rt: &impl Abort, alloc: Global, numbers: Numbers) -> Certificate {
-    match plan_once(alloc, numbers) {
-        Some(certificate) => certificate,
-        None => plan_once(alloc, numbers).expect(rt, "the plan is in order"),
-    }
+    let made = Certificate::best_with_hosts(
+        numbers.cost,
+        uses_of(rt, alloc, numbers.uses),
+        prices_of(rt, alloc, numbers.rows),
+        prices_of(rt, alloc, numbers.servers),
+        prices_of(rt, alloc, numbers.hosts),
+    );
+    made.expect(rt, "the plan is in order")
 }
 
-// The certificate of a short set, and None where memory ran out or the numbers are out of range.
-fn shortage_once(alloc: Global, rows: &[u32], demand: u64, capacity: u64) -> Option<Certificate> {
-    Certificate::short(Vec::from_slice(alloc, rows).ok()?, demand, capacity)
+/// The rows, demand and capacity of a short set.
+pub type Set = (&'static [u32], u64, u64);
+
+fn rows_of(rt: &impl Abort, alloc: Global, rows: &[u32]) -> Vec<u32> {
+    match Vec::from_slice(alloc, rows) {
+        Ok(rows) => rows,
+        Err(AllocError) => Vec::from_slice(alloc, rows).expect(rt, "there is memory"),
+    }
 }
 
 /// The certificate of a short set.
-pub(crate) fn shortage(
-    rt: &impl Abort,
-    alloc: Global,
-    rows: &[u32],
-    demand: u64,
-    capacity: u64,
-) -> Certificate {
-    match shortage_once(alloc, rows, demand, capacity) {
-        Some(certificate) => certificate,
-        None => shortage_once(alloc, rows, demand, capacity).expect(rt, "the set is in order"),
-    }
+pub(crate) fn shortage(rt: &impl Abort, alloc: Global, set: Set) -> Certificate {
+    let (rows, demand, capacity) = set;
+    let made = Certificate::short(rows_of(rt, alloc, rows), demand, capacity);
+    made.expect(rt, "the set is in order")
 }
 
 /// The certificate has this verdict.

@@ -2,23 +2,33 @@
 
 ghost use Rattle.std.specs.Prelude.{ℕ, ⊤, None, slice_index_or, vec_len};
 
-use crate::inputs::{BASE, EIGHT, MOST, ONE_SERVER, TWO_SITES_OF_ONE, Texts, instance_of, judged};
+use crate::inputs::{
+    BASE, EIGHT, MOST, ONE_SERVER, Set, TWO_SITES_OF_ONE, Texts, instance_of, judged,
+};
 use crate::same::is_same;
 use hsp_cert::{Certificate, UseLine};
 use hsp_check::Verdict;
 use hsp_flow::{Effort, Frontier, HeapFrontier, ScanFrontier, solve, solve_counted, solve_with};
+use hsp_instance::Instance;
 use std::alloc::{AllocError, Global};
 use std::process::Abort;
 
-// The planner's certificate over a frontier, which the checker finds valid.
+// The planner's certificate over a frontier, once more where a growth was refused.
+fn planned_twice<F: Frontier>(rt: &impl Abort, alloc: Global, instance: &Instance) -> Certificate
+    requires { (nodes : ℕ) → F.may_have nodes }
+{
+    match solve_with::<F>(alloc, instance) {
+        Ok(certificate) => certificate,
+        Err(AllocError) => solve_with::<F>(alloc, instance).expect(rt, "there is memory"),
+    }
+}
+
+// The same, which the checker finds valid.
 pub(crate) fn planned<F: Frontier>(rt: &impl Abort, alloc: Global, texts: Texts<'_>) -> Certificate
     requires { (nodes : ℕ) → F.may_have nodes }
 {
     let instance = instance_of(rt, alloc, texts);
-    let certificate = match solve_with::<F>(alloc, &instance) {
-        Ok(certificate) => certificate,
-        Err(AllocError) => solve_with::<F>(alloc, &instance).expect(rt, "there is memory"),
-    };
+    let certificate = planned_twice::<F>(rt, alloc, &instance);
     judged(rt, alloc, &instance, &certificate, Verdict::Yes);
     certificate
 }
@@ -37,16 +47,25 @@ pub(crate) fn is_plan(
     }
 }
 
-// Both frontiers give a plan of this cost and, where they are told, these uses.
-fn plans(rt: &impl Abort, alloc: Global, texts: Texts<'_>, cost: u64, uses: Option<&[UseLine]>) {
-    let scanned = planned::<ScanFrontier>(rt, alloc, texts);
-    is_plan(rt, &scanned, cost, uses);
-    let heaped = planned::<HeapFrontier>(rt, alloc, texts);
-    is_plan(rt, &heaped, cost, uses);
+// The frontier gives a plan of this cost and, where they are told, these uses.
+pub(crate) fn plans_over<F: Frontier>(
+    rt: &impl Abort,
+    alloc: Global,
+    texts: Texts<'_>,
+    cost: u64,
+    uses: Option<&[UseLine]>,
+)
+    requires { (nodes : ℕ) → F.may_have nodes }
+{
+    let certificate = planned::<F>(rt, alloc, texts);
+    is_plan(rt, &certificate, cost, uses);
 }
 
-// The rows, demand and capacity of a short set.
-type Set = (&'static [u32], u64, u64);
+// Both frontiers give a plan of this cost and, where they are told, these uses.
+fn plans(rt: &impl Abort, alloc: Global, texts: Texts<'_>, cost: u64, uses: Option<&[UseLine]>) {
+    plans_over::<ScanFrontier>(rt, alloc, texts, cost, uses);
+    plans_over::<HeapFrontier>(rt, alloc, texts, cost, uses);
+}
 
 // The certificate is that of this short set.
 fn is_short(rt: &impl Abort, certificate: &Certificate, wanted: Set) {
@@ -54,12 +73,18 @@ fn is_short(rt: &impl Abort, certificate: &Certificate, wanted: Set) {
     is_same(rt, (short.rows(), short.demand(), short.capacity()), wanted);
 }
 
+// The frontier gives this short set.
+fn falls_short_over<F: Frontier>(rt: &impl Abort, alloc: Global, texts: Texts<'_>, wanted: Set)
+    requires { (nodes : ℕ) → F.may_have nodes }
+{
+    let certificate = planned::<F>(rt, alloc, texts);
+    is_short(rt, &certificate, wanted);
+}
+
 // Both frontiers give this short set.
 fn falls_short(rt: &impl Abort, alloc: Global, texts: Texts<'_>, wanted: Set) {
-    let scanned = planned::<ScanFrontier>(rt, alloc, texts);
-    is_short(rt, &scanned, wanted);
-    let heaped = planned::<HeapFrontier>(rt, alloc, texts);
-    is_short(rt, &heaped, wanted);
+    falls_short_over::<ScanFrontier>(rt, alloc, texts, wanted);
+    falls_short_over::<HeapFrontier>(rt, alloc, texts, wanted);
 }
 
 const fn used(row: u32, site: u32, count: u64) -> UseLine {
@@ -208,6 +233,13 @@ impl Frontier for Narrow {
     }
 }
 
+// The certificate is that of a plan of this cost and of so many uses.
+fn has_uses(rt: &impl Abort, certificate: &Certificate, cost: u64, many: usize) {
+    let best = certificate.as_best().expect(rt, "a plan came");
+    is_same(rt, best.cost(), cost);
+    is_same(rt, best.uses().len(), many);
+}
+
 // One row is no wider than twenty of its region at one server: a group, the server and the sink.
 #[test]
 fn rows_of_one_kind_are_one_node(rt: HostRuntime) {
@@ -219,20 +251,23 @@ fn rows_of_one_kind_are_one_node(rt: HostRuntime) {
         ..BASE
     };
     let certificate = planned::<Narrow>(&rt, rt.alloc(), texts);
-    let best = certificate.as_best().expect(&rt, "a plan came");
-    is_same(&rt, best.cost(), 20);
-    assert!(rt; best.uses().len() == 20);
+    has_uses(&rt, &certificate, 20, 20);
 }
 
-// How many searches the loop begins for the instance of the texts.
-fn searches(rt: &impl Abort, alloc: Global, texts: Texts<'_>) -> u64 {
-    let instance = instance_of(rt, alloc, texts);
+// How many searches the loop begins for the instance.
+fn searches_for(rt: &impl Abort, alloc: Global, instance: &Instance) -> u64 {
     let mut effort = Effort::default();
-    if solve_counted::<ScanFrontier>(alloc, &instance, &mut effort).is_err() {
+    if solve_counted::<ScanFrontier>(alloc, instance, &mut effort).is_err() {
         effort = Effort::default();
-        solve_counted::<ScanFrontier>(alloc, &instance, &mut effort).expect(rt, "there is memory");
+        solve_counted::<ScanFrontier>(alloc, instance, &mut effort).expect(rt, "there is memory");
     }
     effort.searching.searches
+}
+
+// The loop begins so many searches for the instance of the texts.
+fn takes_searches(rt: &impl Abort, alloc: Global, texts: Texts<'_>, wanted: u64) {
+    let instance = instance_of(rt, alloc, texts);
+    is_same(rt, searches_for(rt, alloc, &instance), wanted);
 }
 
 // Two sites of a server each, and two rows of one kind beside another.
@@ -249,9 +284,8 @@ const TWO_KINDS: Texts<'static> = Texts {
 #[test]
 fn kinds_of_rows_are_searched_from(rt: HostRuntime) {
     let uses = [used(0, 0, 5), used(1, 0, 1), used(1, 1, 3), used(2, 1, 3)];
-    let certificate = planned::<ScanFrontier>(&rt, rt.alloc(), TWO_KINDS);
-    is_plan(&rt, &certificate, 15, Some(&uses));
-    is_same(&rt, searches(&rt, rt.alloc(), TWO_KINDS), 3);
+    plans_over::<ScanFrontier>(&rt, rt.alloc(), TWO_KINDS, 15, Some(&uses));
+    takes_searches(&rt, rt.alloc(), TWO_KINDS, 3);
 }
 
 // With 5 at Y the second kind gets 2, and its last search finds no way.
@@ -261,16 +295,15 @@ fn kinds_of_rows_fall_short(rt: HostRuntime) {
         capacity: b"site,server_id,capacity\nX,7,6\nY,7,5\n",
         ..TWO_KINDS
     };
-    let certificate = planned::<ScanFrontier>(&rt, rt.alloc(), texts);
-    is_short(&rt, &certificate, (&[0, 1, 2], 12, 11));
-    is_same(&rt, searches(&rt, rt.alloc(), texts), 4);
+    falls_short_over::<ScanFrontier>(&rt, rt.alloc(), texts, (&[0, 1, 2], 12, 11));
+    takes_searches(&rt, rt.alloc(), texts, 4);
 }
 
 #[test]
 fn a_frontier_that_refuses_is_want_of_memory(rt: HostRuntime) {
-    let alloc = rt.alloc();
-    let base = instance_of(&rt, alloc, BASE);
-    assert!(rt; solve_with::<Narrow>(alloc, &base).is_err());
+    let base = instance_of(&rt, rt.alloc(), BASE);
+    let is_refused = solve_with::<Narrow>(rt.alloc(), &base).is_err();
+    assert!(rt; is_refused);
 }
 
 const TWENTY_ROWS_OF_ONE: &[u8] =
@@ -288,19 +321,29 @@ fn one_server_takes_all(rt: HostRuntime) {
     plans(&rt, rt.alloc(), texts, 20, None);
 }
 
-// The planner's own certificate, which the checker finds valid.
-pub(crate) fn solved(rt: &impl Abort, alloc: Global, texts: Texts<'_>) -> Certificate {
-    let instance = instance_of(rt, alloc, texts);
-    let certificate = match solve(alloc, &instance) {
+// The planner's own certificate, once more where a growth was refused.
+fn solved_twice(rt: &impl Abort, alloc: Global, instance: &Instance) -> Certificate {
+    match solve(alloc, instance) {
         Ok(certificate) => certificate,
-        Err(AllocError) => solve(alloc, &instance).expect(rt, "there is memory"),
-    };
-    judged(rt, alloc, &instance, &certificate, Verdict::Yes);
+        Err(AllocError) => solve(alloc, instance).expect(rt, "there is memory"),
+    }
+}
+
+// The same, which the checker finds valid.
+pub(crate) fn solved(rt: &impl Abort, alloc: Global, instance: &Instance) -> Certificate {
+    let certificate = solved_twice(rt, alloc, instance);
+    judged(rt, alloc, instance, &certificate, Verdict::Yes);
     certificate
+}
+
+// The planner's own certificate is that of a plan of this cost.
+pub(crate) fn is_solved(rt: &impl Abort, alloc: Global, texts: Texts<'_>, cost: u64) {
+    let instance = instance_of(rt, alloc, texts);
+    let certificate = solved(rt, alloc, &instance);
+    is_plan(rt, &certificate, cost, None);
 }
 
 #[test]
 fn the_planner_takes_the_heap(rt: HostRuntime) {
-    let certificate = solved(&rt, rt.alloc(), BASE);
-    is_plan(&rt, &certificate, 17, None);
+    is_solved(&rt, rt.alloc(), BASE, 17);
 }
