@@ -1,10 +1,11 @@
-ghost use Rattle.std.specs.Prelude.{◌≡◌, IfOk, OnOk};
+ghost use Rattle.std.specs.Prelude.{◌≡◌};
 ghost use Rattle.hsp_check.specs.declared.verdict.Verdict.TheVariants.{Yes};
 ghost use Rattle.hsp_check.specs.Instance.{network_of};
 ghost use Rattle.hsp_check.specs.Valid.{IsValid};
 ghost use Rattle.hsp_report.specs.Conditions.{IsPlanFor, IsShortageFor};
 
 use crate::building::instance_by;
+use crate::same::is_same;
 use hsp_cert::{Certificate, UseLine};
 use hsp_check::{Verdict, check};
 use hsp_instance::Instance;
@@ -12,7 +13,6 @@ use hsp_report::*;
 use hsp_text::push_whole;
 use std::alloc::{AllocError, Global};
 use std::process::Abort;
-use std::test::Fail;
 
 // The texts of an instance; the hosts stand behind the sites in the settings.
 #[derive(Clone, Copy)]
@@ -71,16 +71,16 @@ const LONG: Texts<'static> = Texts {
 
 // The instance of the texts, and None where memory ran out or the texts are bad.
 fn instance_of(alloc: Global, texts: Texts<'_>) -> Option<Instance> {
-    let mut settings = Vec::from_slice(alloc, texts.sites).ok()?;
-    settings.extend_from_slice(texts.hosts).ok()?;
+    let settings = [texts.sites, texts.hosts].concat(alloc).ok()?;
     instance_by(alloc, &settings, texts.demand, texts.costs, texts.capacity)
 }
 
-// The same. Where a growth is refused, the second building finds memory: so the answers below are insisted on.
-fn instance_twice(alloc: Global, texts: Texts<'_>) -> Result<Instance, Fail> {
+// The same. Where a growth is refused, the second building finds memory: so the answers below are
+// insisted on.
+fn held_instance(rt: &impl Abort, alloc: Global, texts: Texts<'_>) -> Instance {
     match instance_of(alloc, texts) {
-        Some(instance) => Ok(instance),
-        None => Ok(instance_of(alloc, texts).ok_or("an instance")?),
+        Some(instance) => instance,
+        None => instance_of(alloc, texts).expect(rt, "the instance is built"),
     }
 }
 
@@ -130,384 +130,427 @@ const LONG_PLAN: Numbers = Numbers {
     hosts: &[],
 };
 
-// The certificate of a plan.
-fn plan_of(alloc: Global, numbers: Numbers) -> Option<Certificate> {
+// The uses of a plan.
+fn uses_once(alloc: Global, numbers: Numbers) -> Result<Vec<UseLine>, AllocError> {
     let mut uses = Vec::new(alloc);
     for (row, site, count) in numbers.uses {
         uses.push(UseLine {
             row: *row,
             site: *site,
             count: *count,
-        })
-        .ok()?;
+        })?;
     }
-    let rows = Vec::from_slice(alloc, numbers.rows).ok()?;
-    let servers = Vec::from_slice(alloc, numbers.servers).ok()?;
-    let hosts = Vec::from_slice(alloc, numbers.hosts).ok()?;
-    Certificate::best_with_hosts(numbers.cost, uses, rows, servers, hosts)
+    Ok(uses)
 }
 
-fn plan_twice(alloc: Global, numbers: Numbers) -> Result<Certificate, Fail> {
-    match plan_of(alloc, numbers) {
-        Some(certificate) => Ok(certificate),
-        None => Ok(plan_of(alloc, numbers).ok_or("a plan")?),
+// The same, once more where a growth was refused.
+fn held_uses(rt: &impl Abort, alloc: Global, numbers: Numbers) -> Vec<UseLine> {
+    match uses_once(alloc, numbers) {
+        Ok(uses) => uses,
+        Err(AllocError) => uses_once(alloc, numbers).expect(rt, "there is memory"),
     }
 }
 
-// The certificate of twenty rows at one server, all at the greatest cost and price.
-fn wide_plan(alloc: Global) -> Option<Certificate> {
-    let mut uses = Vec::new(alloc);
-    for row in 0..20 {
-        uses.push(UseLine {
-            row,
-            site: 0,
-            count: 1_000_000,
-        })
-        .ok()?;
+// These prices, once more where a growth was refused.
+fn held_prices(rt: &impl Abort, alloc: Global, prices: &[u64]) -> Vec<u64> {
+    match Vec::from_slice(alloc, prices) {
+        Ok(prices) => prices,
+        Err(AllocError) => Vec::from_slice(alloc, prices).expect(rt, "there is memory"),
     }
-    let rows = vec![in alloc; 1_000_000_000_000; 20].ok()?;
-    let servers = Vec::from_slice(alloc, &[999_999_000_000]).ok()?;
-    Certificate::best(20_000_000_000_000, uses, rows, servers)
 }
 
-fn wide_twice(alloc: Global) -> Result<Certificate, Fail> {
-    match wide_plan(alloc) {
-        Some(certificate) => Ok(certificate),
-        None => Ok(wide_plan(alloc).ok_or("a plan")?),
-    }
+// The certificate of a plan.
+fn plan_of(rt: &impl Abort, alloc: Global, numbers: Numbers) -> Certificate {
+    let rows = held_prices(rt, alloc, numbers.rows);
+    let servers = held_prices(rt, alloc, numbers.servers);
+    let hosts = held_prices(rt, alloc, numbers.hosts);
+    let uses = held_uses(rt, alloc, numbers);
+    let plan = Certificate::best_with_hosts(numbers.cost, uses, rows, servers, hosts);
+    plan.expect(rt, "the plan is in order")
 }
+
+// A plan of rows that all ask one server, for as many queries and at the same price.
+#[derive(Clone, Copy)]
+struct Alike {
+    cost: u64,
+    rows: u32,
+    count: u64,
+    row_price: u64,
+    server_price: u64,
+}
+
+// Twenty rows, all at the greatest cost and price.
+const WIDE_PLAN: Alike = Alike {
+    cost: 20_000_000_000_000,
+    rows: 20,
+    count: 1_000_000,
+    row_price: 1_000_000_000_000,
+    server_price: 999_999_000_000,
+};
 
 // Rows of one query each, which all ask the one server.
 const MANY: u32 = 5000;
 
-// The demand of these rows.
+// The plan of these rows.
+const PLAN_OF_MANY: Alike = Alike {
+    cost: 5000,
+    rows: MANY,
+    count: 1,
+    row_price: 1,
+    server_price: 0,
+};
+
+// The uses of such a plan.
+fn alike_uses_once(alloc: Global, alike: Alike) -> Result<Vec<UseLine>, AllocError> {
+    let mut uses = Vec::new(alloc);
+    for row in 0..alike.rows {
+        uses.push(UseLine {
+            row,
+            site: 0,
+            count: alike.count,
+        })?;
+    }
+    Ok(uses)
+}
+
+// The same, once more where a growth was refused.
+fn alike_uses(rt: &impl Abort, alloc: Global, alike: Alike) -> Vec<UseLine> {
+    match alike_uses_once(alloc, alike) {
+        Ok(uses) => uses,
+        Err(AllocError) => alike_uses_once(alloc, alike).expect(rt, "there is memory"),
+    }
+}
+
+// The prices of its rows.
+fn alike_prices_once(alloc: Global, alike: Alike) -> Result<Vec<u64>, AllocError> {
+    vec![in alloc; alike.row_price; alike.rows as usize]
+}
+
+// The same, once more where a growth was refused.
+fn alike_prices(rt: &impl Abort, alloc: Global, alike: Alike) -> Vec<u64> {
+    match alike_prices_once(alloc, alike) {
+        Ok(prices) => prices,
+        Err(AllocError) => alike_prices_once(alloc, alike).expect(rt, "there is memory"),
+    }
+}
+
+// Its certificate.
+fn alike_plan(rt: &impl Abort, alloc: Global, alike: Alike) -> Certificate {
+    let servers = held_prices(rt, alloc, &[alike.server_price]);
+    let rows = alike_prices(rt, alloc, alike);
+    let uses = alike_uses(rt, alloc, alike);
+    Certificate::best(alike.cost, uses, rows, servers).expect(rt, "the plan is in order")
+}
+
+// Adds a row of one query to the demand.
+fn push_row(text: &mut Vec<u8>, row: u32) -> Result<(), AllocError> {
+    text.extend_from_slice(b"r1,10/")?;
+    push_whole(text, u64::from(row))?;
+    text.extend_from_slice(b",1\n")
+}
+
+// The demand of many rows.
 fn many_once(alloc: Global) -> Result<Vec<u8>, AllocError> {
     let mut text = Vec::from_slice(alloc, b"region,handle,count\n")?;
     for row in 0..MANY {
-        text.extend_from_slice(b"r1,10/")?;
-        push_whole(&mut text, u64::from(row))?;
-        text.extend_from_slice(b",1\n")?;
+        push_row(&mut text, row)?;
     }
     Ok(text)
 }
 
-fn many_twice(alloc: Global) -> Result<Vec<u8>, AllocError> {
+// The same, once more where a growth was refused.
+fn held_many(rt: &impl Abort, alloc: Global) -> Vec<u8> {
     match many_once(alloc) {
-        Err(AllocError) => many_once(alloc),
-        text => text,
+        Ok(text) => text,
+        Err(AllocError) => many_once(alloc).expect(rt, "there is memory"),
     }
 }
 
-// The server, which can take so many.
-fn with_room<'a>(demand: &'a [u8], capacity: &'a [u8]) -> Texts<'a> {
-    Texts {
-        demand,
+// The instance of these rows, with what the server can take in a table of capacities.
+fn instance_of_many(rt: &impl Abort, alloc: Global, capacity: &[u8]) -> Instance {
+    let demand = held_many(rt, alloc);
+    let texts = Texts {
+        demand: &demand,
         costs: b"region,site,cost\nr1,X,1\n",
         capacity,
         ..WIDE
-    }
+    };
+    held_instance(rt, alloc, texts)
 }
 
-// The plan of these rows.
-fn plan_of_many(alloc: Global) -> Option<Certificate> {
-    let mut uses = Vec::new(alloc);
-    for row in 0..MANY {
-        uses.push(UseLine {
-            row,
-            site: 0,
-            count: 1,
-        })
-        .ok()?;
-    }
-    let rows = vec![in alloc; 1; MANY as usize].ok()?;
-    let servers = Vec::from_slice(alloc, &[0]).ok()?;
-    Certificate::best(u64::from(MANY), uses, rows, servers)
-}
-
-fn plan_of_many_twice(alloc: Global) -> Result<Certificate, Fail> {
-    match plan_of_many(alloc) {
-        Some(certificate) => Ok(certificate),
-        None => Ok(plan_of_many(alloc).ok_or("a plan")?),
-    }
-}
-
-// The set of these rows, which is short by one query.
-fn short_of_one(alloc: Global) -> Option<Certificate> {
+// The rows from one on up to another.
+fn rows_once(alloc: Global, first: u32, end: u32) -> Result<Vec<u32>, AllocError> {
     let mut rows = Vec::new(alloc);
-    for row in 0..MANY {
-        rows.push(row).ok()?;
+    for row in first..end {
+        rows.push(row)?;
     }
-    Certificate::short(rows, u64::from(MANY), u64::from(MANY) - 1)
+    Ok(rows)
 }
 
-fn short_of_one_twice(alloc: Global) -> Result<Certificate, Fail> {
-    match short_of_one(alloc) {
-        Some(certificate) => Ok(certificate),
-        None => Ok(short_of_one(alloc).ok_or("a short set")?),
+// The same, once more where a growth was refused.
+fn held_rows(rt: &impl Abort, alloc: Global, first: u32, end: u32) -> Vec<u32> {
+    match rows_once(alloc, first, end) {
+        Ok(rows) => rows,
+        Err(AllocError) => rows_once(alloc, first, end).expect(rt, "there is memory"),
     }
 }
 
 // The certificate of the third row of the base.
-fn short_set(alloc: Global) -> Option<Certificate> {
-    Certificate::short(Vec::from_slice(alloc, &[2]).ok()?, 9, 8)
+fn short_set(rt: &impl Abort, alloc: Global) -> Certificate {
+    let rows = held_rows(rt, alloc, 2, 3);
+    Certificate::short(rows, 9, 8).expect(rt, "the set is in order")
 }
 
-fn short_twice(alloc: Global) -> Result<Certificate, Fail> {
-    match short_set(alloc) {
-        Some(certificate) => Ok(certificate),
-        None => Ok(short_set(alloc).ok_or("a short set")?),
-    }
+// The certificate of all of many rows, which are short by one query.
+fn short_of_one(rt: &impl Abort, alloc: Global) -> Certificate {
+    let rows = held_rows(rt, alloc, 0, MANY);
+    Certificate::short(rows, u64::from(MANY), u64::from(MANY) - 1).expect(rt, "the set is in order")
 }
 
 // The checker's verdict.
-fn verdict_twice(
+fn verdict_of(
+    rt: &impl Abort,
     alloc: Global,
     instance: &Instance,
     certificate: &Certificate,
-) -> Result<Verdict, AllocError>
-    ensures { IfOk result
-        (λ verdict. verdict ≡ Yes → IsValid (network_of instance.now) certificate.now) }
+) -> Verdict
+    ensures { result ≡ Yes → IsValid (network_of instance.now) certificate.now }
 {
     match check(alloc, instance, certificate) {
-        Err(AllocError) => check(alloc, instance, certificate),
-        answer => answer,
+        Ok(verdict) => verdict,
+        Err(AllocError) => check(alloc, instance, certificate).expect(rt, "there is memory"),
     }
 }
 
 // The certificate is that of a plan that the checker finds valid.
-fn is_plan(
-    rt: &impl Abort,
-    alloc: Global,
-    instance: &Instance,
-    certificate: &Certificate,
-) -> Result<(), Fail>
-    ensures { OnOk result (IsPlanFor instance.now certificate.now) }
+fn is_plan(rt: &impl Abort, alloc: Global, instance: &Instance, certificate: &Certificate)
+    ensures { IsPlanFor instance.now certificate.now }
 {
-    let verdict = verdict_twice(alloc, instance, certificate)?;
+    let verdict = verdict_of(rt, alloc, instance, certificate);
     assert!(rt; verdict == Verdict::Yes);
     assert!(rt; certificate.as_best().is_some());
-    Ok(())
 }
 
 // The certificate is that of a short set that the checker finds valid.
-fn is_shortage(
-    rt: &impl Abort,
-    alloc: Global,
-    instance: &Instance,
-    certificate: &Certificate,
-) -> Result<(), Fail>
-    ensures { OnOk result (IsShortageFor instance.now certificate.now) }
+fn is_shortage(rt: &impl Abort, alloc: Global, instance: &Instance, certificate: &Certificate)
+    ensures { IsShortageFor instance.now certificate.now }
 {
-    let verdict = verdict_twice(alloc, instance, certificate)?;
+    let verdict = verdict_of(rt, alloc, instance, certificate);
     assert!(rt; verdict == Verdict::Yes);
     assert!(rt; certificate.as_short().is_some());
-    Ok(())
 }
 
 // The report of loads of a plan.
-fn loads_in(
-    rt: &impl Abort,
-    alloc: Global,
-    instance: &Instance,
-    certificate: &Certificate,
-) -> Result<Vec<u8>, Fail> {
-    is_plan(rt, alloc, instance, certificate)?;
-    match load_report(alloc, instance, certificate) {
-        Ok(text) => Ok(text),
-        Err(AllocError) => Ok(load_report(alloc, instance, certificate)?),
-    }
-}
-
-// The same, of the instance of texts.
 fn loads_of(
     rt: &impl Abort,
     alloc: Global,
-    texts: Texts<'_>,
+    instance: &Instance,
     certificate: &Certificate,
-) -> Result<Vec<u8>, Fail> {
-    let instance = instance_twice(alloc, texts)?;
-    loads_in(rt, alloc, &instance, certificate)
+) -> Vec<u8> {
+    is_plan(rt, alloc, instance, certificate);
+    match load_report(alloc, instance, certificate) {
+        Ok(text) => text,
+        Err(AllocError) => load_report(alloc, instance, certificate).expect(rt, "there is memory"),
+    }
+}
+
+// It is the wanted one.
+fn loads_are(
+    rt: &impl Abort,
+    alloc: Global,
+    instance: &Instance,
+    certificate: &Certificate,
+    wanted: &[u8],
+) {
+    let text = loads_of(rt, alloc, instance, certificate);
+    is_same(rt, text.as_slice(), wanted);
 }
 
 // The report of regions of a plan.
-fn regions_in(
-    rt: &impl Abort,
-    alloc: Global,
-    instance: &Instance,
-    certificate: &Certificate,
-) -> Result<Vec<u8>, Fail> {
-    is_plan(rt, alloc, instance, certificate)?;
-    match region_report(alloc, instance, certificate) {
-        Ok(text) => Ok(text),
-        Err(AllocError) => Ok(region_report(alloc, instance, certificate)?),
-    }
-}
-
-// The same, of the instance of texts.
 fn regions_of(
     rt: &impl Abort,
     alloc: Global,
-    texts: Texts<'_>,
+    instance: &Instance,
     certificate: &Certificate,
-) -> Result<Vec<u8>, Fail> {
-    let instance = instance_twice(alloc, texts)?;
-    regions_in(rt, alloc, &instance, certificate)
+) -> Vec<u8> {
+    is_plan(rt, alloc, instance, certificate);
+    match region_report(alloc, instance, certificate) {
+        Ok(text) => text,
+        Err(AllocError) => {
+            region_report(alloc, instance, certificate).expect(rt, "there is memory")
+        }
+    }
 }
 
-// The report of a short set.
-fn shortage_in(
+// It is the wanted one.
+fn regions_are(
     rt: &impl Abort,
     alloc: Global,
     instance: &Instance,
     certificate: &Certificate,
-) -> Result<Vec<u8>, Fail> {
-    is_shortage(rt, alloc, instance, certificate)?;
-    match shortage_report(alloc, instance, certificate) {
-        Ok(text) => Ok(text),
-        Err(AllocError) => Ok(shortage_report(alloc, instance, certificate)?),
-    }
+    wanted: &[u8],
+) {
+    let text = regions_of(rt, alloc, instance, certificate);
+    is_same(rt, text.as_slice(), wanted);
 }
 
-// The same, of the instance of texts.
+// The report of a short set.
 fn shortage_of(
     rt: &impl Abort,
     alloc: Global,
-    texts: Texts<'_>,
+    instance: &Instance,
     certificate: &Certificate,
-) -> Result<Vec<u8>, Fail> {
-    let instance = instance_twice(alloc, texts)?;
-    shortage_in(rt, alloc, &instance, certificate)
+) -> Vec<u8> {
+    is_shortage(rt, alloc, instance, certificate);
+    match shortage_report(alloc, instance, certificate) {
+        Ok(text) => text,
+        Err(AllocError) => {
+            shortage_report(alloc, instance, certificate).expect(rt, "there is memory")
+        }
+    }
 }
 
-// The text is the wanted one.
-fn is_text(rt: &impl Abort, text: &[u8], wanted: &[u8]) {
-    assert!(rt; text == wanted, "{text:?}");
+// It is the wanted one.
+fn shortage_is(
+    rt: &impl Abort,
+    alloc: Global,
+    instance: &Instance,
+    certificate: &Certificate,
+    wanted: &[u8],
+) {
+    let text = shortage_of(rt, alloc, instance, certificate);
+    is_same(rt, text.as_slice(), wanted);
 }
 
 #[test]
-fn loads_of_the_base_are_told(rt: HostRuntime) -> Result<(), Fail> {
-    let certificate = plan_twice(rt.alloc(), BEST)?;
-    let text = loads_of(&rt, rt.alloc(), BASE, &certificate)?;
-    is_text(
+fn loads_of_the_base_are_told(rt: HostRuntime) {
+    let certificate = plan_of(&rt, rt.alloc(), BEST);
+    let instance = held_instance(&rt, rt.alloc(), BASE);
+    loads_are(
         &rt,
-        &text,
+        rt.alloc(),
+        &instance,
+        &certificate,
         b"place     server       load   capacity         price site\n    0          7          4         10             0 E\n    1          3          6          6             1 E\n    0          1          2          2             0 W\n    1          2          0         10             0 W\n    2          9          0         10             0 W\nbound 23 - 6 = 17\n",
     );
-    Ok(())
 }
 
 #[test]
-fn regions_of_the_base_are_told(rt: HostRuntime) -> Result<(), Fail> {
-    let certificate = plan_twice(rt.alloc(), BEST)?;
-    let text = regions_of(&rt, rt.alloc(), BASE, &certificate)?;
-    is_text(
+fn regions_of_the_base_are_told(rt: HostRuntime) {
+    let certificate = plan_of(&rt, rt.alloc(), BEST);
+    let instance = held_instance(&rt, rt.alloc(), BASE);
+    regions_are(
         &rt,
-        &text,
+        rt.alloc(),
+        &instance,
+        &certificate,
         b"    demand             cost region\n         9                9 r1\n         3                8 r2\ntotal 12 17\n",
     );
-    Ok(())
 }
 
 #[test]
-fn a_shortage_is_told(rt: HostRuntime) -> Result<(), Fail> {
-    let certificate = short_twice(rt.alloc())?;
-    let text = shortage_of(&rt, rt.alloc(), SHORT, &certificate)?;
-    is_text(
+fn a_shortage_is_told(rt: HostRuntime) {
+    let certificate = short_set(&rt, rt.alloc());
+    let instance = held_instance(&rt, rt.alloc(), SHORT);
+    shortage_is(
         &rt,
-        &text,
+        rt.alloc(),
+        &instance,
+        &certificate,
         b"short 9 - 8 = 1\n row   count region\n   2       9 r2\nplace     server   capacity site\n    1          3          6 E\n    0          1          2 W\n",
     );
-    Ok(())
 }
 
 #[test]
-fn nothing_is_told_of_no_demand(rt: HostRuntime) -> Result<(), Fail> {
-    let certificate = plan_twice(rt.alloc(), EMPTY)?;
-    let loads = loads_of(&rt, rt.alloc(), IDLE, &certificate)?;
-    is_text(
+fn nothing_is_told_of_no_demand(rt: HostRuntime) {
+    let certificate = plan_of(&rt, rt.alloc(), EMPTY);
+    let instance = held_instance(&rt, rt.alloc(), IDLE);
+    loads_are(
         &rt,
-        &loads,
+        rt.alloc(),
+        &instance,
+        &certificate,
         b"place     server       load   capacity         price site\n    0          7          0         10             0 E\n    1          3          0          6             0 E\n    0          1          0          2             0 W\n    1          2          0         10             0 W\n    2          9          0         10             0 W\nbound 0 - 0 = 0\n",
     );
-    let regions = regions_of(&rt, rt.alloc(), IDLE, &certificate)?;
-    is_text(
+    regions_are(
         &rt,
-        &regions,
+        rt.alloc(),
+        &instance,
+        &certificate,
         b"    demand             cost region\ntotal 0 0\n",
     );
-    Ok(())
 }
 
 #[test]
-fn a_host_counts_in_the_bound(rt: HostRuntime) -> Result<(), Fail> {
-    let certificate = plan_twice(rt.alloc(), BEST_HOSTED)?;
-    let text = loads_of(&rt, rt.alloc(), HOSTED, &certificate)?;
+fn a_host_counts_in_the_bound(rt: HostRuntime) {
+    let certificate = plan_of(&rt, rt.alloc(), BEST_HOSTED);
+    let instance = held_instance(&rt, rt.alloc(), HOSTED);
+    let text = loads_of(&rt, rt.alloc(), &instance, &certificate);
     assert!(rt; text.ends_with(b"\nbound 51 - 28 = 23\n"), "{text:?}");
-    Ok(())
 }
 
 #[test]
-fn sums_may_be_wider_than_64_bits(rt: HostRuntime) -> Result<(), Fail> {
-    let certificate = wide_twice(rt.alloc())?;
-    let text = loads_of(&rt, rt.alloc(), WIDE, &certificate)?;
-    is_text(
+fn sums_may_be_wider_than_64_bits(rt: HostRuntime) {
+    let certificate = alike_plan(&rt, rt.alloc(), WIDE_PLAN);
+    let instance = held_instance(&rt, rt.alloc(), WIDE);
+    loads_are(
         &rt,
-        &text,
+        rt.alloc(),
+        &instance,
+        &certificate,
         b"place     server       load   capacity         price site\n    0          7   20000000   20000000  999999000000 X\nbound 20000000000000000000 - 19999980000000000000 = 20000000000000\n",
     );
-    let regions = regions_of(&rt, rt.alloc(), WIDE, &certificate)?;
-    is_text(
+    regions_are(
         &rt,
-        &regions,
+        rt.alloc(),
+        &instance,
+        &certificate,
         b"    demand             cost region\n  20000000   20000000000000 r1\ntotal 20000000 20000000000000\n",
     );
-    Ok(())
 }
 
 #[test]
-fn names_stand_whole(rt: HostRuntime) -> Result<(), Fail> {
-    let certificate = plan_twice(rt.alloc(), LONG_PLAN)?;
-    let loads = loads_of(&rt, rt.alloc(), LONG, &certificate)?;
-    is_text(
+fn names_stand_whole(rt: HostRuntime) {
+    let certificate = plan_of(&rt, rt.alloc(), LONG_PLAN);
+    let instance = held_instance(&rt, rt.alloc(), LONG);
+    loads_are(
         &rt,
-        &loads,
+        rt.alloc(),
+        &instance,
+        &certificate,
         b"place     server       load   capacity         price site\n    0          7          2          5             0 S23456789012345678901234567890123456789012345678901234567890123s\nbound 6 - 0 = 6\n",
     );
-    let regions = regions_of(&rt, rt.alloc(), LONG, &certificate)?;
-    is_text(
+    regions_are(
         &rt,
-        &regions,
+        rt.alloc(),
+        &instance,
+        &certificate,
         b"    demand             cost region\n         2                6 R23456789012345678901234567890123456789012345678901234567890123r\ntotal 2 6\n",
     );
-    Ok(())
 }
 
 #[test]
-fn loads_and_regions_of_many_rows_are_told(rt: HostRuntime) -> Result<(), Fail> {
-    let demand = many_twice(rt.alloc())?;
-    let texts = with_room(&demand, b"site,server_id,capacity\nX,7,6000\n");
-    let certificate = plan_of_many_twice(rt.alloc())?;
-    let loads = loads_of(&rt, rt.alloc(), texts, &certificate)?;
-    is_text(
+fn loads_and_regions_of_many_rows_are_told(rt: HostRuntime) {
+    let certificate = alike_plan(&rt, rt.alloc(), PLAN_OF_MANY);
+    let instance = instance_of_many(&rt, rt.alloc(), b"site,server_id,capacity\nX,7,6000\n");
+    loads_are(
         &rt,
-        &loads,
+        rt.alloc(),
+        &instance,
+        &certificate,
         b"place     server       load   capacity         price site\n    0          7       5000       6000             0 X\nbound 5000 - 0 = 5000\n",
     );
-    let regions = regions_of(&rt, rt.alloc(), texts, &certificate)?;
-    is_text(
+    regions_are(
         &rt,
-        &regions,
+        rt.alloc(),
+        &instance,
+        &certificate,
         b"    demand             cost region\n      5000             5000 r1\ntotal 5000 5000\n",
     );
-    Ok(())
 }
 
-#[test]
-fn a_shortage_of_many_rows_is_told(rt: HostRuntime) -> Result<(), Fail> {
-    let demand = many_twice(rt.alloc())?;
-    let texts = with_room(&demand, b"site,server_id,capacity\nX,7,4999\n");
-    let certificate = short_of_one_twice(rt.alloc())?;
-    let text = shortage_of(&rt, rt.alloc(), texts, &certificate)?;
+// The report of many rows that are short by one query.
+fn is_long_shortage(rt: &impl Abort, text: &[u8]) {
     let begins: &[u8] =
         b"short 5000 - 4999 = 1\n row   count region\n   0       1 r1\n   1       1 r1\n";
     let ends: &[u8] =
@@ -516,5 +559,12 @@ fn a_shortage_of_many_rows_is_told(rt: HostRuntime) -> Result<(), Fail> {
     assert!(rt; text.ends_with(ends));
     // Between the two headers a line of 16 octets for each row, and behind them the server's.
     assert!(rt; text.len() == 22 + 20 + 5000 * 16 + 33 + 30);
-    Ok(())
+}
+
+#[test]
+fn a_shortage_of_many_rows_is_told(rt: HostRuntime) {
+    let certificate = short_of_one(&rt, rt.alloc());
+    let instance = instance_of_many(&rt, rt.alloc(), b"site,server_id,capacity\nX,7,4999\n");
+    let text = shortage_of(&rt, rt.alloc(), &instance, &certificate);
+    is_long_shortage(&rt, &text);
 }
