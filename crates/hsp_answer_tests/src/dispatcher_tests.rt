@@ -23,11 +23,8 @@ fn goes_by_the_plan(rt: &impl Abort, dispatcher: &mut Dispatcher<'_>) {
     is_same(rt, dispatcher.assign(b"r9", handle), Answer::Unknown);
 }
 
-#[test]
-fn queries_go_by_the_plan(rt: HostRuntime) {
-    let instance = held_instance(&rt, rt.alloc());
-    let mut dispatcher = held_dispatcher(&rt, rt.alloc(), &instance);
-    goes_by_the_plan(&rt, &mut dispatcher);
+// What they leave.
+fn has_left(rt: &impl Abort, dispatcher: &Dispatcher<'_>) {
     for (row, site, left) in [
         (2, 0, 0),
         (2, 1, 0),
@@ -36,6 +33,14 @@ fn queries_go_by_the_plan(rt: HostRuntime) {
         (3, 0, 0),
         (0, 2, 0),
     ] {
-        is_same(&rt, dispatcher.left(row, site), left);
+        is_same(rt, dispatcher.left(row, site), left);
     }
+}
+
+#[test]
+fn queries_go_by_the_plan(rt: HostRuntime) {
+    let instance = held_instance(&rt, rt.alloc());
+    let mut dispatcher = held_dispatcher(&rt, rt.alloc(), &instance);
+    goes_by_the_plan(&rt, &mut dispatcher);
+    has_left(&rt, &dispatcher);
 }

@@ -2,13 +2,12 @@
 
 use crate::fakes::{FakeReader, FakeWriter};
 use crate::same::is_same;
-use crate::worked::{certificate, dispatcher, fronts, instance};
+use crate::worked::{dispatcher, fronts, held_certificate, held_instance, left_at_two, left_of};
 use hsp_cert::Certificate;
 use hsp_dispatch::*;
 use hsp_instance::Instance;
 use std::alloc::Global;
 use std::process::Abort;
-use std::test::Fail;
 
 // What stands once a row was answered, or before the first one: up to how many octets of the log no further row is read whole, the
 // lines, and what is left in four cells.
@@ -44,12 +43,15 @@ trait Answered: Copy + Drop {
     ) -> Option<Ended>;
 }
 
-// The fault of a run, None where it has none. Want of memory has no place here.
-fn fault_of<T: Drop>(ends: Result<T, LogFault>) -> Option<Option<LogFault>> {
+// The same by what a run gave. None stands for want of memory.
+fn ended_by<T: Drop>(ends: Result<T, LogFault>, left: [u64; 4]) -> Option<Ended> {
     match ends {
-        Ok(_) => Some(None),
+        Ok(_) => Some(Ended { fault: None, left }),
         Err(LogFault::OutOfMemory) => None,
-        Err(fault) => Some(Some(fault)),
+        Err(fault) => Some(Ended {
+            fault: Some(fault),
+            left,
+        }),
     }
 }
 
@@ -111,14 +113,8 @@ impl Answered for Queries {
         writer: &mut FakeWriter,
     ) -> Option<Ended> {
         let mut dispatcher = dispatcher(alloc, instance, certificate)?;
-        let fault = fault_of(run_log(alloc, reader, writer, &mut dispatcher))?;
-        let left = [
-            dispatcher.left(2, 0),
-            dispatcher.left(2, 1),
-            dispatcher.left(0, 0),
-            dispatcher.left(1, 0),
-        ];
-        Some(Ended { fault, left })
+        let ends = run_log(alloc, reader, writer, &mut dispatcher);
+        ended_by(ends, left_of(&dispatcher))
     }
 }
 
@@ -186,14 +182,8 @@ impl Answered for Events {
         writer: &mut FakeWriter,
     ) -> Option<Ended> {
         let mut fronts = fronts(alloc, instance, certificate, 2)?;
-        let fault = fault_of(run_fronts(alloc, reader, writer, &mut fronts))?;
-        let left = [
-            fronts.left(0, 0, 0),
-            fronts.left(1, 0, 0),
-            fronts.left(0, 2, 1),
-            fronts.left(1, 2, 1),
-        ];
-        Some(Ended { fault, left })
+        let ends = run_fronts(alloc, reader, writer, &mut fronts);
+        ended_by(ends, left_at_two(&fronts))
     }
 }
 
@@ -205,11 +195,33 @@ struct Limits {
     piece: usize,
 }
 
-// How a run ended, and the lines that it wrote.
+// How a run ended, None where memory ran out, and the lines that it wrote.
 #[derive(Drop)]
 struct Page {
-    ended: Ended,
+    ended: Option<Ended>,
     lines: Vec<u8>,
+}
+
+// The page is that of a reader that failed before the next step was reached.
+fn is_read_to(rt: &impl Abort, page: &Page, step: Step) {
+    let ended = Ended {
+        fault: Some(LogFault::ReadFailed),
+        left: step.left,
+    };
+    is_same(rt, page.ended, Some(ended));
+    is_same(rt, page.lines.as_slice(), step.lines);
+}
+
+// The page is that of a writer that failed behind so many octets of the lines of a step, whose row
+// is answered.
+fn is_written_to(rt: &impl Abort, page: &Page, step: Step, written: usize) {
+    let ended = Ended {
+        fault: Some(LogFault::WriteFailed),
+        left: step.left,
+    };
+    is_same(rt, page.ended, Some(ended));
+    assert!(rt; page.lines.len() == written);
+    assert!(rt; step.lines.starts_with(page.lines.as_slice()));
 }
 
 // The worked instance with its plan, and what is run over them.
@@ -217,142 +229,125 @@ struct Page {
 struct Worked<A: Answered> {
     alloc: Global,
     answered: A,
-    instance: Instance,
     certificate: Certificate,
+    instance: Instance,
 }
 
 impl<A: Answered> Worked<A> {
-    // None stands for want of memory.
-    fn once(alloc: Global, answered: A) -> Option<Worked<A>> {
-        let instance = instance(alloc)?;
-        let certificate = certificate(alloc)?;
-        Some(Worked {
+    fn new(rt: &impl Abort, alloc: Global, answered: A) -> Worked<A> {
+        Worked {
             alloc,
             answered,
-            instance,
-            certificate,
-        })
-    }
-
-    // The same. Where a growth is refused, the second building finds memory.
-    fn new(alloc: Global, answered: A) -> Result<Worked<A>, Fail> {
-        match Worked::once(alloc, answered) {
-            Some(worked) => Ok(worked),
-            None => Ok(Worked::once(alloc, answered).ok_or("an instance")?),
+            certificate: held_certificate(rt, alloc),
+            instance: held_instance(rt, alloc),
         }
     }
 
-    fn run(&self, limits: Limits) -> Option<Page> {
-        let mut writer = FakeWriter::whole(self.alloc).ok()?;
-        writer.piece = limits.piece;
-        writer.good = limits.written;
+    fn run(&self, rt: &impl Abort, limits: Limits) -> Page {
+        let (alloc, instance, certificate) = (self.alloc, &self.instance, &self.certificate);
         let reader = FakeReader {
             text: self.answered.log(),
             piece: limits.piece,
             good: limits.read,
         };
-        let (alloc, instance, certificate) = (self.alloc, &self.instance, &self.certificate);
+        let mut writer = FakeWriter::whole(rt, alloc);
+        writer.piece = limits.piece;
+        writer.good = limits.written;
         let ended = self
             .answered
-            .ended(alloc, instance, certificate, reader, &mut writer)?;
-        Some(Page {
+            .ended(alloc, instance, certificate, reader, &mut writer);
+        Page {
             ended,
             lines: writer.taken,
-        })
+        }
     }
 
     // The same. Where a growth is refused, the second run finds memory.
-    fn page(&self, limits: Limits) -> Result<Page, Fail> {
-        match self.run(limits) {
-            Some(page) => Ok(page),
-            None => Ok(self.run(limits).ok_or("an answer")?),
+    fn page(&self, rt: &impl Abort, limits: Limits) -> Page {
+        let page = self.run(rt, limits);
+        if page.ended.is_some() {
+            page
+        } else {
+            self.run(rt, limits)
         }
     }
 
-    // A reader that fails behind each octet from one on tells so behind the lines of a step.
-    fn reads_fail(&self, rt: &impl Abort, from: usize, step: Step) -> Result<(), Fail> {
-        let ended = Ended {
-            fault: Some(LogFault::ReadFailed),
-            left: step.left,
-        };
+    // A reader that fails behind so many octets tells so behind the lines of a step.
+    fn read_fails(&self, rt: &impl Abort, read: usize, step: Step) {
+        for piece in [1, usize::MAX] {
+            let limits = Limits {
+                read,
+                written: 256,
+                piece,
+            };
+            is_read_to(rt, &self.page(rt, limits), step);
+        }
+    }
+
+    // So does one that fails behind each octet from one on, up to where the next row is read whole.
+    fn reads_fail(&self, rt: &impl Abort, from: usize, step: Step) {
         for read in from..step.octets {
-            for piece in [1, usize::MAX] {
-                let page = self.page(Limits {
-                    read,
-                    written: 256,
-                    piece,
-                })?;
-                is_same(rt, page.ended, ended);
-                is_same(rt, page.lines.as_slice(), step.lines);
-            }
+            self.read_fails(rt, read, step);
         }
-        Ok(())
     }
 
-    // A writer that fails at each octet from one on of the last line of a step tells so; the row of the line is answered.
-    fn writes_fail(&self, rt: &impl Abort, from: usize, step: Step) -> Result<(), Fail> {
-        let ended = Ended {
-            fault: Some(LogFault::WriteFailed),
-            left: step.left,
-        };
-        for written in from..step.lines.len() {
-            for piece in [1, usize::MAX] {
-                let page = self.page(Limits {
-                    read: usize::MAX,
-                    written,
-                    piece,
-                })?;
-                is_same(rt, page.ended, ended);
-                assert!(rt; page.lines.len() == written);
-                assert!(rt; step.lines.starts_with(page.lines.as_slice()));
-            }
+    // A writer that fails behind so many octets tells so; the row of the last line of a step is
+    // answered.
+    fn write_fails(&self, rt: &impl Abort, written: usize, step: Step) {
+        for piece in [1, usize::MAX] {
+            let limits = Limits {
+                read: usize::MAX,
+                written,
+                piece,
+            };
+            is_written_to(rt, &self.page(rt, limits), step, written);
         }
-        Ok(())
+    }
+
+    // So does one that fails at each octet from one on of the lines.
+    fn writes_fail(&self, rt: &impl Abort, from: usize, step: Step) {
+        for written in from..step.lines.len() {
+            self.write_fails(rt, written, step);
+        }
     }
 }
 
 // The reader of the log fails behind each octet in turn.
-fn each_read_fails<A: Answered>(rt: &impl Abort, alloc: Global, answered: A) -> Result<(), Fail> {
-    let worked = Worked::new(alloc, answered)?;
+fn each_read_fails<A: Answered>(rt: &impl Abort, alloc: Global, answered: A) {
+    let worked = Worked::new(rt, alloc, answered);
     let mut from = 0;
     for step in answered.steps() {
-        worked.reads_fail(rt, from, *step)?;
+        worked.reads_fail(rt, from, *step);
         from = step.octets;
     }
-    Ok(())
 }
 
 // The writer of the answers fails behind each octet in turn.
-fn each_write_fails<A: Answered>(rt: &impl Abort, alloc: Global, answered: A) -> Result<(), Fail> {
-    let worked = Worked::new(alloc, answered)?;
+fn each_write_fails<A: Answered>(rt: &impl Abort, alloc: Global, answered: A) {
+    let worked = Worked::new(rt, alloc, answered);
     let mut from = 0;
     for step in answered.steps() {
-        worked.writes_fail(rt, from, *step)?;
+        worked.writes_fail(rt, from, *step);
         from = step.lines.len();
     }
-    Ok(())
 }
 
 #[test]
-fn queries_are_answered_up_to_each_octet_that_cannot_be_read(rt: HostRuntime) -> Result<(), Fail> {
-    each_read_fails(&rt, rt.alloc(), Queries)
+fn queries_are_answered_up_to_each_octet_that_cannot_be_read(rt: HostRuntime) {
+    each_read_fails(&rt, rt.alloc(), Queries);
 }
 
 #[test]
-fn queries_are_answered_up_to_each_octet_that_cannot_be_written(
-    rt: HostRuntime,
-) -> Result<(), Fail> {
-    each_write_fails(&rt, rt.alloc(), Queries)
+fn queries_are_answered_up_to_each_octet_that_cannot_be_written(rt: HostRuntime) {
+    each_write_fails(&rt, rt.alloc(), Queries);
 }
 
 #[test]
-fn events_are_answered_up_to_each_octet_that_cannot_be_read(rt: HostRuntime) -> Result<(), Fail> {
-    each_read_fails(&rt, rt.alloc(), Events)
+fn events_are_answered_up_to_each_octet_that_cannot_be_read(rt: HostRuntime) {
+    each_read_fails(&rt, rt.alloc(), Events);
 }
 
 #[test]
-fn events_are_answered_up_to_each_octet_that_cannot_be_written(
-    rt: HostRuntime,
-) -> Result<(), Fail> {
-    each_write_fails(&rt, rt.alloc(), Events)
+fn events_are_answered_up_to_each_octet_that_cannot_be_written(rt: HostRuntime) {
+    each_write_fails(&rt, rt.alloc(), Events);
 }

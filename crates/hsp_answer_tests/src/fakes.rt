@@ -3,6 +3,26 @@
 use std::alloc::{AllocError, Global};
 use std::io;
 use std::io::{ErrorKind, Read, Write};
+use std::process::Abort;
+
+/// How many octets go at most in a call, and how many in all.
+#[derive(Clone, Copy)]
+pub struct Limits {
+    pub piece: usize,
+    pub good: usize,
+}
+
+/// All at once.
+pub const ALL: Limits = Limits {
+    piece: usize::MAX,
+    good: 200,
+};
+
+/// One octet a call.
+pub const ONE_BY_ONE: Limits = Limits {
+    piece: 1,
+    good: 200,
+};
 
 /// Gives at most `piece` octets of a text a call, and fails once `good` of them were given.
 #[derive(Drop)]
@@ -19,6 +39,15 @@ impl<'a> FakeReader<'a> {
             text,
             piece: usize::MAX,
             good: usize::MAX,
+        }
+    }
+
+    /// Gives it within limits.
+    pub fn within(text: &'a [u8], limits: Limits) -> FakeReader<'a> {
+        FakeReader {
+            text,
+            piece: limits.piece,
+            good: limits.good,
         }
     }
 }
@@ -55,15 +84,28 @@ pub struct FakeWriter {
 }
 
 impl FakeWriter {
-    /// Takes all that is written, as far as there is room for 256 octets.
-    pub fn whole(alloc: Global) -> Result<FakeWriter, AllocError> {
-        Ok(FakeWriter {
-            taken: Vec::with_capacity(alloc, 256)?,
+    /// Takes all that is written, as far as there is room for 256 octets. Where a growth is
+    /// refused, the second call finds memory.
+    pub fn whole(rt: &impl Abort, alloc: Global) -> FakeWriter {
+        let taken = match Vec::with_capacity(alloc, 256) {
+            Ok(taken) => taken,
+            Err(AllocError) => Vec::with_capacity(alloc, 256).expect(rt, "there is memory"),
+        };
+        FakeWriter {
+            taken,
             piece: usize::MAX,
             good: 256,
             is_flushed: false,
             may_flush: true,
-        })
+        }
+    }
+
+    /// Takes what is written within limits.
+    pub fn within(rt: &impl Abort, alloc: Global, limits: Limits) -> FakeWriter {
+        let mut writer = FakeWriter::whole(rt, alloc);
+        writer.piece = limits.piece;
+        writer.good = limits.good;
+        writer
     }
 }
 

@@ -1,10 +1,10 @@
-use crate::fakes::{FakeReader, FakeWriter, Lines, Rows};
+use crate::fakes::{ALL, FakeReader, FakeWriter, Limits, Lines, ONE_BY_ONE, Rows};
 use crate::same::is_same;
-use crate::worked::{best_fronts, instance};
+use crate::worked::{best_fronts, held_fronts, held_instance, instance, left_at_two};
 use hsp_dispatch::*;
+use hsp_instance::Instance;
 use std::alloc::Global;
 use std::process::Abort;
-use std::test::Fail;
 
 // A log over two fronts of the worked instance, how it is read and written, and what comes of it.
 #[derive(Clone, Copy)]
@@ -17,23 +17,6 @@ struct Case {
     lines: &'static [u8],
     left: [u64; 4],
 }
-
-// How many octets go at most in a call, and how many in all.
-#[derive(Clone, Copy)]
-struct Limits {
-    piece: usize,
-    good: usize,
-}
-
-const ALL: Limits = Limits {
-    piece: usize::MAX,
-    good: 200,
-};
-
-const ONE_BY_ONE: Limits = Limits {
-    piece: 1,
-    good: 200,
-};
 
 const LOG: &[u8] =
     b"front,region,handle\n1,r1,10/1\n0,r1,10/1\n1,r1,10/1\n1,r1,10/1\n1,r2,10/3\n2,r1,10/1\n0,r9,10/1\n";
@@ -85,51 +68,51 @@ fn plain(
     }
 }
 
-// Runs a case by fronts. Want of memory before anything was read is None.
-fn run_by(
-    rt: &impl Abort,
-    alloc: Global,
-    case: Case,
-    fronts: &mut Fronts<'_>,
-) -> Option<Result<FrontSums, LogFault>> {
-    let mut writer = FakeWriter::whole(alloc).ok()?;
-    writer.piece = case.written.piece;
-    writer.good = case.written.good;
-    writer.may_flush = case.may_flush;
-    let reader = FakeReader {
-        text: case.log,
-        piece: case.read.piece,
-        good: case.read.good,
-    };
-    let ends = run_fronts(alloc, reader, &mut writer, fronts);
-    if ends != Err(LogFault::OutOfMemory) {
-        let left = [
-            fronts.left(0, 0, 0),
-            fronts.left(1, 0, 0),
-            fronts.left(0, 2, 1),
-            fronts.left(1, 2, 1),
-        ];
-        is_same(rt, writer.taken.as_slice(), case.lines);
-        is_same(rt, left, case.left);
-        is_same(rt, writer.is_flushed, ends.is_ok());
-    }
-    Some(ends)
+// A log of which nothing is answered before the fault.
+fn refused(log: &'static [u8], fault: LogFault) -> Case {
+    plain(log, Err(fault), b"", SHARES)
 }
 
-// The same by the worked plan.
-fn run(rt: &impl Abort, alloc: Global, case: Case) -> Option<Result<FrontSums, LogFault>> {
-    let instance = instance(alloc)?;
-    let mut fronts = best_fronts(alloc, &instance, 2)?;
-    run_by(rt, alloc, case, &mut fronts)
+// What a case leaves with its writer and with its fronts.
+fn leaves(rt: &impl Abort, case: Case, writer: &FakeWriter, fronts: &Fronts<'_>) {
+    is_same(rt, writer.taken.as_slice(), case.lines);
+    is_same(rt, left_at_two(fronts), case.left);
+    is_same(rt, writer.is_flushed, case.ends.is_ok());
+}
+
+// Runs a case by two fronts of the worked plan.
+fn run(
+    rt: &impl Abort,
+    alloc: Global,
+    instance: &Instance,
+    case: Case,
+) -> Result<FrontSums, LogFault> {
+    let mut writer = FakeWriter::within(rt, alloc, case.written);
+    writer.may_flush = case.may_flush;
+    let reader = FakeReader::within(case.log, case.read);
+    let mut fronts = held_fronts(rt, alloc, instance, 2);
+    let ends = run_fronts(alloc, reader, &mut writer, &mut fronts);
+    if ends != Err(LogFault::OutOfMemory) {
+        leaves(rt, case, &writer, &fronts);
+    }
+    ends
 }
 
 // The case comes out. Where a growth is refused, the second run finds memory.
 fn comes(rt: &impl Abort, alloc: Global, case: Case) {
-    let ends = match run(rt, alloc, case) {
-        None | Some(Err(LogFault::OutOfMemory)) => run(rt, alloc, case),
+    let instance = held_instance(rt, alloc);
+    let ends = match run(rt, alloc, &instance, case) {
+        Err(LogFault::OutOfMemory) => run(rt, alloc, &instance, case),
         ends => ends,
     };
-    is_same(rt, ends, Some(case.ends));
+    is_same(rt, ends, case.ends);
+}
+
+// So does each of these.
+fn all_come(rt: &impl Abort, alloc: Global, cases: &[Case]) {
+    for case in cases {
+        comes(rt, alloc, *case);
+    }
 }
 
 #[test]
@@ -152,66 +135,52 @@ fn the_worked_log_is_answered_by_fronts(rt: HostRuntime) {
             [2, 2, 1, 1],
         ),
     ];
-    for case in cases {
-        comes(&rt, rt.alloc(), case);
-    }
+    all_come(&rt, rt.alloc(), &cases);
+}
+
+// A log whose one event names a front that is not there.
+fn no_front(log: &'static [u8]) -> Case {
+    let one = FrontSums {
+        no_front: 1,
+        ..NONE
+    };
+    plain(log, Ok(one), b"nofront\n", SHARES)
 }
 
 #[test]
 fn a_front_that_is_not_there_answers_nofront(rt: HostRuntime) {
-    let one = Ok(FrontSums {
-        no_front: 1,
-        ..NONE
-    });
-    let logs: [&[u8]; 3] = [
-        b"front,region,handle\n2,r1,10/1\n",
-        b"front,region,handle\n4294967295,r1,10/1\n",
-        b"front,region,handle\n2,r9,10/9\n",
+    let cases = [
+        no_front(b"front,region,handle\n2,r1,10/1\n"),
+        no_front(b"front,region,handle\n4294967295,r1,10/1\n"),
+        no_front(b"front,region,handle\n2,r9,10/9\n"),
     ];
-    for log in logs {
-        comes(&rt, rt.alloc(), plain(log, one, b"nofront\n", SHARES));
-    }
+    all_come(&rt, rt.alloc(), &cases);
 }
 
 #[test]
 fn another_header_answers_no_event(rt: HostRuntime) {
-    let logs: [&[u8]; 5] = [
-        b"",
-        b"region,handle\nr1,10/1\n",
-        b"region,body\n",
-        b"front,region,body\n",
-        b"front,region,handle,count\n",
+    let cases = [
+        refused(b"", LogFault::Header),
+        refused(b"region,handle\nr1,10/1\n", LogFault::Header),
+        refused(b"region,body\n", LogFault::Header),
+        refused(b"front,region,body\n", LogFault::Header),
+        refused(b"front,region,handle,count\n", LogFault::Header),
     ];
-    for log in logs {
-        let case = plain(log, Err(LogFault::Header), b"", SHARES);
-        comes(&rt, rt.alloc(), case);
-    }
+    all_come(&rt, rt.alloc(), &cases);
 }
 
-// A log whose first event is refused by the fault.
-fn refused(log: &'static [u8], fault: LogFault) -> Case {
-    plain(log, Err(fault), b"", SHARES)
+// A log whose first event names no front.
+fn bad_front(log: &'static [u8]) -> Case {
+    refused(log, LogFault::BadFront { row: 0 })
 }
 
 #[test]
 fn a_faulty_event_is_refused(rt: HostRuntime) {
     let cases = [
-        refused(
-            b"front,region,handle\n-1,r1,10/1\n",
-            LogFault::BadFront { row: 0 },
-        ),
-        refused(
-            b"front,region,handle\n4294967296,r1,10/1\n",
-            LogFault::BadFront { row: 0 },
-        ),
-        refused(
-            b"front,region,handle\n01,r1,10/1\n",
-            LogFault::BadFront { row: 0 },
-        ),
-        refused(
-            b"front,region,handle\n,r1,10\n",
-            LogFault::BadFront { row: 0 },
-        ),
+        bad_front(b"front,region,handle\n-1,r1,10/1\n"),
+        bad_front(b"front,region,handle\n4294967296,r1,10/1\n"),
+        bad_front(b"front,region,handle\n01,r1,10/1\n"),
+        bad_front(b"front,region,handle\n,r1,10\n"),
         refused(b"front,region,handle\nx,r1\n", LogFault::Fields { row: 0 }),
         refused(
             b"front,region,handle\nx,r1,10/1,5\n",
@@ -232,9 +201,7 @@ fn a_faulty_event_is_refused(rt: HostRuntime) {
             [2, 2, 1, 0],
         ),
     ];
-    for case in cases {
-        comes(&rt, rt.alloc(), case);
-    }
+    all_come(&rt, rt.alloc(), &cases);
 }
 
 #[test]
@@ -269,9 +236,7 @@ fn failing_reads_and_writes_are_told_at_fronts(rt: HostRuntime) {
         left: SHARES,
         ..worked()
     };
-    for case in [cut_line, unflushed, cut_log, no_log] {
-        comes(&rt, rt.alloc(), case);
-    }
+    all_come(&rt, rt.alloc(), &[cut_line, unflushed, cut_log, no_log]);
 }
 
 // The lists of two fronts, merged in several ways: each is a log, and the lines of front 0 and of front 1 in it, one after the
@@ -304,43 +269,46 @@ fn a_front_is_answered_alike_in_every_merge(rt: HostRuntime) {
             left,
         ),
     ];
-    for case in cases {
-        comes(&rt, rt.alloc(), case);
-    }
+    all_come(&rt, rt.alloc(), &cases);
 }
 
 const EACH_ONCE: &[u8] =
     b"front,region,handle\n0,r1,10/1\n4,r1,10/1\n5,r1,10/1\n63,r1,10/1\n64,r1,10/1\n4,r1,10/1\n";
 
-// Runs a log of events of row 0 over 64 fronts. Want of memory before anything was read is None.
+// What some of 64 fronts have at first for row 0 at E.
+fn have_one_each(rt: &impl Abort, fronts: &Fronts<'_>) {
+    for (front, share) in [(0, 1), (4, 1), (5, 0), (63, 0), (64, 0)] {
+        is_same(rt, fronts.left(front, 0, 0), share);
+    }
+}
+
+// Runs a log of events of row 0 over 64 fronts.
 fn run_each(
     rt: &impl Abort,
     alloc: Global,
     fronts: &mut Fronts<'_>,
-) -> Option<Result<FrontSums, LogFault>> {
-    let mut writer = FakeWriter::whole(alloc).ok()?;
-    for (front, share) in [(0, 1), (4, 1), (5, 0), (63, 0), (64, 0)] {
-        is_same(rt, fronts.left(front, 0, 0), share);
-    }
+) -> Result<FrontSums, LogFault> {
+    let mut writer = FakeWriter::whole(rt, alloc);
     let ends = run_fronts(alloc, FakeReader::whole(EACH_ONCE), &mut writer, fronts);
     if ends.is_ok() {
         let lines = b"assigned E 1 3\nassigned E 1 3\nspent\nspent\nnofront\nspent\n";
         is_same(rt, writer.taken.as_slice(), lines.as_slice());
     }
-    Some(ends)
+    ends
 }
 
 // The same by the worked plan.
-fn run_all(rt: &impl Abort, alloc: Global) -> Option<Result<FrontSums, LogFault>> {
-    let instance = instance(alloc)?;
-    let mut fronts = best_fronts(alloc, &instance, 64)?;
+fn run_all(rt: &impl Abort, alloc: Global, instance: &Instance) -> Result<FrontSums, LogFault> {
+    let mut fronts = held_fronts(rt, alloc, instance, 64);
+    have_one_each(rt, &fronts);
     run_each(rt, alloc, &mut fronts)
 }
 
 #[test]
 fn five_queries_go_to_the_first_five_of_64_fronts(rt: HostRuntime) {
-    let ends = match run_all(&rt, rt.alloc()) {
-        None | Some(Err(LogFault::OutOfMemory)) => run_all(&rt, rt.alloc()),
+    let instance = held_instance(&rt, rt.alloc());
+    let ends = match run_all(&rt, rt.alloc(), &instance) {
+        Err(LogFault::OutOfMemory) => run_all(&rt, rt.alloc(), &instance),
         ends => ends,
     };
     let sums = FrontSums {
@@ -349,7 +317,7 @@ fn five_queries_go_to_the_first_five_of_64_fronts(rt: HostRuntime) {
         unknown: 0,
         no_front: 1,
     };
-    is_same(&rt, ends, Some(Ok(sums)));
+    is_same(&rt, ends, Ok(sums));
 }
 
 // Runs the log of one row more than there may be. None where a growth is refused before its first row.
@@ -372,30 +340,31 @@ fn run_longest<'a>(alloc: Global, fronts: &mut Fronts<'a>) -> Option<(LogFault, 
 }
 
 // A log of one row more than there may be is refused behind the others.
-fn is_too_long(rt: &impl Abort, alloc: Global, fronts: &mut Fronts<'_>) -> Result<(), Fail> {
+fn is_too_long(rt: &impl Abort, alloc: Global, fronts: &mut Fronts<'_>) {
     let ran = match run_longest(alloc, fronts) {
         None => run_longest(alloc, fronts),
         ran => ran,
     };
-    let (fault, lines) = ran.ok_or("a log that is too long")?;
+    let (fault, lines) = ran.expect(rt, "a log that is too long");
     is_same(rt, fault, LogFault::LogTooLong);
     is_same(rt, lines.many, 10_000_000);
     is_same(rt, lines.others, 0);
-    Ok(())
+}
+
+// The same by two fronts of the worked plan of an instance.
+fn is_too_long_for(rt: &impl Abort, alloc: Global, instance: &Instance) {
+    match best_fronts(alloc, instance, 2) {
+        Some(mut fronts) => is_too_long(rt, alloc, &mut fronts),
+        None => assert!(rt; best_fronts(alloc, instance, 2).is_some()),
+    }
 }
 
 // Where a growth is refused while instance, certificate or fronts are made, they are made once more, and the long log isn't run: a run
 // takes seconds, and that of a test whose growths are all given is insisted on.
 #[test]
-fn a_log_has_ten_million_events_at_most(rt: HostRuntime) -> Result<(), Fail> {
-    let alloc = rt.alloc();
-    let Some(instance) = instance(alloc) else {
-        assert!(rt; instance(alloc).is_some());
-        return Ok(());
-    };
-    let Some(mut fronts) = best_fronts(alloc, &instance, 2) else {
-        assert!(rt; best_fronts(alloc, &instance, 2).is_some());
-        return Ok(());
-    };
-    is_too_long(&rt, alloc, &mut fronts)
+fn a_log_has_ten_million_events_at_most(rt: HostRuntime) {
+    match instance(rt.alloc()) {
+        Some(instance) => is_too_long_for(&rt, rt.alloc(), &instance),
+        None => assert!(rt; instance(rt.alloc()).is_some()),
+    }
 }

@@ -1,7 +1,8 @@
 use crate::same::is_same;
-use crate::worked::{certificate_of, fronts, held_fronts, held_instance, instance_of};
+use crate::worked::{
+    held_certificate_of, held_fronts, held_fronts_by, held_instance, held_instance_of, left_at_two,
+};
 use hsp_dispatch::*;
-use hsp_instance::Instance;
 use hsp_names::HandleRef;
 use std::alloc::Global;
 use std::process::Abort;
@@ -16,10 +17,8 @@ fn assigned(site: u32, place: u32, server_id: u32) -> FrontAnswer {
     })
 }
 
-#[test]
-fn fronts_hold_their_shares(rt: HostRuntime) {
-    let instance = held_instance(&rt, rt.alloc());
-    let fronts = held_fronts(&rt, rt.alloc(), &instance, 2);
+// What two fronts have at first, and a third one that is not there.
+fn have_their_shares(rt: &impl Abort, fronts: &Fronts<'_>) {
     for (row, site, lefts) in [
         (0, 0, [3, 2, 0]),
         (1, 0, [2, 2, 0]),
@@ -33,8 +32,15 @@ fn fronts_hold_their_shares(rt: HostRuntime) {
             fronts.left(1, row, site),
             fronts.left(2, row, site),
         ];
-        is_same(&rt, held, lefts);
+        is_same(rt, held, lefts);
     }
+}
+
+#[test]
+fn fronts_hold_their_shares(rt: HostRuntime) {
+    let instance = held_instance(&rt, rt.alloc());
+    let fronts = held_fronts(&rt, rt.alloc(), &instance, 2);
+    have_their_shares(&rt, &fronts);
 }
 
 // What two fronts answer, in turn.
@@ -60,13 +66,7 @@ fn fronts_answer_by_their_shares(rt: HostRuntime) {
     let instance = held_instance(&rt, rt.alloc());
     let mut fronts = held_fronts(&rt, rt.alloc(), &instance, 2);
     answer_by_their_shares(&rt, &mut fronts);
-    let left = [
-        fronts.left(0, 0, 0),
-        fronts.left(1, 0, 0),
-        fronts.left(0, 2, 1),
-        fronts.left(1, 2, 1),
-    ];
-    is_same(&rt, left, [2, 0, 1, 0]);
+    is_same(&rt, left_at_two(&fronts), [2, 0, 1, 0]);
 }
 
 // What a front is asked for the last row, answer by answer, and what it has left at both sites behind each of them.
@@ -83,9 +83,9 @@ fn uses_both_sites(
             1 => assigned(1, 0, 1),
             _ => FrontAnswer::Answered(Answer::Spent),
         };
-        is_same(&rt, fronts.assign(front, b"r2", handle), wanted);
+        is_same(rt, fronts.assign(front, b"r2", handle), wanted);
         is_same(
-            &rt,
+            rt,
             [fronts.left(front, 2, 0), fronts.left(front, 2, 1)],
             *left,
         );
@@ -111,38 +111,14 @@ fn use_up_both_sites(rt: &impl Abort, fronts: &mut Fronts<'_>) {
     );
 }
 
-// An instance whose last row asks for eight queries, None where memory ran out.
-fn uneven(alloc: Global) -> Option<Instance> {
-    let demand = b"region,handle,count\nr1,10/1,5\nr1,10/2,4\nr2,10/3,8\n";
-    let capacity = b"site,server_id,capacity\nE,7,10\nE,3,8\nW,1,6\nW,2,10\nW,9,10\n";
-    instance_of(alloc, demand, capacity)
-}
-
-// Where memory runs out once, it is there at the second call.
-fn held_uneven(rt: &impl Abort, alloc: Global) -> Instance {
-    match uneven(alloc) {
-        Some(instance) => instance,
-        None => uneven(alloc).expect(rt, "the instance is built"),
-    }
-}
-
-// Two fronts by its plan, None where memory ran out.
-fn uneven_fronts(alloc: Global, instance: &Instance) -> Option<Fronts<'_>> {
-    let certificate = certificate_of(alloc, 30, [5, 4, 3, 5])?;
-    fronts(alloc, instance, &certificate, 2)
-}
-
-fn held_uneven_fronts<'a>(rt: &impl Abort, alloc: Global, instance: &'a Instance) -> Fronts<'a> {
-    match uneven_fronts(alloc, instance) {
-        Some(fronts) => fronts,
-        None => uneven_fronts(alloc, instance).expect(rt, "the plan is valid"),
-    }
-}
-
+// The last row asks for eight queries.
 #[test]
 fn a_front_uses_up_one_site_after_the_other(rt: HostRuntime) {
-    let instance = held_uneven(&rt, rt.alloc());
-    let mut fronts = held_uneven_fronts(&rt, rt.alloc(), &instance);
+    let demand = b"region,handle,count\nr1,10/1,5\nr1,10/2,4\nr2,10/3,8\n";
+    let capacity = b"site,server_id,capacity\nE,7,10\nE,3,8\nW,1,6\nW,2,10\nW,9,10\n";
+    let instance = held_instance_of(&rt, rt.alloc(), demand, capacity);
+    let certificate = held_certificate_of(&rt, rt.alloc(), 30, [5, 4, 3, 5]);
+    let mut fronts = held_fronts_by(&rt, rt.alloc(), &instance, &certificate, 2);
     use_up_both_sites(&rt, &mut fronts);
 }
 
@@ -173,13 +149,12 @@ fn take_of_each(rt: &impl Abort, fronts: &mut Fronts<'_>, wide: Wide) {
     );
 }
 
-// Fronts of which each has the share, None where memory ran out.
-fn has_the_share(rt: &impl Abort, alloc: Global, wide: Wide) -> Option<()> {
-    let instance = instance_of(alloc, wide.demand, wide.capacity)?;
-    let certificate = certificate_of(alloc, wide.cost, [wide.count, 4, 1, 2])?;
-    let mut fronts = fronts(alloc, &instance, &certificate, wide.many)?;
+// The fronts of an instance of these counts have their shares.
+fn have_the_share(rt: &impl Abort, alloc: Global, wide: Wide) {
+    let instance = held_instance_of(rt, alloc, wide.demand, wide.capacity);
+    let certificate = held_certificate_of(rt, alloc, wide.cost, [wide.count, 4, 1, 2]);
+    let mut fronts = held_fronts_by(rt, alloc, &instance, &certificate, wide.many);
     take_of_each(rt, &mut fronts, wide);
-    Some(())
 }
 
 const ONE_LESS: Wide = Wide {
@@ -235,8 +210,6 @@ const MOST: Wide = Wide {
 #[test]
 fn fronts_hold_shares_of_two_octets_and_of_more(rt: HostRuntime) {
     for wide in [ONE_LESS, ONE_MORE, BOTH_LESS, BOTH_MORE, MOST] {
-        let first = has_the_share(&rt, rt.alloc(), wide);
-        let held = first.or(has_the_share(&rt, rt.alloc(), wide));
-        is_same(&rt, held, Some(()));
+        have_the_share(&rt, rt.alloc(), wide);
     }
 }

@@ -1,10 +1,10 @@
-use crate::fakes::{FakeReader, FakeWriter, Lines, Rows};
+use crate::fakes::{ALL, FakeReader, FakeWriter, Limits, Lines, ONE_BY_ONE, Rows};
 use crate::same::is_same;
-use crate::worked::{best_dispatcher, instance};
+use crate::worked::{best_dispatcher, held_dispatcher, held_instance, instance, left_of};
 use hsp_dispatch::*;
+use hsp_instance::Instance;
 use std::alloc::Global;
 use std::process::Abort;
-use std::test::Fail;
 
 // A log over the worked instance, how it is read and written, and what comes of it.
 #[derive(Clone, Copy)]
@@ -17,23 +17,6 @@ struct Case {
     lines: &'static [u8],
     left: [u64; 4],
 }
-
-// How many octets go at most in a call, and how many in all.
-#[derive(Clone, Copy)]
-struct Limits {
-    piece: usize,
-    good: usize,
-}
-
-const ALL: Limits = Limits {
-    piece: usize::MAX,
-    good: 200,
-};
-
-const ONE_BY_ONE: Limits = Limits {
-    piece: 1,
-    good: 200,
-};
 
 const LOG: &[u8] = b"region,handle\nr2,10/3\nr2,10/3\nr2,10/3\nr2,10/3\nr9,10/3\n";
 
@@ -79,51 +62,56 @@ fn plain(
     }
 }
 
-// Runs a case by a dispatcher. Want of memory before anything was read is None.
-fn run_by(
-    rt: &impl Abort,
-    alloc: Global,
-    case: Case,
-    dispatcher: &mut Dispatcher<'_>,
-) -> Option<Result<LogSums, LogFault>> {
-    let mut writer = FakeWriter::whole(alloc).ok()?;
-    writer.piece = case.written.piece;
-    writer.good = case.written.good;
-    writer.may_flush = case.may_flush;
-    let reader = FakeReader {
-        text: case.log,
-        piece: case.read.piece,
-        good: case.read.good,
-    };
-    let ends = run_log(alloc, reader, &mut writer, dispatcher);
-    if ends != Err(LogFault::OutOfMemory) {
-        let left = [
-            dispatcher.left(2, 0),
-            dispatcher.left(2, 1),
-            dispatcher.left(0, 0),
-            dispatcher.left(1, 0),
-        ];
-        is_same(rt, writer.taken.as_slice(), case.lines);
-        is_same(rt, left, case.left);
-        is_same(rt, writer.is_flushed, ends.is_ok());
-    }
-    Some(ends)
+// A log whose one row asks for the last row of the demand, and is answered by its first site.
+fn answered(log: &'static [u8]) -> Case {
+    plain(log, sums(1, 0, 0), b"assigned E 1 3\n", [0, 2, 5, 4])
 }
 
-// The same by the worked plan.
-fn run(rt: &impl Abort, alloc: Global, case: Case) -> Option<Result<LogSums, LogFault>> {
-    let instance = instance(alloc)?;
-    let mut dispatcher = best_dispatcher(alloc, &instance)?;
-    run_by(rt, alloc, case, &mut dispatcher)
+// A log of which nothing is answered before the fault.
+fn refused(log: &'static [u8], fault: LogFault) -> Case {
+    plain(log, Err(fault), b"", WHOLE_PLAN)
+}
+
+// What a case leaves with its writer and with its dispatcher.
+fn leaves(rt: &impl Abort, case: Case, writer: &FakeWriter, dispatcher: &Dispatcher<'_>) {
+    is_same(rt, writer.taken.as_slice(), case.lines);
+    is_same(rt, left_of(dispatcher), case.left);
+    is_same(rt, writer.is_flushed, case.ends.is_ok());
+}
+
+// Runs a case by the worked plan.
+fn run(
+    rt: &impl Abort,
+    alloc: Global,
+    instance: &Instance,
+    case: Case,
+) -> Result<LogSums, LogFault> {
+    let mut writer = FakeWriter::within(rt, alloc, case.written);
+    writer.may_flush = case.may_flush;
+    let reader = FakeReader::within(case.log, case.read);
+    let mut dispatcher = held_dispatcher(rt, alloc, instance);
+    let ends = run_log(alloc, reader, &mut writer, &mut dispatcher);
+    if ends != Err(LogFault::OutOfMemory) {
+        leaves(rt, case, &writer, &dispatcher);
+    }
+    ends
 }
 
 // The case comes out. Where a growth is refused, the second run finds memory.
 fn comes(rt: &impl Abort, alloc: Global, case: Case) {
-    let ends = match run(rt, alloc, case) {
-        None | Some(Err(LogFault::OutOfMemory)) => run(rt, alloc, case),
+    let instance = held_instance(rt, alloc);
+    let ends = match run(rt, alloc, &instance, case) {
+        Err(LogFault::OutOfMemory) => run(rt, alloc, &instance, case),
         ends => ends,
     };
-    is_same(rt, ends, Some(case.ends));
+    is_same(rt, ends, case.ends);
+}
+
+// So does each of these.
+fn all_come(rt: &impl Abort, alloc: Global, cases: &[Case]) {
+    for case in cases {
+        comes(rt, alloc, *case);
+    }
 }
 
 #[test]
@@ -136,12 +124,7 @@ fn the_worked_log_is_answered(rt: HostRuntime) {
             ..worked()
         },
         plain(b"region,handle\n", sums(0, 0, 0), b"", WHOLE_PLAN),
-        plain(
-            b"region,handle\r\nr2,\"10/3\"\r\n",
-            sums(1, 0, 0),
-            b"assigned E 1 3\n",
-            [0, 2, 5, 4],
-        ),
+        answered(b"region,handle\r\nr2,\"10/3\"\r\n"),
         plain(
             b"region,handle\n,10/3\n",
             sums(0, 0, 1),
@@ -155,43 +138,24 @@ fn the_worked_log_is_answered(rt: HostRuntime) {
             [1, 2, 4, 3],
         ),
     ];
-    for case in cases {
-        comes(&rt, rt.alloc(), case);
-    }
+    all_come(&rt, rt.alloc(), &cases);
+}
+
+// A log whose first row has no body.
+fn no_body(log: &'static [u8]) -> Case {
+    refused(log, LogFault::BadBody { row: 0 })
 }
 
 #[test]
 fn bodies_are_answered(rt: HostRuntime) {
     let cases = [
-        plain(
-            b"region,body\nr2,0000000431302f330000000000000000\n",
-            sums(1, 0, 0),
-            FIRST,
-            [0, 2, 5, 4],
-        ),
-        plain(
-            b"region,body\nr2,0000000431302F330000000000000000\n",
-            sums(1, 0, 0),
-            FIRST,
-            [0, 2, 5, 4],
-        ),
-        plain(
-            b"region,body\nr2,0000000431302f330000000100000001000000010000000755524c\n",
-            Err(LogFault::BadBody { row: 0 }),
-            b"",
-            WHOLE_PLAN,
-        ),
-        plain(
-            b"region,body\nr2,0000000431302f330000000100000001000000010000000355524c\n",
-            sums(1, 0, 0),
-            FIRST,
-            [0, 2, 5, 4],
-        ),
-        plain(
+        answered(b"region,body\nr2,0000000431302f330000000000000000\n"),
+        answered(b"region,body\nr2,0000000431302F330000000000000000\n"),
+        no_body(b"region,body\nr2,0000000431302f330000000100000001000000010000000755524c\n"),
+        answered(b"region,body\nr2,0000000431302f330000000100000001000000010000000355524c\n"),
+        refused(
             b"region,body\nr2,0000000231300000000000000000\n",
-            Err(LogFault::BadHandle { row: 0 }),
-            b"",
-            WHOLE_PLAN,
+            LogFault::BadHandle { row: 0 },
         ),
         no_body(b"region,body\nr2,00000004\n"),
         no_body(b"region,body\nr2,0\n"),
@@ -200,61 +164,25 @@ fn bodies_are_answered(rt: HostRuntime) {
         no_body(b"region,body\nr2,0000000431302f33FFFFFFFF\n"),
         no_body(b"region,body\nr2,0000000431302f33000000000000000g\n"),
     ];
-    for case in cases {
-        comes(&rt, rt.alloc(), case);
-    }
-}
-
-const FIRST: &[u8] = b"assigned E 1 3\n";
-
-// A log whose first row has no body.
-fn no_body(log: &'static [u8]) -> Case {
-    plain(log, Err(LogFault::BadBody { row: 0 }), b"", WHOLE_PLAN)
+    all_come(&rt, rt.alloc(), &cases);
 }
 
 #[test]
 fn another_header_answers_nothing(rt: HostRuntime) {
     let cases = [
-        plain(b"", Err(LogFault::Header), b"", WHOLE_PLAN),
-        plain(
-            b"region,handles\nr1,10/1\n",
-            Err(LogFault::Header),
-            b"",
-            WHOLE_PLAN,
-        ),
-        plain(
-            b"region,handle,count\n",
-            Err(LogFault::Header),
-            b"",
-            WHOLE_PLAN,
-        ),
-        plain(
-            b"front,region,handle\n",
-            Err(LogFault::Header),
-            b"",
-            WHOLE_PLAN,
-        ),
+        refused(b"", LogFault::Header),
+        refused(b"region,handles\nr1,10/1\n", LogFault::Header),
+        refused(b"region,handle,count\n", LogFault::Header),
+        refused(b"front,region,handle\n", LogFault::Header),
     ];
-    for case in cases {
-        comes(&rt, rt.alloc(), case);
-    }
+    all_come(&rt, rt.alloc(), &cases);
 }
 
 #[test]
 fn a_faulty_row_ends_the_run_after_the_others(rt: HostRuntime) {
     let cases = [
-        plain(
-            b"region,handle\nr1\n",
-            Err(LogFault::Fields { row: 0 }),
-            b"",
-            WHOLE_PLAN,
-        ),
-        plain(
-            b"region,handle\nr1,10/1,5\n",
-            Err(LogFault::Fields { row: 0 }),
-            b"",
-            WHOLE_PLAN,
-        ),
+        refused(b"region,handle\nr1\n", LogFault::Fields { row: 0 }),
+        refused(b"region,handle\nr1,10/1,5\n", LogFault::Fields { row: 0 }),
         plain(
             b"region,handle\nr1,10/1\nr1,10\n",
             Err(LogFault::BadHandle { row: 1 }),
@@ -268,9 +196,7 @@ fn a_faulty_row_ends_the_run_after_the_others(rt: HostRuntime) {
             [0, 2, 5, 4],
         ),
     ];
-    for case in cases {
-        comes(&rt, rt.alloc(), case);
-    }
+    all_come(&rt, rt.alloc(), &cases);
 }
 
 #[test]
@@ -305,9 +231,7 @@ fn failing_reads_and_writes_are_told(rt: HostRuntime) {
         left: WHOLE_PLAN,
         ..worked()
     };
-    for case in [cut_line, unflushed, cut_log, no_log] {
-        comes(&rt, rt.alloc(), case);
-    }
+    all_come(&rt, rt.alloc(), &[cut_line, unflushed, cut_log, no_log]);
 }
 
 // Runs the log of one row more than there may be. None where a growth is refused before its first row.
@@ -330,34 +254,31 @@ fn run_longest<'a>(alloc: Global, dispatcher: &mut Dispatcher<'a>) -> Option<(Lo
 }
 
 // A log of one row more than there may be is refused behind the others.
-fn is_too_long(
-    rt: &impl Abort,
-    alloc: Global,
-    dispatcher: &mut Dispatcher<'_>,
-) -> Result<(), Fail> {
+fn is_too_long(rt: &impl Abort, alloc: Global, dispatcher: &mut Dispatcher<'_>) {
     let ran = match run_longest(alloc, dispatcher) {
         None => run_longest(alloc, dispatcher),
         ran => ran,
     };
-    let (fault, lines) = ran.ok_or("a log that is too long")?;
+    let (fault, lines) = ran.expect(rt, "a log that is too long");
     is_same(rt, fault, LogFault::LogTooLong);
     is_same(rt, lines.many, 10_000_000);
     is_same(rt, lines.others, 0);
-    Ok(())
+}
+
+// The same by the worked plan of an instance.
+fn is_too_long_for(rt: &impl Abort, alloc: Global, instance: &Instance) {
+    match best_dispatcher(alloc, instance) {
+        Some(mut dispatcher) => is_too_long(rt, alloc, &mut dispatcher),
+        None => assert!(rt; best_dispatcher(alloc, instance).is_some()),
+    }
 }
 
 // Where a growth is refused while instance, certificate or dispatcher are made, they are made once more, and the long log isn't run: a run
 // takes seconds, and that of a test whose growths are all given is insisted on.
 #[test]
-fn a_log_has_ten_million_rows_at_most(rt: HostRuntime) -> Result<(), Fail> {
-    let alloc = rt.alloc();
-    let Some(instance) = instance(alloc) else {
-        assert!(rt; instance(alloc).is_some());
-        return Ok(());
-    };
-    let Some(mut dispatcher) = best_dispatcher(alloc, &instance) else {
-        assert!(rt; best_dispatcher(alloc, &instance).is_some());
-        return Ok(());
-    };
-    is_too_long(&rt, alloc, &mut dispatcher)
+fn a_log_has_ten_million_rows_at_most(rt: HostRuntime) {
+    match instance(rt.alloc()) {
+        Some(instance) => is_too_long_for(&rt, rt.alloc(), &instance),
+        None => assert!(rt; instance(rt.alloc()).is_some()),
+    }
 }
