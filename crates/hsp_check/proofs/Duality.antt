@@ -3,13 +3,13 @@ use Rattle.std.proofs.Common.{◌≡◌, ℕ, zero, suc, ◌+◌, ◌*◌, ◌<�
 use Rattle.std.proofs.lemmas.List.Folds.{list_any_at}
 use Rattle.std.proofs.lemmas.Bool.{cases_lt, cases_Bool, and_from}
 use Rattle.hsp_check.specs.declared.arc.NetworkArc.{NetworkArc}
-use Rattle.hsp_check.specs.Sums.{sum_below, times}
+use Rattle.hsp_sums.specs.Sums.{sum_below, times}
 use Rattle.hsp_check.specs.Network.{Network, IsNetwork}
 use Rattle.hsp_check.specs.Plan.{Plan, planned, load, is_on, on_host, host_load, total, Feasible}
 use Rattle.hsp_check.specs.Prices.{at_home, price_at, Prices}
 use Rattle.hsp_check.specs.Short.{reaches, demand_of, room_of, capacity_of}
 use Rattle.hsp_check.specs.Claims.{PricesShowBest, ShortShowsNone}
-use Rattle.hsp_check.proofs.Summing.{sum_below_same, sum_below_le, sum_below_zero, sum_below_add, sum_below_one, sum_by_same_all, sum_by_le_all, sum_by_add, by_key}
+use Rattle.hsp_sums.proofs.Summing.{sum_below_same, sum_below_le, sum_below_zero, sum_below_add, sum_below_one, sum_by_same_all, sum_by_le_all, sum_by_add, by_key}
 
 -- a weight of the hosts at one server
 at_one : (o : Option ℕ) (m : ℕ) (w : ℕ → ℕ) (x : ℕ) → ((h : ℕ) → o ≡ Some h → h < m) →

@@ -1,4 +1,3 @@
-pub mod Summing
 pub mod Duality
 pub mod Adding
 pub mod UsesLaid

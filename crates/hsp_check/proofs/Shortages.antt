@@ -7,13 +7,13 @@ use Rattle.std.proofs.lemmas.List.Elements.{All-head, All-tail}
 use Rattle.hsp_check.specs.declared.arc.NetworkArc.{NetworkArc}
 use Rattle.hsp_check.specs.declared.sums.LaidArc.{LaidArc}
 use Rattle.hsp_check.specs.declared.lists.NetworkLists.{NetworkLists}
-use Rattle.hsp_check.specs.Sums.{sum_below}
+use Rattle.hsp_sums.specs.Sums.{sum_below}
 use Rattle.hsp_check.specs.Network.{Network}
 use Rattle.hsp_check.specs.Plan.{is_on, on_host}
 use Rattle.hsp_check.specs.Short.{capacity_of, demand_of, room_of}
 use Rattle.hsp_check.specs.Laid.{flag_at, home_in}
 use Rattle.hsp_check.specs.Reach.{network_in}
-use Rattle.hsp_check.proofs.Summing.{sum_below_same}
+use Rattle.hsp_sums.proofs.Summing.{sum_below_same}
 use Rattle.hsp_check.proofs.LaidSums.{on_arcs}
 
 -- a test of the arcs alone

@@ -13,11 +13,11 @@ use Rattle.hsp_check.specs.declared.verdict.Verdict.TheVariants.{Yes, No}
 use Rattle.hsp_check.specs.Network.{Network, IsNetwork, is_allowed}
 use Rattle.hsp_check.specs.Plan.{Plan, Feasible, Best}
 use Rattle.hsp_check.specs.Short.{IsShort}
-use Rattle.hsp_check.specs.Sums.{times}
+use Rattle.hsp_sums.specs.Sums.{times}
 use Rattle.hsp_check.specs.Uses.{table}
 use Rattle.hsp_check.specs.Valid.{IsValid, IsValidPlan, IsValidSet}
 use Rattle.hsp_check.specs.Verdict.{IsVerdict, Meets, PlanMeets, SetMeets, is_one_of}
-use Rattle.hsp_check.proofs.Summing.{sum_by_same_all}
+use Rattle.hsp_sums.proofs.Summing.{sum_by_same_all}
 use Rattle.hsp_check.proofs.Ranges.{prices_low}
 use Rattle.hsp_check.proofs.Duality.{prices_show_best, short_shows_none}
 

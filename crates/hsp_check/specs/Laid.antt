@@ -1,10 +1,11 @@
 -- Arcs with what a plan gives them.
-use Rattle.std.specs.Prelude.{◌≡◌, ℕ, Bool, false, List, map, All, Option, None, slice_index_or}
+use Rattle.std.specs.Prelude.{◌≡◌, ℕ, List, map, All, Option, None, slice_index_or}
 use Rattle.hsp_check.specs.declared.arc.NetworkArc.{NetworkArc}
 use Rattle.hsp_check.specs.declared.sums.LaidArc.{LaidArc}
 use Rattle.hsp_check.specs.declared.sums.End.{End}
 use Rattle.hsp_check.specs.declared.sums.End.TheVariants as end
 use Rattle.hsp_check.specs.Plan.{Plan, planned}
+pub use Rattle.hsp_sums.specs.Lists.{flag_at}
 
 -- the row of an arc, or its server
 abbrev pub end_of : End → NetworkArc → ℕ
@@ -27,7 +28,3 @@ AreLaidBy x laid = All (λ l. l.flow ≡ planned x l.arc) laid
 pub record IsLaid (arcs : List NetworkArc) (x : Plan) (laid : List LaidArc) : Type 0 where
   pub arcs_are : arcs_in laid ≡ arcs
   pub flows_are : AreLaidBy x laid
-
--- whether a row, a server or a host is among those that the flags name
-abbrev pub flag_at : List Bool → ℕ → Bool
-flag_at flags k = slice_index_or flags k false

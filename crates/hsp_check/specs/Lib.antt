@@ -1,4 +1,3 @@
-pub mod Sums
 pub mod Network
 pub mod Plan
 pub mod Prices

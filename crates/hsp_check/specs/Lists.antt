@@ -1,10 +1,11 @@
 -- What lists of a network's numbers hold.
-use Rattle.std.specs.Prelude.{◌≡◌, ℕ, ◌<◌, ◌≤◌, ◌==◌, Bool, List, Option, Some, length, slice_index, sum_by, is_none, min, if◌then◌else◌}
+use Rattle.std.specs.Prelude.{◌≡◌, ℕ, ◌<◌, ◌==◌, Bool, List, Option, Some, length, slice_index, sum_by, is_none, min, if◌then◌else◌}
 use Rattle.hsp_check.specs.declared.sums.LaidArc.{LaidArc}
 use Rattle.hsp_check.specs.declared.sums.End.{End}
-use Rattle.hsp_check.specs.Sums.{sum_below}
-use Rattle.hsp_check.specs.Plan.{is_on}
-use Rattle.hsp_check.specs.Laid.{end_of, flag_at, home_in}
+use Rattle.hsp_check.specs.Laid.{end_of, home_in}
+use Rattle.hsp_sums.specs.Sums.{sum_below}
+use Rattle.hsp_sums.specs.Lists.{flag_at, is_on}
+pub use Rattle.hsp_sums.specs.Lists.{AreIdle, AreWithin, AreZero}
 
 -- each host that a server stands on is below the count
 abbrev pub HomesAreBelow : ℕ → List (Option ℕ) → Type 0
@@ -13,17 +14,6 @@ HomesAreBelow count homes = (j h : ℕ) → j < length homes → home_in homes j
 -- each sum is what is asked for
 abbrev pub AreMet : List ℕ → List ℕ → Type 0
 AreMet demands sums = (i : ℕ) → i < length demands → slice_index sums i ≡ slice_index demands i
-
--- each load is within its bound
-abbrev pub AreWithin : List ℕ → List ℕ → Type 0
-AreWithin bounds loads = (j : ℕ) → j < length bounds → slice_index loads j ≤ slice_index bounds j
-
--- the price is 0 of each load that is below its bound
-abbrev pub AreIdle : List ℕ → List ℕ → List ℕ → Type 0
-AreIdle bounds loads prices = (j : ℕ) → j < length bounds → slice_index loads j < slice_index bounds j → slice_index prices j ≡ 0
-
-abbrev pub AreZero : List ℕ → Type 0
-AreZero sums = (v : ℕ) → v < length sums → slice_index sums v ≡ 0
 
 -- the first so many numbers are below the bound
 abbrev pub AreSmall : ℕ → ℕ → List ℕ → Type 0

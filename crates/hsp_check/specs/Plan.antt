@@ -1,8 +1,9 @@
 -- Plans: a feasible flow of the transportation problem, and its cost (Network Flows, sections 1.2 and 9.1).
-use Rattle.std.specs.Prelude.{◌≡◌, ℕ, ◌*◌, ◌<◌, ◌≤◌, ◌==◌, Bool, false, length, sum_by, slice_index, Option, Some, None, if◌then◌else◌}
+use Rattle.std.specs.Prelude.{◌≡◌, ℕ, ◌*◌, ◌<◌, ◌≤◌, ◌==◌, Bool, false, length, sum_by, slice_index, if◌then◌else◌}
 use Rattle.hsp_check.specs.declared.arc.NetworkArc.{NetworkArc}
-use Rattle.hsp_check.specs.Sums.{sum_below}
+use Rattle.hsp_sums.specs.Sums.{sum_below}
 use Rattle.hsp_check.specs.Network.{Network, is_allowed}
+pub use Rattle.hsp_sums.specs.Lists.{is_on}
 
 -- a table of whole numbers: how many queries of a row go to a site
 abbrev pub Plan : Type 0
@@ -19,11 +20,6 @@ served n x i = sum_by (λ a. if a.row == i then planned x a else 0) n.arcs
 -- what the server takes, over all rows whose server it is
 abbrev pub load : Network → Plan → ℕ → ℕ
 load n x j = sum_by (λ a. if a.server == j then planned x a else 0) n.arcs
-
--- whether a server that stands where `home` says stands on the host
-abbrev pub is_on : Option ℕ → ℕ → Bool
-is_on None h = false
-is_on (Some g) h = g == h
 
 -- numbers of the servers on a host, added up
 abbrev pub on_host : Network → (ℕ → ℕ) → ℕ → ℕ

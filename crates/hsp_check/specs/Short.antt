@@ -1,7 +1,7 @@
 -- Short sets: rows that ask for more than all that they can reach takes (a cut, Network Flows, section 6.7).
 use Rattle.std.specs.Prelude.{ℕ, ◌+◌, ◌<◌, ◌==◌, ◌&&◌, Bool, List, length, slice_index, is_none, min, filter, if◌then◌else◌}
 use Rattle.std.specs.List.{list_any, range_with_len}
-use Rattle.hsp_check.specs.Sums.{sum_below}
+use Rattle.hsp_sums.specs.Sums.{sum_below}
 use Rattle.hsp_check.specs.Network.{Network}
 use Rattle.hsp_check.specs.Plan.{on_host}
 

@@ -6,8 +6,8 @@ use Rattle.std.proofs.lemmas.Bool.{cases_eq, cases_lt, le-ltb, lt-ltb, ne_eqb}
 use Rattle.std.proofs.lemmas.List.{append-nil}
 use Rattle.hsp_instance.specs.Instance.{Instance}
 use Rattle.hsp_check.specs.Plan.{Plan}
-use Rattle.hsp_check.specs.Sums.{sum_below}
-use Rattle.hsp_check.proofs.Summing.{sum_below_le, sum_below_same}
+use Rattle.hsp_sums.specs.Sums.{sum_below}
+use Rattle.hsp_sums.proofs.Summing.{sum_below_le, sum_below_same}
 use Rattle.hsp_dispatch.specs.Dispatch.{Entry, IsSame, answer_to, assigned_in, count_for, rest, spread}
 use Rattle.hsp_dispatch.specs.FrontLaws.{AnswersByShares, BeginsWithShares, EndsInTheSame, GoesByItsEntries, IsSpentTogether, NeverExceedsTogether, WasSpentAt}
 use Rattle.hsp_dispatch.specs.Fronts.{Event, IsTakenAt, Tables, answer_among, answers_at, assigned_at, entries_at, event_answer, event_answers_after, fronts_of, left_at_front, share, share_of, shares_of}

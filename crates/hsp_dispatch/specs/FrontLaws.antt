@@ -2,7 +2,7 @@
 use Rattle.std.specs.Prelude.{◌≡◌, ◌≤◌, ◌<◌, ℕ, List, [], ◌∷◌, ◌++◌, length, Some}
 use Rattle.hsp_instance.specs.Instance.{Instance}
 use Rattle.hsp_check.specs.Plan.{Plan}
-use Rattle.hsp_check.specs.Sums.{sum_below}
+use Rattle.hsp_sums.specs.Sums.{sum_below}
 use Rattle.hsp_dispatch.specs.Dispatch.{IsSame, row_of}
 use Rattle.hsp_dispatch.specs.Fronts.{AreFrontsOf, Event, IsTakenAt, Tables, answer_among, answers_at, assigned_by_all, entries_at, front_answer, front_answers, fronts_of, left_at_front, rest_at, shares_of}
 use Rattle.hsp_dispatch.specs.declared.answer.Answer.TheVariants.{Spent}

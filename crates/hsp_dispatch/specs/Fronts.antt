@@ -3,7 +3,7 @@ use Rattle.std.specs.Prelude.{◌≡◌, ◌≢◌, ◌<◌, ◌+◌, ◌/◌, �
 use Rattle.std.specs.List.{AllByRecursion, slice_get}
 use Rattle.hsp_instance.specs.Instance.{Instance, IsInstance}
 use Rattle.hsp_check.specs.Plan.{Plan}
-use Rattle.hsp_check.specs.Sums.{sum_below}
+use Rattle.hsp_sums.specs.Sums.{sum_below}
 use Rattle.hsp_dispatch.specs.Dispatch.{Entry, IsSame, answer_to, assigned_in, is_assigned, is_spent, is_unknown, rest, row_of}
 use Rattle.hsp_dispatch.specs.Shares.{Held, IsHeld, cells_in, left_of}
 use Rattle.hsp_dispatch.specs.declared.answer.Answer.{Answer}

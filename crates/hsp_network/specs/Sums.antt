@@ -1,8 +1,7 @@
 -- Sums over numbers.
 use Rattle.std.specs.Prelude.{◌≡◌, ℕ, suc, zero, ◌<◌, ◌==◌, ◌||◌, Bool, false, List, Option, None, length, slice_index, slice_index_or, if◌then◌else◌}
-pub use Rattle.hsp_check.specs.Lists.{AreZero}
-pub use Rattle.hsp_check.specs.Plan.{is_on}
-pub use Rattle.hsp_check.specs.Sums.{sum_below}
+pub use Rattle.hsp_sums.specs.Lists.{AreZero, is_on}
+pub use Rattle.hsp_sums.specs.Sums.{sum_below}
 
 -- n where the two numbers are one, else 0
 abbrev pub only : ℕ → ℕ → ℕ → ℕ

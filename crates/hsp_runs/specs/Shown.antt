@@ -9,7 +9,7 @@ use Rattle.hsp_cert.specs.Text.{text_of}
 use Rattle.hsp_check.specs.Instance.{network_of}
 use Rattle.hsp_check.specs.Network.{Network}
 use Rattle.hsp_check.specs.Plan.{Best, Feasible, Plan}
-use Rattle.hsp_check.specs.Sums.{times}
+use Rattle.hsp_sums.specs.Sums.{times}
 use Rattle.hsp_check.specs.Uses.{table}
 use Rattle.hsp_check.specs.Valid.{IsValidPlan, IsValidSet}
 

@@ -1,24 +1,10 @@
 // The program: one command a run, from its arguments or, without any, from the first line of standard input.
 #![tactic(auto)]
 
-mod answer;
-mod commands;
-mod dispatch;
-mod ending;
-mod failure;
-mod files;
-mod output;
-mod words;
-
-use answer::Completed;
-use commands::obey;
-use ending::{end_with, last_line};
-use failure::Failure;
-use output::Output;
+use hsp_edge::{Completed, Failure, Output, end_with, last_line, obey, take_words};
 use std::io::{self, BufWriter};
 use std::process::ExitCode;
 use std::rt::{Env, Files};
-use words::take_words;
 
 // How many octets of answers go out together.
 const PIECE: usize = 65_536;

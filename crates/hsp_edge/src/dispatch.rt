@@ -1,0 +1,132 @@
+// Logs that are answered on an output.
+
+ghost use Rattle.std.specs.Prelude.{◌≡◌, ◌⊎◌, IfErr, IfOk};
+ghost use Rattle.std.specs.Io.KnownBytes.{Keeps};
+ghost use Rattle.hsp_dispatch.specs.declared.fault.LogFault.TheVariants.{WriteFailed};
+ghost use Rattle.hsp_runs.specs.declared.fault.Fault.TheVariants.{Log};
+ghost use Rattle.hsp_edge.specs.Commands.{AreOpened, DispatchFails};
+ghost use Rattle.hsp_edge.specs.Dispatching.{AnswersEntries, AnswersEvents, Dispatches, opened_log};
+ghost use Rattle.hsp_edge.specs.Failing.{IsUnread};
+
+use crate::answer::Completed;
+use crate::commands::read_inputs;
+use crate::failure::Failure;
+use crate::files::{FileSource, OpenFile, read_whole};
+use crate::output::Output;
+use hsp_command::{InputFiles, Word};
+use hsp_dispatch::LogFault;
+use hsp_runs::{Fault, Inputs, dispatch_run, fronts_run};
+use std::alloc::Global;
+
+/// What a log is answered by, and the log, of which nothing was read yet.
+#[derive(Drop)]
+pub struct OpenLog<F: OpenFile> {
+    pub inputs: Inputs,
+    pub certificate: Vec<u8>,
+    pub log: F,
+}
+
+/// Reads the files of the inputs and then that of the certificate, and opens that of the log.
+pub fn open_log<S: FileSource>(
+    alloc: Global,
+    files: &S,
+    named: &InputFiles,
+    plan: &Word,
+    log: &Word,
+) -> Result<OpenLog<S::File>, Failure>
+    ensures opened { IfOk result (λ it. AreOpened (S.disk files.now) named.now plan.now log.now
+        (opened_log it.inputs it.certificate.items (S.File.remaining it.log))) }
+    ensures unread { IfErr result (IsUnread
+        (DispatchFails (S.disk files.now) named.now plan.now log.now)) }
+{
+    let inputs = read_inputs(alloc, files, named)?;
+    let certificate = read_whole(alloc, files, plan)?;
+    let log = files.open(log)?;
+    Ok(OpenLog {
+        inputs,
+        certificate,
+        log,
+    })
+}
+
+// Hands on the lines that were written before the fault, and gives the fault or, where that fails, a failed write. What a failed
+// write left isn't tried again.
+fn handed_on<O: Output>(out: &mut O, fault: Fault) -> Fault
+    ensures kept { Keeps (O.contents out.old) (O.contents out.new) }
+    ensures fault { (result ≡ fault) ⊎ (O.may_fail × (result ≡ Log WriteFailed)) }
+{
+    if fault == Fault::Log(LogFault::WriteFailed) {
+        return fault;
+    }
+    match out.hand_on() {
+        Ok(()) => fault,
+        Err(_) => Fault::Log(LogFault::WriteFailed),
+    }
+}
+
+/// Answers the log on `out`: its entries, whose sums it gives, or its events by so many fronts as the word tells. At a fault the
+/// lines before it were handed on.
+pub fn dispatch<F: OpenFile, O: Output>(
+    alloc: Global,
+    opened: OpenLog<F>,
+    fronts: &Option<Word>,
+    out: &mut O,
+) -> Result<Completed, Failure>
+    ensures { Dispatches O.may_fail fronts.now
+        (opened_log opened.inputs opened.certificate.items (F.remaining opened.log))
+        (O.contents out.old) (O.contents out.new) result }
+{
+    match fronts {
+        Some(fronts) => dispatch_events(alloc, opened, fronts, out),
+        None => dispatch_entries(alloc, opened, out),
+    }
+}
+
+// Answers the log's entries, and gives their sums.
+fn dispatch_entries<F: OpenFile, O: Output>(
+    alloc: Global,
+    opened: OpenLog<F>,
+    out: &mut O,
+) -> Result<Completed, Failure>
+    ensures { AnswersEntries O.may_fail
+        (opened_log opened.inputs opened.certificate.items (F.remaining opened.log))
+        (O.contents out.old) (O.contents out.new) result }
+{
+    let OpenLog {
+        inputs,
+        certificate,
+        log,
+    } = opened;
+    match dispatch_run(alloc, &inputs, &certificate, log, out) {
+        Ok(sums) => Ok(Completed {
+            status: 0,
+            sums: Some(sums),
+        }),
+        Err(fault) => Err(Failure::Refused(handed_on(out, fault))),
+    }
+}
+
+// Answers the log's events by so many fronts as the word tells.
+fn dispatch_events<F: OpenFile, O: Output>(
+    alloc: Global,
+    opened: OpenLog<F>,
+    fronts: &Word,
+    out: &mut O,
+) -> Result<Completed, Failure>
+    ensures { AnswersEvents O.may_fail fronts.now
+        (opened_log opened.inputs opened.certificate.items (F.remaining opened.log))
+        (O.contents out.old) (O.contents out.new) result }
+{
+    let OpenLog {
+        inputs,
+        certificate,
+        log,
+    } = opened;
+    match fronts_run(alloc, &inputs, &certificate, fronts.as_bytes(), log, out) {
+        Ok(_sums) => Ok(Completed {
+            status: 0,
+            sums: None,
+        }),
+        Err(fault) => Err(Failure::Refused(handed_on(out, fault))),
+    }
+}

@@ -1,0 +1,77 @@
+// How the program ends.
+
+ghost use Rattle.std.specs.Prelude.{◌≡◌, IfOk};
+ghost use Rattle.hsp_edge.specs.Ending.{Ends, Tells, TellsBy, TellsLine, last_text};
+
+use crate::answer::Completed;
+use crate::failure::Failure;
+use crate::output::Output;
+use hsp_runs::{fault_line, status_of, sums_line};
+use std::alloc::{AllocError, Global};
+
+/// The line that is told at the end: of a refused input, or of the sums of a log; else no octets.
+pub fn last_line(alloc: Global, ended: &Result<Completed, Failure>) -> Result<Vec<u8>, AllocError>
+    ensures { IfOk result (λ line. line.items ≡ last_text ended.now) }
+{
+    match ended {
+        Ok(completed) => match &completed.sums {
+            Some(sums) => sums_line(alloc, sums),
+            None => Ok(Vec::new(alloc)),
+        },
+        Err(Failure::Refused(fault)) => fault_line(alloc, fault),
+        Err(_) => Ok(Vec::new(alloc)),
+    }
+}
+
+// Writes a text, and gives the status, which becomes 5 where the write failed.
+fn write_line<E: Output>(errors: &mut E, line: &[u8], status: u8) -> u8
+    ensures { TellsBy E.may_fail line.now status (E.contents errors.old)
+        (E.contents errors.new) result }
+{
+    match errors.put(line) {
+        Ok(()) => status,
+        Err(_) => 5,
+    }
+}
+
+// Writes the line or, where memory ran out for it, that it ran out, and gives the status to end with.
+fn tell_line<E: Output>(errors: &mut E, line: &Result<Vec<u8>, AllocError>, status: u8) -> u8
+    ensures { TellsLine E.may_fail line.now status (E.contents errors.old)
+        (E.contents errors.new) result }
+{
+    match line {
+        Ok(line) => write_line(errors, line.as_slice(), status),
+        Err(_) => write_line(errors, b"hsplan: OutOfMemory\n", 4),
+    }
+}
+
+// Tells of the failure, of a refused input by the line, and gives the status to end with.
+fn tell<E: Output>(errors: &mut E, failure: &Failure, line: &Result<Vec<u8>, AllocError>) -> u8
+    ensures { Tells E.may_fail failure.now line.now (E.contents errors.old)
+        (E.contents errors.new) result }
+{
+    match failure {
+        Failure::Usage => write_line(errors, b"hsplan: Usage\n", 2),
+        Failure::Memory => write_line(errors, b"hsplan: OutOfMemory\n", 4),
+        Failure::Read => write_line(errors, b"hsplan: read failed\n", 5),
+        Failure::Write => write_line(errors, b"hsplan: write failed\n", 5),
+        Failure::Refused(fault) => tell_line(errors, line, status_of(fault)),
+    }
+}
+
+/// Gives the status that the program ends with. Before that it tells on `errors`, by `line`, the sums of a log or a refused input,
+/// and any other failure by its own text; where memory ran out for the line, it tells that.
+pub fn end_with<E: Output>(
+    errors: &mut E,
+    ended: &Result<Completed, Failure>,
+    line: &Result<Vec<u8>, AllocError>,
+) -> u8
+    ensures { Ends E.may_fail ended.now line.now (E.contents errors.old)
+        (E.contents errors.new) result }
+{
+    match ended {
+        Ok(completed) if completed.sums.is_some() => tell_line(errors, line, completed.status),
+        Ok(completed) => completed.status,
+        Err(failure) => tell(errors, failure, line),
+    }
+}

@@ -1,0 +1,18 @@
+// The edge of the program: its words, the files behind their paths, answers and the lines of logs on standard output, and how it ends.
+#![tactic(auto)]
+
+mod answer;
+mod commands;
+mod dispatch;
+mod ending;
+mod failure;
+mod files;
+mod output;
+mod words;
+
+pub use answer::{Answer, Completed};
+pub use commands::obey;
+pub use ending::{end_with, last_line};
+pub use failure::Failure;
+pub use output::Output;
+pub use words::take_words;

@@ -1,5 +1,0 @@
-use Rattle.hsplan.proofs.Writing.{put_whole}
-use Rattle.hsplan.proofs.output.AnyOutput.put.Goals as goal
-
-pub returns : goal.returns
-returns g c = put_whole _ _ _ _ _ _ c.in_ok-put_all.ensures.whole c.hand_on.ensures.kept c.hand_on.ensures.fails
