@@ -266,16 +266,20 @@ fn held_many(rt: &impl Abort, alloc: Global) -> Vec<u8> {
     }
 }
 
-// The instance of these rows, with what the server can take in a table of capacities.
-fn instance_of_many(rt: &impl Abort, alloc: Global, capacity: &[u8]) -> Instance {
-    let demand = held_many(rt, alloc);
-    let texts = Texts {
-        demand: &demand,
+// The texts of these rows, with what the server can take in a table of capacities.
+fn texts_of_many<'a>(demand: &'a [u8], capacity: &'a [u8]) -> Texts<'a> {
+    Texts {
+        demand,
         costs: b"region,site,cost\nr1,X,1\n",
         capacity,
         ..WIDE
-    };
-    held_instance(rt, alloc, texts)
+    }
+}
+
+// Their instance.
+fn instance_of_many(rt: &impl Abort, alloc: Global, capacity: &'static [u8]) -> Instance {
+    let demand = held_many(rt, alloc);
+    held_instance(rt, alloc, texts_of_many(&demand, capacity))
 }
 
 // The rows from one on up to another.
