@@ -1,3 +1,2 @@
 pub mod Words
-pub mod Commands
 pub mod Orders

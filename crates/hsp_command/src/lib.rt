@@ -1,7 +1,6 @@
 // The command line of the program: words, and the orders that they give.
 #![tactic(auto)]
 
-mod commands;
 mod fault;
 mod order;
 mod reading;

@@ -3,18 +3,18 @@
 ghost use Rattle.std.specs.Prelude.{◌≡◌, ◌↔◌, [], true, false, IfNone, IfOk, IfSome, OnOk, Err, Some, None, codes, map, string_bytes};
 ghost use Rattle.clap.specs.Words.{fault_of, found_of, kind_of, rows_of, first_of, subcommand_of};
 ghost use Rattle.clap.specs.declared.error.kind.ErrorKind.TheVariants as kind;
-ghost use Rattle.hsp_command.specs.Commands.{hsplan_app};
+ghost use Rattle.hsp_options.specs.Commands.{hsplan_app};
 ghost use Rattle.hsp_command.specs.Orders.{HasInputs, HasNoPlace, IsOrderIn, IsOrderOf, IsUsage, kind_word};
 ghost use Rattle.hsp_command.specs.declared.fault.CommandFault.TheVariants as fault;
 ghost use Rattle.hsp_command.specs.declared.order.InputFiles.{InputFiles};
 ghost use Rattle.hsp_command.specs.declared.order.Kind.{Kind};
 ghost use Rattle.hsp_command.specs.declared.order.Order.{Order};
 
-use crate::commands::hsplan_command;
 use crate::fault::CommandFault;
 use crate::order::{InputFiles, Kind, Order, Word};
 use clap::error::ErrorKind;
 use clap::{ArgMatches, Error};
+use hsp_options::hsplan_command;
 use std::alloc::{AllocError, Global};
 
 // The value of this name, where it was given.

@@ -1,6 +1,6 @@
 -- What a command answers: to which words, and from which files.
 use Rattle.std.specs.Prelude.{◌≡◌, ◌⊎◌, ⊤, ℕ, List, Option, Some, None, Result, Ok, Err, IsErrAnd, option_map}
-use Rattle.hsp_command.specs.Commands.{hsplan_app}
+use Rattle.hsp_options.specs.Commands.{hsplan_app}
 use Rattle.clap.specs.Words.{subcommand_of}
 use Rattle.hsp_command.specs.Orders.{IsOrderOf, IsUsage}
 use Rattle.hsp_command.specs.declared.fault.CommandFault.{CommandFault}

@@ -1,0 +1,42 @@
+-- The commands of the program with their options, as clap's builder describes them.
+use Rattle.std.specs.Prelude.{◌++◌, ◌∷◌, [], List, codes, fold, Some, true}
+use Rattle.clap.specs.Words.{App, Rule, Text, new_app, new_rule, with_rule, with_subcommand}
+
+-- an option by its long name, one that has to be given, and a word by its place, which has to be given
+abbrev pub option : Text → Rule
+option name = record (new_rule name) { long = Some name }
+
+abbrev pub needed : Text → Rule
+needed name = record (option name) { required = true }
+
+abbrev pub word : Text → Rule
+word name = record (new_rule name) { required = true }
+
+-- the files of the inputs
+abbrev pub inputs : List Rule
+inputs = needed (codes "settings") ∷ option (codes "values") ∷ needed (codes "demand") ∷ needed (codes "costs") ∷ needed (codes "capacity") ∷ []
+
+-- each command's name and arguments
+abbrev pub commands : List (Text × List Rule)
+commands =
+    (codes "locate", option (codes "option") ∷ option (codes "servers") ∷ option (codes "settings") ∷ option (codes "values") ∷ word (codes "handle") ∷ [])
+    ∷ (codes "site", option (codes "index") ∷ word (codes "file") ∷ [])
+    ∷ (codes "plan", inputs)
+    ∷ (codes "check", inputs ++ needed (codes "plan") ∷ [])
+    ∷ (codes "dispatch", inputs ++ needed (codes "plan") ∷ needed (codes "log") ∷ option (codes "fronts") ∷ [])
+    ∷ (codes "report", inputs ++ needed (codes "plan") ∷ needed (codes "kind") ∷ [])
+    ∷ []
+
+-- a command with these arguments, in this order
+abbrev pub with_rules : App → List Rule → App
+with_rules app rules = fold with_rule app rules
+
+abbrev pub with_commands : App → List (Text × List Rule) → App
+with_commands app commands = fold (λ app command. with_subcommand app (with_rules (new_app command.0) command.1).top) app commands
+
+-- the program without its commands: the words don't begin with its name
+abbrev pub bare_app : App
+bare_app = let app = new_app (codes "hsplan") in record app { top = record app.top { no_binary_name = true } }
+
+abbrev pub hsplan_app : App
+hsplan_app = with_commands bare_app commands

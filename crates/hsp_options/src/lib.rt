@@ -1,0 +1,7 @@
+// The commands of the program with their options, built for clap.
+#![tactic(auto)]
+
+mod commands;
+mod tables;
+
+pub use commands::hsplan_command;

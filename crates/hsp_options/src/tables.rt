@@ -1,0 +1,70 @@
+// The commands with their arguments.
+
+use Argument::{Needed, Optional, Word};
+
+/// An argument, by how words give it.
+#[derive(Clone, Copy)]
+pub(crate) enum Argument<'a> {
+    /// `--NAME VALUE`, which may be left out.
+    Optional(&'a str),
+    /// `--NAME VALUE`.
+    Needed(&'a str),
+    /// A word by its place.
+    Word(&'a str),
+}
+
+/// A subcommand, with the arguments for its inputs and those of its own.
+#[derive(Clone, Copy)]
+pub(crate) struct Subcommand<'a> {
+    pub(crate) name: &'a str,
+    pub(crate) inputs: &'a [Argument<'a>],
+    pub(crate) others: &'a [Argument<'a>],
+}
+
+const INPUTS: [Argument<'static>; 5] = [
+    Needed("settings"),
+    Optional("values"),
+    Needed("demand"),
+    Needed("costs"),
+    Needed("capacity"),
+];
+
+/// The commands of the program.
+pub(crate) const COMMANDS: [Subcommand<'static>; 6] = [
+    Subcommand {
+        name: "locate",
+        inputs: &[],
+        others: &[
+            Optional("option"),
+            Optional("servers"),
+            Optional("settings"),
+            Optional("values"),
+            Word("handle"),
+        ],
+    },
+    Subcommand {
+        name: "site",
+        inputs: &[],
+        others: &[Optional("index"), Word("file")],
+    },
+    Subcommand {
+        name: "plan",
+        inputs: &INPUTS,
+        others: &[],
+    },
+    Subcommand {
+        name: "check",
+        inputs: &INPUTS,
+        others: &[Needed("plan")],
+    },
+    Subcommand {
+        name: "dispatch",
+        inputs: &INPUTS,
+        others: &[Needed("plan"), Needed("log"), Optional("fronts")],
+    },
+    Subcommand {
+        name: "report",
+        inputs: &INPUTS,
+        others: &[Needed("plan"), Needed("kind")],
+    },
+];
