@@ -207,7 +207,7 @@ def unmarked():
 def fault_words():
     """The words that a line of a fault may have, as the sources have them."""
     sources = ["fault_text.rt", "fault_words.rt", "verdict_text.rt"]
-    found = [word for it in sources for word in re.findall(r'b"(?:\d+ )?([A-Z][A-Za-z0-9]+)', text_of(f"crates/hsp_runs/src/{it}"))]
+    found = [word for it in sources for word in re.findall(r'b"(?:\d+ )?([A-Z][A-Za-z0-9]+)', text_of(f"crates/hsp_lines/src/{it}"))]
     return sorted(set(found) | {"Usage", "read failed", "write failed"})
 
 

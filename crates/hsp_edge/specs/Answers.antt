@@ -6,9 +6,9 @@ use Rattle.hsp_check.specs.declared.verdict.Verdict.TheVariants.{Yes}
 use Rattle.hsp_runs.specs.Check.{IsChecked, ShowsOf}
 use Rattle.hsp_runs.specs.Plan.{IsPlanned, Printed}
 use Rattle.hsp_runs.specs.declared.inputs.Inputs.{Inputs}
-use Rattle.hsp_runs.specs.VerdictText.{verdict_status, verdict_text}
-use Rattle.hsp_runs.specs.declared.fault.Fault.{Fault}
-use Rattle.hsp_runs.specs.declared.fault.Fault.TheVariants.{OutOfMemory}
+use Rattle.hsp_lines.specs.VerdictText.{verdict_status, verdict_text}
+use Rattle.hsp_lines.specs.declared.fault.Fault.{Fault}
+use Rattle.hsp_lines.specs.declared.fault.Fault.TheVariants.{OutOfMemory}
 use Rattle.hsp_edge.specs.declared.answer.Answer.{Answer}
 use Rattle.hsp_edge.specs.declared.failure.Failure.{Failure}
 use Rattle.hsp_edge.specs.declared.failure.Failure.TheVariants.{Memory, Refused}

@@ -5,8 +5,8 @@ use Rattle.hsp_dispatch.specs.declared.answer.FrontSums.{FrontSums}
 use Rattle.hsp_dispatch.specs.declared.answer.LogSums.{LogSums}
 use Rattle.hsp_dispatch.specs.declared.fault.LogFault.TheVariants.{WriteFailed}
 use Rattle.hsp_runs.specs.Dispatch.{IsDispatched, IsDispatchedAt, over}
-use Rattle.hsp_runs.specs.declared.fault.Fault.{Fault}
-use Rattle.hsp_runs.specs.declared.fault.Fault.TheVariants.{Log}
+use Rattle.hsp_lines.specs.declared.fault.Fault.{Fault}
+use Rattle.hsp_lines.specs.declared.fault.Fault.TheVariants.{Log}
 use Rattle.hsp_runs.specs.declared.inputs.Inputs.{Inputs}
 use Rattle.hsp_edge.specs.declared.answer.Completed.{Completed}
 use Rattle.hsp_edge.specs.declared.failure.Failure.{Failure}

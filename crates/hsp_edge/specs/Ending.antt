@@ -3,8 +3,8 @@ use Rattle.std.specs.Prelude.{◌≡◌, ◌⊎◌, ◌++◌, ◌∷◌, [], ℕ
 use Rattle.std.specs.declared.alloc.Global.{Global}
 use Rattle.std.specs.declared.alloc.AllocError.{AllocError}
 use Rattle.std.specs.Io.KnownBytes.{Appends}
-use Rattle.hsp_runs.specs.FaultText.{fault_text, status_in}
-use Rattle.hsp_runs.specs.SumsText.{sums_text}
+use Rattle.hsp_lines.specs.FaultText.{fault_text, status_in}
+use Rattle.hsp_lines.specs.SumsText.{sums_text}
 use Rattle.hsp_dispatch.specs.declared.answer.LogSums.{LogSums}
 use Rattle.hsp_edge.specs.declared.answer.Completed.{Completed}
 use Rattle.hsp_edge.specs.declared.failure.Failure.{Failure}

@@ -3,7 +3,7 @@
 ghost use Rattle.std.specs.Prelude.{◌≡◌, ◌⊎◌, IfErr, IfOk};
 ghost use Rattle.std.specs.Io.KnownBytes.{Keeps};
 ghost use Rattle.hsp_dispatch.specs.declared.fault.LogFault.TheVariants.{WriteFailed};
-ghost use Rattle.hsp_runs.specs.declared.fault.Fault.TheVariants.{Log};
+ghost use Rattle.hsp_lines.specs.declared.fault.Fault.TheVariants.{Log};
 ghost use Rattle.hsp_edge.specs.Commands.{AreOpened, DispatchFails};
 ghost use Rattle.hsp_edge.specs.Dispatching.{AnswersEntries, AnswersEvents, Dispatches, opened_log};
 ghost use Rattle.hsp_edge.specs.Failing.{IsUnread};

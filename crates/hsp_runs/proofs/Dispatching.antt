@@ -16,8 +16,8 @@ use Rattle.hsp_dispatch.specs.declared.fault.LogFault.{LogFault}
 use Rattle.hsp_dispatch.specs.declared.fault.LogFault.TheVariants as log_fault
 use Rattle.hsp_runs.specs.Accepted.{plan_in}
 use Rattle.hsp_runs.specs.Dispatch.{AnswersAs, EndsLog, a_dispatcher, so_many}
-use Rattle.hsp_runs.specs.FaultText.{log_told}
-use Rattle.hsp_runs.specs.declared.fault.Fault.{Fault}
+use Rattle.hsp_lines.specs.FaultText.{log_told}
+use Rattle.hsp_lines.specs.declared.fault.Fault.{Fault}
 
 -- a run that stops is told by its fault
 stops_told : {S : Type 0} (all : S → FrontSums) (desk : Desk) (run : Streams) (fault : LogFault) → Stops desk run fault

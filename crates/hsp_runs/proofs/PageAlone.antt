@@ -11,8 +11,8 @@ use Rattle.hsp_instance.specs.Instance.{Instance}
 use Rattle.hsp_runs.specs.Instance.{IsBuilt, IsInstanceOf}
 use Rattle.hsp_runs.specs.Laws.{GivesNothingElse}
 use Rattle.hsp_runs.specs.Readings.{AreListed, AreValues, some_list}
-use Rattle.hsp_runs.specs.declared.fault.Fault.{Fault}
-use Rattle.hsp_runs.specs.declared.fault.Fault.TheVariants.{Build, Values}
+use Rattle.hsp_lines.specs.declared.fault.Fault.{Fault}
+use Rattle.hsp_lines.specs.declared.fault.Fault.TheVariants.{Build, Values}
 use Rattle.hsp_runs.specs.declared.inputs.Inputs as files
 use Rattle.hsp_runs.proofs.Alone.{built_alone, list_alone}
 use Rattle.hsp_runs.proofs.ByHash.{went_on}

@@ -7,8 +7,8 @@ use Rattle.hsp_record.specs.Values.{HandleValue}
 use Rattle.hsp_instance.specs.Instance.{Site}
 use Rattle.hsp_instance.proofs.Lists.{drop_at}
 use Rattle.hsp_runs.specs.Locate.{site_line, site_lines}
-use Rattle.hsp_runs.specs.declared.fault.Fault.{Fault}
-use Rattle.hsp_runs.specs.declared.fault.Fault.TheVariants as fault
+use Rattle.hsp_lines.specs.declared.fault.Fault.{Fault}
+use Rattle.hsp_lines.specs.declared.fault.Fault.TheVariants as fault
 use Rattle.hsp_runs.specs.SiteText.{server_line, server_lines, is_site_value, IsFound, IsRecordRun, IsValueRun}
 
 -- one server more is printed
@@ -35,10 +35,6 @@ in_value octets index v (Ok text) found is run = (v, found, is, run)
 in_value octets index v (Err fault.OutOfMemory) found is run = tt
 in_value octets index v (Err (fault.Site e)) found is run = (v, found, is, run)
 in_value octets index v (Err e) found is run = absurd run
-
--- two pieces behind a text
-pub two_pieces : (out one two a b : List ℕ) → one ≡ out ++ a → two ≡ one ++ b → two ≡ out ++ (a ++ b)
-two_pieces out one two a b p q = rw (q, p, append_assoc out a b) refl
 
 -- three pieces behind a text
 pub three_pieces : (out one two three a b c : List ℕ) → one ≡ out ++ a → two ≡ one ++ b → three ≡ two ++ c → three ≡ out ++ (a ++ (b ++ c))

@@ -1,4 +1,3 @@
-pub mod FaultText
 pub mod Tells
 pub mod Input
 pub mod Locate
@@ -11,9 +10,7 @@ pub mod Headline
 pub mod Logs
 pub mod Check
 pub mod Accepted
-pub mod VerdictText
 pub mod Plan
-pub mod SumsText
 pub mod Counts
 pub mod Dispatch
 pub mod Report

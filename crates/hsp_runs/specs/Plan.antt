@@ -6,7 +6,7 @@ use Rattle.hsp_cert.specs.Certificate.Claim.{best, short}
 use Rattle.hsp_cert.specs.Text.{text_of}
 use Rattle.hsp_check.specs.Instance.{network_of}
 use Rattle.hsp_check.specs.Valid.{IsValid}
-use Rattle.hsp_runs.specs.declared.fault.Fault.{Fault}
+use Rattle.hsp_lines.specs.declared.fault.Fault.{Fault}
 use Rattle.hsp_runs.specs.declared.inputs.Inputs.{Inputs}
 use Rattle.hsp_runs.specs.Instance.{IsInstanceOf}
 use Rattle.hsp_text.specs.Answers.{Then}

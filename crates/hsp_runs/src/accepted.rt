@@ -10,12 +10,12 @@ ghost use Rattle.hsp_runs.specs.Shown.{Holds};
 ghost use Rattle.hsp_runs.specs.Tells.{Tells};
 
 use crate::checking::{certificate_in, judged};
-use crate::fault::Fault;
 use crate::inputs::Inputs;
 use crate::instance::instance_in;
 use hsp_cert::{BestRef, Certificate, ShortRef};
 use hsp_check::Verdict;
 use hsp_instance::Instance;
+use hsp_lines::Fault;
 use std::alloc::Global;
 
 /// An instance, and a certificate that is valid for it.

@@ -8,12 +8,12 @@ ghost use Rattle.hsp_runs.specs.Headline.{ShowsOf};
 ghost use Rattle.hsp_runs.specs.Shown.{Holds, Shows};
 ghost use Rattle.hsp_runs.specs.Tells.{Tells};
 
-use crate::fault::Fault;
 use crate::inputs::Inputs;
 use crate::instance::instance_in;
 use hsp_cert::{CertFault, Certificate, read_cert};
 use hsp_check::{Verdict, check};
 use hsp_instance::Instance;
+use hsp_lines::Fault;
 use std::alloc::Global;
 
 /// The certificate that octets spell.

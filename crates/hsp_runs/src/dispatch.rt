@@ -6,9 +6,9 @@ ghost use Rattle.hsp_runs.specs.Dispatch.{AnswersBy, IsDispatched, a_dispatcher,
 ghost use Rattle.hsp_runs.specs.Logs.{ShowsLogOf};
 
 use crate::accepted::{Accepted, accepted_in};
-use crate::fault::Fault;
 use crate::inputs::Inputs;
 use hsp_dispatch::{Dispatcher, LogSums, run_log};
+use hsp_lines::Fault;
 use std::alloc::Global;
 use std::io::{Read, Write};
 

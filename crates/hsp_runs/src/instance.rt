@@ -5,11 +5,11 @@ ghost use Rattle.hsp_runs.specs.Headline.{Defines};
 ghost use Rattle.hsp_runs.specs.Instance.{AreCapacities, AreCosts, IsBuilt, IsDemand, IsInstanceOf, IsWithCosts, IsWithDemand, IsWithSettings, IsWithValues};
 ghost use Rattle.hsp_runs.specs.Tells.{Tells};
 
-use crate::fault::Fault;
 use crate::inputs::Inputs;
 use crate::laws::instances_are_defined;
 use crate::readings::{settings_in, values_in};
 use hsp_instance::{BuildFault, Instance, build};
+use hsp_lines::Fault;
 use hsp_record::ValueList;
 use hsp_tables::{
     Capacities, Costs, Demand, Settings, TableFault, read_capacity, read_costs, read_demand,

@@ -7,12 +7,12 @@ ghost use Rattle.hsp_runs.specs.Shown.{Shows};
 ghost use Rattle.hsp_runs.specs.Plan.{IsPlanText, IsPlanned, printed};
 ghost use Rattle.hsp_runs.specs.Tells.{Tells};
 
-use crate::fault::Fault;
 use crate::inputs::Inputs;
 use crate::instance::instance_in;
 use hsp_cert::{Certificate, write_cert};
 use hsp_flow::solve;
 use hsp_instance::Instance;
+use hsp_lines::Fault;
 use std::alloc::{AllocError, Global};
 use std::marker::Model;
 

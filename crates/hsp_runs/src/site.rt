@@ -6,7 +6,7 @@ ghost use Rattle.hsp_record.specs.Site.{IsSite};
 ghost use Rattle.hsp_text.specs.Writing.{numbered};
 ghost use Rattle.hsp_runs.specs.SiteText.{IsRecordRun, IsSiteRun, IsValueRun, counts_text, numbers_text, server_line, server_lines, site_text};
 
-use crate::fault::Fault;
+use hsp_lines::Fault;
 use hsp_record::{RecordFault, ServerRecord, SiteRecord, decode_site, decode_values};
 use hsp_text::{push_line, push_whole, read_whole};
 use std::alloc::{AllocError, Global};

@@ -1,7 +1,7 @@
 // Faults as the program prints them, and the statuses that it ends with.
 
 ghost use Rattle.std.specs.Prelude.{◌≡◌, ◌++◌, IfOk, OnOk, codes};
-ghost use Rattle.hsp_runs.specs.FaultText.{fault_text, fault_words, log_status, record_words, status_in, table_words};
+ghost use Rattle.hsp_lines.specs.FaultText.{fault_text, fault_words, log_status, record_words, status_in, table_words};
 
 use crate::fault::Fault;
 use crate::fault_words::{

@@ -14,9 +14,9 @@ use Rattle.hsp_cert.specs.declared.fault.CertFault.{CertFault}
 use Rattle.hsp_cert.specs.declared.fault.CertFault.TheVariants as cert_fault
 use Rattle.hsp_dispatch.specs.declared.fault.LogFault.{LogFault}
 use Rattle.hsp_dispatch.specs.declared.fault.LogFault.TheVariants as log_fault
-use Rattle.hsp_runs.specs.declared.fault.Fault.{Fault}
-use Rattle.hsp_runs.specs.declared.fault.Fault.TheVariants.{BadOption, BadServers, BadIndex, Handle, Site, Settings, Values, NoValue, NotSiteValue, Demand, Costs, Capacity, Build, Cert, Refused, WrongKind, OutOfMemory, Log, BadFronts}
-use Rattle.hsp_runs.specs.VerdictText.{reason_word}
+use Rattle.hsp_lines.specs.declared.fault.Fault.{Fault}
+use Rattle.hsp_lines.specs.declared.fault.Fault.TheVariants.{BadOption, BadServers, BadIndex, Handle, Site, Settings, Values, NoValue, NotSiteValue, Demand, Costs, Capacity, Build, Cert, Refused, WrongKind, OutOfMemory, Log, BadFronts}
+use Rattle.hsp_lines.specs.VerdictText.{reason_word}
 
 abbrev pub handle_words : HandleFault → List ℕ
 handle_words TooLong = codes "TooLong"

@@ -1,7 +1,7 @@
 // The sums of a log as the program prints them.
 
 ghost use Rattle.std.specs.Prelude.{◌≡◌, IfOk};
-ghost use Rattle.hsp_runs.specs.SumsText.{sums_text};
+ghost use Rattle.hsp_lines.specs.SumsText.{sums_text};
 
 use crate::fault_words::put_with;
 use hsp_dispatch::LogSums;

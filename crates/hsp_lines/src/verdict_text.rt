@@ -2,7 +2,7 @@
 
 ghost use Rattle.std.specs.Prelude.{◌≡◌, ◌++◌, IfOk, OnOk};
 ghost use Rattle.hsp_check.specs.Verdict.{number};
-ghost use Rattle.hsp_runs.specs.VerdictText.{reason_word, verdict_status, verdict_text, verdict_words};
+ghost use Rattle.hsp_lines.specs.VerdictText.{reason_word, verdict_status, verdict_text, verdict_words};
 
 use crate::fault_words::put_with;
 use hsp_check::{Reason, Verdict};

@@ -1,6 +1,6 @@
 ghost use Rattle.std.specs.Prelude.{◌≡◌};
-ghost use Rattle.hsp_runs.specs.FaultText.{log_told};
-ghost use Rattle.hsp_runs.specs.declared.fault.Fault.TheVariants.{OutOfMemory};
+ghost use Rattle.hsp_lines.specs.FaultText.{log_told};
+ghost use Rattle.hsp_lines.specs.declared.fault.Fault.TheVariants.{OutOfMemory};
 
 use hsp_cert::CertFault;
 use hsp_check::Reason;

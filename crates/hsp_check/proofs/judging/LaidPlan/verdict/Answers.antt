@@ -1,0 +1,8 @@
+use Rattle.std.proofs.Common.{rules}
+use Rattle.hsp_check.proofs.judging.LaidPlan.verdict.Goals as goal
+
+pub returns : goal.returns
+returns c = search rules
+
+pub returns-then-not-meets_loads : goal.returns-then-not-meets_loads
+returns-then-not-meets_loads c = search rules
