@@ -50,7 +50,7 @@ $(PROGRAM): $(SOURCES)
 
 install: $(PROGRAM)
 	install -D -m 755 $(PROGRAM) "$(ROOT)/bin/hsplan"
-	install -D -m 644 docs/hsplan.1 "$(ROOT)/share/man/man1/hsplan.1"
+	install -D -m 644 docs/use/hsplan.1 "$(ROOT)/share/man/man1/hsplan.1"
 	install -D -m 644 completions/hsplan.bash "$(ROOT)/share/bash-completion/completions/hsplan"
 	install -D -m 644 completions/_hsplan "$(ROOT)/share/zsh/site-functions/_hsplan"
 	install -D -m 644 completions/hsplan.fish "$(ROOT)/share/fish/vendor_completions.d/hsplan.fish"

@@ -1,16 +1,16 @@
 #!/usr/bin/env python3
-"""Follows the names in the documents: each edit and each clause that docs/CLAIMS.md names, each file that docs/DEFINITIONS.md
-names, each crate in the README, each link, each `make` target and each script; and compares the counts of docs/GATE.md with what is
+"""Follows the names in the documents: each edit and each clause that docs/understand/CLAIMS.md names, each file that docs/understand/DEFINITIONS.md
+names, each crate in the README, each link, each `make` target and each script; and compares the counts of docs/maintain/GATE.md with what is
 there, and the logic of the kit in the README with that of this machine. Then it runs each command of the documents with the built program, and
 compares what they print.
 
 The commands are those of the blocks marked `console`, the lines of which are a transcript as tools/transcripts.py has it; those of one
-document run in turn in one shell. In docs/hsplan.1 they are the examples between `.EX` and `.EE`.
+document run in turn in one shell. In docs/use/hsplan.1 they are the examples between `.EX` and `.EE`.
 
 Fails where an edit or a file that a table names is not there, where a clause that stands beside a call is no `ensures` of that call,
 where a call without a named clause has not just one, where a crate of crates.txt is named neither in the README nor in
-docs/ARCHITECTURE.md, where a document has no such table, and where docs/GATE.md counts other edits, tests, wrong bodies, crates or
-cases of the program than there are. It fails where a word of a fault has no row in docs/GUIDE.md or no paragraph in docs/hsplan.1, where a
+docs/understand/ARCHITECTURE.md, where a document has no such table, and where docs/maintain/GATE.md counts other edits, tests, wrong bodies, crates or
+cases of the program than there are. It fails where a word of a fault has no row in docs/use/GUIDE.md or no paragraph in docs/use/hsplan.1, where a
 command stands in a block that isn't marked, where one prints something else, and where a file still has the marks of a merge.
 
     tools/check_docs.py --names               follows the names alone, without the program
@@ -49,13 +49,13 @@ def named(cell):
 
 
 def missing_edits():
-    """The edits of the last column of docs/CLAIMS.md that no crate beside them has, or no crate at all where they name none, and how many it names."""
+    """The edits of the last column of docs/understand/CLAIMS.md that no crate beside them has, or no crate at all where they name none, and how many it names."""
     there = {(it.split("/")[-3], os.path.basename(it)[: -len(".edit")]) for it in glob.glob(f"{TOP}/crates/*/must-fail/*.edit")}
     faults, count = [], 0
-    for cells in rows(text_of("docs/CLAIMS.md")):
+    for cells in rows(text_of("docs/understand/CLAIMS.md")):
         beside = {it for it in crates_of() if re.search(rf"\b{it}\b", cells[1])} or set(crates_of())
         count += len(named(cells[-1]))
-        faults += [f"docs/CLAIMS.md names no edit of {cells[1]}: {it}" for it in named(cells[-1]) if not any((crate, it) in there for crate in beside)]
+        faults += [f"docs/understand/CLAIMS.md names no edit of {cells[1]}: {it}" for it in named(cells[-1]) if not any((crate, it) in there for crate in beside)]
     return faults, count
 
 
@@ -84,9 +84,9 @@ def parted(cells):
 
 
 def missing_clauses():
-    """The clauses of docs/CLAIMS.md that no `ensures` of the call beside them is, and how many it names."""
+    """The clauses of docs/understand/CLAIMS.md that no `ensures` of the call beside them is, and how many it names."""
     labels, faults, count = clauses(), [], 0
-    for cells in rows(text_of("docs/CLAIMS.md")):
+    for cells in rows(text_of("docs/understand/CLAIMS.md")):
         for call_cell, clause_cell in parted(cells[1:3]):
             calls = [name.split("::")[-1] for name in named(call_cell)]
             calls = [name for name in calls if name in labels]
@@ -96,24 +96,24 @@ def missing_clauses():
             count += len(wanted)
             for clause in wanted:
                 if not any(clause in labels[call] for call in calls):
-                    faults.append(f"docs/CLAIMS.md: {clause} is no clause of {call_cell.strip()}")
+                    faults.append(f"docs/understand/CLAIMS.md: {clause} is no clause of {call_cell.strip()}")
             for call in calls:
                 if not (labels[call] & set(wanted or [""])):
-                    faults.append(f"docs/CLAIMS.md: {call} has none of the clauses {wanted or 'without a name'}")
+                    faults.append(f"docs/understand/CLAIMS.md: {call} has none of the clauses {wanted or 'without a name'}")
     return faults, count
 
 
 def missing_files():
-    """The files of definitions that docs/DEFINITIONS.md names and that are not there, and how many it names."""
+    """The files of definitions that docs/understand/DEFINITIONS.md names and that are not there, and how many it names."""
     faults, count = [], 0
-    for cells in rows(text_of("docs/DEFINITIONS.md")):
+    for cells in rows(text_of("docs/understand/DEFINITIONS.md")):
         folder = ""
         for name in named(cells[1]):
             folder = os.path.dirname(name) or folder
             if name.endswith(".antt"):
                 count += 1
                 if not os.path.isfile(os.path.join(TOP, "crates", folder, os.path.basename(name))):
-                    faults.append(f"docs/DEFINITIONS.md names no file: {folder}/{os.path.basename(name)}")
+                    faults.append(f"docs/understand/DEFINITIONS.md names no file: {folder}/{os.path.basename(name)}")
     return faults, count
 
 
@@ -124,7 +124,7 @@ def crates_of():
 def missing_crates():
     """The crates that a document doesn't name."""
     crates = crates_of()
-    faults = [f"{path} does not name the crate {it}" for path in ("README.md", "docs/ARCHITECTURE.md") for it in crates if f"`{it}`" not in text_of(path)]
+    faults = [f"{path} does not name the crate {it}" for path in ("README.md", "docs/understand/ARCHITECTURE.md") for it in crates if f"`{it}`" not in text_of(path)]
     return faults, len(crates)
 
 
@@ -135,31 +135,31 @@ def tests_of(crate):
 
 
 def there_of(crate):
-    """What docs/GATE.md counts of a crate, as it is there: must-fail edits, tests, wrong bodies."""
+    """What docs/maintain/GATE.md counts of a crate, as it is there: must-fail edits, tests, wrong bodies."""
     edits = glob.glob(f"{TOP}/crates/{crate}/must-fail/*.edit")
     bodies = glob.glob(f"{TOP}/mutants/{crate}/*.edit")
     return [len(edits), tests_of(crate), len(bodies)]
 
 
 def wrong_counts():
-    """The counts of docs/GATE.md that are others than those of what is there, and how many it has."""
+    """The counts of docs/maintain/GATE.md that are others than those of what is there, and how many it has."""
     there = {it: there_of(it) for it in crates_of()}
-    told = {named(it[0])[0]: it[4:] for it in rows(text_of("docs/GATE.md")) if len(it) == 7 and named(it[0])}
-    faults = [f"docs/GATE.md counts a crate that is none: {it}" for it in told if it not in there]
+    told = {named(it[0])[0]: it[4:] for it in rows(text_of("docs/maintain/GATE.md")) if len(it) == 7 and named(it[0])}
+    faults = [f"docs/maintain/GATE.md counts a crate that is none: {it}" for it in told if it not in there]
     for crate, counts in there.items():
         wanted = [str(it) for it in counts]
         if told.get(crate) != wanted:
-            faults.append(f"docs/GATE.md: edits, tests and wrong bodies of {crate} are {told.get(crate)}, there are {wanted}")
+            faults.append(f"docs/maintain/GATE.md: edits, tests and wrong bodies of {crate} are {told.get(crate)}, there are {wanted}")
     sums = [len(there)] + [sum(it[at] for it in there.values()) for at in range(3)] + [len(os.listdir(f"{TOP}/checks/program"))]
     sentence = "{} crates, {} must-fail edits, {} tests, {} wrong bodies and {} cases of the program".format(*sums)
-    if sentence not in " ".join(text_of("docs/GATE.md").split()):
-        faults.append(f"docs/GATE.md does not say: {sentence}")
+    if sentence not in " ".join(text_of("docs/maintain/GATE.md").split()):
+        faults.append(f"docs/maintain/GATE.md does not say: {sentence}")
     return faults, len(told)
 
 
 def documents():
     """The documents that are written in Markdown, by their paths."""
-    paths = glob.glob(f"{TOP}/*.md") + glob.glob(f"{TOP}/docs/*.md") + glob.glob(f"{TOP}/examples/*.md")
+    paths = glob.glob(f"{TOP}/*.md") + glob.glob(f"{TOP}/docs/**/*.md", recursive=True) + glob.glob(f"{TOP}/examples/*.md")
     return sorted(os.path.relpath(it, TOP) for it in paths)
 
 
@@ -213,16 +213,16 @@ def fault_words():
 
 def missing_words():
     """The words of faults that the guide or the manual page doesn't tell in a row or a paragraph of their own, and how many there are."""
-    guide = {cell.split()[-1] if cell[:1].isdigit() else cell for cell in (it[0] for it in rows(text_of("docs/GUIDE.md")))}
-    manual = set(re.findall(r"^\.B (.*)$", text_of("docs/hsplan.1"), re.M))
+    guide = {cell.split()[-1] if cell[:1].isdigit() else cell for cell in (it[0] for it in rows(text_of("docs/use/GUIDE.md")))}
+    manual = set(re.findall(r"^\.B (.*)$", text_of("docs/use/hsplan.1"), re.M))
     words = fault_words()
-    faults = [f"docs/GUIDE.md has no row for {it}" for it in words if it not in guide]
-    return faults + [f"docs/hsplan.1 does not tell {it}" for it in words if it not in manual], len(words)
+    faults = [f"docs/use/GUIDE.md has no row for {it}" for it in words if it not in guide]
+    return faults + [f"docs/use/hsplan.1 does not tell {it}" for it in words if it not in manual], len(words)
 
 
 def manual_steps():
     """The commands of the manual page."""
-    examples = re.findall(r"^\.EX\n(.*?)^\.EE$", text_of("docs/hsplan.1"), re.M | re.S)
+    examples = re.findall(r"^\.EX\n(.*?)^\.EE$", text_of("docs/use/hsplan.1"), re.M | re.S)
     lines = [line.replace("\\-", "-").replace("\\e", "\\") for it in examples for line in it.splitlines()]
     return transcripts.steps_of(lines)
 
@@ -260,7 +260,7 @@ def wrong_kit():
 def wrong_commands(program):
     """The commands of the documents that print something else than they show, and how many there are."""
     found = {path: [step for mark, lines in blocks(text_of(path)) if mark == "console" for step in transcripts.steps_of(lines)] for path in documents()}
-    found["docs/hsplan.1"] = manual_steps()
+    found["docs/use/hsplan.1"] = manual_steps()
     faults = [fault for path, steps in found.items() if steps for fault in transcripts.faults_of(path, steps, program)]
     return faults, sum(len(it) for it in found.values())
 

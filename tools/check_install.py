@@ -11,7 +11,7 @@ import tempfile
 
 TOP = os.path.dirname(os.path.dirname(os.path.abspath(__file__)))
 KEPT = {
-    "docs/hsplan.1": "share/man/man1/hsplan.1",
+    "docs/use/hsplan.1": "share/man/man1/hsplan.1",
     "completions/hsplan.bash": "share/bash-completion/completions/hsplan",
     "completions/_hsplan": "share/zsh/site-functions/_hsplan",
     "completions/hsplan.fish": "share/fish/vendor_completions.d/hsplan.fish",

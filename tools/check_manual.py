@@ -1,5 +1,5 @@
 #!/usr/bin/env python3
-"""Wants docs/hsplan.1 formatted without a warning by each tool for manual pages that is installed, and its version to be that of VERSION.
+"""Wants docs/use/hsplan.1 formatted without a warning by each tool for manual pages that is installed, and its version to be that of VERSION.
 
 A tool that is not installed is named as not tried. Where none is, that is a fault.
 """
@@ -10,7 +10,7 @@ import subprocess
 import sys
 
 TOP = os.path.dirname(os.path.dirname(os.path.abspath(__file__)))
-PAGE = os.path.join(TOP, "docs", "hsplan.1")
+PAGE = os.path.join(TOP, "docs", "use", "hsplan.1")
 TOOLS = {
     "groff": ["groff", "-ww", "-z", "-man", "-Tutf8", PAGE],
     "man": ["man", "--warnings=w", "-E", "UTF-8", "-l", "-Tutf8", "-Z", PAGE],
@@ -31,7 +31,7 @@ def wrong_version():
         told = re.search(r'^\.TH .* "hsplan ([^"]*)"', file.read(), re.M)
     with open(os.path.join(TOP, "VERSION"), encoding="utf-8") as file:
         version = file.read().strip()
-    return [] if told and told.group(1) == version else [f"docs/hsplan.1 is not of version {version}"]
+    return [] if told and told.group(1) == version else [f"docs/use/hsplan.1 is not of version {version}"]
 
 
 def main():

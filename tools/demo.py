@@ -31,7 +31,7 @@ END = """
 Where to go on:
   your own files, now:        make try ARGS='plan --settings F --demand F --costs F --capacity F'
   the proved program:         make install PREFIX=..
-  what it all means, by example:  docs/GUIDE.md"""
+  what it all means, by example:  docs/use/GUIDE.md"""
 
 
 def built_answers(commands, data):

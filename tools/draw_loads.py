@@ -1,5 +1,5 @@
 #!/usr/bin/env python3
-"""Draws docs/loads.svg: the loads of the servers of examples/two-sites where all ask the nearest site, and by the plan.
+"""Draws docs/pictures/loads.svg: the loads of the servers of examples/two-sites where all ask the nearest site, and by the plan.
 
 The loads are those of the reports in the example's transcript, which tools/check_examples.py compares with the program.
 
@@ -13,7 +13,7 @@ import sys
 import transcripts
 
 TOP = transcripts.TOP
-PICTURE = os.path.join(TOP, "docs", "loads.svg")
+PICTURE = os.path.join(TOP, "docs", "pictures", "loads.svg")
 REPORT = re.compile(r" *\d+ +(\d+) +(\d+) +(\d+) +(\d+) (\S+)")
 SCALE = 0.25
 LEFT = 110
@@ -60,7 +60,7 @@ def main():
     drawn = picture()
     if sys.argv[1:] == ["--check"]:
         there = open(PICTURE, encoding="utf-8").read() if os.path.exists(PICTURE) else ""
-        print("picture: docs/loads.svg " + ("as drawn" if drawn and there == drawn else "is not what tools/draw_loads.py draws"))
+        print("picture: docs/pictures/loads.svg " + ("as drawn" if drawn and there == drawn else "is not what tools/draw_loads.py draws"))
         return 0 if drawn and there == drawn else 1
     with open(PICTURE, "w", encoding="utf-8") as file:
         file.write(drawn)

@@ -1,5 +1,5 @@
 #!/usr/bin/env python3
-"""Writes into docs/READING.md what it takes to read the proof of the headline, and every definition that is read, with file and line.
+"""Writes into docs/understand/READING.md what it takes to read the proof of the headline, and every definition that is read, with file and line.
 
 Three parts of the page are written: how long the page and the calls take; the questions of an auditor, each with the line that answers it;
 and the list. The list begins at the clauses of the calls that plan, check and answer logs, and at the laws beside them, and goes down to
@@ -20,7 +20,7 @@ import sys
 import textwrap
 
 TOP = os.path.dirname(os.path.dirname(os.path.abspath(__file__)))
-PAGE = os.path.join(TOP, "docs", "READING.md")
+PAGE = os.path.join(TOP, "docs", "understand", "READING.md")
 RUNS = os.path.join(TOP, "crates", "hsp_runs")
 # How many words of definitions and clauses are read in a minute.
 RATE = 130
@@ -342,7 +342,7 @@ def main():
         page = file.read()
     made = written(page)
     if check:
-        print("reading: docs/READING.md " + ("as listed" if made == page else "is not what tools/list_reading.py lists"))
+        print("reading: docs/understand/READING.md " + ("as listed" if made == page else "is not what tools/list_reading.py lists"))
         return 0 if made == page else 1
     with open(PAGE, "w", encoding="utf-8") as file:
         file.write(made)
