@@ -1,21 +1,17 @@
 #!/usr/bin/env python3
-"""Installs the built program into an empty folder by `make install` with DESTDIR and PREFIX, wants it to run from another folder and the manual
-page and the completions to be there, and wants `make uninstall` to leave no file.
+"""Installs the program that is built here into an empty folder by `make install` with DESTDIR and PREFIX, wants it to be that program and to run
+from another folder, wants the manual page, the completions and the guide to be there, and wants `make uninstall` to leave no file.
 
-The program has to be built already: where `make install` would prove something again, that is a fault.
+The program has to be built already, by `rt ci` or `make prove`, and no source may be newer.
 """
 import os
 import subprocess
 import sys
 import tempfile
 
-TOP = os.path.dirname(os.path.dirname(os.path.abspath(__file__)))
-KEPT = {
-    "docs/use/hsplan.1": "share/man/man1/hsplan.1",
-    "completions/hsplan.bash": "share/bash-completion/completions/hsplan",
-    "completions/_hsplan": "share/zsh/site-functions/_hsplan",
-    "completions/hsplan.fish": "share/fish/vendor_completions.d/hsplan.fish",
-}
+import programs
+
+TOP = programs.TOP
 
 
 def make(target, room, *more):
@@ -40,21 +36,29 @@ def wrong_answer(program, room):
     return [] if said == "1\n" else [f"the installed program printed {said!r}"]
 
 
+def wanted_files():
+    """The files that are installed, each with where it is installed."""
+    built = {os.path.relpath(programs.built_path(it), TOP): os.path.join("bin", it) for it in programs.PROGRAMS}
+    return {**built, **programs.FILES}
+
+
 def faults_in(room):
     installed = make("install", room)
     if installed.returncode:
         return [f"make install: {installed.stdout}"]
-    other = [it for it, path in KEPT.items() if octets_of(os.path.join(room, "usr", path)) != octets_of(os.path.join(TOP, it))]
+    other = [it for it, path in wanted_files().items() if octets_of(os.path.join(room, "usr", path)) != octets_of(os.path.join(TOP, it))]
     found = [f"{it} is not installed as it is" for it in other] + wrong_answer(os.path.join(room, "usr", "bin", "hsplan"), room)
     removed = make("uninstall", room)
     return found + [f"make uninstall left {it}" for it in files_below(room)] + ([] if removed.returncode == 0 else [removed.stdout])
 
 
 def main():
-    with tempfile.TemporaryDirectory() as room:
-        proves = "rt run" in make("install", room, "-n").stdout
-        faults = ["the program is not built, or a source is newer: run rt ci first"] if proves else faults_in(room)
-    tried = "not tried" if proves else f"the program and {len(KEPT)} files installed and removed"
+    absent = [it for it in programs.PROGRAMS if not programs.built(it)]
+    faults = [f"{it} is not built, or a source is newer: run rt ci first" for it in absent]
+    if not absent:
+        with tempfile.TemporaryDirectory() as room:
+            faults = faults_in(room)
+    tried = "not tried" if absent else f"{len(wanted_files())} files installed and removed"
     print("\n".join(faults + [f"install: {tried}, {len(faults)} faults"]))
     return 1 if faults else 0
 

@@ -146,6 +146,22 @@ def check_way(pool, program, case, folder, preloaded, way):
     return faults, len(chosen), count
 
 
+def wrong_cases(program):
+    """The faults of all cases by another program, of which no allocation is refused."""
+    faults = []
+    with tempfile.TemporaryDirectory() as room:
+        data = os.path.join(room, "data")
+        shutil.copytree(os.path.join(TOP, "examples", "base"), data)
+        for case in sorted(os.listdir(CASES)):
+            folder = folder_of(case, room, data)
+            for words, given in ways(case):
+                got = run(program, words, given, folder)
+                wanted = wanted_of(case, got)
+                faults += judged(program, case, words, folder, got[0]) if words and got == wanted else []
+                faults += [] if got == wanted else [f"{case}: wanted {wanted}, got {got}"]
+    return faults
+
+
 def main():
     arguments = argparse.ArgumentParser(description="Drives the built program over the cases in checks/program.")
     check_growth.jobs_of(arguments)

@@ -1,0 +1,167 @@
+#!/usr/bin/env python3
+"""Compares the folder `release` with this tree and with what the gate has proved and built, and tries it as someone without the kit would.
+
+Fails where the version, the sources or a sum are others than those that release/MADE and release/SHA256SUMS name, where the archive holds another file
+than this tree or lacks one, and where a program in it is not octet for octet the one in crates/NAME/out. Where the kit is another one than in MADE, two
+builds may differ: then the programs are NOT COMPARED, which is printed with the lines of both kits, and the cases of checks/program are run with
+the released one.
+
+Then a copy of the tree in an empty folder, without anything built, is tried with a PATH that has no `rt`, and as another user than root: `make demo`,
+`make try`, `make install`, the installed program; and what is printed on another machine, without a release, and with a forged one.
+"""
+from __future__ import annotations
+
+import filecmp
+import os
+import shutil
+import subprocess
+import sys
+import tempfile
+import time
+from typing import Callable, Optional
+
+import check_program
+import programs
+
+LIMIT = 10
+PATH = "/usr/bin:/bin"
+README = "README.md has more"
+PLAN = "plan --settings {0}/settings.toml --demand {0}/{1} --costs {0}/costs.csv --capacity {0}/capacity.csv"
+LEFT_OUT = shutil.ignore_patterns("out", ".git", "__pycache__", "must-fail", "proofs", "mutants")
+
+
+def wrong_names() -> list[str]:
+    """What MADE and the archive say otherwise than this tree."""
+    made, faults = programs.made(), []
+    if made.get("version") != programs.version():
+        faults.append(f"release/MADE is of version {made.get('version')}, and VERSION says {programs.version()}")
+    if made.get("sources") != programs.digest():
+        faults.append("release/MADE is of other sources: run make release")
+    return faults
+
+
+def wrong_files(room: str) -> list[str]:
+    """The files of the unpacked release that are others than those of this tree, beside the programs."""
+    there = {os.path.relpath(os.path.join(at, it), room) for at, _, names in os.walk(room) for it in names}
+    wanted = {target: source for source, target in programs.FILES.items()}
+    faults = [f"the release has no {it}" for it in sorted(set(wanted) | {f"bin/{it}" for it in programs.PROGRAMS}) if it not in there]
+    faults += [f"the release has {it}, which nothing installs" for it in sorted(there - set(wanted)) if not it.startswith("bin/")]
+    same = {it for it in there & set(wanted) if filecmp.cmp(os.path.join(room, it), os.path.join(programs.TOP, wanted[it]), shallow=False)}
+    return faults + [f"the release has another {wanted[it]}: run make release" for it in sorted(there & set(wanted) - same)]
+
+
+def wrong_programs(room: str, kit: str) -> list[str]:
+    """The released programs that are others than the built ones, by the same kit; by another one, what the cases of the program say."""
+    made = programs.made().get("kit", "")
+    faults = []
+    for name in programs.PROGRAMS:
+        path = os.path.join(room, "bin", name)
+        if made != kit:
+            print(f"{name}: NOT COMPARED: it was made with {made}, and this machine has {kit}; the cases of checks/program are run with it")
+            faults += check_program.wrong_cases(path)
+        elif not programs.built(name):
+            faults.append(f"{name} is not built here, or older than a source: run rt ci")
+        elif programs.sum_of(path) != programs.sum_of(programs.built_path(name)):
+            faults.append(f"the released {name} is not the one that was proved and built here: run make release")
+        else:
+            print(f"{name}: octet for octet the one that was proved and built here")
+    return faults
+
+
+class Visitor:
+    """Someone who cloned the repository: a copy of it, a home, a PATH without `rt`, and a user other than root where this one is root."""
+
+    def __init__(self, room: str) -> None:
+        self.top, self.home = os.path.join(room, "hsplan"), os.path.join(room, "home")
+        shutil.copytree(programs.TOP, self.top, ignore=LEFT_OUT)
+        os.mkdir(self.home)
+        self.user: Optional[str] = "nobody" if os.geteuid() == 0 else None
+        if self.user:
+            os.chmod(room, 0o755)
+            for at, folders, names in os.walk(room):
+                for it in [at] + [os.path.join(at, name) for name in names]:
+                    shutil.chown(it, self.user)
+
+    def run(self, words: str, within: str = "", before: str = "") -> tuple[str, int]:
+        """What a line of the shell prints, run in the top of the copy or in a folder of the home, and its status."""
+        line = f"{before} {words}".strip()
+        environment = {"PATH": PATH, "HOME": self.home, "LC_ALL": "C.UTF-8"}
+        more = {"user": self.user, "group": "nogroup", "extra_groups": []} if self.user else {}
+        ended = subprocess.run(["sh", "-c", line], cwd=os.path.join(self.home, within) if within else self.top, env=environment,
+                               stdin=subprocess.DEVNULL, stdout=subprocess.PIPE, stderr=subprocess.STDOUT, text=True, **more)
+        return ended.stdout, ended.returncode
+
+
+def expected(visitor: Visitor, words: str, status: int, parts: list[str], **how: str) -> list[str]:
+    """The fault of a command that ends otherwise, prints another text, or prints a traceback."""
+    printed, got = visitor.run(words, **how)
+    fine = got == status and all(it in printed for it in parts) and "Traceback" not in printed and "***" not in printed
+    return [] if fine else [f"{words}: wanted status {status} and {parts}, got {got}:\n{printed}"]
+
+
+def visit(visitor: Visitor) -> list[str]:
+    """What goes wrong for someone who plans with the released program."""
+    example = "examples/two-sites"
+    installed = f"{visitor.home}/.local/bin/hsplan"
+    short = PLAN.format(example, "premiere.csv")
+    begun = time.monotonic()
+    faults = expected(visitor, "make demo", 0, ["By the released program", "\nyes\n", "bound 523976 - 216760 = 307216"])
+    faults += expected(visitor, "make install PREFIX=$HOME/.local", 0, ["is installed, and runs: the released program"])
+    faults += expected(visitor, f"{installed} {PLAN.format(visitor.top + '/' + example, 'demand.csv')}", 0, ["cost 307216"], within=".local")
+    gone = time.monotonic() - begun
+    faults += [f"demo, installation and a plan took {gone:.1f} seconds"] if gone > LIMIT else []
+    faults += expected(visitor, f"make try ARGS='{short}'", 0, ["SHORTAGE", "\nstatus 3\n"])
+    faults += expected(visitor, f"tools/try.py {short}", 3, ["SHORTAGE"])
+    faults += expected(visitor, "make try ARGS='locate --option handle --servers 3 20.500.1234/film-5'", 0, ["1\n"])
+    faults += expected(visitor, "make uninstall PREFIX=$HOME/.local && find $HOME/.local -type f", 0, [])
+    print(f"demo, installation and a plan without the kit: {gone:.1f} seconds")
+    return faults
+
+
+def nothing_fits(visitor: Visitor, before: str, why: str) -> list[str]:
+    """What is printed otherwise than in one line where no program can be run."""
+    faults = []
+    for words in ("tools/demo.py", "tools/try.py locate --option local --servers 2 10/3", "tools/install.py --prefix $HOME/.local"):
+        printed, status = visitor.run(words, before=before)
+        if status == 0 or why not in printed or README not in printed or printed.count("\n") != 1:
+            faults.append(f"{before} {words}: wanted one line with {why!r}, got status {status}:\n{printed}")
+    return faults
+
+
+def strangers(visitor: Visitor) -> list[str]:
+    """The same on another machine, without the kit, with a forged release, and without one."""
+    archive = os.path.join(visitor.top, "release", os.path.basename(programs.archive()))
+    faults = nothing_fits(visitor, "setarch i686", "needs Linux on x86_64")
+    faults += expected(visitor, "tools/prove.py", 1, ["no rt in PATH", README])
+    with open(archive, "r+b") as file:
+        file.seek(1000)
+        file.write(b"forged")
+    faults += nothing_fits(visitor, "", "does not have the sum")
+    os.remove(archive)
+    return faults + nothing_fits(visitor, "", "there is no release of version")
+
+
+def tried(check: Callable[[Visitor], list[str]]) -> list[str]:
+    with tempfile.TemporaryDirectory() as room:
+        return check(Visitor(room))
+
+
+def main() -> int:
+    kit = subprocess.run(["rt", "version"], stdout=subprocess.PIPE, text=True, check=True).stdout.strip()
+    faults = wrong_names()
+    with tempfile.TemporaryDirectory() as folder:
+        try:
+            room = programs.unpacked(folder)
+            faults += wrong_files(room) + wrong_programs(room, kit)
+        except programs.Missing as missing:
+            faults.append(str(missing))
+    if shutil.which("rt", path=PATH):
+        faults.append(f"{PATH} has an rt: the release was not tried without the kit")
+    elif not faults:
+        faults += tried(visit) + tried(strangers)
+    print("\n".join(faults + [f"release: version {programs.version()}, {len(programs.FILES) + len(programs.PROGRAMS)} files, {len(faults)} faults"]))
+    return 1 if faults else 0
+
+
+if __name__ == "__main__":
+    sys.exit(main())

@@ -1,0 +1,80 @@
+#!/usr/bin/env python3
+"""Installs hsplan with its manual page, its completions and its guide, or takes them away again.
+
+    tools/install.py --prefix /usr/local [--destdir D]              the program built here where it is newer than its sources, and otherwise the released one
+    tools/install.py --prefix /usr/local [--destdir D] --uninstall
+
+The released program is compared with release/SHA256SUMS first. What is installed runs once before the script ends.
+"""
+from __future__ import annotations
+
+import argparse
+import os
+import shutil
+import subprocess
+import sys
+import tempfile
+
+import programs
+
+
+def put(source: str, target: str, mode: int) -> None:
+    """Copies a file to its place, whole or not at all: another process may run the older one meanwhile."""
+    os.makedirs(os.path.dirname(target), exist_ok=True)
+    new = f"{target}.new"
+    shutil.copyfile(source, new)
+    os.chmod(new, mode)
+    os.replace(new, target)
+
+
+def answers(path: str) -> bool:
+    """Whether an installed program answers from another folder."""
+    words = [os.path.realpath(path), "locate", "--option", "local", "--servers", "2", "10/3"]
+    return subprocess.run(words, cwd="/", stdout=subprocess.PIPE, text=True).stdout == "1\n"
+
+
+def install(root: str) -> int:
+    with tempfile.TemporaryDirectory() as folder:
+        for name in programs.PROGRAMS:
+            program = programs.chosen(name, os.path.join(folder, name))
+            target = os.path.join(root, "bin", name)
+            put(program.path, target, 0o755)
+            if not answers(target):
+                print(f"{target} is installed, and does not run", file=sys.stderr)
+                return 1
+            print(f"{target} is installed, and runs: {program.kind}")
+    for source, target in programs.FILES.items():
+        put(os.path.join(programs.TOP, source), os.path.join(root, target), 0o644)
+    return 0
+
+
+def uninstall(root: str) -> int:
+    for target in [os.path.join("bin", it) for it in programs.PROGRAMS] + list(programs.FILES.values()):
+        path = os.path.join(root, target)
+        if os.path.lexists(path):
+            os.remove(path)
+    for folder in ("share/doc/hsplan/use", "share/doc/hsplan/pictures", "share/doc/hsplan"):
+        path = os.path.join(root, folder)
+        if os.path.isdir(path) and not os.listdir(path):
+            os.rmdir(path)
+    return 0
+
+
+def main() -> int:
+    arguments = argparse.ArgumentParser(description="Installs hsplan, or takes it away again.")
+    arguments.add_argument("--prefix", default="/usr/local")
+    arguments.add_argument("--destdir", default="")
+    arguments.add_argument("--uninstall", action="store_true")
+    chosen = arguments.parse_args()
+    root = os.path.abspath(chosen.destdir + os.path.abspath(os.path.expanduser(chosen.prefix)))
+    try:
+        return uninstall(root) if chosen.uninstall else install(root)
+    except programs.Missing as missing:
+        print(missing, file=sys.stderr)
+    except OSError as error:
+        print(f"{error.filename}: {error.strerror}", file=sys.stderr)
+    return 1
+
+
+if __name__ == "__main__":
+    sys.exit(main())

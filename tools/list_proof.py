@@ -1,0 +1,292 @@
+#!/usr/bin/env python3
+"""Writes into docs/understand/PROOF.md, for each crate, a table of its public calls from the sources: what a call says of itself, the clauses of its
+contract with the definitions that they cite, and the must-fail edits that turn it.
+
+An edit turns the function whose text it changes. Where that function is private, it turns the public calls that come to it through private functions.
+
+    tools/list_proof.py            writes the tables
+    tools/list_proof.py --check    writes nothing, and fails where the page has other tables, where an edit turns no public call, or where the prose
+                                   above the tables names a call, a clause or a definition that is not there
+"""
+from __future__ import annotations
+
+import argparse
+import glob
+import os
+import re
+import sys
+from typing import Iterator, NamedTuple, Optional
+
+import programs
+
+TOP = programs.TOP
+PAGE = os.path.join(TOP, "docs", "understand", "PROOF.md")
+BEGIN, END = "<!-- the tables begin -->\n", "<!-- the tables end -->\n"
+HEAD = re.compile(r"^(?P<indent>(?:    )?)(?P<public>pub )?(?:pub\([a-z]+\) )?(?:const |final )*fn (?P<name>\w+)")
+HOLDS = re.compile(r"^(?:pub )?(?P<kind>impl|trait)(?:<[^{]*?>)? (?P<rest>.*?)\s*(?:where.*)?\{?$")
+ITEM = re.compile(r"^(?:pub(?:\(\w+\))? )?(?:const|static) (?P<name>\w+)")
+USE = re.compile(r"^\s*ghost use Rattle\.(?P<crate>hsp\w+|hsplan)\.specs\.(?P<module>[\w.]+)\.\{(?P<names>[^}]*)\}")
+
+
+class Clause(NamedTuple):
+    """An `ensures`: its label, '' where it has none, and the definitions of this repository that it cites, each with its file below crates."""
+
+    label: str
+    cited: tuple[str, ...]
+    files: tuple[str, ...]
+
+
+class Function(NamedTuple):
+    """A function, or a constant, of a crate: where it stands, what it says of itself, and what its body names."""
+
+    name: str
+    owner: str
+    file: str
+    lines: tuple[int, int]
+    is_public: bool
+    doc: str
+    clauses: tuple[Clause, ...]
+    body: str
+
+    def called(self) -> str:
+        return f"{self.owner}::{self.name}" if self.owner else self.name
+
+
+def read(path: str) -> list[str]:
+    with open(path, encoding="utf-8") as file:
+        return file.read().split("\n")
+
+
+def exported(crate: str) -> tuple[set[str], set[str]]:
+    """The names that a crate's root passes on, and its public modules."""
+    root = os.path.join(TOP, "crates", crate, "src", "lib.rt")
+    text = "\n".join(read(root)) if os.path.exists(root) else ""
+    names = {it.strip() for found in re.findall(r"^pub use (?:crate::)?\w+::(?:\{([^}]*)\}|(\w+));", text, re.M) for part in found for it in part.split(",") if it.strip()}
+    return names, set(re.findall(r"^pub mod (\w+);", text, re.M))
+
+
+def owner_of(line: str) -> tuple[str, bool]:
+    """The type or trait whose members a line opens, and whether they are those of a trait."""
+    found = HOLDS.match(line)
+    if not found:
+        return "", False
+    rest = found.group("rest")
+    is_trait = found.group("kind") == "trait" or " for " in rest
+    kind = rest.split(" for ")[-1]
+    return re.match(r"&?\w*", kind).group(0) if re.match(r"\w", kind) else "", is_trait
+
+
+def end_of(lines: list[str], at: int, indent: str) -> tuple[int, int]:
+    """Where the head of a function ends, and where the function does."""
+    depth, has_clauses = 0, False
+    for head in range(at, len(lines)):
+        line = lines[head].rstrip()
+        has_clauses = has_clauses or line.strip().startswith(("requires", "ensures"))
+        depth += line.count("{") - line.count("}")
+        if depth == 0 and line.endswith((";", "{}")):
+            return head, head
+        if line == indent + "{" or (line.endswith("{") and not has_clauses):
+            return head, next(it for it in range(head, len(lines)) if lines[it].rstrip() == indent + "}")
+    raise SystemExit(f"proof: no end of the function at {lines[at]}")
+
+
+def doc_above(lines: list[str], at: int) -> str:
+    """The first sentence of the comment above a function."""
+    above = at - 1
+    while above >= 0 and lines[above].strip().startswith("#["):
+        above -= 1
+    said: list[str] = []
+    while above >= 0 and lines[above].strip().startswith("///"):
+        said.insert(0, lines[above].strip()[3:].strip())
+        above -= 1
+    paragraph = " ".join(" ".join(it or "\0" for it in said).split("\0")[0].split())
+    return re.split(r"(?<=[.:])\s(?=[A-Z`])", paragraph)[0] if paragraph else ""
+
+
+def clauses_in(head: str, cited: dict[str, str]) -> Iterator[Clause]:
+    """The clauses of a head, with the names in them that `ghost use` lines bring in."""
+    for found in re.finditer(r"^\s*ensures\*?(?: (\w+))? \{", head, re.M):
+        depth, at = 1, found.end()
+        while depth and at < len(head):
+            depth += {"{": 1, "}": -1}.get(head[at], 0)
+            at += 1
+        words = re.findall(r"[A-Za-z_][\w'\-]*", head[found.end() : at])
+        named = tuple(dict.fromkeys(it for it in words if it in cited))
+        yield Clause(found.group(1) or "", named, tuple(cited[it] for it in named))
+
+
+def brought_in(lines: list[str]) -> dict[str, str]:
+    """The definitions that the `ghost use` lines of a file bring in, each with its file below crates."""
+    found = [it for it in map(USE.match, lines) if it]
+    return {word.split(" as ")[-1].strip(): f"{it.group('crate')}/specs/{it.group('module').split('.')[0]}.antt" for it in found for word in it.group("names").split(",")}
+
+
+def functions_of(path: str, names: set[str], is_open: bool) -> Iterator[Function]:
+    """The functions and constants of a file."""
+    lines, owner, is_trait, crate = read(path), "", False, path.split(os.sep)[-3]
+    cited = brought_in(lines)
+    at, file = 0, os.path.basename(path)
+    while at < len(lines):
+        line, head = lines[at], HEAD.match(lines[at])
+        if re.match(r"^(pub )?(impl|trait)\b", line):
+            owner, is_trait = owner_of(line)
+        elif line.rstrip() == "}":
+            owner, is_trait = "", False
+        elif head:
+            stop, end = end_of(lines, at, head.group("indent"))
+            seen = owner if head.group("indent") else ""
+            reach = is_open or (seen or head.group("name")) in names
+            public = reach and (bool(head.group("public")) or (is_trait and bool(seen))) or (crate == "hsplan" and head.group("name") == "main")
+            text = "\n".join(lines[at : stop + 1])
+            yield Function(head.group("name"), seen, file, (at, end), public, doc_above(lines, at), tuple(clauses_in(text, cited)), "\n".join(lines[stop : end + 1]))
+            at = end
+        elif ITEM.match(line):
+            end = next(it for it in range(at, len(lines)) if lines[it].rstrip().endswith(";"))
+            yield Function(ITEM.match(line).group("name"), "", file, (at, end), False, "", (), "\n".join(lines[at : end + 1]))
+            at = end
+        at += 1
+
+
+def crate_functions(crate: str) -> list[Function]:
+    names, modules = exported(crate)
+    paths = sorted(glob.glob(os.path.join(TOP, "crates", crate, "src", "*.rt")))
+    return [it for path in paths for it in functions_of(path, names, os.path.basename(path)[:-3] in modules)]
+
+
+def names_it(caller: Function, called: Function) -> bool:
+    """Whether a body names another function: by its type, as a member, or by its name."""
+    name = re.escape(called.name)
+    if not called.owner:
+        return any(not re.search(r"[A-Z]\w*(?:::<[^>]*>)?::$", caller.body[: it.start()]) for it in re.finditer(rf"(?<![\w.]){name}\b(?!::\w)", caller.body))
+    by_type = re.search(rf"\b{re.escape(called.owner)}(?:::<[^>]*>)?::{name}\b", caller.body)
+    by_self = caller.owner == called.owner and re.search(rf"\b(?:self\.|Self::){name}\b", caller.body)
+    return bool(by_type or by_self or re.search(rf"\.{name}\(", caller.body))
+
+
+def callers(functions: list[Function], begun: Function) -> list[Function]:
+    """The public calls that come to a function through private ones, or the function itself where it is public."""
+    found, seen, waiting = [], {begun}, [begun]
+    while waiting:
+        one = waiting.pop(0)
+        if one.is_public:
+            found.append(one)
+            continue
+        for it in functions:
+            if it not in seen and names_it(it, one):
+                seen.add(it)
+                waiting.append(it)
+    return found
+
+
+def turned(functions: list[Function], edit: str) -> list[Function]:
+    """The public calls that a must-fail edit turns."""
+    lines = [it for it in read(edit) if it.startswith(("file: ", "old: "))]
+    file, found = "", []
+    for line in lines:
+        word, _, rest = line.partition(": ")
+        if word == "file":
+            file = rest.strip()
+            continue
+        text = read(os.path.join(os.path.dirname(os.path.dirname(edit)), file))
+        at = next((number for number, it in enumerate(text) if rest.strip() in it), -1)
+        own = [it for it in functions if it.file == os.path.basename(file)]
+        brought = re.findall(r"\w+", rest) if rest.startswith("use ") else []
+        inside = [it for it in own if it.lines[0] <= at <= it.lines[1] or any(re.search(rf"\b{word}\b", it.body) for word in brought[-1:])]
+        found += [call for it in inside for call in callers(functions, it)]
+    return list(dict.fromkeys(found))
+
+
+def edits_of(crate: str) -> list[str]:
+    return sorted(glob.glob(os.path.join(TOP, "crates", crate, "must-fail", "*.edit")))
+
+
+def clause_text(one: Clause) -> str:
+    cited = ", ".join(one.cited)
+    return f"`{one.label}`: {cited}" if one.label and cited else f"`{one.label}`" if one.label else cited or "its own words"
+
+
+def row(one: Function, edits: list[str]) -> str:
+    said = one.doc.replace("|", "\\|")
+    clauses = "; ".join(clause_text(it) for it in one.clauses) or "–"
+    return f"| `{one.called()}` | {said} | {clauses} | {', '.join(f'`{it}`' for it in edits) or '–'} |"
+
+
+def places(shown: list[Function]) -> Iterator[str]:
+    """A line on where the cited definitions stand."""
+    files: dict[str, list[str]] = {}
+    for clause in (it for one in shown for it in one.clauses):
+        for name, file in zip(clause.cited, clause.files):
+            if os.path.exists(os.path.join(TOP, "crates", file)) and name not in files.setdefault(file, []):
+                files[file].append(name)
+    listed = [f"[`{file}`](../../crates/{file}): {', '.join(names)}" for file, names in sorted(files.items()) if names]
+    if listed:
+        yield from (f"Definitions: {'; '.join(listed)}.", "")
+
+
+def section(crate: str, faults: list[str]) -> Iterator[str]:
+    """The table of a crate, or nothing where it has no public call."""
+    functions = crate_functions(crate)
+    by: dict[Function, list[str]] = {}
+    for edit in edits_of(crate):
+        name, calls = os.path.basename(edit)[: -len(".edit")], turned(functions, edit)
+        if not calls:
+            faults.append(f"{crate}: the edit {name} turns no public call")
+        for it in calls:
+            by.setdefault(it, []).append(name)
+    shown = [it for it in functions if it.is_public and (it.clauses or it in by or it.doc)]
+    if shown:
+        yield from (f"### `{crate}`", "", "| Call | Says of itself | Clauses, and the definitions that they cite | Edits that turn it |", "|---|---|---|---|")
+        yield from (row(it, by.get(it, [])) for it in shown)
+        yield ""
+        yield from places(shown)
+
+
+def layered() -> list[str]:
+    """The crates that the program is made of, each behind those that it stands on."""
+    below, ordered = programs.dependencies(), []
+    left = programs.crates_of()
+    while left:
+        free = [it for it in left if not set(below[it]) & set(left)]
+        ordered += free
+        left = [it for it in left if it not in free]
+    return ordered
+
+
+def tables(faults: list[str]) -> str:
+    return "\n".join(line for crate in layered() for line in section(crate, faults))
+
+
+def wrong_words(prose: str) -> list[str]:
+    """The calls, clauses and definitions that the prose names and that are not there: `crate::call`, `crate::call` `clause`, `Name` in `crate/specs/F.antt`."""
+    faults = []
+    labels = {f"{crate}::{it.called()}": it for crate in programs.crates_of() for it in crate_functions(crate)}
+    labels.update({f"{crate}::laws::{it.name}": it for crate in programs.crates_of() for it in crate_functions(crate) if it.file == "laws.rt"})
+    for call, clause in re.findall(r"`(hsp\w+::[\w:]+)`(?: \(clauses? ((?:`\w+`(?:, | and )?)+)\))?", prose):
+        known = labels.get(call)
+        faults += [] if known else [f"PROOF.md names no call: {call}"]
+        faults += [f"PROOF.md: {it} is no clause of {call}" for it in re.findall(r"`(\w+)`", clause) if known and it not in {c.label for c in known.clauses}]
+    for names, path in re.findall(r"((?:`[\w'-]+`(?:, | and ))*`[\w'-]+`) in \[`[\w./]+`\]\(([^)]+)\)", prose):
+        file = os.path.normpath(os.path.join(os.path.dirname(PAGE), path))
+        text = "\n".join(read(file)) if os.path.exists(file) else ""
+        faults += [f"PROOF.md: {it} is not defined in {path}" for it in re.findall(r"`([\w'-]+)`", names) if not re.search(rf"^(?:\w+ )*{re.escape(it)} ", text, re.M)]
+    return faults
+
+
+def main() -> int:
+    arguments = argparse.ArgumentParser(description=__doc__.split("\n", 1)[0])
+    arguments.add_argument("--check", action="store_true", help="write nothing, and compare the tables that are there")
+    check, faults = arguments.parse_args().check, []
+    page = "\n".join(read(PAGE))
+    made = page[: page.index(BEGIN)] + BEGIN + "\n" + tables(faults) + "\n" + page[page.index(END) :]
+    faults += wrong_words(page[: page.index(BEGIN)] + page[page.index(END) :])
+    if check and made != page:
+        faults.append("docs/understand/PROOF.md has other tables than tools/list_proof.py lists: run it")
+    if not check:
+        with open(PAGE, "w", encoding="utf-8") as file:
+            file.write(made)
+    print("\n".join(faults + [f"proof: {made.count(chr(10) + '| `')} calls, {len(faults)} faults"]))
+    return 1 if faults else 0
+
+
+if __name__ == "__main__":
+    sys.exit(main())
