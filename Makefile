@@ -2,7 +2,7 @@
 # make try ARGS='plan --settings F ..'    runs the program on your own files, without an installation
 # make install     installs the program below $(PREFIX) with its manual page, completions and guide; with PROVED=1 it is proved and built first
 # make uninstall   removes what make install put there
-# make prove       proves the program's crates from nothing and builds it; with ANEW=1 also what was proved on this machine before
+# make prove       proves the program's crates from nothing, and builds it
 # make release     writes the folder release from what was proved and built
 # make test        the whole gate: the checks of documents and examples, every proof from nothing, every test, every must-fail edit
 # make mutants     wants each wrong body of mutants/ to be refused by its test or case; outside the gate
@@ -27,7 +27,7 @@ uninstall:
 	@tools/install.py --prefix "$(PREFIX)" --destdir "$(DESTDIR)" --uninstall
 
 prove:
-	@tools/prove.py $(if $(ANEW),--anew)
+	@tools/prove.py
 
 release:
 	@tools/make_release.py

@@ -1,5 +1,5 @@
 #!/usr/bin/env python3
-"""Tells how many checks `rt ci` runs side by side in `make test`: one a processor, as long as each has 4 GB of the memory that is free.
+"""Prints how many checks `rt ci` runs side by side in `make test`: one a processor, as long as each has 4 GB of the memory that is free.
 
 `rt ci` would choose by an estimate that leaves a processor or two idle in its second half; no check of this repository was seen to take more than 3.9 GB.
 RT_JOBS=N make test takes N.
@@ -15,9 +15,14 @@ def free():
         return next(int(line.split()[1]) for line in lines if line.startswith("MemAvailable:"))
 
 
+def processors():
+    """How many processors this process may use."""
+    return len(os.sched_getaffinity(0))
+
+
 def lanes():
     """How many checks run side by side."""
-    return max(1, min(len(os.sched_getaffinity(0)), free() // EACH))
+    return max(1, min(processors(), free() // EACH))
 
 
 if __name__ == "__main__":

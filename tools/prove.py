@@ -1,104 +1,171 @@
 #!/usr/bin/env python3
 """Proves the crates of the programs from nothing, those that do not need each other side by side, and builds the programs.
 
-It is the gate over these crates, without their must-fail edits and without the crates of tests: `rt ci` on a copy of their sources. What the kit proved
-of the same files on this machine is taken as proved; with --anew it is proved again. It shows how far it is: crates, minutes gone, and about how many are
-left, by the octets of source that are still to be proved.
-
-    tools/prove.py [--anew]
+The kit's prover, `rattle build`, makes a library, or a program, only of a crate that it has proved. Crates with the longest chain of others above them come
+first and get all processors; the others fill in what those leave idle. It shows how far it is: crates, minutes gone, and about how many are left, by the
+octets of source. Nothing that was proved before is taken. This is no gate: `make test` proves all crates by `rt ci`, with their edits and tests.
 """
 from __future__ import annotations
 
-import argparse
 import os
-import re
 import shutil
 import subprocess
 import sys
 import tempfile
 import time
+from typing import Optional
 
+import lanes
 import programs
 
-ENDED = re.compile(r"rt: (\w+) (proved|is kept|NOT PROVED)")
+NEED_KIT = 'no rt in PATH: a proof takes the Rattle kit; README.md has more under "The kit"'
 
 
-def copy(folder: str, crates: list[str]) -> None:
-    """The sources of the crates as a repository of their own."""
-    for crate in crates:
-        shutil.copytree(os.path.join(programs.TOP, "crates", crate), os.path.join(folder, "crates", crate), ignore=shutil.ignore_patterns("out", "must-fail"))
-    with open(os.path.join(folder, "crates.txt"), "w", encoding="utf-8") as file:
-        file.write("".join(it + "\n" for it in programs.lines_of(crates)))
-    shutil.copyfile(os.path.join(programs.TOP, "HANDLES"), os.path.join(folder, "HANDLES"))
-    os.mkdir(os.path.join(folder, ".git"))
+class Kit:
+    """Where the kit's prover, libraries and linker stand."""
+
+    def __init__(self) -> None:
+        page = subprocess.run(["rt", "doc"], stdout=subprocess.PIPE, text=True, check=True).stdout.strip()
+        self.top = os.path.dirname(page)
+
+    def path(self, *parts: str) -> str:
+        return os.path.join(self.top, *parts)
+
+    def libraries(self, crate: str) -> list[str]:
+        """The kit's libraries that a crate uses: std, and what crates.txt lists beside the crates of this repository."""
+        listed = programs.lines_of([crate])[0].split("#")[0].split(":")[1].split()
+        return ["std"] + [it for it in listed if it not in programs.dependencies()]
+
+    def build(self, crate: str, room: str, jobs: int) -> list[str]:
+        """The command that proves a crate, and builds its library or its object file in the folder `room`."""
+        below = programs.dependencies()
+        is_program = crate in programs.PROGRAMS
+        words = [self.path("bin", "rattle"), "build", "--crate-name", crate, "src/main.rt" if is_program else "src/lib.rt"]
+        for name in self.libraries(crate):
+            words += ["--extern", f"{name}={self.path('rlibs', name + '.rlib')}"]
+        words += ["-L", f"dependency={self.path('rlibs')}", "-L", f"dependency={room}"]
+        for name in below[crate]:
+            words += ["--extern", f"{name}={os.path.join(room, name + '.rlib')}"]
+        words += ["--antt-project", self.path("rattle", "logic", "antt-project.json"), "--logic-built", self.path("logic_built"), "--links", f"{crate}="]
+        made = ["--toolchain", self.path("toolchain"), "--backend", "llvm", "-o", os.path.join(room, crate + ".o")]
+        return words + ["--jobs", str(jobs)] + (made if is_program else ["--statements", "-o", os.path.join(room, crate + ".rlib")])
+
+    def link(self, program: str, room: str) -> list[str]:
+        """The command that links a program's object file with the C library."""
+        words = [self.path("bin", "rattle-link"), "--target", "x86_64-unknown-linux-gnu", "--toolchain", self.path("toolchain")]
+        return words + ["-o", os.path.join(room, program), os.path.join(room, program + ".o"), self.path("c", "libos_c.a"), self.path("c", "liblibc_c.a")]
 
 
-def weight(crate: str) -> int:
-    return sum(os.stat(os.path.join(programs.TOP, it)).st_size for it in programs.sources([crate]))
+class Plan:
+    """The crates that are left, with how much they are and how long the chain above each is, both in octets of source."""
+
+    def __init__(self) -> None:
+        self.left = programs.crates_of()
+        below = programs.dependencies()
+        self.weights = {it: sum(os.stat(os.path.join(programs.TOP, path)).st_size for path in programs.sources([it])) for it in self.left}
+        self.chains = dict(self.weights)
+        for _ in self.left:
+            for name in self.left:
+                above = [self.chains[it] for it in self.left if name in below[it]]
+                self.chains[name] = self.weights[name] + max(above, default=0)
+
+    def ready(self, done: set[str]) -> list[str]:
+        """The crates whose libraries are built, the one with the longest chain above it first."""
+        below = programs.dependencies()
+        return sorted((it for it in self.left if set(below[it]) <= done), key=lambda it: -self.chains[it])
+
+    def is_first(self, crate: str, unfinished: set[str]) -> bool:
+        """Whether no unfinished crate has a longer chain above it."""
+        return self.chains[crate] == max(self.chains[it] for it in unfinished)
 
 
-class Progress:
-    """Which crates are done, and since when."""
+class Run:
+    """The proofs that are running, those that are done, and since when."""
 
-    def __init__(self, crates: list[str]) -> None:
-        self.weights = {it: weight(it) for it in crates}
+    def __init__(self, kit: Kit, room: str) -> None:
+        self.kit, self.room, self.plan = kit, room, Plan()
+        self.whole = set(self.plan.left)
         self.done: set[str] = set()
-        self.kept: set[str] = set()
+        self.running: dict[str, subprocess.Popen[bytes]] = {}
         self.begun = time.monotonic()
 
-    def ended(self, crate: str, how: str) -> None:
-        """Prints where the run stands once a crate has ended."""
-        self.done.add(crate)
-        self.kept |= {crate} if how == "is kept" else set()
+    def begin(self, crate: str) -> None:
+        """Begins a proof: by all processors where the others wait for it longest, and otherwise by one, behind those."""
+        first = self.plan.is_first(crate, self.whole - self.done)
+        jobs = min(lanes.processors(), 4) if first else 1
+        words = ([] if first else ["nice", "-n", "10"]) + self.kit.build(crate, self.room, jobs)
+        with open(os.path.join(self.room, crate + ".log"), "wb") as log:
+            folder = os.path.join(programs.TOP, "crates", crate)
+            self.running[crate] = subprocess.Popen(words, cwd=folder, stdin=subprocess.DEVNULL, stdout=log, stderr=subprocess.STDOUT)
+        self.plan.left.remove(crate)
+
+    def show(self, crate: str) -> None:
         gone = (time.monotonic() - self.begun) / 60
-        proved = sum(self.weights[it] for it in self.done - self.kept)
-        left = sum(size for it, size in self.weights.items() if it not in self.done)
-        rest = f", about {gone * left / proved:.0f} left" if left and proved else ""
-        word = {"proved": "proved", "is kept": "was proved here before", "NOT PROVED": "NOT PROVED"}[how]
-        print(f"crate {len(self.done)} of {len(self.weights)}: {crate} {word}; {gone:.1f} minutes gone{rest}", flush=True)
+        proved, every = sum(self.plan.weights[it] for it in self.done), sum(self.plan.weights.values())
+        rest = f", about {gone * (every - proved) / proved:.0f} left" if proved < every else ""
+        print(f"crate {len(self.done)} of {len(self.whole)}: {crate} proved; {gone:.1f} minutes gone{rest}", flush=True)
+
+    def ended(self) -> Optional[str]:
+        """Takes what has ended, and returns the crate that was not proved, if there is one."""
+        for crate, process in list(self.running.items()):
+            status = process.poll()
+            if status is not None:
+                del self.running[crate]
+                if status:
+                    return crate
+                self.done.add(crate)
+                self.show(crate)
+        return None
+
+    def prove(self) -> Optional[str]:
+        """Proves all crates, and returns the first that was not proved, if there is one."""
+        limit = lanes.lanes()
+        try:
+            while self.done != self.whole:
+                for crate in self.plan.ready(self.done)[: limit - len(self.running)]:
+                    self.begin(crate)
+                time.sleep(0.2)
+                failed = self.ended()
+                if failed:
+                    return failed
+        finally:
+            for process in self.running.values():
+                process.terminate()
+        return None
 
 
-def follow(folder: str, anew: bool, crates: list[str]) -> bool:
-    """Runs the gate in the folder, and shows how far it is. Returns whether all passed; what it said is shown where it did not."""
-    progress, said = Progress(crates), []
-    command = ["rt", "ci"] + (["--anew"] if anew else [])
-    with subprocess.Popen(command, cwd=folder, stdout=subprocess.PIPE, stderr=subprocess.STDOUT, text=True, errors="replace") as running:
-        for line in running.stdout or ():
-            said.append(line)
-            found = ENDED.match(line)
-            if found and found.group(1) in progress.weights:
-                progress.ended(found.group(1), found.group(2))
-    if running.returncode:
-        sys.stdout.writelines(said)
-    return running.returncode == 0
-
-
-def take(folder: str) -> None:
-    """Puts the built programs where `rt ci` leaves them in this repository."""
+def take(kit: Kit, room: str) -> bool:
+    """Links the programs, and puts them where `rt ci` leaves them in this repository."""
     for name in programs.PROGRAMS:
+        linked = subprocess.run(kit.link(name, room), stdout=subprocess.PIPE, stderr=subprocess.STDOUT, text=True)
+        if linked.returncode:
+            print(linked.stdout, end="")
+            return False
         target = programs.built_path(name)
         os.makedirs(os.path.dirname(target), exist_ok=True)
-        shutil.copyfile(os.path.join(folder, "crates", name, "out", name), target + ".new")
+        shutil.copyfile(os.path.join(room, name), target + ".new")
         os.chmod(target + ".new", 0o755)
         os.replace(target + ".new", target)
         print(f"built: {os.path.relpath(target, programs.TOP)}")
+    return True
 
 
 def main() -> int:
-    arguments = argparse.ArgumentParser(description="Proves and builds the programs.")
-    arguments.add_argument("--anew", action="store_true", help="prove again what was proved on this machine before")
-    anew = arguments.parse_args().anew
     if not shutil.which("rt"):
-        print('no rt in PATH: a proof takes the Rattle kit; README.md has more under "Try it"', file=sys.stderr)
+        print(NEED_KIT, file=sys.stderr)
         return 1
-    crates = programs.crates_of()
-    with tempfile.TemporaryDirectory() as folder:
-        copy(folder, crates)
-        if not follow(folder, anew, crates):
+    kit = Kit()
+    with tempfile.TemporaryDirectory() as room:
+        failed = Run(kit, room).prove()
+        if failed:
+            with open(os.path.join(room, failed + ".log"), encoding="utf-8", errors="replace") as log:
+                print(f"{log.read()}\n{failed} is NOT PROVED")
             return 1
-        take(folder)
-    return 0
+        return 0 if take(kit, room) else 1
 
 
 if __name__ == "__main__":
-    sys.exit(main())
+    try:
+        sys.exit(main())
+    except KeyboardInterrupt:
+        sys.exit(130)
