@@ -9,8 +9,8 @@ use hsp_instance::Instance;
 use std::alloc::Global;
 use std::process::Abort;
 
-// What stands once a row was answered, or before the first one: up to how many octets of the log no further row is read whole, the
-// lines, and what is left in four cells.
+// What stands once a row was answered, or before the first one: up to how many octets of the log no further row is read
+// whole, the lines, and what is left in four cells.
 #[derive(Clone, Copy)]
 struct Step {
     octets: usize,

@@ -73,7 +73,8 @@ impl<'a> Read for FakeReader<'a> {
     }
 }
 
-/// Takes at most `piece` octets a call, and none once `good` of them were taken; what it takes it holds, in room taken before.
+/// Takes at most `piece` octets a call, and none once `good` of them were taken; what it takes it holds, in room taken
+/// before.
 #[derive(Drop)]
 pub struct FakeWriter {
     pub taken: Vec<u8>,

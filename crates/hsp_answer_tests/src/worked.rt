@@ -1,4 +1,5 @@
-// The worked instance and its plan. None stands for want of memory; where something is held, it was made once more then.
+// The worked instance and its plan. None stands for want of memory; where something is held, it was made once more
+// then.
 
 use crate::building::instance_by;
 use hsp_cert::{Certificate, UseLine};

@@ -44,8 +44,8 @@ impl Texts {
     }
 }
 
-// How many servers a site has: no two sites have as many, so that handles that share a server at one site seldom share one at
-// another. The 32 sites have 1,024 servers.
+// How many servers a site has: no two sites have as many, so that handles that share a server at one site seldom share
+// one at another. The 32 sites have 1,024 servers.
 fn servers_at(site: u32) -> u32
     ensures { result ≤ 48 }
 {

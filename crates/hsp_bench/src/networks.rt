@@ -6,8 +6,8 @@ use hsp_network::{Network, NetworkLists, Outcome, accepts};
 use hsp_simplex::propose;
 use std::alloc::{AllocError, Global};
 
-// The lists of a network, drawn at random: two arcs may be equal, a demand, capacity, limit or cost may be 0, and a source may
-// have no arcs.
+// The lists of a network, drawn at random: two arcs may be equal, a demand, capacity, limit or cost may be 0, and a
+// source may have no arcs.
 #[derive(Drop)]
 struct Lists {
     demands: Vec<u64>,
@@ -115,8 +115,8 @@ fn drawn_lists(alloc: Global, seed: u32) -> Result<Lists, AllocError> {
     Ok(lists)
 }
 
-// What became of networks: for how many nothing was proposed, for how many a plan or a short set was, and how many of those
-// were refused.
+// What became of networks: for how many nothing was proposed, for how many a plan or a short set was, and how many of
+// those were refused.
 #[derive(Clone, Copy, Default)]
 struct Tally {
     declined: u64,

@@ -10,8 +10,9 @@ use hsp_instance::Instance;
 use std::alloc::{AllocError, Global};
 use std::io;
 
-// What became of instances: how many, for how many a proposal was taken, how many have a plan and how many a shortage, for how
-// many the searches find another cost or kind, and for how many the checker refuses one of the two certificates.
+// What became of instances: how many, for how many a proposal was taken, how many have a plan and how many a shortage,
+// for how many the searches find another cost or kind, and for how many the checker refuses one of the two
+// certificates.
 #[derive(Clone, Copy, Default)]
 struct Tally {
     planned: u64,
@@ -36,8 +37,8 @@ impl Tally {
     }
 }
 
-// What became of an instance: whether a proposal was taken, the cost by it and by the searches, None of a shortage, and whether
-// both certificates are valid.
+// What became of an instance: whether a proposal was taken, the cost by it and by the searches, None of a shortage, and
+// whether both certificates are valid.
 #[derive(Clone, Copy)]
 struct Planned {
     is_taken: bool,

@@ -53,7 +53,8 @@ pub(crate) enum Shown {
     Shortage(ShortSet),
 }
 
-/// A plan with its prices, or a short set of rows with its sums, always within the orders and ranges of a certificate's text.
+/// A plan with its prices, or a short set of rows with its sums, always within the orders and ranges of a certificate's
+/// text.
 #[derive(Debug, Drop)]
 pub struct Certificate {
     pub(crate) shown: Shown,
@@ -138,8 +139,8 @@ impl Certificate {
     ghost use Rattle.hsp_cert.specs.Certificate.Claim.{best, short};
     ghost use Rattle.std.specs.Prelude.{[]};
 
-    /// A plan whose uses are in order of row and site, with the prices of its rows and servers. None exactly where an order or a
-    /// range is broken.
+    /// A plan whose uses are in order of row and site, with the prices of its rows and servers. None exactly where an
+    /// order or a range is broken.
     pub fn best(
         cost: u64,
         uses: Vec<UseLine>,
@@ -189,8 +190,8 @@ impl Certificate {
         })
     }
 
-    /// A short set of rows, which are in order, with what they ask for and what they can reach. None exactly where an order or a
-    /// range is broken.
+    /// A short set of rows, which are in order, with what they ask for and what they can reach. None exactly where an
+    /// order or a range is broken.
     pub fn short(rows: Vec<u32>, demand: u64, capacity: u64) -> Option<Certificate>
         ensures { Makes (short (record {
           rows = rows.items;

@@ -49,8 +49,8 @@ fn read_lines(alloc: Global, text: &[u8]) -> Result<Certificate, CertFault>
     Ok(draft.finished())
 }
 
-/// The certificate whose text it is, in room for what the certificate holds. A text of none has one fault: the first line that
-/// can't stand in its place, an end before the line `END` and its LF, or something after them.
+/// The certificate whose text it is, in room for what the certificate holds. A text of none has one fault: the first
+/// line that can't stand in its place, an end before the line `END` and its LF, or something after them.
 pub fn read_cert(alloc: Global, text: &[u8]) -> Result<Certificate, CertFault>
     // What is answered is true of the text,
     ensures means { Means text.now result }

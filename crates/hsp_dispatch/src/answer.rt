@@ -11,7 +11,8 @@ use crate::answering::Given;
 /// What an entry is answered.
 #[derive(Clone, Copy, Debug, PartialEq, Eq)]
 pub enum Answer {
-    /// The query goes to the server at a place of a site; both are numbers, and the identifier is that of the site's record.
+    /// The query goes to the server at a place of a site; both are numbers, and the identifier is that of the site's
+    /// record.
     Assigned {
         site: u32,
         place: u32,

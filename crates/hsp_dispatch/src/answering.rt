@@ -30,8 +30,8 @@ pub(crate) enum Given {
     NoFront,
 }
 
-/// The row of the plan that is of an entry, None where none is. What a row has is a handle, so that only the handles of other
-/// entries are read.
+/// The row of the plan that is of an entry, None where none is. What a row has is a handle, so that only the handles of
+/// other entries are read.
 pub(crate) fn row_in(
     instance: &Instance,
     lent: LentEntry<'_>,

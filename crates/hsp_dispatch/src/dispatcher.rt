@@ -73,8 +73,8 @@ impl<'a> Dispatcher<'a> {
         self.instance
     }
 
-    /// Answers a query for a handle from a region, and takes it of what is left. The site is the first at which something of the
-    /// row is left.
+    /// Answers a query for a handle from a region, and takes it of what is left. The site is the first at which
+    /// something of the row is left.
     pub fn assign(&mut self, region: &[u8], handle: HandleRef<'_>) -> Answer
         ensures instance { self.new.instance ≡ self.old.instance }
         ensures answer { result ≡ answer_by self.old (query region.now handle.entry) }

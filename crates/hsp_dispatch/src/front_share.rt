@@ -15,8 +15,8 @@ pub(crate) struct Front {
     pub(crate) number: u32,
 }
 
-/// The number of the cell of a row at which a front stands, and what it has left there. Where that is nothing, it has nothing left
-/// of the row.
+/// The number of the cell of a row at which a front stands, and what it has left there. Where that is nothing, it has
+/// nothing left of the row.
 #[derive(Clone, Copy)]
 pub(crate) struct Standing {
     pub(crate) cell: u32,
@@ -48,7 +48,8 @@ pub(crate) fn sum_in(cells: &[Cell], front: Front) -> u32
     sum
 }
 
-/// Where a front stands that has so many left: at the last cell whose share, with those behind it, is as many, else at the first.
+/// Where a front stands that has so many left: at the last cell whose share, with those behind it, is as many, else at
+/// the first.
 pub(crate) fn stand_with(cells: &[Cell], left: u32, front: Front) -> Standing
     requires some { 0 < front.fronts }
     requires few { length cells.now ≤ MOST_SITES }

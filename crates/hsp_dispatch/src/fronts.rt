@@ -27,11 +27,11 @@ use hsp_names::HandleRef;
 use std::alloc::{AllocError, Global};
 use std::marker::Model;
 
-/// For each front what is left of its share of a plan. The share of front `f` of `F` in a number `x` is the quotient of `x` by `F`,
-/// and 1 more where `f` is below the remainder.
+/// For each front what is left of its share of a plan. The share of front `f` of `F` in a number `x` is the quotient of
+/// `x` by `F`, and 1 more where `f` is below the remainder.
 ///
-/// The rows' cells stand once for all fronts. A front has one number a row, how many it has left in all cells of the row together,
-/// which are used in their order; the numbers of a row's fronts stand side by side.
+/// The rows' cells stand once for all fronts. A front has one number a row, how many it has left in all cells of the
+/// row together, which are used in their order; the numbers of a row's fronts stand side by side.
 #[derive(Drop)]
 pub struct Fronts<'a> {
     instance: &'a Instance,
@@ -154,8 +154,8 @@ impl<'a> Fronts<'a> {
         self.instance
     }
 
-    /// Answers a query at a front, for a handle from a region: as a dispatcher would by what the front has left, of which it takes
-    /// the query. What the other fronts have left stays as it is.
+    /// Answers a query at a front, for a handle from a region: as a dispatcher would by what the front has left, of
+    /// which it takes the query. What the other fronts have left stays as it is.
     pub fn assign(&mut self, front: u32, region: &[u8], handle: HandleRef<'_>) -> FrontAnswer
         ensures answer { result ≡ answer_among self.old front (query region.now handle.entry) }
         ensures taken { IsTakenAt front (query region.now handle.entry) self.old self.new }
@@ -172,8 +172,8 @@ impl<'a> Fronts<'a> {
         FrontAnswer::Answered(served(instance, taken))
     }
 
-    /// Takes from what a front has left what the entry in the row of a number is answered by. Where there is no such front, the
-    /// handle is read all the same.
+    /// Takes from what a front has left what the entry in the row of a number is answered by. Where there is no such
+    /// front, the handle is read all the same.
     pub(crate) fn choose(
         &mut self,
         front: u32,
@@ -203,7 +203,8 @@ impl<'a> Fronts<'a> {
         row as usize * self.fronts as usize + front as usize
     }
 
-    // Takes one of what a front has left of a row. The number of the server to which it goes, None where nothing is left.
+    // Takes one of what a front has left of a row. The number of the server to which it goes, None where nothing is
+    // left.
     fn take(&mut self, front: u32, row: u32) -> Option<u32>
         requires front { front < fronts_of self.old }
         requires row { row < length self.old.instance.rows }

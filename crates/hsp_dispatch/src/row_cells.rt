@@ -39,7 +39,8 @@ impl RowCells {
         RowCells { cells }
     }
 
-    /// The number of the server where there is one cell alone and the number is below the greatest of two octets; else that greatest.
+    /// The number of the server where there is one cell alone and the number is below the greatest of two octets; else
+    /// that greatest.
     pub(crate) fn sole(&self) -> u16
         ensures { IfSome (sole_in result) (λ server. IsSole server self.now) }
     {
@@ -58,8 +59,8 @@ impl RowCells {
         sum_in(&self.cells, front)
     }
 
-    /// The number of the server to which a front's next query goes where it has so many left of the row, at the first site where
-    /// it has something left; None where nothing is left.
+    /// The number of the server to which a front's next query goes where it has so many left of the row, at the first
+    /// site where it has something left; None where nothing is left.
     pub(crate) fn server(&self, left: u32, front: Front) -> Option<u32>
         requires { 0 < front.fronts }
         ensures { result ≡ option_map (λ (cell : Cell). cell.server)

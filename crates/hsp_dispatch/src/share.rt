@@ -14,8 +14,8 @@ pub(crate) struct Cell {
     pub(crate) left: u32,
 }
 
-/// What is left for a row: cells in ascending order of their sites, each with something left. The first stands in place, so that
-/// most queries touch no other memory; it is spent where nothing is left.
+/// What is left for a row: cells in ascending order of their sites, each with something left. The first stands in
+/// place, so that most queries touch no other memory; it is spent where nothing is left.
 #[derive(Drop)]
 pub(crate) struct RowShare {
     first: Cell,

@@ -49,8 +49,8 @@ pub fn open_log<S: FileSource>(
     })
 }
 
-// Hands on the lines that were written before the fault, and gives the fault or, where that fails, a failed write. What a failed
-// write left isn't tried again.
+// Hands on the lines that were written before the fault, and gives the fault or, where that fails, a failed write. What
+// a failed write left isn't tried again.
 fn handed_on<O: Output>(out: &mut O, fault: Fault) -> Fault
     ensures kept { Keeps (O.contents out.old) (O.contents out.new) }
     ensures fault { (result ≡ fault) ⊎ (O.may_fail × (result ≡ Log WriteFailed)) }
@@ -64,8 +64,8 @@ fn handed_on<O: Output>(out: &mut O, fault: Fault) -> Fault
     }
 }
 
-/// Answers the log on `out`: its entries, whose sums it gives, or its events by so many fronts as the word tells. At a fault the
-/// lines before it were handed on.
+/// Answers the log on `out`: its entries, whose sums it gives, or its events by so many fronts as the word tells. At a
+/// fault the lines before it were handed on.
 pub fn dispatch<F: OpenFile, O: Output>(
     alloc: Global,
     opened: OpenLog<F>,

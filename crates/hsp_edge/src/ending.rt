@@ -59,8 +59,8 @@ fn tell<E: Output>(errors: &mut E, failure: &Failure, line: &Result<Vec<u8>, All
     }
 }
 
-/// Gives the status that the program ends with. Before that it tells on `errors`, by `line`, the sums of a log or a refused input,
-/// and any other failure by its own text; where memory ran out for the line, it tells that.
+/// Gives the status that the program ends with. Before that it tells on `errors`, by `line`, the sums of a log or a
+/// refused input, and any other failure by its own text; where memory ran out for the line, it tells that.
 pub fn end_with<E: Output>(
     errors: &mut E,
     ended: &Result<Completed, Failure>,

@@ -41,7 +41,8 @@ fn joined(rt: &impl Abort, alloc: Global, parts: &[&[u8]]) -> Vec<u8> {
     }
 }
 
-// A call that tells want of memory is made once more: where one growth is refused, the second answer is that of ample memory.
+// A call that tells want of memory is made once more: where one growth is refused, the second answer is that of ample
+// memory.
 fn site_of(alloc: Global, octets: &[u8]) -> Result<SiteRecord, RecordFault> {
     match decode_site(alloc, octets) {
         Err(RecordFault::OutOfMemory) => decode_site(alloc, octets),

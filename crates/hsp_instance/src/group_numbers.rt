@@ -5,7 +5,8 @@ ghost use Rattle.hsp_instance.specs.Groups.{AreBelow};
 
 use std::marker::Model;
 
-/// The groups of the rows of an instance. Two rows are in one group exactly where their regions and their arcs are equal.
+/// The groups of the rows of an instance. Two rows are in one group exactly where their regions and their arcs are
+/// equal.
 ///
 /// Groups are numbered from 0 on, in the order in which they are first seen.
 #[derive(Debug, Drop)]

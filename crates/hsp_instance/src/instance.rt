@@ -123,7 +123,8 @@ impl Instance {
         &self.sites
     }
 
-    /// How many servers there are: those of each site after those of the sites before it, in the order of the site's record.
+    /// How many servers there are: those of each site after those of the sites before it, in the order of the site's
+    /// record.
     pub fn servers(&self) -> u32
         ensures count { result ≡ length self.now.servers }
         ensures within { IsInstance self.now }
@@ -147,8 +148,8 @@ impl Instance {
         (server.site, server.place, server.id, server.capacity)
     }
 
-    /// The number of the host that the server of a number below [`Instance::servers`] stands on, and None where it stands on no
-    /// host that is listed.
+    /// The number of the host that the server of a number below [`Instance::servers`] stands on, and None where it
+    /// stands on no host that is listed.
     pub fn host_of(&self, server: u32) -> Option<u32>
         requires { server < length self.now.servers }
         ensures { option_map (λ s. s.host) (slice_get self.now.servers server) ≡ Some result }

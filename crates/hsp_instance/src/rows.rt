@@ -18,7 +18,8 @@ use std::alloc::{AllocError, Global};
 use std::hash::{Hash, Hasher};
 use std::marker::Model;
 
-// The region and the handle by which a row is found. Their octets lie one after the other, so that a lookup reads one place.
+// The region and the handle by which a row is found. Their octets lie one after the other, so that a lookup reads one
+// place.
 #[derive(Drop)]
 struct RowKey {
     octets: Vec<u8>,

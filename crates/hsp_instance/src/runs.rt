@@ -6,8 +6,8 @@ ghost use Rattle.hsp_instance.specs.Runs.{AreRuns, Ascends, Parts};
 use std::alloc::{AllocError, Global};
 use std::marker::Model;
 
-/// Where the run of each group begins and ends in a list that is sorted by its groups, which are numbered from 0 on: the
-/// entries of a group are those from its beginning up to that of the next.
+/// Where the run of each group begins and ends in a list that is sorted by its groups, which are numbered from 0 on:
+/// the entries of a group are those from its beginning up to that of the next.
 #[derive(Debug, Drop)]
 pub struct Runs {
     starts: Vec<usize>,
@@ -75,8 +75,8 @@ impl Runs {
         Ok(Runs { starts })
     }
 
-    /// Ends the run of the next group at this place, where that of the group after it begins. A call that is refused changes
-    /// nothing.
+    /// Ends the run of the next group at this place, where that of the group after it begins. A call that is refused
+    /// changes nothing.
     pub fn end_at(&mut self, end: usize) -> Result<(), AllocError>
         ensures end { OnOk result (self.new ≡ self.old ++ end ∷ []) }
         ensures refused { OnErr result (self.new ≡ self.old) }

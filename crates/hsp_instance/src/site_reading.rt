@@ -156,8 +156,9 @@ fn site_in(
 
 /// The sites of the settings, by their records.
 ///
-/// Sites in turn, each is tried for NoValue, also where no value list was given, NotSiteValue, BadRecord, BadHashOption,
-/// NoServer, ServerIdTwice and then TooManyServers: its servers with those of the sites before it are more than 1,024.
+/// Sites in turn, each is tried for NoValue, also where no value list was given, NotSiteValue, BadRecord,
+/// BadHashOption, NoServer, ServerIdTwice and then TooManyServers: its servers with those of the sites before it are
+/// more than 1,024.
 pub fn build_sites(
     alloc: Global,
     settings: &Settings,

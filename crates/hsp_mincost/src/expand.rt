@@ -1,4 +1,5 @@
-// The ways on from a node that is settled: residual arcs along the links that leave it, and against those that enter it.
+// The ways on from a node that is settled: residual arcs along the links that leave it, and against those that enter
+// it.
 
 ghost use Rattle.std.specs.Prelude.{◌≡◌, ℕ, ◌+◌, ◌<◌, ◌≤◌, length, OnOk};
 ghost use Rattle.hsp_mincost.specs.Residual.{from, nodes, width};

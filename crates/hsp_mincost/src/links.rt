@@ -2,7 +2,8 @@ ghost use Rattle.std.specs.Prelude.{length};
 ghost use Rattle.hsp_mincost.specs.Index.{AreChains};
 ghost use Rattle.hsp_mincost.specs.Graph.{Graph, Scale};
 
-/// The links of each node in a chain, from the last of them back to the first. Links are counted from 1; 0 stands for none.
+/// The links of each node in a chain, from the last of them back to the first. Links are counted from 1; 0 stands for
+/// none.
 #[derive(Clone, Copy)]
 pub struct Chains<'a> {
     /// The last link of each node.
@@ -51,8 +52,8 @@ pub struct LinkLists<'a> {
     pub supplies: &'a [u64],
 }
 
-/// A flow with its prices: what flows on each link and what room is left, the price of each node, and what of its supply
-/// is not met.
+/// A flow with its prices: what flows on each link and what room is left, the price of each node, and what of its
+/// supply is not met.
 #[derive(Drop)]
 pub struct Flow<'a> {
     pub flows: &'a mut [u64],
@@ -61,7 +62,8 @@ pub struct Flow<'a> {
     pub unmet: &'a mut [u64],
 }
 
-/// How much work a run took: the searches that were begun, the nodes that they settled, and the paths along which flow was sent.
+/// How much work a run took: the searches that were begun, the nodes that they settled, and the paths along which flow
+/// was sent.
 #[derive(Clone, Copy, Default)]
 pub struct SearchEffort {
     pub searches: u64,

@@ -1,4 +1,5 @@
-// The prices before any flow: no link has a negative reduced cost under them, so the first searches find near servers at once.
+// The prices before any flow: no link has a negative reduced cost under them, so the first searches find near servers
+// at once.
 
 ghost use Rattle.std.specs.Prelude.{◌≡◌, ◌<◌, IfOk, length};
 ghost use Rattle.hsp_mincost.specs.Opening.{FirstPrices, LeastCost};

@@ -121,9 +121,9 @@ fn is_met(alloc: Global, network: &Network<'_>, plan: &PricedFlow) -> Result<boo
 }
 
 /// Whether the outcome is seen to answer the network: a flow that meets every source within all bounds and has
-/// complementary slackness with its prices, none of which is above the greatest cost for each source, server and host and
-/// once more; or sources that demand more than the servers that they may use can take. It takes time in proportion to the
-/// network's lists, and refuses prices or flows whose sums are above 64 bits.
+/// complementary slackness with its prices, none of which is above the greatest cost for each source, server and host
+/// and once more; or sources that demand more than the servers that they may use can take. It takes time in proportion
+/// to the network's lists, and refuses prices or flows whose sums are above 64 bits.
 pub fn accepts(alloc: Global, network: &Network<'_>, outcome: &Outcome) -> Result<bool, AllocError>
     ensures right { IfOk result (λ yes. IsTrue yes → Answers (problem_of network.now) outcome.now) }
     // No short set is refused.

@@ -47,8 +47,8 @@ impl<'a> PricedArcs<'a> {
         }
     }
 
-    // Whether each arc is rightly priced; if so, adds what flows on it to the sums of its source and of its server, which
-    // are 0. Refuses sums that wrap.
+    // Whether each arc is rightly priced; if so, adds what flows on it to the sums of its source and of its server,
+    // which are 0. Refuses sums that wrap.
     fn add_up(self, sent: &mut [u64], loads: &mut [u64]) -> bool
         requires sources { length sent.old ≡ length self.source_prices.now }
         requires servers { length loads.old ≡ length self.paid.now }
@@ -75,7 +75,8 @@ impl<'a> PricedArcs<'a> {
         true
     }
 
-    /// What flows on the arcs, added up by source and by server, or None where an arc is not rightly priced or a sum wraps.
+    /// What flows on the arcs, added up by source and by server, or None where an arc is not rightly priced or a sum
+    /// wraps.
     pub(crate) fn sums(self, alloc: Global) -> Result<Option<ArcSums>, AllocError>
         ensures priced { IfOk result (λ made. IfSome made (λ _. ArePriced self.entry)) }
         ensures sums { IfOk result (λ made. IfSome made (AreArcSums self.entry)) }

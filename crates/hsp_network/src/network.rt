@@ -4,8 +4,8 @@ ghost use Rattle.std.specs.Prelude.{◌≡◌, ◌↔◌, IfSome, IfNone, IsTrue
 ghost use Rattle.hsp_network.specs.Lists.{AreBelow, AreOrdered, HostsAreBelow};
 ghost use Rattle.hsp_network.specs.Network.{IsNetwork};
 
-/// The lists of a network: an entry of `demands` for each source, of `capacities` and `hosts` for each server, of `limits`
-/// for each host, and of `sources`, `servers` and `costs` for each arc.
+/// The lists of a network: an entry of `demands` for each source, of `capacities` and `hosts` for each server, of
+/// `limits` for each host, and of `sources`, `servers` and `costs` for each arc.
 #[derive(Clone, Copy)]
 pub struct NetworkLists<'a> {
     pub demands: &'a [u64],
@@ -82,8 +82,8 @@ fn are_ordered(ends: &[u32]) -> bool
 impl<'a> Network<'a> {
     ghost use Rattle.hsp_network.specs.Problem.{problem_in, problem_of};
 
-    /// The network of these lists, or None where lists differ in length that have an entry for the same things, an end of
-    /// an arc or a server's host isn't there, or the arcs don't stand in the order of their sources.
+    /// The network of these lists, or None where lists differ in length that have an entry for the same things, an end
+    /// of an arc or a server's host isn't there, or the arcs don't stand in the order of their sources.
     pub fn checked(lists: NetworkLists<'a>) -> Option<Network<'a>>
         ensures made { IfSome result (λ network. problem_of network ≡ problem_in lists.entry) }
         ensures none { IfNone result (IsNetwork (problem_in lists.entry) → ⊥) }

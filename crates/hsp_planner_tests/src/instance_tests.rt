@@ -115,7 +115,8 @@ fn held_values_at_the_limit(rt: &impl Abort, alloc: Global) -> Vec<u8> {
     }
 }
 
-// What texts and octets spell. Where a growth is refused, the second call finds memory: so the answers below are insisted on.
+// What texts and octets spell. Where a growth is refused, the second call finds memory: so the answers below are
+// insisted on.
 fn settings_of(rt: &impl Abort, alloc: Global, text: &[u8]) -> Settings {
     let settings = match read_settings(alloc, text) {
         Err(TableFault::OutOfMemory) => read_settings(alloc, text),

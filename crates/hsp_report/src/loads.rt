@@ -84,12 +84,13 @@ fn loads_text(alloc: Global, instance: &Instance, plan: &BestRef<'_>) -> Result<
     Ok(text)
 }
 
-/// What each server takes by a plan that [`check`](hsp_check::check) says Yes to, and the bound that shows that no plan costs less.
+/// What each server takes by a plan that [`check`](hsp_check::check) says Yes to, and the bound that shows that no plan
+/// costs less.
 ///
-/// A header, a line for each server in ascending number, and `bound A - B = C`: A the rows' counts at their prices, B the
-/// capacities and the limits at the prices of servers and hosts, C what the plan costs. A line of a server has its place in 5
-/// places, its identifier, its load and its capacity in 10 each and its price in 13, right-aligned, and the name of its site.
-/// A number that is wider than its column stands whole.
+/// A header, a line for each server in ascending number, and `bound A - B = C`: A the rows' counts at their prices, B
+/// the capacities and the limits at the prices of servers and hosts, C what the plan costs. A line of a server has its
+/// place in 5 places, its identifier, its load and its capacity in 10 each and its price in 13, right-aligned, and the
+/// name of its site. A number that is wider than its column stands whole.
 pub fn load_report(
     alloc: Global,
     instance: &Instance,

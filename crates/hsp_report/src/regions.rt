@@ -147,9 +147,9 @@ fn regions_text(
 
 /// What each region asks for, and what that costs by a plan that [`check`](hsp_check::check) says Yes to.
 ///
-/// A header, a line for each region in the order in which the rows name them first, and `total D C`: D what all rows ask for,
-/// C what the plan costs. A line of a region has its demand in 10 places and its cost in 16, right-aligned, and its name. A
-/// number that is wider than its column stands whole.
+/// A header, a line for each region in the order in which the rows name them first, and `total D C`: D what all rows
+/// ask for, C what the plan costs. A line of a region has its demand in 10 places and its cost in 16, right-aligned,
+/// and its name. A number that is wider than its column stands whole.
 pub fn region_report(
     alloc: Global,
     instance: &Instance,

@@ -1,4 +1,5 @@
-// What was told, compared with what was wanted. It stands in a function of its own, since a test that compares many values in place is dear to prove.
+// What was told, compared with what was wanted. It stands in a function of its own, since a test that compares many
+// values in place is dear to prove.
 
 use std::fmt::Debug;
 use std::process::Abort;

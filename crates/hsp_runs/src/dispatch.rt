@@ -28,10 +28,10 @@ fn dispatched<R: Read + Drop, W: Write>(
     Ok(run_log(alloc, reader, writer, &mut dispatcher)?)
 }
 
-/// Answers the entries of the log that `reader` gives, by the plan that the octets of `certificate` spell, with a line each on
-/// `writer`. Faults in this order, with nothing written: those of the inputs (`Settings`, `Values`, `Demand`, `Costs`, `Capacity`,
-/// `Build`), `Cert`, `Refused`, `WrongKind` for a shortage; then `Log`, when the entries before it were answered. Want of memory
-/// stops a run anywhere.
+/// Answers the entries of the log that `reader` gives, by the plan that the octets of `certificate` spell, with a line
+/// each on `writer`. Faults in this order, with nothing written: those of the inputs (`Settings`, `Values`, `Demand`,
+/// `Costs`, `Capacity`, `Build`), `Cert`, `Refused`, `WrongKind` for a shortage; then `Log`, when the entries before it
+/// were answered. Want of memory stops a run anywhere.
 pub fn dispatch_run<R: Read + Drop, W: Write>(
     alloc: Global,
     inputs: &Inputs,

@@ -45,9 +45,9 @@ fn dispatched_at<R: Read + Drop, W: Write>(
     Ok(run_fronts(alloc, reader, writer, &mut all)?)
 }
 
-/// Answers the events of the log that `reader` gives as [`dispatch_run`] does entries, each by the front that it names, which has
-/// its share of the plan alone. The word `fronts` spells how many fronts there are, from 1 to 64; else the fault is `BadFronts`,
-/// before any other.
+/// Answers the events of the log that `reader` gives as [`dispatch_run`] does entries, each by the front that it names,
+/// which has its share of the plan alone. The word `fronts` spells how many fronts there are, from 1 to 64; else the
+/// fault is `BadFronts`, before any other.
 pub fn fronts_run<R: Read + Drop, W: Write>(
     alloc: Global,
     inputs: &Inputs,

@@ -31,8 +31,8 @@ pub fn read_file<R: Read + Drop>(alloc: Global, reader: R) -> Result<Option<Vec<
     }
 }
 
-/// The octets of the reader before its first LF or, without one, before its end; None where a read failed, or where they are
-/// more than 65,536.
+/// The octets of the reader before its first LF or, without one, before its end; None where a read failed, or where
+/// they are more than 65,536.
 pub fn first_line<R: Read + Drop>(alloc: Global, reader: R) -> Result<Option<Vec<u8>>, AllocError>
     ensures line { IfOk result (λ found. IfSome found (λ line.
         IfSome (R.remaining reader) (λ text. line.items ≡ first_line_of text))) }

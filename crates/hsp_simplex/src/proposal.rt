@@ -10,12 +10,12 @@ use hsp_network::{Network, Outcome, greatest};
 use std::alloc::{AllocError, Global};
 
 /// An outcome that may be the network's; `None` where the network is too large for the solver's numbers, with a cost
-/// from 2^31, demands of 2^60 together, 16 million servers or hosts or a thousand million sources or arcs, or where
-/// the solver gave up after many pivots. The proposal is the same for the same network. An error says that memory is
+/// from 2^31, demands of 2^60 together, 16 million servers or hosts or a thousand million sources or arcs, or where the
+/// solver gave up after many pivots. The proposal is the same for the same network. An error says that memory is
 /// wanting.
 ///
-/// No clause says more of it, since nothing rests on it: a proposal counts where the test `hsp_network::accepts` says so, which
-/// knows nothing of how it came about. A mistake here would cost time alone.
+/// No clause says more of it, since nothing rests on it: a proposal counts where the test `hsp_network::accepts` says
+/// so, which knows nothing of how it came about. A mistake here would cost time alone.
 pub fn propose(alloc: Global, network: &Network<'_>) -> Result<Option<Outcome>, AllocError> {
     let mut effort = SimplexEffort {
         pivots: 0,

@@ -279,8 +279,8 @@ const TWO_KINDS: Texts<'static> = Texts {
     ..BASE
 };
 
-// Of the first kind 6 go to X and 3 to Y, and the second kind goes to Y: a search for each. Were that not taken for the rows,
-// there would be searches from the rows as well.
+// Of the first kind 6 go to X and 3 to Y, and the second kind goes to Y: a search for each. Were that not taken for the
+// rows, there would be searches from the rows as well.
 #[test]
 fn kinds_of_rows_are_searched_from(rt: HostRuntime) {
     let uses = [used(0, 0, 5), used(1, 0, 1), used(1, 1, 3), used(2, 1, 3)];
