@@ -33,7 +33,7 @@ impl Groups {
         self.count
     }
 
-    /// The number of the group of the row of a number below that of the rows.
+    /// The number of the group of the row with this number, which is below the number of rows.
     pub fn of(&self, row: u32) -> u32
         requires { row < length self.now.of_rows }
         ensures group { slice_get self.now.of_rows row ≡ Some result }

@@ -136,7 +136,7 @@ impl Model for Rows {
 }
 
 impl Rows {
-    // No rows, and room for so many.
+    // No rows, with room for `most` of them.
     pub(crate) fn with_room(alloc: Global, most: usize) -> Result<Rows, BuildFault>
         ensures ok { IfOk result (λ rows. rows ≡ []) }
         ensures err { IfErr result (λ e. e ≡ OutOfMemory) }
