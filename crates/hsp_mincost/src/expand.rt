@@ -32,7 +32,7 @@ fn offer_over(links: &Links, flow: &Flow, tree: &SearchTree, ways: Ways, link: u
     }
 }
 
-/// Offers the ways of a direction.
+/// Offers the ways on in one direction.
 pub fn offer_ways<F: Frontier>(
     frontier: &mut F,
     links: &Links,

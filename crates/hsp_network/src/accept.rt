@@ -43,7 +43,7 @@ fn are_low(prices: &[u64], limit: u64) -> bool
     prices.iter().all(|price| *price <= limit)
 }
 
-// Whether no price is above this limit: the greatest cost, times the sources, servers and hosts and one more.
+// Whether no price is above N + 1 times the greatest cost, where N counts the sources, servers and hosts.
 fn has_bounded_prices(network: &Network<'_>, plan: &PricedFlow) -> bool
     ensures { IsTrue result → HasBoundedPrices (problem_of network.now) plan.now }
 {
@@ -123,7 +123,7 @@ fn is_met(alloc: Global, network: &Network<'_>, plan: &PricedFlow) -> Result<boo
 
 /// Whether the outcome is seen to answer the network. It is one of two:
 /// - A flow that meets every source within all bounds and has complementary slackness with its prices. No price is
-///   above the greatest cost, times the number of sources, servers and hosts and one more.
+///   above N + 1 times the greatest cost, where N counts the sources, servers and hosts.
 /// - Sources that demand more than the servers that they may use can take.
 ///
 /// The test takes time in proportion to the network's lists. It refuses prices or flows whose sums are above 64 bits.
