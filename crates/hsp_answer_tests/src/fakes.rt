@@ -1,4 +1,4 @@
-// A reader and a writer that cut and fail as they are told.
+// A reader and a writer that cut and fail as they are asked to.
 
 use std::alloc::{AllocError, Global};
 use std::io;
@@ -134,7 +134,7 @@ impl Write for FakeWriter {
     }
 }
 
-/// Gives a head, and then one row so many times.
+/// Gives a head, and then one row that many times.
 #[derive(Drop)]
 pub struct Rows {
     pub head: &'static [u8],

@@ -62,7 +62,7 @@ fn is_yes(
     Ok(verdict == Verdict::Yes)
 }
 
-// What both certificates tell, and whether the checker says Yes to both.
+// What both certificates state, and whether the checker says Yes to both.
 fn judged(
     alloc: Global,
     instance: &Instance,
@@ -125,7 +125,7 @@ fn print_tally<R: Print>(rt: &R, tally: &Tally) -> io::Result<()> {
     println!(rt; "{differing} of another cost than by searches, {refused} refused by the checker")
 }
 
-/// Plans so many small instances by proposals and by searches, and prints what became of them.
+/// Plans `many` small instances by proposals and by searches, and prints what became of them.
 pub(crate) fn count_proposals<R: AllocGlobal + Print>(rt: &R, many: u32) -> Result<(), Failure> {
     let tally = tally_of(rt.alloc(), many)?;
     print_tally(rt, &tally)?;

@@ -31,7 +31,7 @@ const HEAD: &[u8] = b"\"\nrecord = \"0001020000010001000000000000000000000020";
 // What stands in the record of a server behind its identifier.
 const TAIL: &[u8] = b"000000000000000000000000000000000000000000000000";
 
-// The digits of a server's place are the last two digits of its identifier, which is told in base 16.
+// The digits of a server's place are the last two digits of its identifier, which is stated in base 16.
 fn push_servers(text: &mut Vec<u8>) -> Result<(), AllocError> {
     for place in 0..32u32 {
         push_numbers(text, &[(b"000000", place / 10), (b"", place % 10)])?;
@@ -54,7 +54,7 @@ fn push_settings(text: &mut Vec<u8>) -> Result<(), AllocError> {
     Ok(())
 }
 
-// A million queries for each of so many rows, from 64 regions.
+// A million queries for each of `rows` rows, from 64 regions.
 fn push_demand(text: &mut Vec<u8>, rows: u32) -> Result<(), AllocError> {
     text.extend_from_slice(b"region,handle,count\n")?;
     for row in 0..rows {
