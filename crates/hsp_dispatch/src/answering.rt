@@ -80,7 +80,7 @@ pub(crate) fn served(instance: &Instance, taken: Option<u32>) -> Answer
     }
 }
 
-/// Answers the entry in the row with this number, and takes that query from the plan.
+/// Answers the entry in the row with this number, and takes what it is answered by from the plan.
 pub(crate) fn choose(
     dispatcher: &mut Dispatcher<'_>,
     lent: LentEntry<'_>,

@@ -19,7 +19,7 @@ pub enum LogFault {
     Header,
     /// The row does not have two fields, or three in a log for fronts.
     Fields { row: u32 },
-    /// The row's handle is not a handle.
+    /// What the row gives as its handle is not a handle.
     BadHandle { row: u32 },
     /// There are more than 10,000,000 rows.
     LogTooLong,

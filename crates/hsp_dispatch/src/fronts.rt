@@ -174,8 +174,8 @@ impl<'a> Fronts<'a> {
         FrontAnswer::Answered(served(instance, taken))
     }
 
-    /// Answers the entry in the row with this number, and takes that query from what the front has left. Where there is
-    /// no such front, the handle is still read.
+    /// Answers the entry in the row with this number, and takes what it is answered by from what the front has left.
+    /// Where there is no such front, the handle is still read.
     pub(crate) fn choose(
         &mut self,
         front: u32,

@@ -24,7 +24,7 @@ pub enum Fault {
     /// The index isn't a whole number up to 4,294,967,295.
     #[error("bad index")]
     BadIndex,
-    /// The handle is not a handle.
+    /// The given handle is not a handle.
     #[error("handle: {0:?}")]
     Handle(HandleFault),
     /// The octets are not a site record.
