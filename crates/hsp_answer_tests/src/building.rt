@@ -1,4 +1,4 @@
-// Instances of texts. None stands for want of memory, and for bad texts.
+// Instances of texts. None stands for memory that ran out, and for bad texts.
 
 use hsp_instance::{Instance, build};
 use hsp_tables::{

@@ -9,8 +9,8 @@ use hsp_instance::Instance;
 use std::alloc::Global;
 use std::process::Abort;
 
-// What stands once a row was answered, or before the first one: up to how many octets of the log no further row is read whole, the
-// lines, and what is left in four cells.
+// What stands once a row was answered, or before the first one: up to how many octets of the log no further row is read
+// whole, the lines, and what is left in four cells.
 #[derive(Clone, Copy)]
 struct Step {
     octets: usize,
@@ -32,7 +32,7 @@ trait Answered: Copy + Drop {
 
     fn steps(&self) -> &'static [Step];
 
-    // The run over an instance and its certificate. None stands for want of memory.
+    // The run over an instance and its certificate. None means that memory ran out.
     fn ended(
         &self,
         alloc: Global,
@@ -43,7 +43,7 @@ trait Answered: Copy + Drop {
     ) -> Option<Ended>;
 }
 
-// The same by what a run gave. None stands for want of memory.
+// The same by what a run gave. None means that memory ran out.
 fn ended_by<T: Drop>(ends: Result<T, LogFault>, left: [u64; 4]) -> Option<Ended> {
     match ends {
         Ok(_) => Some(Ended { fault: None, left }),
@@ -212,8 +212,7 @@ fn is_read_to(rt: &impl Abort, page: &Page, step: Step) {
     is_same(rt, page.lines.as_slice(), step.lines);
 }
 
-// The page is that of a writer that failed behind so many octets of the lines of a step, whose row
-// is answered.
+// The page is that of a writer that failed behind `written` octets of the lines of a step, whose row is answered.
 fn is_written_to(rt: &impl Abort, page: &Page, step: Step, written: usize) {
     let ended = Ended {
         fault: Some(LogFault::WriteFailed),
@@ -272,7 +271,7 @@ impl<A: Answered> Worked<A> {
         }
     }
 
-    // A reader that fails behind so many octets tells so behind the lines of a step.
+    // A reader that fails behind `read` octets is reported behind the lines of a step.
     fn read_fails(&self, rt: &impl Abort, read: usize, step: Step) {
         for piece in [1, usize::MAX] {
             let limits = Limits {
@@ -291,8 +290,7 @@ impl<A: Answered> Worked<A> {
         }
     }
 
-    // A writer that fails behind so many octets tells so; the row of the last line of a step is
-    // answered.
+    // A writer that fails behind `written` octets is reported. The row of the last line of a step is answered.
     fn write_fails(&self, rt: &impl Abort, written: usize, step: Step) {
         for piece in [1, usize::MAX] {
             let limits = Limits {

@@ -1,4 +1,4 @@
-// A reader and a writer that cut and fail as they are told.
+// A reader and a writer that cut and fail as they are asked to.
 
 use std::alloc::{AllocError, Global};
 use std::io;
@@ -73,7 +73,8 @@ impl<'a> Read for FakeReader<'a> {
     }
 }
 
-/// Takes at most `piece` octets a call, and none once `good` of them were taken; what it takes it holds, in room taken before.
+/// Takes at most `piece` octets a call, and none once `good` of them were taken; what it takes it holds, in room taken
+/// before.
 #[derive(Drop)]
 pub struct FakeWriter {
     pub taken: Vec<u8>,
@@ -133,7 +134,7 @@ impl Write for FakeWriter {
     }
 }
 
-/// Gives a head, and then one row so many times.
+/// Gives a head, and then one row that many times.
 #[derive(Drop)]
 pub struct Rows {
     pub head: &'static [u8],

@@ -239,8 +239,9 @@ fn failing_reads_and_writes_are_told_at_fronts(rt: HostRuntime) {
     all_come(&rt, rt.alloc(), &[cut_line, unflushed, cut_log, no_log]);
 }
 
-// The lists of two fronts, merged in several ways: each is a log, and the lines of front 0 and of front 1 in it, one after the
-// other. Front 0 asks three times for the handle of row 0 and once for that of row 2, front 1 four times for that of row 0.
+// The lists of two fronts, merged in several ways: each is a log, and the lines of front 0 and of front 1 in it, one
+// after the other. Front 0 asks three times for the handle of row 0 and once for that of row 2, front 1 four times for
+// that of row 0.
 #[test]
 fn a_front_is_answered_alike_in_every_merge(rt: HostRuntime) {
     let sums = Ok(FrontSums {
@@ -359,8 +360,8 @@ fn is_too_long_for(rt: &impl Abort, alloc: Global, instance: &Instance) {
     }
 }
 
-// Where a growth is refused while instance, certificate or fronts are made, they are made once more, and the long log isn't run: a run
-// takes seconds, and that of a test whose growths are all given is insisted on.
+// Where a growth is refused while instance, certificate or fronts are made, they are made once more, and the long log
+// isn't run: a run takes seconds, and that of a test whose growths are all given is insisted on.
 #[test]
 fn a_log_has_ten_million_events_at_most(rt: HostRuntime) {
     match instance(rt.alloc()) {

@@ -122,7 +122,8 @@ fn a_front_uses_up_one_site_after_the_other(rt: HostRuntime) {
     use_up_both_sites(&rt, &mut fronts);
 }
 
-// The counts of the first row, and what each front has of them before it takes one, and what the first has of the second row.
+// The counts of the first row, and what each front has of them before it takes one, and what the first has of the
+// second row.
 #[derive(Clone, Copy)]
 struct Wide {
     demand: &'static [u8],

@@ -273,8 +273,8 @@ fn is_too_long_for(rt: &impl Abort, alloc: Global, instance: &Instance) {
     }
 }
 
-// Where a growth is refused while instance, certificate or dispatcher are made, they are made once more, and the long log isn't run: a run
-// takes seconds, and that of a test whose growths are all given is insisted on.
+// Where a growth is refused while instance, certificate or dispatcher are made, they are made once more, and the long
+// log isn't run: a run takes seconds, and that of a test whose growths are all given is insisted on.
 #[test]
 fn a_log_has_ten_million_rows_at_most(rt: HostRuntime) {
     match instance(rt.alloc()) {

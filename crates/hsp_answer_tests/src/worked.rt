@@ -1,4 +1,5 @@
-// The worked instance and its plan. None stands for want of memory; where something is held, it was made once more then.
+// The worked instance and its plan. None means that memory ran out; where something is held, it was made once more
+// then.
 
 use crate::building::instance_by;
 use hsp_cert::{Certificate, UseLine};
@@ -37,8 +38,8 @@ fn use_of(row: u32, site: u32, count: u64) -> UseLine {
     UseLine { row, site, count }
 }
 
-// The plan of a cost by which so many queries of the three rows go to E, and so many of the last
-// row to W; best where the second server of E is full.
+// The plan of a cost by which that many queries of the three rows go to E, and that many of the last row to W; best
+// where the second server of E is full.
 fn certificate_of(alloc: Global, cost: u64, counts: [u64; 4]) -> Option<Certificate> {
     let [first, second, third, away] = counts;
     let uses = [
@@ -121,8 +122,7 @@ pub(crate) fn held_certificate(rt: &impl Abort, alloc: Global) -> Certificate {
     }
 }
 
-/// The plan of a cost by which so many queries of the three rows go to E, and so many of the last
-/// row to W.
+/// The plan of a cost by which that many queries of the three rows go to E, and that many of the last row to W.
 pub(crate) fn held_certificate_of(
     rt: &impl Abort,
     alloc: Global,

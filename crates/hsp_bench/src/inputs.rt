@@ -44,8 +44,8 @@ impl Texts {
     }
 }
 
-// How many servers a site has: no two sites have as many, so that handles that share a server at one site seldom share one at
-// another. The 32 sites have 1,024 servers.
+// How many servers a site has: no two sites have as many, so that handles that share a server at one site seldom share
+// one at another. The 32 sites have 1,024 servers.
 fn servers_at(site: u32) -> u32
     ensures { result ≤ 48 }
 {
@@ -61,15 +61,15 @@ fn push_servers(servers: &mut Vec<u32>) -> Result<(), AllocError> {
     Ok(())
 }
 
-// Adds the values of the sites, whose servers stand on so many hosts and some on one more.
+// Adds the values of the sites, whose servers stand on `hosts` hosts and some on one more.
 fn push_site_values(alloc: Global, octets: &mut Vec<u8>, hosts: u16) -> Result<(), AllocError> {
     let mut servers = Vec::new(alloc);
     push_servers(&mut servers)?;
     push_values(octets, &servers, hosts)
 }
 
-// Adds the settings of the sites and of so many hosts. The limits of the hosts are all the same,
-// together three fifths of the capacity of all servers.
+// Adds the settings of the sites and of that many hosts. The limits of the hosts are all the same, together three
+// fifths of the capacity of all servers.
 fn push_site_settings(
     alloc: Global,
     text: &mut String,
@@ -81,7 +81,7 @@ fn push_site_settings(
     push_settings(text, SITES as usize, &limits)
 }
 
-// Adds so many numbers from 1 to 1,000,000.
+// Adds that many numbers from 1 to 1,000,000.
 fn push_counts(
     counts: &mut Vec<u64>,
     generator: &mut Generator,
@@ -147,7 +147,7 @@ fn push_all_parts(parts: &mut Vec<Part>, generator: &mut Generator) -> Result<()
     Ok(())
 }
 
-// Adds a capacity for each part, so many in all.
+// Adds a capacity for each part, `all` in total.
 fn push_shares(text: &mut String, parts: &[Part], all: u64) -> Result<(), AllocError> {
     text.push_str("site,server_id,capacity\n")?;
     let weights = parts
@@ -162,7 +162,7 @@ fn push_shares(text: &mut String, parts: &[Part], all: u64) -> Result<(), AllocE
     Ok(())
 }
 
-// Adds a capacity for each server, so many in all.
+// Adds a capacity for each server, that many queries in total.
 fn push_capacity(
     alloc: Global,
     text: &mut String,

@@ -25,7 +25,7 @@ fn print_times<R: Clock + CpuClock + Print>(
     Ok(())
 }
 
-// Builds the instance of the tables, whose reading from so many octets ends here, and prints the times.
+// Builds the instance of the tables, whose reading from that many octets ends here, and prints the times.
 fn measure_building<R: AllocGlobal + Clock + CpuClock + Print>(
     rt: &R,
     tables: &Tables<'_>,

@@ -213,8 +213,8 @@ fn measure_planned<R: AllocGlobal + Clock + CpuClock + Print>(
     measure_answers(rt, instance, &mut dispatcher)
 }
 
-/// Answers a log over the largest instance, and prints the times of reading its records alone, of finding their rows as well, and
-/// of the whole run.
+/// Answers a log over the largest instance. Prints the times of only reading its records, of finding their rows as
+/// well, and of the whole run.
 pub(crate) fn measure_log<R: AllocGlobal + Clock + CpuClock + Print>(
     rt: &R,
 ) -> Result<(), Failure> {

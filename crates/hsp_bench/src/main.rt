@@ -1,5 +1,5 @@
-// The program that measures how long instances, certificates and plans at the limits take, and counts how many proposals for
-// networks are accepted.
+// The program that measures how long instances, certificates and plans at the limits take, and counts how many
+// proposals for networks are accepted.
 #![tactic(auto)]
 
 mod certificates;

@@ -6,8 +6,8 @@ use hsp_network::{Network, NetworkLists, Outcome, accepts};
 use hsp_simplex::propose;
 use std::alloc::{AllocError, Global};
 
-// The lists of a network, drawn at random: two arcs may be equal, a demand, capacity, limit or cost may be 0, and a source may
-// have no arcs.
+// The lists of a network, drawn at random: two arcs may be equal, a demand, capacity, limit or cost may be 0, and a
+// source may have no arcs.
 #[derive(Drop)]
 struct Lists {
     demands: Vec<u64>,
@@ -44,7 +44,7 @@ impl Lists {
         }
     }
 
-    // Adds so many sources, the servers up to `last` and so many hosts.
+    // Adds that many sources, the servers up to `last` and that many hosts.
     fn push_nodes(
         &mut self,
         generator: &mut Generator,
@@ -94,7 +94,7 @@ impl Lists {
     }
 }
 
-// Adds the host of each of so many servers: one of so many hosts, or none.
+// Adds the host of each of that many servers: one of that many hosts, or none.
 fn push_hosts(
     homes: &mut Vec<Option<u32>>,
     generator: &mut Generator,
@@ -115,8 +115,8 @@ fn drawn_lists(alloc: Global, seed: u32) -> Result<Lists, AllocError> {
     Ok(lists)
 }
 
-// What became of networks: for how many nothing was proposed, for how many a plan or a short set was, and how many of those
-// were refused.
+// What became of networks: for how many nothing was proposed, for how many a plan or a short set was, and how many of
+// those were refused.
 #[derive(Clone, Copy, Default)]
 struct Tally {
     declined: u64,
@@ -176,7 +176,7 @@ fn tally_of(alloc: Global, many: u32) -> Result<Tally, Failure> {
     Ok(tally)
 }
 
-/// Proposes outcomes for so many small networks, and prints how many are accepted.
+/// Proposes outcomes for `many` small networks, and prints how many are accepted.
 pub(crate) fn count_accepted<R: AllocGlobal + Print>(rt: &R, many: u32) -> Result<(), Failure> {
     let tally = tally_of(rt.alloc(), many)?;
     let (met, short) = (tally.met, tally.short);

@@ -10,8 +10,9 @@ use hsp_instance::Instance;
 use std::alloc::{AllocError, Global};
 use std::io;
 
-// What became of instances: how many, for how many a proposal was taken, how many have a plan and how many a shortage, for how
-// many the searches find another cost or kind, and for how many the checker refuses one of the two certificates.
+// What became of instances: how many, for how many a proposal was taken, how many have a plan and how many a shortage,
+// for how many the searches find another cost or kind, and for how many the checker refuses one of the two
+// certificates.
 #[derive(Clone, Copy, Default)]
 struct Tally {
     planned: u64,
@@ -36,8 +37,8 @@ impl Tally {
     }
 }
 
-// What became of an instance: whether a proposal was taken, the cost by it and by the searches, None of a shortage, and whether
-// both certificates are valid.
+// What became of an instance: whether a proposal was taken, the cost by it and by the searches, None of a shortage, and
+// whether both certificates are valid.
 #[derive(Clone, Copy)]
 struct Planned {
     is_taken: bool,
@@ -61,7 +62,7 @@ fn is_yes(
     Ok(verdict == Verdict::Yes)
 }
 
-// What both certificates tell, and whether the checker says Yes to both.
+// What both certificates state, and whether the checker says Yes to both.
 fn judged(
     alloc: Global,
     instance: &Instance,
@@ -124,7 +125,7 @@ fn print_tally<R: Print>(rt: &R, tally: &Tally) -> io::Result<()> {
     println!(rt; "{differing} of another cost than by searches, {refused} refused by the checker")
 }
 
-/// Plans so many small instances by proposals and by searches, and prints what became of them.
+/// Plans `many` small instances by proposals and by searches, and prints what became of them.
 pub(crate) fn count_proposals<R: AllocGlobal + Print>(rt: &R, many: u32) -> Result<(), Failure> {
     let tally = tally_of(rt.alloc(), many)?;
     print_tally(rt, &tally)?;

@@ -36,7 +36,7 @@ impl Generator {
         u32::try_from(number).unwrap_or(most)
     }
 
-    /// Adds so many numbers, each at most `most`.
+    /// Adds that many numbers, each at most `most`.
     pub(crate) fn push_numbers(
         &mut self,
         numbers: &mut Vec<u64>,

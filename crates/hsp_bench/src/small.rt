@@ -1,4 +1,5 @@
-// Small instances, drawn at random: costs and capacities that tie, zeros, hosts, rows without arcs and shortages are among them.
+// Small instances, drawn at random: costs and capacities that tie, zeros, hosts, rows without arcs and shortages are
+// among them.
 
 use crate::inputs::Texts;
 use crate::random::Generator;
@@ -157,8 +158,8 @@ fn push_texts(
     push_with_shape(alloc, texts, generator, &shape)
 }
 
-/// The texts of the small instance of a seed: up to 12 rows, 4 regions, 4 sites of up to 4 servers, and 3 hosts. The same
-/// seed has the same texts.
+/// The texts of the small instance of a seed: up to 12 rows, 4 regions, 4 sites of up to 4 servers, and 3 hosts. The
+/// same seed has the same texts.
 pub(crate) fn small_texts(alloc: Global, seed: u32) -> Result<Texts, AllocError> {
     let mut generator = Generator::seeded(u64::from(seed));
     let mut texts = Texts::new(alloc);

@@ -36,7 +36,7 @@ fn push_record(
     Ok(())
 }
 
-// Adds the value of a site with so many servers, of the index of the site.
+// Adds the value of a site with `servers` servers, of the index of the site.
 fn push_value(octets: &mut Vec<u8>, site: u32, servers: u32, hosts: u16) -> Result<(), AllocError> {
     let length = servers.saturating_mul(28).saturating_add(20);
     octets.extend_from_slice(&site.to_be_bytes())?;
@@ -46,8 +46,8 @@ fn push_value(octets: &mut Vec<u8>, site: u32, servers: u32, hosts: u16) -> Resu
     octets.extend_from_slice(&[0; 18])
 }
 
-/// Adds the values of sites with so many servers each, each of the index of its site. The servers
-/// stand on the hosts from 1 to `hosts`, and some on one more.
+/// Adds the values of sites with that many servers each, each of the index of its site. The servers stand on the hosts
+/// from 1 to `hosts`, and some on one more.
 pub(crate) fn push_values(
     octets: &mut Vec<u8>,
     servers: &[u32],
@@ -76,7 +76,7 @@ fn push_hosts(text: &mut String, limits: &[u64]) -> Result<(), AllocError> {
     Ok(())
 }
 
-/// Adds the settings of so many sites, and of a host for each limit.
+/// Adds the settings of that many sites, and of a host for each limit.
 pub(crate) fn push_settings(
     text: &mut String,
     sites: usize,

@@ -37,7 +37,7 @@ fn size_in(rows: &str, percent: &str, most: &str, hosts: u16) -> Option<Size> {
     })
 }
 
-// What a word alone asks for.
+// What a single word asks for.
 fn measurement_of(word: &str) -> Option<Measurement> {
     match word {
         "instance" => Some(Measurement::Instance),

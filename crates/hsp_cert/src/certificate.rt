@@ -53,7 +53,8 @@ pub(crate) enum Shown {
     Shortage(ShortSet),
 }
 
-/// A plan with its prices, or a short set of rows with its sums, always within the orders and ranges of a certificate's text.
+/// A plan with its prices, or a short set of rows with its sums. Its numbers are always within the orders and ranges of
+/// a certificate's text.
 #[derive(Debug, Drop)]
 pub struct Certificate {
     pub(crate) shown: Shown,
@@ -138,8 +139,8 @@ impl Certificate {
     ghost use Rattle.hsp_cert.specs.Certificate.Claim.{best, short};
     ghost use Rattle.std.specs.Prelude.{[]};
 
-    /// A plan whose uses are in order of row and site, with the prices of its rows and servers. None exactly where an order or a
-    /// range is broken.
+    /// A plan whose uses are in order of row and site, with the prices of its rows and servers, or None exactly where
+    /// an order or a range is broken.
     pub fn best(
         cost: u64,
         uses: Vec<UseLine>,
@@ -158,7 +159,7 @@ impl Certificate {
         Certificate::best_with_hosts(cost, uses, row_prices, server_prices, host_prices)
     }
 
-    /// As `best`, with the prices of hosts too.
+    /// As [`Certificate::best`], and with the prices of hosts.
     pub fn best_with_hosts(
         cost: u64,
         uses: Vec<UseLine>,
@@ -189,8 +190,8 @@ impl Certificate {
         })
     }
 
-    /// A short set of rows, which are in order, with what they ask for and what they can reach. None exactly where an order or a
-    /// range is broken.
+    /// A short set of rows, which are in order, with what they ask for and what they can reach, or None exactly where
+    /// an order or a range is broken.
     pub fn short(rows: Vec<u32>, demand: u64, capacity: u64) -> Option<Certificate>
         ensures { Makes (short (record {
           rows = rows.items;
@@ -211,7 +212,7 @@ impl Certificate {
         })
     }
 
-    /// The plan, where the certificate shows one.
+    /// The plan, if the certificate shows one.
     pub fn as_best(&self) -> Option<BestRef<'_>>
         ensures plan { result ≡ best_of self.now }
         ensures ranges { IfSome result IsBest }
@@ -222,7 +223,7 @@ impl Certificate {
         }
     }
 
-    /// The short set, where the certificate shows one.
+    /// The short set, if the certificate shows one.
     pub fn as_short(&self) -> Option<ShortRef<'_>>
         ensures set { result ≡ short_of self.now }
         ensures ranges { IfSome result IsShort }
@@ -277,7 +278,7 @@ impl<'a> BestRef<'a> {
 }
 
 impl<'a> ShortRef<'a> {
-    /// The rows, ascending.
+    /// The rows, in ascending order.
     pub fn rows(&self) -> &'a [u32]
         ensures { result.now ≡ self.now.rows }
     {
@@ -293,7 +294,7 @@ impl<'a> ShortRef<'a> {
         set.demand
     }
 
-    /// What all that the rows can reach takes together.
+    /// What all that the rows can reach can take together.
     pub fn capacity(&self) -> u64
         ensures { result ≡ self.now.capacity }
     {

@@ -257,7 +257,7 @@ fn take_head(draft: &mut Draft, item: Item) -> bool
     }
 }
 
-/// Takes the item of one line more, where it can stand.
+/// Takes the item of one more line, if it can stand in its place.
 pub(crate) fn take(draft: &mut Draft, item: Item) -> Result<bool, AllocError>
     ensures { IfOk result (λ taken. Took (step draft.old item) taken draft.new) }
 {
@@ -280,7 +280,7 @@ pub(crate) fn take(draft: &mut Draft, item: Item) -> Result<bool, AllocError>
 }
 
 impl Draft {
-    /// Before the first line.
+    /// The draft before the first line.
     pub(crate) fn new(alloc: Global) -> Draft
         ensures { result ≡ start }
     {

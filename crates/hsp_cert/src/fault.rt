@@ -1,4 +1,4 @@
-// Why a text is no certificate.
+// Why a text is not a certificate.
 
 /// The first fault in a text. Lines are numbered from 1.
 #[derive(Clone, Copy, Debug, PartialEq, Eq)]
@@ -7,8 +7,8 @@ pub enum CertFault {
     BadLine { line: u64 },
     /// The text ends before the line `END` and its LF.
     Ended,
-    /// Something follows `END`; the line after it.
+    /// Something follows `END`. The line is the one after `END`.
     AfterEnd { line: u64 },
-    /// A growth was refused.
+    /// Memory ran out.
     OutOfMemory,
 }

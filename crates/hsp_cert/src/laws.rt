@@ -2,7 +2,7 @@
 
 ghost use Rattle.hsp_cert.specs.Reading.{HasOneSpelling};
 
-/// No two certificates have one text.
+/// No two certificates have the same text.
 pub fn one_spelling()
     ensures { HasOneSpelling }
 {}

@@ -72,7 +72,7 @@ fn with_first(word: Word, text: &[u8]) -> Option<Item>
     }
 }
 
-/// What the line says, or None where it says nothing that any line of a certificate does.
+/// What the line says, or None where no line of a certificate says it.
 pub(crate) fn item_of(line: &[u8]) -> Option<Item>
     ensures { result ≡ item_in line.now }
 {

@@ -1,4 +1,4 @@
-// Certificates: what a plan, or that there is none, is shown by, and its text.
+// Certificates, which show a plan or show that there is none, and their text.
 #![tactic(auto)]
 
 mod certificate;

@@ -30,7 +30,7 @@ pub(crate) fn is_row(row: u32) -> bool
     row <= LAST_ROW
 }
 
-// In order of the rows, and of the sites within a row.
+// Whether the next use stands after the last, if there is one: in order of the rows, and of the sites within a row.
 pub(crate) fn is_after(last: Option<UseLine>, next: UseLine) -> bool
     ensures { result ≡ goes_on_from is_before last next }
 {

@@ -49,12 +49,14 @@ fn read_lines(alloc: Global, text: &[u8]) -> Result<Certificate, CertFault>
     Ok(draft.finished())
 }
 
-/// The certificate whose text it is, in room for what the certificate holds. A text of none has one fault: the first line that
-/// can't stand in its place, an end before the line `END` and its LF, or something after them.
+/// The certificate that the text spells, in room for what the certificate holds.
+///
+/// A text that spells no certificate has one fault: the first line that can't stand in its place, an end before the
+/// line `END` and its LF, or something after them.
 pub fn read_cert(alloc: Global, text: &[u8]) -> Result<Certificate, CertFault>
-    // What is answered is true of the text,
+    // What is returned is true of the text,
     ensures means { Means text.now result }
-    // and whatever is true of it is answered, unless memory runs out.
+    // and whatever is true of it is returned, unless memory runs out.
     ensures only { (other : Result Claim CertFault) → Means text.now other → Agrees result other }
 {
     read_lines(alloc, text)

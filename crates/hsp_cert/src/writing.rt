@@ -126,7 +126,7 @@ fn put_shortage(out: &mut Vec<u8>, set: &ShortSet) -> Result<(), AllocError>
     Ok(())
 }
 
-// Room for a text: what its lines take but for the longest prices. No clause speaks of it.
+// The room for a text: what its lines take, unless prices are at their longest. No clause speaks of it.
 fn room_of(shown: &Shown) -> usize {
     const LINE: usize = 24;
     let lines = match shown {

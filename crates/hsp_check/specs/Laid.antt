@@ -16,7 +16,7 @@ end_of end.Server a = a.server
 abbrev pub home_in : List (Option ℕ) → ℕ → Option ℕ
 home_in homes j = slice_index_or homes j None
 
--- the arcs alone
+-- only the arcs
 abbrev pub arcs_in : List LaidArc → List NetworkArc
 arcs_in laid = map (λ l. l.arc) laid
 

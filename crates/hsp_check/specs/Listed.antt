@@ -13,6 +13,6 @@ listed_at prices j = slice_index prices.servers.now j + at_home (home_in prices.
 abbrev pub AreLow : PriceLists → List LaidArc → Type 0
 AreLow prices laid = All (λ l. slice_index prices.rows.now l.arc.row ≤ l.arc.cost + listed_at prices l.arc.server) laid
 
--- and just that where it uses the arc
+-- and exactly that where it uses the arc
 abbrev pub AreTight : PriceLists → List LaidArc → Type 0
 AreTight prices laid = All (λ l. 0 < l.flow → slice_index prices.rows.now l.arc.row ≡ l.arc.cost + listed_at prices l.arc.server) laid

@@ -15,20 +15,20 @@ HomesAreBelow count homes = (j h : ℕ) → j < length homes → home_in homes j
 abbrev pub AreMet : List ℕ → List ℕ → Type 0
 AreMet demands sums = (i : ℕ) → i < length demands → slice_index sums i ≡ slice_index demands i
 
--- the first so many numbers are below the bound
+-- each of the first `count` numbers is below the bound
 abbrev pub AreSmall : ℕ → ℕ → List ℕ → Type 0
 AreSmall bound count numbers = (v : ℕ) → v < count → slice_index numbers v < bound
 
--- the first so many flags are set for the members of a set
+-- each of the first `count` flags is set exactly for the members of a set
 abbrev pub AreFlagsOf : (ℕ → Bool) → ℕ → List Bool → Type 0
 AreFlagsOf set count flags = (i : ℕ) → i < count → flag_at flags i ≡ set i
 
--- each of so many sums is what goes through the row, or through the server
+-- each of `count` sums is what goes through the row, or through the server
 abbrev pub AreEndSums : End → List LaidArc → ℕ → List ℕ → Type 0
 AreEndSums end laid count sums = (v : ℕ) → v < count →
     slice_index sums v ≡ sum_by (λ l. if end_of end l.arc == v then l.flow else 0) laid
 
--- each of so many sums is that of the numbers of the host's servers
+-- each of `count` sums is that of the numbers of the host's servers
 abbrev pub AreHostSums : List (Option ℕ) → List ℕ → ℕ → List ℕ → Type 0
 AreHostSums homes numbers count sums = (h : ℕ) → h < count →
     slice_index sums h ≡ sum_below (length homes) (λ j. if is_on (home_in homes j) h then slice_index numbers j else 0)

@@ -17,7 +17,7 @@ price_at n p q j = slice_index p j + at_home (n.home j) (λ h. slice_index q h)
 pub record Prices (n : Network) (x : Plan) (u p q : List ℕ) : Type 0 where
   -- a row pays no more than an arc's cost and prices
   pub below : All (λ a. slice_index u a.row ≤ a.cost + price_at n p q a.server) n.arcs
-  -- and just that where it uses the arc
+  -- and exactly that where it uses the arc
   pub used : All (λ a. 0 < planned x a → slice_index u a.row ≡ a.cost + price_at n p q a.server) n.arcs
   -- a server with room left is free
   pub idle : (j : ℕ) → j < length n.capacities → load n x j < slice_index n.capacities j → slice_index p j ≡ 0

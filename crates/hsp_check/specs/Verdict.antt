@@ -26,7 +26,7 @@ number DemandSum = 9
 number CapacitySum = 10
 number NotShort = 11
 
--- What the certificate of a plan has to meet, each condition under the reason that is told where it isn't met.
+-- What the certificate of a plan has to meet, each condition under the reason that is reported where it isn't met.
 abbrev pub PlanMeets : Network → BestClaim → Reason → Type 0
 -- there are as many prices as rows, as servers and as hosts
 PlanMeets n c Shape = (length c.row_prices ≡ length n.demands) × (length c.server_prices ≡ length n.capacities) × (length c.host_prices ≡ length n.limits)
@@ -42,7 +42,7 @@ PlanMeets n c Load =
 PlanMeets n c Cost = c.cost ≡ total n (table c.uses)
 -- no row pays more than an arc's cost and prices
 PlanMeets n c ArcPrice = All (λ a. slice_index c.row_prices a.row ≤ a.cost + price_at n c.server_prices c.host_prices a.server) n.arcs
--- and just that where it uses the arc
+-- and exactly that where it uses the arc
 PlanMeets n c UsedArcPrice =
     All (λ a. 0 < planned (table c.uses) a → slice_index c.row_prices a.row ≡ a.cost + price_at n c.server_prices c.host_prices a.server) n.arcs
 -- servers and hosts with room left are free

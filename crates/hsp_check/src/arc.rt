@@ -1,4 +1,5 @@
-/// An arc of the network: a pair of a row and a site that the row may use, the row's server there, and what a query costs.
+/// An arc of the network: a pair of a row and a site that the row may use, the row's server there, and what a query
+/// costs.
 #[derive(Clone, Copy, Debug)]
 pub struct NetworkArc {
     pub row: u32,

@@ -15,9 +15,9 @@ use hsp_cert::Certificate;
 use hsp_instance::Instance;
 use std::alloc::{AllocError, Global};
 
-/// Whether the certificate is valid for the instance, and the first reason why it isn't.
+/// Judges whether the certificate is valid for the instance: Yes, or No with the first reason why it isn't.
 ///
-/// Yes to a plan says that it is best, and yes to a short set that there is no feasible plan.
+/// Yes to a plan means that it is best. Yes to a short set means that there is no feasible plan.
 pub fn check(
     alloc: Global,
     instance: &Instance,

@@ -3,7 +3,7 @@
 ghost use Rattle.std.specs.Prelude.{◌≡◌, ◌↔◌, length, IsTrue};
 ghost use Rattle.hsp_check.specs.Lists.{AreIdle, AreMet, AreWithin};
 
-/// Whether each number is its sum.
+/// Whether each demand is equal to its sum.
 pub(crate) fn are_met(demands: &[u64], sums: &[u128]) -> bool
     requires { length sums.now ≡ length demands.now }
     ensures { IsTrue result ↔ AreMet demands.now sums.now }

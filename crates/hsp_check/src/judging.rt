@@ -64,7 +64,7 @@ impl<'a, 's> LaidPlan<'a, 's> {
         self.prices.are_low(self.lists.laid)
     }
 
-    // Whether each row pays just that where it uses the arc.
+    // Whether each row pays exactly that where it uses the arc.
     fn meets_used_prices(self) -> bool
         ensures { IsTrue result ↔ LaidMeets self.entry UsedArcPrice }
     {

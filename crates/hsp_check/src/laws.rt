@@ -8,7 +8,7 @@ pub fn prices_show_best()
     ensures { PricesShowBest }
 {}
 
-/// Where a set of rows asks for more than all that it can reach takes, no plan is feasible.
+/// If a set of rows asks for more than all that it can reach can take, no plan is feasible.
 pub fn short_shows_none()
     ensures { ShortShowsNone }
 {}

@@ -51,7 +51,7 @@ fn lay_each(laid: &mut [LaidArc], runs: &Runs, uses: &[UseLine]) -> bool
     true
 }
 
-/// The arcs with what the uses give them, and None where a use has no arc.
+/// The arcs with what the uses give them, or None where a use has no arc.
 pub(crate) fn lay(arcs: IndexedArcs, uses: &[UseLine]) -> Option<Vec<LaidArc>>
     requires index { AreByRow arcs }
     requires bare { AreBare arcs.laid.items }

@@ -1,4 +1,4 @@
-// The checker: whether a certificate is valid for an instance, judged by sums and comparisons alone.
+// The checker: whether a certificate is valid for an instance, judged only by sums and comparisons.
 #![tactic(auto)]
 
 mod arc;

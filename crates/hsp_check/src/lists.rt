@@ -6,8 +6,8 @@ ghost use Rattle.hsp_check.specs.Lists.{HomesAreBelow};
 
 use crate::sums::LaidArc;
 
-/// A network as lists: what each row asks for, what each server and each host can take, the host that each server stands on, and
-/// the arcs.
+/// A network as lists: what each row asks for, what each server and each host can take, the host that each server
+/// stands on, and the arcs.
 #[derive(Clone, Copy)]
 pub(crate) struct NetworkLists<'a> {
     pub(crate) demands: &'a [u64],

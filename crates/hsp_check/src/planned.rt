@@ -15,7 +15,8 @@ use hsp_cert::BestRef;
 use hsp_instance::Instance;
 use std::alloc::{AllocError, Global};
 
-/// The arcs of an instance, row by row, each with what a plan that [`check`](crate::check) says Yes to gives it.
+/// The arcs of an instance, row by row, each with what the plan gives it. The plan is one to which
+/// [`check`](crate::check) says Yes.
 pub fn planned_arcs(
     alloc: Global,
     instance: &Instance,

@@ -23,7 +23,7 @@ pub(crate) struct PriceLists<'a> {
 impl<'a> PriceLists<'a> {
     ghost use Rattle.hsp_check.specs.Listed.{AreLow, AreTight, listed_at};
 
-    // What a query to the server pays beside an arc's cost.
+    // What a query to the server pays besides an arc's cost.
     fn at(self, server: usize) -> u64
         requires { server < length self.homes.now }
         ensures price { result ≡ listed_at self.entry server }

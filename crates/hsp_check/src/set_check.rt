@@ -29,7 +29,7 @@ fn flag_rows(flags: &mut [bool], rows: &[u32]) -> bool
     true
 }
 
-/// A flag for each row below `count`, set for these, and None where one isn't below it.
+/// A flag for each row below `count`, set for the listed rows, or None where a listed row isn't below `count`.
 pub(crate) fn flags_of(
     alloc: Global,
     rows: &[u32],

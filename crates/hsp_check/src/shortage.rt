@@ -117,7 +117,7 @@ fn rooms_of(alloc: Global, lists: NetworkLists, rows: &[bool]) -> Result<Vec<u12
     Ok(rooms)
 }
 
-/// What all that the flagged rows can reach takes.
+/// What all that the flagged rows can reach can take.
 pub(crate) fn reached_capacity(
     alloc: Global,
     lists: NetworkLists,

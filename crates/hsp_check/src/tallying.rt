@@ -52,7 +52,7 @@ fn sums_of(
     })
 }
 
-/// The sums of a plan that [`check`](crate::check) says Yes to, none of which wraps.
+/// The sums of a plan to which [`check`](crate::check) says Yes. None of the sums wraps.
 pub fn plan_sums(
     alloc: Global,
     instance: &Instance,

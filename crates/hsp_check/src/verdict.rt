@@ -2,14 +2,14 @@
 #[derive(Clone, Copy, Debug, PartialEq, Eq)]
 pub enum Verdict {
     Yes,
-    /// The first reason that stands.
+    /// The certificate isn't valid, with the first reason that holds.
     No(Reason),
 }
 
-/// Why a certificate isn't valid, numbered from 1 in the order in which reasons are told.
+/// Why a certificate isn't valid. Reasons are numbered from 1, in the order in which they are reported.
 #[derive(Clone, Copy, Debug, PartialEq, Eq)]
 pub enum Reason {
-    /// Of a plan: the prices aren't as many as the rows, the servers or the hosts. Of a short set: a row isn't there.
+    /// For a plan: there aren't as many prices as rows, servers or hosts. For a short set: a row isn't there.
     Shape = 1,
     /// A row or a site of a use isn't there, or the row may not use the site.
     NoSuchUse,
@@ -17,13 +17,13 @@ pub enum Reason {
     RowSum,
     /// A server's load is above its capacity, or a host's above its limit.
     Load,
-    /// The cost isn't the plan's.
+    /// The stated cost isn't the plan's cost.
     Cost,
-    /// A row's price is above an arc's cost with the prices of its server and host.
+    /// A row's price is above the cost of one of its arcs with the prices of the arc's server and host.
     ArcPrice,
-    /// A row's price isn't that where the row uses the arc.
+    /// A row uses an arc, and its price isn't the arc's cost with the prices of the arc's server and host.
     UsedArcPrice,
-    /// A server or a host with room left has a price.
+    /// A server or a host with room left has a price above 0.
     IdlePrice,
     /// The demand isn't what the rows of the short set ask for.
     DemandSum,

@@ -4,10 +4,10 @@ ghost use Rattle.hsp_command.specs.declared.fault.CommandFault.TheVariants.{OutO
 use std::alloc::AllocError;
 use thiserror::Error;
 
-/// Why words are no order.
+/// Why words are not an order.
 #[derive(Debug, PartialEq, Eq, Drop, Error)]
 pub enum CommandFault {
-    /// They are none of the commands with its options, or ask for help.
+    /// They are not one of the commands with its options, or they ask for help.
     #[error("usage")]
     Usage,
     /// Memory ran out.

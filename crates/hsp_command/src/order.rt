@@ -48,7 +48,7 @@ pub struct InputFiles {
     pub capacity: Word,
 }
 
-/// What a report tells.
+/// What a report shows.
 #[derive(Debug, Clone, Copy, PartialEq, Eq)]
 pub enum Kind {
     /// `load`: what each server takes by a plan.

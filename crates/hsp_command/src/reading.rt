@@ -244,8 +244,10 @@ fn command_fault(error: &Error) -> CommandFault
     }
 }
 
-/// The order that the words give, the first of them being the command. What clap's parser refuses is `Usage`, a request for
-/// help too, and so is a mixture or a part of the two forms of `locate`, and a kind of report that is none.
+/// The order that the words give. The first word is the command.
+///
+/// The fault is `Usage` for what clap's parser refuses, for a request for help, for a mixture or a part of the two
+/// forms of `locate`, and for an unknown kind of report.
 pub fn read_command(alloc: Global, words: &[String]) -> Result<Order, CommandFault>
     ensures order { IfOk result
         (λ order. IsOrderOf order (subcommand_of hsplan_app (map string_bytes words.now))) }

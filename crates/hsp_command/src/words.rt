@@ -6,7 +6,7 @@ ghost use Rattle.hsp_command.specs.Words.{words_of};
 use std::alloc::{AllocError, Global};
 use std::str;
 
-/// The words between single spaces, empty ones left out; None where the octets are no UTF-8.
+/// The words between single spaces, without empty ones, or None where the octets are not UTF-8.
 pub fn split_words(alloc: Global, line: &[u8]) -> Result<Option<Vec<String>>, AllocError>
     ensures words { IfOk result
         (λ found. IfSome found (λ words. map string_bytes words.items ≡ words_of line.now)) }

@@ -11,7 +11,7 @@ use crate::records::take_record;
 use csv::{ByteRecord, Reader};
 use std::io::Read;
 
-// Whether the field at a place is of the name.
+// Whether the field at a place is the name.
 fn is_field(record: &ByteRecord, place: usize, name: &[u8]) -> bool
     ensures { result ≡ is_field (fields_of «record».now) place name.now }
 {
@@ -21,7 +21,7 @@ fn is_field(record: &ByteRecord, place: usize, name: &[u8]) -> bool
     }
 }
 
-/// Whether the fields of a record are those of a header, by their names.
+/// Whether the fields of a record are the names of a header.
 pub fn is_header(record: &ByteRecord, header: &[&[u8]]) -> bool
     ensures { result ≡ same_fields (fields_of «record».now) (names_in header.now) }
 {
@@ -36,8 +36,8 @@ pub fn is_header(record: &ByteRecord, header: &[&[u8]]) -> bool
     true
 }
 
-/// Takes the first record of a text into `record`, and tells whether it is the header of these names. A text without a record has
-/// no header.
+/// Takes the first record of a text into `record`, and returns whether it is the header with these names. A text
+/// without a record has no header.
 pub fn take_header<R: Read>(
     reader: &mut Reader<R>,
     record: &mut ByteRecord,

@@ -1,8 +1,7 @@
-// The records of a text of comma-separated values, one a call, from any reader.
+// The records of a text of comma-separated values, one for each call, from any reader.
 //
-// The `csv` crate reads them: without a header of its own, with any number of fields in a record,
-// nothing trimmed, and all else at its defaults. The octets `EF BB BF` at the start of a text are
-// passed over once.
+// The `csv` crate reads them. Its own headers are off, a record may have any number of fields, and nothing is trimmed;
+// all its other settings are at their defaults. The octets `EF BB BF` at the start of a text are passed over once.
 #![tactic(auto)]
 
 mod fault;

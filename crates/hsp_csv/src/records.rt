@@ -27,9 +27,9 @@ pub fn read_records<R: Read>(alloc: Global, text: R) -> Reader<R>
         .from_reader(alloc, text)
 }
 
-/// Takes the next record of a text into `record`, and tells whether there was one.
+/// Takes the next record of a text into `record`, and returns whether there was one.
 ///
-/// After a fault the reader has stopped: each later call answers that there is no further record.
+/// After a fault the reader has stopped: each later call returns that there is no further record.
 #[tactic(auto, using(crate::proofs::Reading::takes_record, crate::proofs::Reading::still_reading))]
 pub fn take_record<R: Read>(
     reader: &mut Reader<R>,

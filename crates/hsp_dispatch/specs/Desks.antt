@@ -47,7 +47,7 @@ answers_by tables events = event_answers tables.instance (fronts_of tables) (lef
 abbrev pub rest_by : Tables → ℕ → List Event → Plan
 rest_by tables front events = rest tables.instance (left_at_front tables front) (entries_at front events)
 
--- so many fronts of the instance, each of which has left what events leave of what it held
+-- as many fronts of the instance, each of which has left what events leave of what it held
 pub record IsLeftBy (old : Tables) (events : List Event) (new : Tables) : Type 0 where
   pub instance : new.instance ≡ old.instance
   pub many : fronts_of new ≡ fronts_of old

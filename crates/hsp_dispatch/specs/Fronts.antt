@@ -122,7 +122,7 @@ pub record AreHeld (tables : Tables) : Type 0 where
   pub each : (front : ℕ) → front < tables.fronts → IsHeld (held_at tables front)
   pub many : AllByRecursion (λ (lefts : List (List Cell)). length lefts ≡ tables.fronts) tables.lefts
 
--- so many fronts, each of which holds its share of the plan
+-- `fronts` fronts, each of which holds its share of the plan
 pub record AreFrontsOf (it : Instance) (x : Plan) (fronts : ℕ) (tables : Tables) : Type 0 where
   pub instance : tables.instance ≡ it
   pub many : fronts_of tables ≡ fronts

@@ -67,7 +67,7 @@ answer_of it IsSpent = Answered Spent
 answer_of it IsUnknown = Answered Unknown
 answer_of it IsNoFront = NoFront
 
--- the server of the number is one of so many
+-- the server of the number is one of `servers`
 abbrev pub IsAmong : ℕ → Given → Type 0
 IsAmong servers (ByServer number) = number < servers
 IsAmong servers IsSpent = ⊤

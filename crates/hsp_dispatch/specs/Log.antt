@@ -1,4 +1,5 @@
--- The records of a log: a header, which tells the form of the log, and rows, each of which spells an entry, or an event at a front.
+-- The records of a log: a header, which states the form of the log, and rows, each of which spells an entry, or an
+-- event at a front.
 use Rattle.std.specs.Prelude.{◌≡◌, ◌≢◌, ⊤, ℕ, List, [], ◌∷◌, codes, Ok}
 use Rattle.hex.specs.Hex.{decode_of}
 use Rattle.hsp_csv.specs.Records.{Fields}

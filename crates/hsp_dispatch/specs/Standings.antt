@@ -20,7 +20,7 @@ abbrev pub shares_sum : ℕ → ℕ → List Cell → ℕ
 shares_sum fronts front [] = 0
 shares_sum fronts front (cell ∷ cells) = share fronts front cell.left + shares_sum fronts front cells
 
--- the cells that a front has left that has so many left in all: what it has taken was of the first ones
+-- the cells that a front has left, where it has `left` queries left in all: what it has taken was of the first ones
 abbrev pub left_among : ℕ → ℕ → ℕ → List Cell → List Cell
 left_among fronts front left [] = []
 left_among fronts front left (cell ∷ later) =
@@ -65,7 +65,7 @@ all_sums fronts (cells ∷ rows) = sums_of fronts fronts cells ++ all_sums front
 abbrev pub AreBounded : List Cell → Type 0
 AreBounded cells = AllByRecursion (λ (cell : Cell). cell.left ≤ GREATEST_COUNT) cells
 
--- there is one cell alone, and it is of the server
+-- there is only one cell, and it is of the server
 abbrev pub IsSole : ℕ → List Cell → Type 0
 IsSole server [] = ⊥
 IsSole server (cell ∷ []) = cell.server ≡ server

@@ -1,4 +1,4 @@
-// What entries of a log are answered.
+// The answers to the entries of a log.
 
 ghost use Rattle.std.specs.Prelude.{◌≡◌, ◌<◌};
 ghost use Rattle.hsp_text.specs.declared.limits.TheConstants.{MOST_LOG_ROWS};
@@ -8,10 +8,11 @@ ghost use Rattle.hsp_dispatch.specs.Steps.{none_counted};
 
 use crate::answering::Given;
 
-/// What an entry is answered.
+/// The answer to an entry.
 #[derive(Clone, Copy, Debug, PartialEq, Eq)]
 pub enum Answer {
-    /// The query goes to the server at a place of a site; both are numbers, and the identifier is that of the site's record.
+    /// The query goes to the server at a place of a site. Site and place are numbers, and the identifier is that of the
+    /// site's record.
     Assigned {
         site: u32,
         place: u32,
@@ -19,16 +20,16 @@ pub enum Answer {
     },
     /// All of the row's number was assigned before.
     Spent,
-    /// There is no row of the region and the handle.
+    /// There is no row with the region and the handle.
     Unknown,
 }
 
-/// What an entry at a front is answered.
+/// The answer to an entry at a front.
 #[derive(Clone, Copy, Debug, PartialEq, Eq)]
 pub enum FrontAnswer {
     /// The answer by the front's share of the plan.
     Answered(Answer),
-    /// There is no front of the number.
+    /// There is no front with the number.
     NoFront,
 }
 
@@ -62,7 +63,7 @@ impl FrontSums {
         }
     }
 
-    /// Counts one answer more.
+    /// Counts one more answer.
     pub(crate) fn count(&mut self, given: Given)
         requires { count_all self.old < MOST_LOG_ROWS }
         ensures { self.new ≡ counted self.old given }
@@ -75,7 +76,7 @@ impl FrontSums {
         }
     }
 
-    /// The sums of answers among which is no `NoFront`.
+    /// The sums as those of a log. No answer may be `NoFront`.
     pub(crate) fn without_fronts(&self) -> LogSums
         requires { self.now.no_front ≡ 0 }
         ensures { all_of result ≡ self.now }

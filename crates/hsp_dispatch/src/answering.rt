@@ -20,18 +20,18 @@ use hsp_names::HandleRef;
 /// How an entry is answered.
 #[derive(Clone, Copy)]
 pub(crate) enum Given {
-    /// By the server of a number among all servers.
+    /// By the server with this number among all servers.
     Server(u32),
     /// All of the row's number was assigned before.
     Spent,
-    /// There is no row of the region and the handle.
+    /// There is no row with the region and the handle.
     Unknown,
-    /// There is no front of the number.
+    /// There is no front with the number.
     NoFront,
 }
 
-/// The row of the plan that is of an entry, None where none is. What a row has is a handle, so that only the handles of other
-/// entries are read.
+/// The demand row for this entry, if any. A row's handle is known to be valid, so the handle is parsed only when no row
+/// matches.
 pub(crate) fn row_in(
     instance: &Instance,
     lent: LentEntry<'_>,
@@ -54,7 +54,7 @@ pub(crate) fn row_in(
     }
 }
 
-/// How an entry is answered that goes to the server of a number, or to none.
+/// How an entry is answered that goes to the server with this number, or to no server.
 pub(crate) fn given_by(taken: Option<u32>) -> Given
     ensures { result ≡ given_of taken }
 {
@@ -64,7 +64,7 @@ pub(crate) fn given_by(taken: Option<u32>) -> Given
     }
 }
 
-/// The answer to a query that goes to the server of a number, or to none.
+/// The answer to a query that goes to the server with this number, or to no server.
 pub(crate) fn served(instance: &Instance, taken: Option<u32>) -> Answer
     requires { IfSome taken (λ server. server < length instance.now.servers) }
     ensures { result ≡ taken_answer instance.now taken }
@@ -80,7 +80,7 @@ pub(crate) fn served(instance: &Instance, taken: Option<u32>) -> Answer
     }
 }
 
-/// Takes from the plan what the entry in the row of a number is answered by.
+/// Answers the entry in the row with this number, and takes what it is answered by from the plan.
 pub(crate) fn choose(
     dispatcher: &mut Dispatcher<'_>,
     lent: LentEntry<'_>,

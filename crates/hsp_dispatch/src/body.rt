@@ -24,7 +24,7 @@ pub(crate) fn octets_in(alloc: Global, digits: &[u8], row: u32) -> Result<Vec<u8
     }
 }
 
-/// The request whose body the octets of a row are.
+/// The request whose body a row's octets are.
 pub(crate) fn request_in(octets: &[u8], row: u32) -> Result<Request<'_>, LogFault>
     ensures request { IfOk result (λ request. (body : RequestBody)
         × Means request_format octets.now (Ok body) × (request ≡ body.handle)) }

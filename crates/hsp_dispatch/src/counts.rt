@@ -6,7 +6,7 @@ ghost use Rattle.hsp_dispatch.specs.Standings.{numbers_in};
 use std::alloc::{AllocError, Global};
 use std::marker::Model;
 
-// Counts of so many octets each.
+// Counts of one, two or four octets each.
 #[derive(Drop)]
 pub(crate) enum Widths {
     One(Vec<u8>),
@@ -14,7 +14,7 @@ pub(crate) enum Widths {
     Four(Vec<u32>),
 }
 
-/// A list of counts, in one octet each where all of them are below 256, and in two where all are below 65,536.
+/// A list of counts. Each takes one octet where all of them are below 256, and two where all are below 65,536.
 #[derive(Drop)]
 pub(crate) struct Counts {
     widths: Widths,
@@ -29,7 +29,7 @@ impl Model for Counts {
     ghost view = { λ counts. numbers_in counts.widths };
 }
 
-// The counts in one octet each, None where one of them needs more.
+// The counts in one octet each, or None where one of them needs more.
 fn in_one(alloc: Global, counts: &[u32]) -> Result<Option<Vec<u8>>, AllocError>
     ensures { IfOk result (λ ones. IfSome ones (λ own. own.items ≡ counts.now)) }
 {
@@ -43,7 +43,7 @@ fn in_one(alloc: Global, counts: &[u32]) -> Result<Option<Vec<u8>>, AllocError>
     Ok(Some(ones))
 }
 
-// The counts in two octets each, None where one of them needs more.
+// The counts in two octets each, or None where one of them needs more.
 fn in_two(alloc: Global, counts: &[u32]) -> Result<Option<Vec<u16>>, AllocError>
     ensures { IfOk result (λ twos. IfSome twos (λ own. own.items ≡ counts.now)) }
 {
@@ -57,7 +57,7 @@ fn in_two(alloc: Global, counts: &[u32]) -> Result<Option<Vec<u16>>, AllocError>
     Ok(Some(twos))
 }
 
-// The counts in as few octets each as serve.
+// The counts, in as few octets each as all of them fit in.
 fn narrowed(alloc: Global, counts: Vec<u32>) -> Result<Widths, AllocError>
     ensures { IfOk result (λ widths. numbers_in widths ≡ counts.items) }
 {
@@ -91,7 +91,7 @@ impl Counts {
         }
     }
 
-    /// Takes one of the count at a place, where it isn't 0. The count before.
+    /// Takes one from the count at a place, if it isn't 0, and returns the count before.
     pub(crate) fn take(&mut self, place: usize) -> u32
         requires { place < length self.old }
         ensures count { slice_get self.old place ≡ Some result }

@@ -30,13 +30,14 @@ pub(crate) trait Desk: Drop {
     /// The header of a log of each form.
     ghost header: { Form → List (List ℕ) };
 
-    /// The rows are answered by these lines, and counted so, from a desk as it was at first up to a desk as it is then.
+    /// The rows are answered by these lines and counted in this way, from a desk as it was at first to a desk as it is
+    /// then.
     ghost Answers: { Self → Self → RowAnswers };
 
     /// Why a row is refused.
     ghost Refuses: { Form → List (List ℕ) → LogFault → Type 0 };
 
-    /// The form of a log, by its first record; None where that is no header.
+    /// The form of a log, by its first record, or None where that is not a header.
     fn form_of(record: &ByteRecord) -> Option<Form>
         ensures header { IfSome result (λ form. fields_of «record».now ≡ header form) }
         ensures none { IfNone result ((form : Form) → fields_of «record».now ≢ header form) };
@@ -46,7 +47,7 @@ pub(crate) trait Desk: Drop {
         ensures instance { result.now ≡ instance self.now }
         ensures begins { BeginsWithNone (Answers self.now self.now) };
 
-    /// Answers a row: takes from the plan what it asks for, or refuses it and changes nothing.
+    /// Answers a row: takes what it asks for from the plan, or refuses it and changes nothing.
     fn answer(
         &mut self,
         alloc: Global,

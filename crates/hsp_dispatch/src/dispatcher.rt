@@ -73,8 +73,8 @@ impl<'a> Dispatcher<'a> {
         self.instance
     }
 
-    /// Answers a query for a handle from a region, and takes it of what is left. The site is the first at which something of the
-    /// row is left.
+    /// Answers a query for a handle from a region, and takes it from what is left. It goes to the first site at which
+    /// something of the row is left.
     pub fn assign(&mut self, region: &[u8], handle: HandleRef<'_>) -> Answer
         ensures instance { self.new.instance ≡ self.old.instance }
         ensures answer { result ≡ answer_by self.old (query region.now handle.entry) }
@@ -87,7 +87,7 @@ impl<'a> Dispatcher<'a> {
         served(self.instance, taken)
     }
 
-    /// How many queries of a row are left for a site, 0 where the row or the site is not there.
+    /// How many queries of a row are left for a site, or 0 where the row or the site is not there.
     pub fn left(&self, row: u32, site: u32) -> u64
         ensures { result ≡ left_of self.now row site }
     {
@@ -97,7 +97,8 @@ impl<'a> Dispatcher<'a> {
         }
     }
 
-    /// Takes one of what is left of a row. The number of the server to which it goes, None where nothing is left.
+    /// Takes one query from what is left of a row. Returns the number of the server to which it goes, or None where
+    /// nothing is left.
     pub(crate) fn take(&mut self, row: u32) -> Option<u32>
         requires { row < length self.old.instance.rows }
         ensures instance { self.new.instance ≡ self.old.instance }

@@ -15,17 +15,17 @@ pub enum LogFault {
     ReadFailed,
     /// A write failed or took no octet, or the last `flush` failed.
     WriteFailed,
-    /// The first record is no header of a log, or there is none.
+    /// The first record is not the header of a log, or there is no record.
     Header,
-    /// The row has not two fields, or three in a log for fronts.
+    /// The row does not have two fields, or three in a log for fronts.
     Fields { row: u32 },
-    /// The row's handle is none.
+    /// What the row gives as its handle is not a handle.
     BadHandle { row: u32 },
     /// There are more than 10,000,000 rows.
     LogTooLong,
     /// Memory ran out.
     OutOfMemory,
-    /// The row's body is not in hexadecimal digits, or no body of a resolution request.
+    /// The row's body is not in hexadecimal digits, or is not the body of a resolution request.
     BadBody { row: u32 },
     /// The row's front is not a whole number up to 4,294,967,295.
     BadFront { row: u32 },

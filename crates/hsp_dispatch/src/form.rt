@@ -1,4 +1,4 @@
-// The two forms of a log, told by its header.
+// The two forms of a log, which its header states.
 
 ghost use Rattle.std.specs.Prelude.{◌≡◌, ◌≢◌, IfNone, IfSome};
 ghost use Rattle.csv.specs.Records.{fields_of};
@@ -17,7 +17,7 @@ pub(crate) enum Form {
     Bodies,
 }
 
-/// The form of a log, by its first record; None where that is no header.
+/// The form of a log, by its first record, or None where that is not a header.
 pub(crate) fn form_of(record: &ByteRecord) -> Option<Form>
     ensures header { IfSome result (λ form. fields_of «record».now ≡ header_of form) }
     ensures none { IfNone result ((form : Form) → fields_of «record».now ≢ header_of form) }
@@ -31,7 +31,7 @@ pub(crate) fn form_of(record: &ByteRecord) -> Option<Form>
     None
 }
 
-/// The form of a log of events; None where the record is not its header.
+/// The form of a log of events, or None where the record is not its header.
 pub(crate) fn event_form_of(record: &ByteRecord) -> Option<Form>
     ensures header { IfSome result (λ form. fields_of «record».now ≡ front_header) }
     ensures none { IfNone result (fields_of «record».now ≢ front_header) }

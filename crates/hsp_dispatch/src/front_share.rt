@@ -15,8 +15,8 @@ pub(crate) struct Front {
     pub(crate) number: u32,
 }
 
-/// The number of the cell of a row at which a front stands, and what it has left there. Where that is nothing, it has nothing left
-/// of the row.
+/// The number of the cell of a row at which a front stands, and what the front has left there. If that is nothing, it
+/// has nothing left of the row.
 #[derive(Clone, Copy)]
 pub(crate) struct Standing {
     pub(crate) cell: u32,
@@ -48,7 +48,8 @@ pub(crate) fn sum_in(cells: &[Cell], front: Front) -> u32
     sum
 }
 
-/// Where a front stands that has so many left: at the last cell whose share, with those behind it, is as many, else at the first.
+/// Where a front stands that has `left` queries left: at the last cell whose share, with the shares behind it, comes to
+/// that many, and otherwise at the first.
 pub(crate) fn stand_with(cells: &[Cell], left: u32, front: Front) -> Standing
     requires some { 0 < front.fronts }
     requires few { length cells.now ≤ MOST_SITES }
@@ -72,7 +73,7 @@ pub(crate) fn stand_with(cells: &[Cell], left: u32, front: Front) -> Standing
     }
 }
 
-/// The share of a front in the cell of a site, 0 where no cell is of the site.
+/// The share of a front in the cell of a site, or 0 where no cell is of the site.
 pub(crate) fn share_at(cells: &[Cell], site: u32, front: Front) -> u32
     requires { 0 < front.fronts }
     ensures { result ≡ left_at (shares_in front.fronts front.number cells.now) site }

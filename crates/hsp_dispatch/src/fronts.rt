@@ -27,11 +27,13 @@ use hsp_names::HandleRef;
 use std::alloc::{AllocError, Global};
 use std::marker::Model;
 
-/// For each front what is left of its share of a plan. The share of front `f` of `F` in a number `x` is the quotient of `x` by `F`,
-/// and 1 more where `f` is below the remainder.
+/// For each front, what is left of its share of a plan.
 ///
-/// The rows' cells stand once for all fronts. A front has one number a row, how many it has left in all cells of the row together,
-/// which are used in their order; the numbers of a row's fronts stand side by side.
+/// The share of front `f` of `F` in a number `x` is the quotient of `x` by `F`, and 1 more where `f` is below the
+/// remainder.
+///
+/// The rows' cells stand once for all fronts. A front has one number for each row: how many queries it has left in all
+/// cells of the row together. It uses the cells in their order. The numbers of a row's fronts stand side by side.
 #[derive(Drop)]
 pub struct Fronts<'a> {
     instance: &'a Instance,
@@ -104,7 +106,7 @@ fn sums_in(alloc: Global, rows: &[RowCells], fronts: u32) -> Result<Vec<u32>, Al
 }
 
 impl<'a> Fronts<'a> {
-    /// So many fronts, from 1 to `MOST_FRONTS`, by the plan of a certificate that is valid for the instance.
+    /// Fronts, from 1 to `MOST_FRONTS` of them, by the plan of a certificate that is valid for the instance.
     ///
     /// # Errors
     ///
@@ -124,7 +126,7 @@ impl<'a> Fronts<'a> {
         Fronts::over(alloc, instance, best.uses(), fronts)
     }
 
-    // So many fronts by uses of the instance.
+    // Fronts by uses of the instance.
     fn over(
         alloc: Global,
         instance: &'a Instance,
@@ -154,8 +156,8 @@ impl<'a> Fronts<'a> {
         self.instance
     }
 
-    /// Answers a query at a front, for a handle from a region: as a dispatcher would by what the front has left, of which it takes
-    /// the query. What the other fronts have left stays as it is.
+    /// Answers a query at a front, for a handle from a region: as a dispatcher would by what the front has left, from
+    /// which the query is taken. What the other fronts have left stays as it is.
     pub fn assign(&mut self, front: u32, region: &[u8], handle: HandleRef<'_>) -> FrontAnswer
         ensures answer { result ≡ answer_among self.old front (query region.now handle.entry) }
         ensures taken { IsTakenAt front (query region.now handle.entry) self.old self.new }
@@ -172,8 +174,8 @@ impl<'a> Fronts<'a> {
         FrontAnswer::Answered(served(instance, taken))
     }
 
-    /// Takes from what a front has left what the entry in the row of a number is answered by. Where there is no such front, the
-    /// handle is read all the same.
+    /// Answers the entry in the row with this number, and takes what it is answered by from what the front has left.
+    /// Where there is no such front, the handle is still read.
     pub(crate) fn choose(
         &mut self,
         front: u32,
@@ -203,7 +205,8 @@ impl<'a> Fronts<'a> {
         row as usize * self.fronts as usize + front as usize
     }
 
-    // Takes one of what a front has left of a row. The number of the server to which it goes, None where nothing is left.
+    // Takes one query from what a front has left of a row. Returns the number of the server to which it goes, or None
+    // where nothing is left.
     fn take(&mut self, front: u32, row: u32) -> Option<u32>
         requires front { front < fronts_of self.old }
         requires row { row < length self.old.instance.rows }
@@ -219,7 +222,7 @@ impl<'a> Fronts<'a> {
         self.plan.server(row, left, Front { fronts, number })
     }
 
-    /// How many queries of a row a front has left for a site, 0 where the front, the row or the site is not there.
+    /// How many queries of a row a front has left for a site, or 0 where the front, the row or the site is not there.
     pub fn left(&self, front: u32, row: u32, site: u32) -> u64
         ensures { result ≡ left_at_front self.now front row site }
     {

@@ -3,32 +3,34 @@
 ghost use Rattle.hsp_dispatch.specs.FrontLaws.{AnswersByShares, BeginsWithShares, EndsInTheSame, GoesByItsEntries, IsSpentTogether, NeverExceedsTogether, SharesAddUp};
 ghost use Rattle.hsp_dispatch.specs.Laws.{GoesByHash, GoesOnWithTheRest, IsSpentAfterAll, NeverExceeds};
 
-/// No log has more of a row's entries assigned to a site than the plan sends there; and where an entry is answered `Spent`, all that
-/// the plan sends of its row was assigned before.
+/// No log has more of a row's entries assigned to a site than the plan sends there. Where an entry is answered `Spent`,
+/// all that the plan sends of its row was assigned before.
 pub fn within_plan()
     ensures exceeds { NeverExceeds }
     ensures spent { IsSpentAfterAll }
 {}
 
-/// A log in two parts: the second is answered by what the first leaves of the plan.
+/// Of a log in two parts, the second part is answered by what the first leaves of the plan.
 pub fn log_in_parts()
     ensures { GoesOnWithTheRest }
 {}
 
-/// A query that is assigned goes to the server of the site that is responsible for its handle, by the handle's hash, where the
-/// instance is that of inputs and the plan sends nothing where it may not.
+/// An assigned query goes to the server of the site that is responsible for its handle, by the handle's hash. This
+/// holds where the instance is that of inputs, and the plan sends nothing where it may not.
 pub fn goes_by_hash()
     ensures { GoesByHash }
 {}
 
-/// The shares of all fronts add up to the plan. Each front begins with its share, and answers by it and by its own earlier entries.
+/// The shares of all fronts add up to the plan. Each front begins with its share, and answers by it and by its own
+/// earlier entries.
 pub fn fronts_by_shares()
     ensures shares { SharesAddUp }
     ensures begin { BeginsWithShares }
     ensures answers { AnswersByShares }
 {}
 
-/// Two lists of events that have the same entries at a front have the same answers there, and leave the same of its share.
+/// Two lists of events that have the same entries at a front have the same answers there. They leave the same of its
+/// share.
 pub fn front_apart()
     ensures { GoesByItsEntries }
 {}

@@ -1,5 +1,5 @@
-// The dispatcher: the queries of a log, answered by a plan. Each row's queries go to the sites in turn, as many to each as the plan
-// says, and at a site to the server that is responsible for their handle.
+// The dispatcher: the queries of a log, answered by a plan. Each row's queries go to the sites in turn, as many to each
+// site as the plan says. At a site they go to the server that is responsible for their handle.
 #![tactic(auto)]
 
 mod answer;

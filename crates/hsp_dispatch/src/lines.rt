@@ -22,7 +22,7 @@ impl Model for Line {
     ghost view = { λ line. line.text.items };
 }
 
-/// For each server of an instance the line of a query that is assigned to it.
+/// For each server of an instance, the line of a query that is assigned to it.
 #[derive(Drop)]
 pub(crate) struct ServerLines {
     lines: Vec<Line>,
@@ -61,7 +61,7 @@ impl ServerLines {
         Ok(ServerLines { lines })
     }
 
-    /// The line of the server of a number.
+    /// The line of the server with this number.
     pub(crate) fn line(&self, server: u32) -> &[u8]
         requires { server < length self.now }
         ensures { slice_get self.now server ≡ Some result.now }

@@ -10,8 +10,8 @@ use crate::row_cells::RowCells;
 use std::alloc::{AllocError, Global};
 use std::marker::Model;
 
-/// The cells that a plan gives each row. The server of each row that has one cell alone stands in a list of its own, two octets a
-/// row, so that most queries read no cell.
+/// The cells that a plan gives each row. For each row with only one cell, the cell's server stands in a list of its
+/// own, with two octets for each row, so that most queries read no cell.
 #[derive(Drop)]
 pub(crate) struct PlanCells {
     rows: Vec<RowCells>,
@@ -53,8 +53,9 @@ impl PlanCells {
         Ok(PlanCells { rows, soles })
     }
 
-    /// The number of the server to which a front's next query for a row goes where it has so many left, at the first site where it
-    /// has something left; None where nothing is left.
+    /// The number of the server to which a front's next query for a row goes, or None where the front has nothing left
+    /// of the row. The front has `left` queries left of it, and the query goes to the first site where it has something
+    /// left.
     pub(crate) fn server(&self, row: u32, left: u32, front: Front) -> Option<u32>
         requires some { 0 < front.fronts }
         requires row { row < length self.now }
@@ -71,7 +72,7 @@ impl PlanCells {
         self.rows[row as usize].server(left, front)
     }
 
-    /// What a front has left of a row at a site where it has so many left in all.
+    /// What a front has left of a row at a site, where it has `left` queries left of the row in all.
     pub(crate) fn left(&self, row: u32, left: u32, site: u32, front: Front) -> u32
         requires some { 0 < front.fronts }
         requires row { row < length self.now }

@@ -19,7 +19,7 @@ pub(crate) struct LentEntry<'a> {
     pub(crate) handle: &'a [u8],
 }
 
-/// Takes the header, and tells the form of the log.
+/// Takes the header, and returns the form of the log.
 pub(crate) fn take_form<D: Desk, R: Read>(
     reader: &mut Reader<R>,
     record: &mut ByteRecord,

@@ -39,7 +39,8 @@ impl RowCells {
         RowCells { cells }
     }
 
-    /// The number of the server where there is one cell alone and the number is below the greatest of two octets; else that greatest.
+    /// The number of the server, if there is only one cell and the number is below the greatest of two octets, and
+    /// otherwise that greatest.
     pub(crate) fn sole(&self) -> u16
         ensures { IfSome (sole_in result) (λ server. IsSole server self.now) }
     {
@@ -58,8 +59,8 @@ impl RowCells {
         sum_in(&self.cells, front)
     }
 
-    /// The number of the server to which a front's next query goes where it has so many left of the row, at the first site where
-    /// it has something left; None where nothing is left.
+    /// The number of the server to which a front's next query goes, or None where the front has nothing left of the
+    /// row. The front has `left` queries left of it, and the query goes to the first site where it has something left.
     pub(crate) fn server(&self, left: u32, front: Front) -> Option<u32>
         requires { 0 < front.fronts }
         ensures { result ≡ option_map (λ (cell : Cell). cell.server)
@@ -73,7 +74,7 @@ impl RowCells {
         Some(cell.server)
     }
 
-    /// What a front has left at a site where it has so many left of the row.
+    /// What a front has left at a site, where it has `left` queries left of the row.
     pub(crate) fn left(&self, left: u32, site: u32, front: Front) -> u32
         requires { 0 < front.fronts }
         ensures { result ≡ left_at (left_among front.fronts front.number left self.now) site }

@@ -14,8 +14,8 @@ pub(crate) struct Cell {
     pub(crate) left: u32,
 }
 
-/// What is left for a row: cells in ascending order of their sites, each with something left. The first stands in place, so that
-/// most queries touch no other memory; it is spent where nothing is left.
+/// What is left for a row: cells in ascending order of their sites, each with something left. The first cell stands in
+/// place, so that most queries touch no other memory. It is spent where nothing is left.
 #[derive(Drop)]
 pub(crate) struct RowShare {
     first: Cell,
@@ -54,7 +54,7 @@ impl RowShare {
         }
     }
 
-    /// Adds a cell with something left, of a site after all others.
+    /// Adds a cell with something left. Its site comes after all others.
     pub(crate) fn push(&mut self, cell: Cell) -> Result<(), AllocError>
         requires { AreCells (self.old ++ cell ∷ []) }
         ensures { OnOk result (self.new ≡ self.old ++ cell ∷ []) }
@@ -68,7 +68,8 @@ impl RowShare {
         Ok(())
     }
 
-    /// Takes one of what is left, at the first site that has something left; None where nothing is left.
+    /// Takes one query from what is left, at the first site that has something left. Returns None where nothing is
+    /// left.
     pub(crate) fn take(&mut self) -> Option<Cell>
         ensures taken { result ≡ first_of self.old }
         ensures rest { self.new ≡ without_first self.old }
@@ -98,7 +99,7 @@ impl RowShare {
         Ok(cells)
     }
 
-    /// What is left at a site, 0 where nothing is.
+    /// What is left at a site, or 0 where nothing is.
     pub(crate) fn left(&self, site: u32) -> u32
         ensures { result ≡ left_at self.now site }
     {

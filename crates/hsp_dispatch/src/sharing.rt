@@ -12,7 +12,7 @@ use hsp_cert::UseLine;
 use hsp_instance::Instance;
 use std::alloc::{AllocError, Global};
 
-// The number of the server at which the row's arc to a site ends, 0 where the row has none.
+// The number of the server at which the row's arc to a site ends, or 0 where the row has no such arc.
 fn server_at(instance: &Instance, row: u32, site: u32) -> u32
     requires { row < length instance.now.rows }
     ensures { result ≡ number_of (arc_to site (slice_get instance.now.arcs row)) }
@@ -38,7 +38,7 @@ fn cell_for(instance: &Instance, one: UseLine) -> Cell
     }
 }
 
-// So many shares of nothing.
+// `count` shares of nothing.
 fn empty_shares(alloc: Global, count: u32) -> Result<Vec<RowShare>, AllocError>
     ensures { IfOk result (λ shares. shares.items ≡ replicate count []) }
 {
@@ -49,7 +49,7 @@ fn empty_shares(alloc: Global, count: u32) -> Result<Vec<RowShare>, AllocError>
     Ok(shares)
 }
 
-/// For each row what the uses give it.
+/// For each row, what the uses give it.
 pub(crate) fn share_out(
     alloc: Global,
     instance: &Instance,

@@ -1,4 +1,4 @@
--- What the results of runs are told as.
+-- How the results of runs are answered.
 use Rattle.std.specs.Prelude.{◌≡◌, ◌⊎◌, ⊤, ℕ, Bool, true, false, List, Vec, Result, Ok, Err, IfOk}
 use Rattle.std.specs.declared.alloc.Global.{Global}
 use Rattle.hsp_check.specs.declared.verdict.Verdict.{Verdict}
@@ -46,7 +46,7 @@ IsShownVerdict inputs octets checked = IsChecked inputs octets checked × IfOk c
 abbrev pub IsTold : Told → Answer → Type 0
 IsTold told answer = (answer.text.items ≡ told.text) × (answer.status ≡ told.status)
 
--- the result of a run is one that stands, and told so; or its fault is told; or memory ran out
+-- the result of a run is one that stands, and answered so; or its fault is answered; or memory ran out
 abbrev pub IsAnswered : {X : Type 0} → (X → Told) → (Result X Fault → Type 0) → Result Answer Failure → Type 0
 IsAnswered {X} told Is (Ok answer) = (x : X) × Is (Ok x) × IsTold (told x) answer
 IsAnswered told Is (Err (Refused fault)) = (fault ≡ OutOfMemory) ⊎ Is (Err fault)

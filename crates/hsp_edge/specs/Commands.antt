@@ -119,7 +119,7 @@ IsOrdered words (Ok order) = IsOrderOf order (subcommand_of hsplan_app words)
 IsOrdered words (Err command_fault.Usage) = IsUsage words
 IsOrdered words (Err command_fault.OutOfMemory) = ⊤
 
--- it is carried out; where there is none, nothing was written, and the failure is told
+-- it is carried out; where there is none, nothing was written, and the failure is reported
 abbrev pub ActsOn : Disk → Type 0 → Result Order CommandFault → Option (List ℕ) → Option (List ℕ) → Result Completed Failure → Type 0
 ActsOn disk MayFail (Ok order) old new ended = CarriesOut disk MayFail order old new ended
 ActsOn disk MayFail (Err fault) old new ended = (new ≡ old) × (ended ≡ Err (failure_of fault))

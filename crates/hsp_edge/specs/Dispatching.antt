@@ -21,18 +21,18 @@ pub record Opened : Type 0 where
 abbrev pub opened_log : Inputs → List ℕ → Option (List ℕ) → Opened
 opened_log inputs certificate left = record { inputs = inputs; certificate = certificate; left = left }
 
--- what is told of the sums is told with status 0, or the fault; or what had been written couldn't be handed on, as may be
+-- the sums are reported with status 0, or the fault is; or what had been written couldn't be handed on, as may be
 abbrev pub TellsRun : {S : Type 0} → (S → Option LogSums) → Type 0 → Result S Fault → Result Completed Failure → Type 0
 TellsRun told MayFail (Ok sums) ended = ended ≡ Ok (record { status = 0; sums = told sums })
 TellsRun told MayFail (Err fault) ended = (ended ≡ Err (Refused fault)) ⊎ (MayFail × (ended ≡ Err (Refused (Log WriteFailed))))
 
--- the log's entries were answered on an output, what was written was handed on, and the sums are told
+-- the log's entries were answered on an output, what was written was handed on, and the sums are reported
 abbrev pub AnswersEntries : Type 0 → Opened → Option (List ℕ) → Option (List ℕ) → Result Completed Failure → Type 0
 AnswersEntries MayFail it old new ended =
     (written : Option (List ℕ)) × (answer : Result LogSums Fault) × IsDispatched it.inputs it.certificate (over it.left old written) answer
     × Keeps written new × TellsRun Some MayFail answer ended
 
--- the same of its events, by so many fronts as a word spells; no sums are told
+-- the same of its events, by as many fronts as a word spells; no sums are reported
 abbrev pub AnswersEvents : Type 0 → List ℕ → Opened → Option (List ℕ) → Option (List ℕ) → Result Completed Failure → Type 0
 AnswersEvents MayFail word it old new ended =
     (written : Option (List ℕ)) × (answer : Result FrontSums Fault) × IsDispatchedAt word it.inputs it.certificate (over it.left old written) answer

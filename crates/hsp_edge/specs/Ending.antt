@@ -11,7 +11,7 @@ use Rattle.hsp_edge.specs.declared.failure.Failure.{Failure}
 use Rattle.hsp_edge.specs.declared.failure.Failure.TheVariants.{Usage, Memory, Read, Write, Refused}
 use Rattle.hsp_edge.specs.Printing.{IsBegun}
 
--- the line that tells of a failure
+-- the line that reports a failure
 abbrev pub failure_text : Failure → List ℕ
 failure_text Usage = codes "hsplan: Usage" ++ 10 ∷ []
 failure_text Memory = codes "hsplan: OutOfMemory" ++ 10 ∷ []
@@ -32,7 +32,7 @@ abbrev pub sums_line : Option LogSums → List ℕ
 sums_line None = []
 sums_line (Some sums) = sums_text sums
 
--- the line that is told at the end: of a refused input, or of the sums of a log
+-- the line that is printed at the end: that of a refused input, or that of the sums of a log
 abbrev pub last_text : Result Completed Failure → List ℕ
 last_text (Ok completed) = sums_line completed.sums
 last_text (Err (Refused fault)) = fault_text fault
@@ -46,22 +46,22 @@ TellsBy MayFail line wanted old new status = (Appends old new line × (status �
 abbrev pub Line : Type 0
 Line = Result (Vec ℕ Global) AllocError
 
--- the line is told; in place of one for which memory ran out, that it ran out
+-- the line is printed; in place of one for which memory ran out, that it ran out
 abbrev pub TellsLine : Type 0 → Line → ℕ → Option (List ℕ) → Option (List ℕ) → ℕ → Type 0
 TellsLine MayFail (Ok line) wanted old new status = TellsBy MayFail line.items wanted old new status
 TellsLine MayFail (Err lacking) wanted old new status = TellsBy MayFail (failure_text Memory) (failure_status Memory) old new status
 
--- the failure is told, a refused input by the line
+-- the failure is reported, a refused input by the line
 abbrev pub Tells : Type 0 → Failure → Line → Option (List ℕ) → Option (List ℕ) → ℕ → Type 0
 Tells MayFail (Refused fault) line old new status = TellsLine MayFail line (status_in fault) old new status
 Tells MayFail failure line old new status = TellsBy MayFail (failure_text failure) (failure_status failure) old new status
 
--- the sums of a log are told by the line; without sums, nothing is
+-- the sums of a log are printed by the line; without sums, nothing is
 abbrev pub TellsSums : Type 0 → Option LogSums → Line → ℕ → Option (List ℕ) → Option (List ℕ) → ℕ → Type 0
 TellsSums MayFail (Some sums) line wanted old new status = TellsLine MayFail line wanted old new status
 TellsSums MayFail None line wanted old new status = (new ≡ old) × (status ≡ wanted)
 
--- after an answer its status, and the sums of a log are told; or a failure is told
+-- after an answer its status, and the sums of a log are printed; or a failure is reported
 abbrev pub Ends : Type 0 → Result Completed Failure → Line → Option (List ℕ) → Option (List ℕ) → ℕ → Type 0
 Ends MayFail (Ok completed) line old new status = TellsSums MayFail completed.sums line completed.status old new status
 Ends MayFail (Err failure) line old new status = Tells MayFail failure line old new status

@@ -5,7 +5,7 @@ use Rattle.hsp_command.specs.declared.fault.CommandFault.TheVariants as command_
 use Rattle.hsp_edge.specs.declared.failure.Failure.{Failure}
 use Rattle.hsp_edge.specs.declared.failure.Failure.TheVariants.{Usage, Memory, Read}
 
--- words that are no command, or want of memory
+-- words that are not a command, or memory ran out
 abbrev pub failure_of : CommandFault → Failure
 failure_of command_fault.Usage = Usage
 failure_of command_fault.OutOfMemory = Memory

@@ -16,13 +16,14 @@ abbrev pub Puts : Type 0 → List ℕ → Option (List ℕ) → Option (List ℕ
 Puts MayFail text old new (Ok done) = Appends old new text
 Puts MayFail text old new (Err failed) = MayFail × IsBegun old new text
 
--- the text of an answer was written, and its status told; or a write failed, as it may, and a beginning of the text was written
+-- the text of an answer was written, and its status returned; or a write failed, as it may, and a beginning of the text
+-- was written
 abbrev pub PrintsText : Type 0 → Answer → Option (List ℕ) → Option (List ℕ) → Result Completed Failure → Type 0
 PrintsText MayFail answer old new (Ok completed) = Appends old new answer.text.items × (completed ≡ record { status = answer.status; sums = None })
 PrintsText MayFail answer old new (Err Write) = MayFail × IsBegun old new answer.text.items
 PrintsText MayFail answer old new (Err failure) = ⊥
 
--- the same of an answer; where there is none, nothing was written, and its failure is told
+-- the same of an answer; where there is none, nothing was written, and its failure is returned
 abbrev pub Prints : Type 0 → Result Answer Failure → Option (List ℕ) → Option (List ℕ) → Result Completed Failure → Type 0
 Prints MayFail (Ok answer) old new ended = PrintsText MayFail answer old new ended
 Prints MayFail (Err failure) old new ended = (new ≡ old) × (ended ≡ Err failure)

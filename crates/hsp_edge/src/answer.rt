@@ -23,7 +23,7 @@ pub struct Answer {
     pub status: u8,
 }
 
-/// What a command ends with: a status and, where it answered a log, the sums of that.
+/// What a command ends with: a status and, where it answered a log, the log's sums.
 #[derive(Debug, Drop)]
 pub struct Completed {
     pub status: u8,
@@ -38,7 +38,7 @@ pub fn locate_answer(alloc: Global, locate: &Locate, handle: &[u8]) -> Result<An
     Ok(Answer { text, status: 0 })
 }
 
-/// The fields of a site record, or of that in the value with an index.
+/// The fields of a site record or, with an index, of the record in the value with that index.
 pub fn site_answer(alloc: Global, octets: &[u8], index: Option<&[u8]>) -> Result<Answer, Failure>
     ensures { IsAnswered fields_told
         (IsSiteRun octets.now (option_map (λ digits. digits.now) index.entry)) result }
@@ -66,7 +66,7 @@ pub fn plan_answer(alloc: Global, inputs: &Inputs) -> Result<Answer, Failure>
     })
 }
 
-/// The line of a verdict, a No with status 3.
+/// The line of a verdict. A No has status 3.
 pub fn check_answer(alloc: Global, inputs: &Inputs, plan: &[u8]) -> Result<Answer, Failure>
     ensures { IsAnswered verdict_told (IsShownVerdict inputs.now plan.now) result }
 {
@@ -90,7 +90,7 @@ pub fn report_answer(
     Ok(Answer { text, status: 0 })
 }
 
-/// Writes the text of an answer, and gives its status.
+/// Writes the text of an answer, and returns its status.
 pub fn print<O: Output>(
     out: &mut O,
     answered: Result<Answer, Failure>,

@@ -143,7 +143,7 @@ fn report<S: FileSource>(
     report_answer(alloc, &inputs, &plan, told_kind(kind))
 }
 
-// Carries out the order: prints its answer on `out`, or answers a log there, and gives what to end with.
+// Carries out the order: prints its answer on `out`, or answers a log there, and returns what to end with.
 fn carry_out<S: FileSource, O: Output>(
     alloc: Global,
     files: &S,
@@ -182,7 +182,7 @@ fn carry_out<S: FileSource, O: Output>(
     }
 }
 
-/// Obeys the command that the words give: writes its answer on `out`, and gives what to end with.
+/// Obeys the command that the words give: writes its answer on `out`, and returns what to end with.
 pub fn obey<S: FileSource, O: Output>(
     alloc: Global,
     files: &S,

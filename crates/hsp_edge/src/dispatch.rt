@@ -49,8 +49,8 @@ pub fn open_log<S: FileSource>(
     })
 }
 
-// Hands on the lines that were written before the fault, and gives the fault or, where that fails, a failed write. What a failed
-// write left isn't tried again.
+// Hands on the lines that were written before the fault, and returns the fault or, where that fails, a failed write.
+// What a failed write left isn't tried again.
 fn handed_on<O: Output>(out: &mut O, fault: Fault) -> Fault
     ensures kept { Keeps (O.contents out.old) (O.contents out.new) }
     ensures fault { (result ≡ fault) ⊎ (O.may_fail × (result ≡ Log WriteFailed)) }
@@ -64,8 +64,8 @@ fn handed_on<O: Output>(out: &mut O, fault: Fault) -> Fault
     }
 }
 
-/// Answers the log on `out`: its entries, whose sums it gives, or its events by so many fronts as the word tells. At a fault the
-/// lines before it were handed on.
+/// Answers the log on `out`: its entries, whose sums it returns, or its events, by as many fronts as the word says. At
+/// a fault, the lines before it were handed on.
 pub fn dispatch<F: OpenFile, O: Output>(
     alloc: Global,
     opened: OpenLog<F>,
@@ -82,7 +82,7 @@ pub fn dispatch<F: OpenFile, O: Output>(
     }
 }
 
-// Answers the log's entries, and gives their sums.
+// Answers the log's entries, and returns their sums.
 fn dispatch_entries<F: OpenFile, O: Output>(
     alloc: Global,
     opened: OpenLog<F>,
@@ -106,7 +106,7 @@ fn dispatch_entries<F: OpenFile, O: Output>(
     }
 }
 
-// Answers the log's events by so many fronts as the word tells.
+// Answers the log's events, by as many fronts as the word says.
 fn dispatch_events<F: OpenFile, O: Output>(
     alloc: Global,
     opened: OpenLog<F>,

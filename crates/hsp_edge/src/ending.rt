@@ -9,7 +9,7 @@ use crate::output::Output;
 use hsp_runs::{fault_line, status_of, sums_line};
 use std::alloc::{AllocError, Global};
 
-/// The line that is told at the end: of a refused input, or of the sums of a log; else no octets.
+/// The line that is printed at the end: that of a refused input, or that of the sums of a log, and otherwise no octets.
 pub fn last_line(alloc: Global, ended: &Result<Completed, Failure>) -> Result<Vec<u8>, AllocError>
     ensures { IfOk result (λ line. line.items ≡ last_text ended.now) }
 {
@@ -23,7 +23,7 @@ pub fn last_line(alloc: Global, ended: &Result<Completed, Failure>) -> Result<Ve
     }
 }
 
-// Writes a text, and gives the status, which becomes 5 where the write failed.
+// Writes a text, and returns the status, which becomes 5 where the write failed.
 fn write_line<E: Output>(errors: &mut E, line: &[u8], status: u8) -> u8
     ensures { TellsBy E.may_fail line.now status (E.contents errors.old)
         (E.contents errors.new) result }
@@ -34,7 +34,7 @@ fn write_line<E: Output>(errors: &mut E, line: &[u8], status: u8) -> u8
     }
 }
 
-// Writes the line or, where memory ran out for it, that it ran out, and gives the status to end with.
+// Writes the line or, where memory ran out for it, that it ran out, and returns the status to end with.
 fn tell_line<E: Output>(errors: &mut E, line: &Result<Vec<u8>, AllocError>, status: u8) -> u8
     ensures { TellsLine E.may_fail line.now status (E.contents errors.old)
         (E.contents errors.new) result }
@@ -45,7 +45,7 @@ fn tell_line<E: Output>(errors: &mut E, line: &Result<Vec<u8>, AllocError>, stat
     }
 }
 
-// Tells of the failure, of a refused input by the line, and gives the status to end with.
+// Reports the failure, of a refused input by the line, and returns the status to end with.
 fn tell<E: Output>(errors: &mut E, failure: &Failure, line: &Result<Vec<u8>, AllocError>) -> u8
     ensures { Tells E.may_fail failure.now line.now (E.contents errors.old)
         (E.contents errors.new) result }
@@ -59,8 +59,10 @@ fn tell<E: Output>(errors: &mut E, failure: &Failure, line: &Result<Vec<u8>, All
     }
 }
 
-/// Gives the status that the program ends with. Before that it tells on `errors`, by `line`, the sums of a log or a refused input,
-/// and any other failure by its own text; where memory ran out for the line, it tells that.
+/// Returns the status that the program ends with.
+///
+/// Before that it writes on `errors`. By `line` it reports the sums of a log or a refused input, and any other failure
+/// by its own text. Where memory ran out for the line, it reports that.
 pub fn end_with<E: Output>(
     errors: &mut E,
     ended: &Result<Completed, Failure>,

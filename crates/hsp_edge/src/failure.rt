@@ -11,7 +11,7 @@ use std::alloc::AllocError;
 /// Why a command has no answer.
 #[derive(Debug, Drop)]
 pub enum Failure {
-    /// The words are no command.
+    /// The words are not a command.
     Usage,
     /// Memory ran out.
     Memory,

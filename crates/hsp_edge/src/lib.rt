@@ -1,4 +1,5 @@
-// The edge of the program: its words, the files behind their paths, answers and the lines of logs on standard output, and how it ends.
+// The edge of the program: its words, the files behind their paths, answers and the lines of logs on standard output,
+// and how it ends.
 #![tactic(auto)]
 
 mod answer;

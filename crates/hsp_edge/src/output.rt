@@ -17,7 +17,8 @@ pub trait Output: Write {
         ensures kept { Keeps (Self.contents self.old) (Self.contents self.new) }
         ensures fails { OnErr result may_fail };
 
-    /// Writes the whole text, and hands it on. Where a write fails, a beginning of the text stands there, and nothing is tried again.
+    /// Writes the whole text, and hands it on. Where a write fails, a beginning of the text was written, and nothing is
+    /// tried again.
     fn put(&mut self, text: &[u8]) -> Result<(), WriteFailed>
         ensures { Puts may_fail text.now (Self.contents self.old) (Self.contents self.new) result };
 }

@@ -62,7 +62,8 @@ fn words_from(
     }
 }
 
-/// The words of the command: the arguments or, without any, those of the first line of standard input, which isn't read else.
+/// The words of the command: the arguments or, without any, those of the first line of standard input. Standard input
+/// isn't read otherwise.
 pub fn take_words<R: Env + Input + AllocGlobal>(rt: &R) -> Result<Vec<String>, Failure> {
     let arguments = arguments(rt)?;
     let line = if arguments.is_empty() {

@@ -4,7 +4,7 @@ use Rattle.hsp_instance.specs.Instance.{Instance}
 use Rattle.hsp_instance.specs.Groups.{Groups, AreGroups}
 use Rattle.hsp_mincost.specs.Nodes.{MayHaveUpTo}
 
--- the sink, the hosts and the servers, and so many groups
+-- the sink, the hosts and the servers, and `groups` groups
 abbrev pub nodes_by : Instance → ℕ → ℕ
 nodes_by it groups = groups + length it.servers + length it.hosts + 1
 

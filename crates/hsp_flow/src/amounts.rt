@@ -9,7 +9,7 @@ use crate::arcs::{ArcColumns, row_columns};
 use hsp_instance::{Instance, capacities_of, counts_of, homes_of, limits_of};
 use std::alloc::{AllocError, Global};
 
-/// The lists of a network: a number for each row, each server, each host, and three for each arc.
+/// The lists of a network: one number for each row, each server and each host, and three for each arc.
 #[derive(Drop)]
 pub(crate) struct TransportLists {
     pub(crate) demands: Vec<u64>,

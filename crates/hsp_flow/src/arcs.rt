@@ -17,7 +17,7 @@ pub(crate) struct ArcColumns {
 }
 
 impl ArcColumns {
-    /// Of no arc yet, with room for so many.
+    /// No arcs yet, with room for `room` of them.
     pub(crate) fn with_room(alloc: Global, room: usize) -> Result<ArcColumns, AllocError>
         ensures { IfOk result (AreColumns []) }
     {

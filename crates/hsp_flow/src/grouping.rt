@@ -7,8 +7,8 @@ use crate::arcs::ArcColumns;
 use hsp_instance::{Arc, Groups, Instance};
 use std::alloc::{AllocError, Global};
 
-/// The lists of the network whose sources are the groups of rows: what the rows of each ask for together, the arcs, each group's
-/// those of its first row, and where those of each group begin.
+/// The lists of the network whose sources are the groups of rows: what the rows of each group ask for together, the
+/// arcs of each group, which are those of its first row, and where the arcs of each group begin.
 #[derive(Drop)]
 pub(crate) struct GroupLists {
     pub(crate) demands: Vec<u64>,

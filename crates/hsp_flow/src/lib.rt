@@ -1,5 +1,6 @@
-// The planner: for every instance a certificate that is valid, a cheapest plan with prices or a short set of rows. Its rows are
-// the sources of a transportation network; the outcome is one that was proposed and accepted, or else that of the searches.
+// The planner: for every instance a valid certificate, which is a cheapest plan with prices or a short set of rows. The
+// rows are the sources of a transportation network. The outcome is one that was proposed and accepted, or otherwise
+// that of the searches.
 #![tactic(auto)]
 
 mod amounts;

@@ -26,7 +26,8 @@ use hsp_network::{Network, NetworkLists, Outcome, accepts};
 use hsp_simplex::{SimplexEffort, propose_counted};
 use std::alloc::{AllocError, Global};
 
-/// How much work a run took: its searches, the accepted proposals of the network simplex, and the pivots of all that were made.
+/// How much work a run took: its searches, the accepted proposals of the network simplex, and the pivots of all
+/// proposals that were made.
 #[derive(Clone, Copy, Default)]
 pub struct Effort {
     pub searching: SearchEffort,
@@ -107,7 +108,8 @@ fn solve_rows<F: Frontier>(
     minimum_cost_flow::<F>(alloc, &network, effort)
 }
 
-// What the searches find for the groups, spread over their rows; None where the loop has no room for the groups' network.
+// What the searches find for the groups, spread over their rows, or None where the loop has no room for the groups'
+// network.
 fn propose_by_groups<F: Frontier>(
     alloc: Global,
     instance: &Instance,
@@ -204,7 +206,8 @@ fn accepted_proposal(
     Ok(found)
 }
 
-// What becomes of the rows' network: what is proposed, where it is accepted, and else what the loop of searches finds.
+// What becomes of the rows' network: what is proposed, where it is accepted, and otherwise what the loop of searches
+// finds.
 fn solve_proposed_rows(
     alloc: Global,
     instance: &Instance,
@@ -244,7 +247,7 @@ fn certify(
     }
 }
 
-/// As [`solve_with`], and adds to `effort` the work that it took: no clause speaks of those counts.
+/// Does as [`solve_with`], and adds the work that it took to `effort`. No clause speaks of those counts.
 pub fn solve_counted<F: Frontier>(
     alloc: Global,
     instance: &Instance,
@@ -259,11 +262,12 @@ pub fn solve_counted<F: Frontier>(
     certify(alloc, instance, &rows, outcome)
 }
 
-/// A valid certificate for the instance: a plan that meets every row within all capacities and limits at the least cost, with
-/// prices that show it, or a short set of rows. `F` is the frontier of the searches; its nodes are the groups of rows, the
-/// servers, the hosts and one more.
+/// A valid certificate for the instance: a plan that meets every row within all capacities and limits at the least
+/// cost, with prices that show it, or a short set of rows.
 ///
-/// No price is above the greatest cost of an arc for each row, server and host, and once more.
+/// `F` is the frontier of the searches. Its nodes are the groups of rows, the servers, the hosts and one more.
+///
+/// No price is above N + 1 times the greatest cost of an arc, where N counts the rows, servers and hosts.
 pub fn solve_with<F: Frontier>(
     alloc: Global,
     instance: &Instance,
@@ -276,7 +280,7 @@ pub fn solve_with<F: Frontier>(
     solve_counted::<F>(alloc, instance, &mut effort)
 }
 
-/// As [`solve`], and adds to `effort` the work that it took: no clause speaks of those counts.
+/// Does as [`solve`], and adds the work that it took to `effort`. No clause speaks of those counts.
 pub fn solve_proposed(
     alloc: Global,
     instance: &Instance,
@@ -290,7 +294,8 @@ pub fn solve_proposed(
     certify(alloc, instance, &rows, outcome)
 }
 
-/// As [`solve_with`] with [`HeapFrontier`], but takes what the network simplex method proposes where the test accepts it.
+/// Does as [`solve_with`] with [`HeapFrontier`], but takes what the network simplex method proposes where the test
+/// accepts it.
 pub fn solve(alloc: Global, instance: &Instance) -> Result<Certificate, AllocError>
     ensures valid { IfOk result (IsValid (network_of instance.now)) }
     ensures low { IfOk result (HasLimitedPrices (network_of instance.now)) }

@@ -1,4 +1,4 @@
-// The certificate of sources that demand more than all that they can reach takes.
+// The certificate of sources that demand more than all that they can reach can take.
 
 ghost use Rattle.std.specs.Prelude.{◌≡◌, ◌<◌, ◌^◌, IfOk, length};
 ghost use Rattle.hsp_cert.specs.Certificate.{IsShort as CertifiesShort};

@@ -6,7 +6,7 @@ ghost use Rattle.hsp_mincost.specs.Layout.{IsSmall};
 
 use hsp_network::{Network, greatest};
 
-// Whether twice so many arcs in turn cost less than the greatest number.
+// Whether a cost, twice multiplied by the number of nodes, is less than the greatest number.
 fn are_cheap(nodes: u64, costs: &[u64]) -> bool
     ensures { IsTrue result → (k : ℕ) → k < length costs.now
         → nodes * (nodes * slice_index costs.now k) < 18446744073709551615 }

@@ -1,4 +1,4 @@
-// What is found for groups, spread over their rows. Whether it is right for the rows is for the test to tell.
+// What is found for groups, spread over their rows. The test decides whether it is right for the rows.
 
 ghost use Rattle.std.specs.Prelude.{◌≤◌};
 ghost use Rattle.hsp_instance.specs.Groups.{AreGroups};
@@ -8,7 +8,8 @@ use hsp_instance::{Groups, Instance};
 use hsp_network::{Outcome, PricedFlow};
 use std::alloc::{AllocError, Global};
 
-// Takes what is needed of what is left at a place, or all that is left there. How much that is, 0 where there is no such place.
+// Takes what is needed of what is left at a place, or all that is left there. Returns how much that is, 0 where there
+// is no such place.
 fn take(left: &mut [u64], place: usize, need: u64) -> u64
     ensures { result ≤ need }
 {
@@ -20,7 +21,7 @@ fn take(left: &mut [u64], place: usize, need: u64) -> u64
     taken
 }
 
-// Appends the flow of each arc of a row, so many arcs: as much of what is left of its group's arc as the row still needs.
+// Appends the flow of each of a row's `arcs` arcs: as much of what is left of its group's arc as the row still needs.
 fn push_flows(
     flows: &mut Vec<u64>,
     left: &mut [u64],
@@ -84,8 +85,8 @@ fn spread_each<T: Copy>(
     Ok(each)
 }
 
-/// What becomes of the rows by what becomes of their groups: a row has its group's price, and takes of its group's flows what it
-/// needs; the rows of a short set's groups are short.
+/// What becomes of the rows, by what becomes of their groups. A row has its group's price, and takes what it needs of
+/// its group's flows. The rows of a short set's groups are short.
 pub(crate) fn spread(
     alloc: Global,
     instance: &Instance,

@@ -292,7 +292,7 @@ fn is_plan(
     Ok(made.is_some())
 }
 
-// Whether so many prices of each kind, each this one, can stand in a certificate.
+// Whether that many prices of each kind, each this one, can stand in a certificate.
 fn are_prices(alloc: Global, counts: [usize; 3], price: u64) -> Result<bool, AllocError> {
     let one = use_of(0, 0, 1);
     is_plan(
@@ -379,7 +379,7 @@ fn uses_stand_in_order(rt: HostRuntime) {
     }
 }
 
-// A plan of one use, with two row prices and three server prices. None stands for want of memory.
+// A plan of one use, with two row prices and three server prices. None means that memory ran out.
 fn small_plan(alloc: Global, one: UseLine) -> Option<Certificate> {
     let uses = one_use(alloc, one).ok()?;
     let row_prices = prices(alloc, 2, 7).ok()?;
@@ -467,7 +467,7 @@ fn all_uses(alloc: Global) -> Result<Vec<UseLine>, AllocError> {
     Ok(uses)
 }
 
-// The largest certificate. None stands for want of memory.
+// The largest certificate. None means that memory ran out.
 fn largest(alloc: Global) -> Option<Certificate> {
     let most = 1_000_000_000_000;
     let uses = all_uses(alloc).ok()?;

@@ -57,7 +57,7 @@ fn write_record(out: &mut Vec<u8>, record: &ByteRecord) -> Result<(), AllocError
     out.extend_from_slice(b"\n")
 }
 
-// Writes the first ten records that a reader gives, and tells the fault at which it stopped.
+// Writes the first ten records that a reader gives, and returns the fault at which it stopped.
 fn write_ten<R: Read>(
     reader: &mut Reader<R>,
     record: &mut ByteRecord,
@@ -79,8 +79,8 @@ fn write_ten<R: Read>(
     None
 }
 
-// The same of a text. Where the fault is want of memory, the tests read once more: where one growth is refused, the second reading is
-// that of ample memory.
+// The same of a text. Where memory ran out, the tests read once more: where one growth is refused, the second reading
+// is that of ample memory.
 fn first_ten<R: Read + Drop>(alloc: Global, text: R, out: &mut Vec<u8>) -> Option<RecordsFault> {
     let mut reader = read_records(alloc, text);
     let mut record = ByteRecord::new(alloc);

@@ -1,4 +1,5 @@
-// Tests of texts, names, hashes, records, tables and certificates: what each public call answers, and what no contract says.
+// Tests of texts, names, hashes, records, tables and certificates: what each public call answers, and what no contract
+// says.
 #![tactic(auto)]
 
 #[cfg(test)]

@@ -41,7 +41,8 @@ fn joined(rt: &impl Abort, alloc: Global, parts: &[&[u8]]) -> Vec<u8> {
     }
 }
 
-// A call that tells want of memory is made once more: where one growth is refused, the second answer is that of ample memory.
+// A call for which memory ran out is made once more: where one growth is refused, the second answer is that of ample
+// memory.
 fn site_of(alloc: Global, octets: &[u8]) -> Result<SiteRecord, RecordFault> {
     match decode_site(alloc, octets) {
         Err(RecordFault::OutOfMemory) => decode_site(alloc, octets),
@@ -169,7 +170,7 @@ fn site_faults_are_told(rt: HostRuntime) {
     is_cut(&rt, &17, site_fault(rt.alloc(), &octets[..17]), 16);
 }
 
-// Where the last of the fields begins that a text of so many octets reaches.
+// Where the last of the fields begins that a text of `len` octets reaches.
 fn last_field(fields: &[usize], len: usize) -> usize {
     let mut at = 0;
     for field in fields {

@@ -432,7 +432,7 @@ fn capacity_at_the_limits(rt: HostRuntime) {
     }
 }
 
-// The settings of so many numbered tables have the fault, if any.
+// The settings of that many numbered tables have the fault, if any.
 fn are_settings(
     rt: &impl Abort,
     alloc: Global,

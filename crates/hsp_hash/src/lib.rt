@@ -1,4 +1,5 @@
-// The server that is responsible for a handle within a site: hash options, digests and places (RFC 3652, section 3.1.3).
+// The server that is responsible for a handle within a site: hash options, digests and places (RFC 3652, section
+// 3.1.3).
 #![tactic(auto)]
 
 mod digest;

@@ -16,7 +16,7 @@ pub enum HashOption {
 impl HashOption {
     ghost use Rattle.hsp_hash.specs.Option.{option_of};
 
-    /// The option that the octet stands for, or None where it stands for none.
+    /// The hash option of the octet, or None where the octet stands for no option.
     pub fn of_octet(octet: u8) -> Option<HashOption>
         ensures { result ≡ option_of octet }
     {

@@ -9,8 +9,8 @@ use crate::option::HashOption;
 use byteorder::{BigEndian, ByteOrder};
 use hsp_names::HandleRef;
 
-/// The last 4 octets of a digest, read as a signed integer with the most significant octet first; its absolute value modulo
-/// the number of servers.
+/// Reads the last 4 octets of a digest as a signed integer, with the most significant octet first, and returns its
+/// absolute value modulo the number of servers.
 pub fn number_of_digest(digest: &[u8; 16], servers: u32) -> u32
     requires { 0 < servers }
     ensures place { result ≡ place_of_digest digest.now servers }
@@ -20,8 +20,8 @@ pub fn number_of_digest(digest: &[u8; 16], servers: u32) -> u32
     number.unsigned_abs() % servers
 }
 
-/// The place, counted from 0, of the server that is responsible for the handle, among the server records of a site with this
-/// hash option (RFC 3652, section 3.1.3).
+/// The place of the server that is responsible for the handle, counted from 0, among the server records of a site with
+/// this hash option (RFC 3652, section 3.1.3).
 pub fn server_number(option: HashOption, handle: HandleRef<'_>, servers: u32) -> u32
     requires { 0 < servers }
     ensures place { result ≡ server_place option (octets_of handle.entry) servers }

@@ -3,12 +3,12 @@ use Rattle.std.specs.Prelude.{◌≡◌, ◌<◌, ◌↔◌, ℕ, List, length, 
 use Rattle.std.specs.List.{AllByRecursion, slice_get}
 use Rattle.hsp_instance.specs.Instance.{Instance}
 
--- so many groups, and the group of each row
+-- `count` groups, and the group of each row
 pub record Groups : Type 0 where
   pub count : ℕ
   pub of_rows : List ℕ
 
--- the group of each row is one of so many
+-- the group of each row is one of `count`
 abbrev pub AreBelow : ℕ → List ℕ → Type 0
 AreBelow count of_rows = AllByRecursion (λ group. group < count) of_rows
 

@@ -9,7 +9,7 @@ use Rattle.hsp_text.specs.Name.{is_name}
 use Rattle.hsp_text.specs.declared.limits.TheConstants.{GREATEST_CAPACITY, GREATEST_COST, GREATEST_COUNT, GREATEST_LIMIT, MOST_DEMAND_ROWS, MOST_HOSTS, MOST_REGIONS, MOST_SERVERS, MOST_SITES}
 use Rattle.hsp_instance.specs.declared.arc.Arc.{Arc}
 
--- so many queries for a handle, from a region
+-- `count` queries for a handle, from a region
 pub record Row : Type 0 where
   pub region : List ℕ
   pub handle : List ℕ
@@ -130,7 +130,7 @@ pub record AreHosts (hosts : List Host) : Type 0 where
   pub addressed : AllByRecursion IsAddressed hosts
   pub apart : IsDistinct same_address hosts
 
--- the host that a server stands on is one of so many
+-- the host that a server stands on is one of that many
 abbrev pub IsHostOf : ℕ → Option ℕ → Type 0
 IsHostOf hosts None = ⊤
 IsHostOf hosts (Some host) = host < hosts

@@ -2,7 +2,7 @@
 
 use std::hash::Hash;
 
-/// That the queries of a row may go to a site, to the server that is responsible for the row's handle there.
+/// An arc of a row: the row's queries may go to a site, to the server that is responsible for the row's handle there.
 #[derive(Clone, Copy, Debug, PartialEq, Eq, Hash)]
 pub struct Arc {
     /// The number of the site.

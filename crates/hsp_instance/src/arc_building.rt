@@ -78,7 +78,7 @@ fn arcs_by(
     Ok(ArcList { arcs })
 }
 
-// The arcs of a row. What queries from its region cost is put among what is known, where it is not there yet.
+// The arcs of a row. The costs of its region are added to those that are known, where they are not there yet.
 fn arcs_of_row(
     alloc: Global,
     known: &mut RegionCosts,

@@ -60,8 +60,9 @@ fn instance_with(
 
 /// The instance of settings, the value list that they may refer to, demand, costs and capacities.
 ///
-/// The first fault is answered: those of the sites as [`build_sites`] has them; then, row by row, UnknownSite of the costs; then, row
-/// by row, UnknownSite and UnknownServer of the capacities; then, by site and place, NoCapacity.
+/// The first fault is returned, in this order: the faults of the sites, as [`build_sites`] has them; then, row by row,
+/// UnknownSite of the costs; then, row by row, UnknownSite and UnknownServer of the capacities; then, by site and
+/// place, NoCapacity.
 pub fn build(
     alloc: Global,
     settings: &Settings,

@@ -24,7 +24,7 @@ fn site_named<'a>(sites: &'a [Site], name: &[u8]) -> Option<&'a Site>
     None
 }
 
-// That the sites of all costs are there.
+// Checks that the sites of all costs are there.
 #[tactic(auto, using(crate::proofs::Lists::drop_at))]
 pub(crate) fn check_costs(sites: &[Site], costs: &Costs) -> Result<(), BuildFault>
     ensures fault { Gives (λ u. u) result (unless (cost_fault sites.now 0 costs.now)) }
@@ -42,7 +42,7 @@ pub(crate) fn check_costs(sites: &[Site], costs: &Costs) -> Result<(), BuildFaul
     Ok(())
 }
 
-// That the site of a row of the capacities is there, and has the row's server.
+// Checks that the site of a row of the capacities is there, and has the row's server.
 fn check_capacity(row: u32, id: u32, site: Option<&Site>) -> Result<(), BuildFault>
     ensures { Gives (λ u. u) result
         (unless (capacity_row_fault row id (option_map (λ s. s.now) site.entry))) }
@@ -59,7 +59,7 @@ fn check_capacity(row: u32, id: u32, site: Option<&Site>) -> Result<(), BuildFau
     Ok(())
 }
 
-// That the sites and servers of all capacities are there.
+// Checks that the sites and servers of all capacities are there.
 #[tactic(auto, using(crate::proofs::Lists::drop_at))]
 pub(crate) fn check_capacities(sites: &[Site], capacities: &Capacities) -> Result<(), BuildFault>
     ensures fault { Gives (λ u. u) result (unless (capacity_fault sites.now 0 capacities.now)) }

@@ -33,7 +33,7 @@ pub fn capacities_of(alloc: Global, instance: &Instance) -> Result<Vec<u64>, All
     Ok(capacities)
 }
 
-/// The host of each server, None where it stands on no listed host.
+/// The host of each server, or None where it stands on no listed host.
 pub fn homes_of(alloc: Global, instance: &Instance) -> Result<Vec<Option<u32>>, AllocError>
     ensures homes { IfOk result (λ homes. homes.items ≡ map (λ s. s.host) instance.now.servers) }
     ensures few { IfOk result (λ homes. length homes.items ≤ MOST_SERVERS) }

@@ -1,4 +1,4 @@
-// The digests of a handle, each made once: all sites of a hash option go by the same.
+// The digests of a handle. Each is made once: all sites with the same hash option use the same digest.
 
 ghost use Rattle.std.specs.Prelude.{◌≡◌, ◌<◌, IfSome};
 ghost use Rattle.hsp_hash.specs.Place.{digest, server_place};
@@ -66,7 +66,8 @@ impl<'a> Digests<'a> {
         made
     }
 
-    /// The place of the server that is responsible for the handle, among so many of a site with this hash option.
+    /// The place of the server that is responsible for the handle, among the `servers` servers of a site with this hash
+    /// option.
     pub(crate) fn place(&mut self, option: HashOption, servers: u32) -> u32
         requires { 0 < servers }
         ensures place { result ≡ server_place option self.old servers }

@@ -20,9 +20,9 @@ pub enum BuildFault {
     NoValue { site: u32 },
     /// The value of the site's index is not of the type `HS_SITE`.
     NotSiteValue { site: u32 },
-    /// The octets of the site are no site record.
+    /// The octets of the site are not a site record.
     BadRecord { site: u32, fault: RecordFault },
-    /// The octet of the site's HashOption stands for none.
+    /// The octet of the site's HashOption stands for no hash option.
     BadHashOption { site: u32 },
     /// The site has no server.
     NoServer { site: u32 },

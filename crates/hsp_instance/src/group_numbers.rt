@@ -5,7 +5,8 @@ ghost use Rattle.hsp_instance.specs.Groups.{AreBelow};
 
 use std::marker::Model;
 
-/// The groups of the rows of an instance. Two rows are in one group exactly where their regions and their arcs are equal.
+/// The groups of the rows of an instance. Two rows are in one group exactly where their regions and their arcs are
+/// equal.
 ///
 /// Groups are numbered from 0 on, in the order in which they are first seen.
 #[derive(Debug, Drop)]
@@ -32,7 +33,7 @@ impl Groups {
         self.count
     }
 
-    /// The number of the group of the row of a number below that of the rows.
+    /// The number of the group of the row with this number, which is below the number of rows.
     pub fn of(&self, row: u32) -> u32
         requires { row < length self.now.of_rows }
         ensures group { slice_get self.now.of_rows row ≡ Some result }

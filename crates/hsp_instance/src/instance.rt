@@ -106,7 +106,7 @@ impl Instance {
         self.rows.len() as u32
     }
 
-    /// The region, the handle and the count of the row of a number below [`Instance::rows`].
+    /// The region, the handle and the count of the row with this number, which is below [`Instance::rows`].
     pub fn row(&self, row: u32) -> (&[u8], &[u8], u64)
         requires { row < length self.now.rows }
         ensures { slice_get self.now.rows row
@@ -123,7 +123,8 @@ impl Instance {
         &self.sites
     }
 
-    /// How many servers there are: those of each site after those of the sites before it, in the order of the site's record.
+    /// How many servers there are. The servers of each site come after those of the sites before it, in the order of
+    /// the site's record.
     pub fn servers(&self) -> u32
         ensures count { result ≡ length self.now.servers }
         ensures within { IsInstance self.now }
@@ -131,8 +132,8 @@ impl Instance {
         self.servers.len() as u32
     }
 
-    /// The number of the site, the place there, the identifier and the capacity of the server of a number below
-    /// [`Instance::servers`].
+    /// The number of the site, the place there, the identifier and the capacity of the server with this number, which
+    /// is below [`Instance::servers`].
     pub fn server(&self, server: u32) -> (u32, u32, u32, u64)
         requires { server < length self.now.servers }
         ensures site { option_map (λ s. s.site) (slice_get self.now.servers server)
@@ -147,8 +148,8 @@ impl Instance {
         (server.site, server.place, server.id, server.capacity)
     }
 
-    /// The number of the host that the server of a number below [`Instance::servers`] stands on, and None where it stands on no
-    /// host that is listed.
+    /// The number of the host that the server stands on, or None where it stands on no listed host. The server's number
+    /// is below [`Instance::servers`].
     pub fn host_of(&self, server: u32) -> Option<u32>
         requires { server < length self.now.servers }
         ensures { option_map (λ s. s.host) (slice_get self.now.servers server) ≡ Some result }
@@ -165,7 +166,7 @@ impl Instance {
         self.hosts.len() as u32
     }
 
-    /// The address and the limit of the host of a number below [`Instance::hosts`].
+    /// The address and the limit of the host with this number, which is below [`Instance::hosts`].
     pub fn host(&self, host: u32) -> ([u8; 16], u64)
         requires { host < length self.now.hosts }
         ensures { slice_get self.now.hosts host
@@ -175,7 +176,7 @@ impl Instance {
         (host.address, host.limit)
     }
 
-    /// The arcs of the row of a number below [`Instance::rows`], in ascending order of their sites.
+    /// The arcs of the row with this number, in ascending order of their sites. The number is below [`Instance::rows`].
     pub fn arcs(&self, row: u32) -> &[Arc]
         requires { row < length self.now.rows }
         ensures { slice_get self.now.arcs row ≡ Some result.now }
@@ -184,7 +185,7 @@ impl Instance {
         list.arcs.as_slice()
     }
 
-    /// The number of the row of a region and a handle, and None where there is none.
+    /// The number of the row with this region and handle, or None where there is no such row.
     pub fn find_row(&self, region: &[u8], handle: &[u8]) -> Option<u32>
         ensures { result ≡ position (has_keys region.now handle.now) self.now.rows }
     {

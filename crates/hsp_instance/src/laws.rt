@@ -2,9 +2,12 @@
 
 ghost use Rattle.hsp_instance.specs.Parts.{BuiltHasItsParts};
 
-/// The instance of five inputs, part by part: its rows are those of the demand; a server stands at its number, after those of the
-/// sites before it, with the capacity of the row of its site and identifier, on the host of its address; a row has an arc to a site
-/// exactly where its region has a cost there, and it goes to the server that is responsible for the row's handle.
+/// The instance of five inputs, part by part:
+/// - Its rows are those of the demand.
+/// - A server stands at its number, after the servers of the sites before it. It has the capacity of the row with its
+///   site and identifier, and stands on the host with its address.
+/// - A row has an arc to a site exactly where its region has a cost there. The arc goes to the server that is
+///   responsible for the row's handle.
 pub fn built_has_its_parts()
     ensures { BuiltHasItsParts }
 {}

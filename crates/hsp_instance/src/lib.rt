@@ -1,5 +1,5 @@
-// An instance of the planning of loads: the rows of demand, the sites and their servers, the hosts, and the arcs by which
-// the queries of a row may go to a site, as settings, values and tables define them.
+// An instance of the planning of loads: the rows of demand, the sites and their servers, the hosts, and the arcs by
+// which the queries of a row may go to a site. Settings, values and tables define it.
 #![tactic(auto)]
 
 mod arc;

@@ -9,7 +9,7 @@ use hsp_tables::Costs;
 use indexmap::IndexMap;
 use std::alloc::{AllocError, Global};
 
-// For each region that was sought what a query from there costs at each site.
+// For each region that was sought: what a query from there costs at each site.
 pub(crate) type RegionCosts = IndexMap<Vec<u8>, Vec<Option<u64>>>;
 
 // What a query from a region costs at each site.
@@ -29,7 +29,7 @@ fn costs_at(
     Ok(found)
 }
 
-// The place of the costs of a region among those that are known, where they are added if need be.
+// The place of the region's costs among those that are known. They are added if they are not there yet.
 pub(crate) fn place_of(
     alloc: Global,
     known: &mut RegionCosts,

@@ -18,7 +18,8 @@ use std::alloc::{AllocError, Global};
 use std::hash::{Hash, Hasher};
 use std::marker::Model;
 
-// The region and the handle by which a row is found. Their octets lie one after the other, so that a lookup reads one place.
+// The region and the handle by which a row is found. Their octets lie one after the other, so that a lookup reads one
+// place.
 #[derive(Drop)]
 struct RowKey {
     octets: Vec<u8>,
@@ -135,7 +136,7 @@ impl Model for Rows {
 }
 
 impl Rows {
-    // No rows, and room for so many.
+    // No rows, with room for `most` of them.
     pub(crate) fn with_room(alloc: Global, most: usize) -> Result<Rows, BuildFault>
         ensures ok { IfOk result (λ rows. rows ≡ []) }
         ensures err { IfErr result (λ e. e ≡ OutOfMemory) }

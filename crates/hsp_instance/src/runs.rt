@@ -6,8 +6,9 @@ ghost use Rattle.hsp_instance.specs.Runs.{AreRuns, Ascends, Parts};
 use std::alloc::{AllocError, Global};
 use std::marker::Model;
 
-/// Where the run of each group begins and ends in a list that is sorted by its groups, which are numbered from 0 on: the
-/// entries of a group are those from its beginning up to that of the next.
+/// Where the run of each group begins and ends in a list that is sorted by its groups.
+///
+/// Groups are numbered from 0 on. The entries of a group are those from its beginning up to the beginning of the next.
 #[derive(Debug, Drop)]
 pub struct Runs {
     starts: Vec<usize>,
@@ -38,7 +39,7 @@ fn first_from(numbers: &[u32], start: usize, group: u32) -> usize
     place
 }
 
-// The first place of each group below `groups`, and behind the last the end of the list.
+// The first place of each group below `groups`, and after these the end of the list.
 fn starts_of(alloc: Global, numbers: &[u32], groups: u32) -> Result<Vec<usize>, AllocError>
     requires ascends { Ascends numbers.now }
     requires few { groups + 1 < 4294967296 }
@@ -66,7 +67,7 @@ impl Runs {
         Ok(Runs { starts })
     }
 
-    /// No run yet: the first begins at 0.
+    /// No runs yet. The first one begins at 0.
     pub fn new(alloc: Global) -> Result<Runs, AllocError>
         ensures { IfOk result (λ runs. runs ≡ 0 ∷ []) }
     {
@@ -75,8 +76,8 @@ impl Runs {
         Ok(Runs { starts })
     }
 
-    /// Ends the run of the next group at this place, where that of the group after it begins. A call that is refused changes
-    /// nothing.
+    /// Ends the run of the next group at this place, where the run of the group after it begins. A call that is refused
+    /// changes nothing.
     pub fn end_at(&mut self, end: usize) -> Result<(), AllocError>
         ensures end { OnOk result (self.new ≡ self.old ++ end ∷ []) }
         ensures refused { OnErr result (self.new ≡ self.old) }
@@ -101,7 +102,7 @@ impl Runs {
         (self.starts[group], self.starts[group + 1])
     }
 
-    /// Where each run begins, and behind the last where it ends.
+    /// Where each run begins, and after these where the last one ends.
     pub fn starts(&self) -> &[usize]
         ensures { result.now ≡ self.now }
     {

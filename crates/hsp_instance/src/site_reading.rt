@@ -89,7 +89,7 @@ fn has_id_twice(servers: &[SiteServer]) -> bool
     false
 }
 
-// A site of so many servers after those before it, if it is as it should be.
+// The site, if it is as it should be. The sites before it have `before` servers together.
 fn checked_site(number: u32, before: u32, site: Site) -> Result<Site, BuildFault>
     requires start { before ≤ MOST_SERVERS }
     requires few { length site.servers ≤ MOST_SERVERS }
@@ -156,8 +156,9 @@ fn site_in(
 
 /// The sites of the settings, by their records.
 ///
-/// Sites in turn, each is tried for NoValue, also where no value list was given, NotSiteValue, BadRecord, BadHashOption,
-/// NoServer, ServerIdTwice and then TooManyServers: its servers with those of the sites before it are more than 1,024.
+/// Each site in turn is tested for these faults in this order: NoValue (also where no value list was given),
+/// NotSiteValue, BadRecord, BadHashOption, NoServer, ServerIdTwice and TooManyServers (its servers and those of the
+/// sites before it are more than 1,024).
 pub fn build_sites(
     alloc: Global,
     settings: &Settings,

@@ -42,9 +42,9 @@ impl Model for Site {
     } };
 }
 
-/// Sites, each of a name, a hash option and one or more servers.
+/// Sites, each with a name, a hash option and one or more servers.
 ///
-/// There are at most 32 sites, and they have at most 1,024 servers.
+/// There are at most 32 sites, and they have at most 1,024 servers together.
 #[derive(Debug, Drop)]
 pub struct Sites {
     pub(crate) sites: Vec<Site>,
@@ -73,7 +73,7 @@ impl Sites {
         self.sites.len() as u32
     }
 
-    /// The name of the site of a number below [`Sites::len`].
+    /// The name of the site with this number, which is below [`Sites::len`].
     pub fn name(&self, site: u32) -> &[u8]
         requires { site < length self.now }
         ensures { option_map (λ s. s.name) (slice_get self.now site) ≡ Some result.now }
@@ -82,7 +82,7 @@ impl Sites {
         site.name.as_slice()
     }
 
-    /// The hash option of the site of a number below [`Sites::len`].
+    /// The hash option of the site with this number, which is below [`Sites::len`].
     pub fn option(&self, site: u32) -> HashOption
         requires { site < length self.now }
         ensures { option_map (λ s. s.option) (slice_get self.now site) ≡ Some result }
@@ -91,7 +91,7 @@ impl Sites {
         site.option
     }
 
-    /// How many servers the site of a number below [`Sites::len`] has.
+    /// How many servers the site with this number has. The number is below [`Sites::len`].
     pub fn server_count(&self, site: u32) -> u32
         requires { site < length self.now }
         ensures { option_map (λ s. length s.servers) (slice_get self.now site) ≡ Some result }
@@ -100,8 +100,8 @@ impl Sites {
         site.servers.len() as u32
     }
 
-    /// The identifier of the server at a place of the site of a number below [`Sites::len`]. The place is below
-    /// [`Sites::server_count`].
+    /// The identifier of the server at a place of the site with this number. The number is below [`Sites::len`], and
+    /// the place is below [`Sites::server_count`].
     pub fn server_id(&self, site: u32, place: u32) -> u32
         requires site { site < length self.now }
         requires place { (s : Site) → slice_get self.now site ≡ Some s → place < length s.servers }
@@ -112,7 +112,7 @@ impl Sites {
         server.id
     }
 
-    /// The number, among all servers, of the first server of the site of a number below [`Sites::len`].
+    /// The number, among all servers, of the first server of the site with this number, which is below [`Sites::len`].
     pub fn first_server(&self, site: u32) -> u32
         requires { site < length self.now }
         ensures first { result ≡ servers_of (take site self.now) }

@@ -94,7 +94,7 @@ log_words log_fault.OutOfMemory = codes "OutOfMemory"
 log_words (log_fault.BadBody row) = row_words (codes "BadBody") row
 log_words (log_fault.BadFront row) = row_words (codes "BadFront") row
 
--- a fault of a run over a log; want of memory is told without a part
+-- a fault of a run over a log; that memory ran out is reported without a part
 abbrev pub log_told : LogFault → Fault
 log_told log_fault.OutOfMemory = OutOfMemory
 log_told e = Log e
@@ -124,7 +124,8 @@ fault_words BadFronts = codes "BadFronts"
 abbrev pub fault_text : Fault → List ℕ
 fault_text fault = codes "hsplan: " ++ (fault_words fault ++ 10 ∷ [])
 
--- 5 for a log that isn't read to its end and for answers that aren't written, 4 for want of memory, 1 for a refused log
+-- 5 for a log that isn't read to its end and for answers that aren't written, 4 where memory runs out, 1 for a refused
+-- log
 abbrev pub log_status : LogFault → ℕ
 log_status log_fault.ReadFailed = 5
 log_status log_fault.WriteFailed = 5
@@ -136,7 +137,8 @@ log_status log_fault.OutOfMemory = 4
 log_status (log_fault.BadBody row) = 1
 log_status (log_fault.BadFront row) = 1
 
--- 4 for want of memory, 3 for a certificate that is refused or of the wrong kind, that of a log's fault, 1 for any other refused input
+-- 4 where memory runs out, 3 for a certificate that is refused or of the wrong kind, that of a log's fault, 1 for any
+-- other refused input
 abbrev pub status_in : Fault → ℕ
 status_in BadOption = 1
 status_in BadServers = 1

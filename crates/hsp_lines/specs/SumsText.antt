@@ -1,4 +1,4 @@
--- The line that tells the sums of a log.
+-- The line that states the sums of a log.
 use Rattle.std.specs.Prelude.{◌++◌, ◌∷◌, [], ℕ, List, codes, decimal}
 use Rattle.hsp_dispatch.specs.declared.answer.LogSums.{LogSums}
 

@@ -1,4 +1,4 @@
--- The line that tells a verdict.
+-- The line that states a verdict.
 use Rattle.std.specs.Prelude.{◌++◌, ◌∷◌, [], ℕ, List, codes, decimal}
 use Rattle.hsp_check.specs.declared.verdict.Reason.{Reason}
 use Rattle.hsp_check.specs.declared.verdict.Reason.TheVariants.{Shape, NoSuchUse, RowSum, Load, Cost, ArcPrice, UsedArcPrice, IdlePrice, DemandSum, CapacitySum, NotShort}

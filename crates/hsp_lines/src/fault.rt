@@ -12,7 +12,7 @@ use hsp_tables::TableFault;
 use std::alloc::AllocError;
 use thiserror::Error;
 
-/// Why a run has no answer. Of several reasons a run tells the first in the order that it states.
+/// Why a run has no answer. Of several reasons, a run reports the first in the order that it states.
 #[derive(Debug, PartialEq, Eq, Drop, Error)]
 pub enum Fault {
     /// The hash option isn't `na`, `local` or `handle`.
@@ -24,16 +24,16 @@ pub enum Fault {
     /// The index isn't a whole number up to 4,294,967,295.
     #[error("bad index")]
     BadIndex,
-    /// The handle is none.
+    /// The given handle is not a handle.
     #[error("handle: {0:?}")]
     Handle(HandleFault),
-    /// The octets are no site record.
+    /// The octets are not a site record.
     #[error("site: {0:?}")]
     Site(RecordFault),
-    /// The octets are no settings.
+    /// The octets are not settings.
     #[error("settings: {0:?}")]
     Settings(TableFault),
-    /// The octets are no value list.
+    /// The octets are not a value list.
     #[error("values: {0:?}")]
     Values(RecordFault),
     /// The value list has no value with the index.
@@ -42,25 +42,25 @@ pub enum Fault {
     /// The value with the index is of another type than `HS_SITE`.
     #[error("not a site value")]
     NotSiteValue,
-    /// The octets are no demand table.
+    /// The octets are not a demand table.
     #[error("demand: {0:?}")]
     Demand(TableFault),
-    /// The octets are no table of costs.
+    /// The octets are not a table of costs.
     #[error("costs: {0:?}")]
     Costs(TableFault),
-    /// The octets are no table of capacities.
+    /// The octets are not a table of capacities.
     #[error("capacity: {0:?}")]
     Capacity(TableFault),
     /// The inputs have no instance.
     #[error("build: {0:?}")]
     Build(BuildFault),
-    /// The text is no certificate's.
+    /// The text is not a certificate's.
     #[error("certificate: {0:?}")]
     Cert(CertFault),
     /// The certificate isn't valid for the inputs.
     #[error("check: {0:?}")]
     Refused(Reason),
-    /// The certificate is of another kind than the wanted one: a plan, or a shortage.
+    /// The certificate is of another kind than the one wanted: a plan, or a shortage.
     #[error("wrong kind")]
     WrongKind,
     /// Memory ran out.

@@ -71,7 +71,8 @@ fn put_fault(out: &mut Vec<u8>, fault: &Fault) -> Result<(), AllocError>
     }
 }
 
-/// The line that tells of a fault: `hsplan: `, the part with the fault and `: ` where there is one, the fault with its fields, LF.
+/// The line that reports a fault: `hsplan: `, the part with the fault and `: ` where there is such a part, the fault
+/// with its fields, LF.
 pub fn fault_line(alloc: Global, fault: &Fault) -> Result<Vec<u8>, AllocError>
     ensures { IfOk result (λ line. line.items ≡ fault_text fault.now) }
 {
@@ -98,8 +99,9 @@ fn log_status(fault: LogFault) -> u8
     }
 }
 
-/// The status that the program ends with at a fault: 5 for a log that can't be read to its end and for answers that can't be
-/// written, 4 for want of memory, 3 for a certificate that is refused or of the wrong kind, else 1.
+/// The status that the program ends with at a fault: 5 for a log that can't be read to its end and for answers that
+/// can't be written, 4 where memory runs out, 3 for a certificate that is refused or of the wrong kind, and otherwise
+/// 1.
 pub fn status_of(fault: &Fault) -> u8
     ensures { result ≡ status_in fault.now }
 {

@@ -1,4 +1,4 @@
-// The words of the faults that lower calls answer.
+// The words of the faults that lower calls return.
 
 ghost use Rattle.std.specs.Prelude.{◌≡◌, ◌++◌, ◌∷◌, OnOk, decimal};
 ghost use Rattle.hsp_tables.specs.declared.fault.TableFault.TheVariants as table_fault;

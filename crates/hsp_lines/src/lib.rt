@@ -1,4 +1,4 @@
-// What the program tells of faults, verdicts and sums: their lines, and its statuses.
+// What the program prints of faults, verdicts and sums: their lines, and its statuses.
 #![tactic(auto)]
 
 mod fault;

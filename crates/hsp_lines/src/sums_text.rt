@@ -7,7 +7,8 @@ use crate::fault_words::put_with;
 use hsp_dispatch::LogSums;
 use std::alloc::{AllocError, Global};
 
-/// The line that tells how many entries of a log were answered by each kind of answer: `assigned 3 spent 1 unknown 1`, say, and LF.
+/// The line that says how many entries of a log were answered by each kind of answer: `assigned 3 spent 1 unknown 1`,
+/// say, and LF.
 pub fn sums_line(alloc: Global, sums: &LogSums) -> Result<Vec<u8>, AllocError>
     ensures { IfOk result (λ line. line.items ≡ sums_text sums.now) }
 {

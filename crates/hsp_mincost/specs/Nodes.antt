@@ -7,6 +7,6 @@ use Rattle.hsp_mincost.specs.Layout.{first_of}
 abbrev pub nodes_of : Transport → ℕ
 nodes_of net = first_of net + length net.demands
 
--- so many nodes may be asked for, and fewer
+-- `most` nodes may be asked for, and fewer
 abbrev pub MayHaveUpTo : (ℕ → Type 0) → ℕ → Type 0
 MayHaveUpTo may_have most = (nodes : ℕ) → nodes ≤ most → may_have nodes

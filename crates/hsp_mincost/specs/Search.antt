@@ -160,7 +160,7 @@ Earlier along k d = (along ≡ false) × (d ≡ true)
 abbrev pub Looked : Bool → ℕ → Bool → Type 0
 Looked along k d = along ≡ true → d ≡ true
 
--- the root alone is held
+-- only the root is held
 pub record Begun (t : SearchTree) (held : ℕ → Option ℕ) (root amount : ℕ) : Type 0 where
   pub held_root : held root ≡ Some 0
   pub held_rest : (v : ℕ) → v ≢ root → held v ≡ None

@@ -10,7 +10,7 @@ use crate::links::{Flow, Links, SearchTree};
 use hsp_network::{Network, PricedFlow};
 use std::alloc::{AllocError, Global};
 
-/// By how much the price at the tail of each link from `start` up to `end` is above that at its head.
+/// For each link from `start` up to `end`: by how much the price at its tail is above that at its head.
 pub fn link_prices(
     alloc: Global,
     links: &Links,
@@ -75,7 +75,7 @@ pub fn priced_flow(
     })
 }
 
-/// The sources that a search reached that didn't come to the sink.
+/// A flag for each source: whether the search, which didn't come to the sink, reached it.
 pub fn short_set(
     alloc: Global,
     network: &Network,

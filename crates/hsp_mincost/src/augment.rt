@@ -6,7 +6,8 @@ use crate::links::{Flow, Links, SearchTree};
 use crate::residual::arc_tail;
 use crate::send::send;
 
-/// Sends `amount` along the tree's path from the node `root` to the sink, whose links have reduced cost 0 under the raised prices.
+/// Sends `amount` along the tree's path from the node `root` to the sink. The links of the path have reduced cost 0
+/// under the raised prices.
 pub fn augment(links: &Links, flow: &mut Flow, tree: &SearchTree, root: u32, amount: u64)
     requires sound { Sound links.now flow.old (raised flow.old tree.now) }
     requires tree { IsTree links.now flow.old tree.now root (raised flow.old tree.now) }

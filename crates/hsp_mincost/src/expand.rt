@@ -1,4 +1,5 @@
-// The ways on from a node that is settled: residual arcs along the links that leave it, and against those that enter it.
+// The ways on from a node that is settled: residual arcs along the links that leave it, and against those that enter
+// it.
 
 ghost use Rattle.std.specs.Prelude.{◌≡◌, ℕ, ◌+◌, ◌<◌, ◌≤◌, length, OnOk};
 ghost use Rattle.hsp_mincost.specs.Residual.{from, nodes, width};
@@ -31,7 +32,7 @@ fn offer_over(links: &Links, flow: &Flow, tree: &SearchTree, ways: Ways, link: u
     }
 }
 
-/// Offers the ways of a direction.
+/// Offers the ways on in one direction.
 pub fn offer_ways<F: Frontier>(
     frontier: &mut F,
     links: &Links,

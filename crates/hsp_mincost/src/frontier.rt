@@ -3,21 +3,21 @@ ghost use Rattle.hsp_mincost.specs.Frontier.{Changes, HoldsNone, IsLeast};
 
 use std::alloc::{AllocError, Global};
 
-/// The nodes that a search has reached and not yet settled, with their keys: a finite map from nodes to keys,
-/// as the priority queue of Dijkstra's algorithm (Network Flows, section 4.5).
+/// The nodes that a search has reached and not yet settled, with their keys. It is a finite map from nodes to keys,
+/// like the priority queue of Dijkstra's algorithm (Network Flows, section 4.5).
 ///
 /// A refused call leaves the map as it was.
 pub trait Frontier: Sized + Drop {
-    /// The key of each node, `None` where it is not held.
+    /// The key of each node, or `None` where it is not held.
     ghost held: { Self → ℕ → Option ℕ };
 
     /// The number of nodes, which are numbered from 0.
     ghost node_count: { Self → ℕ };
 
-    /// How many calls are sure not to be refused.
+    /// How many calls are certain not to be refused.
     ghost sure: { Self → ℕ };
 
-    /// How many nodes a map may be asked for.
+    /// Whether a map for this number of nodes may be asked for.
     ghost may_have: { ℕ → Type 0 };
 
     /// An empty map for nodes below `nodes`.
@@ -45,7 +45,7 @@ pub trait Frontier: Sized + Drop {
         ensures succeeds { 0 < sure self.old → IsOk result }
         ensures sure { sure self.old ≤ sure self.new + 1 };
 
-    /// Removes an entry whose key none undercuts; `None` where no node is held.
+    /// Removes an entry with the least key and returns it, or returns `None` where no node is held.
     fn take_least(&mut self) -> Option<(u32, u64)>
         ensures least { IfSome result (λ taken. IsLeast (held self.old) taken.0 taken.1) }
         ensures took { IfSome result
@@ -63,7 +63,7 @@ pub trait Frontier: Sized + Drop {
         ensures empty { HoldsNone (held self.new) }
         ensures nodes { node_count self.new ≡ node_count self.old };
 
-    /// While this is above 0, `put` and `lower` are not refused, and each lowers it by 1 at most.
+    /// While this is above 0, `put` and `lower` are not refused. Each of them lowers it by at most 1.
     fn spare(&self) -> u64
         ensures { result ≡ sure self.now };
 }

@@ -10,7 +10,8 @@ use std::collections::BinaryHeap;
 
 /// A frontier that keeps the key of each held node, and pairs of key and node in a heap.
 ///
-/// A lowered key puts a second pair on the heap. A pair that isn't its node's present key is stale, and is passed over.
+/// A lowered key puts a second pair on the heap. A pair whose key isn't its node's present key is stale, and is passed
+/// over.
 #[derive(Drop)]
 pub struct HeapFrontier {
     keys: Vec<Option<u64>>,
@@ -85,7 +86,7 @@ fn is_present(keys: &[Option<u64>], node: u32, key: u64) -> bool
         .is_some_and(|held| *held == Some(key))
 }
 
-/// Lets no node of a pair be held.
+/// Clears the key of each node that is in a pair.
 fn forget_keys(keys: &mut Vec<Option<u64>>, pairs: &[Reverse<(u64, u32)>])
     ensures gone { (v key : ℕ) → list_any (is_pair v key) pairs.now ≡ true
         → slice_index_or keys.new.items v None ≡ None }

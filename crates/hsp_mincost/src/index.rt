@@ -10,7 +10,7 @@ pub struct ChainLists {
     pub before: Vec<usize>,
 }
 
-/// Chains the links that have an end in common: from the last of them each leads to the one before.
+/// Chains the links that have an end in common. Each chain leads from the last of its links back, link by link.
 pub fn chain_links(alloc: Global, ends: &[u32], nodes: usize) -> Result<ChainLists, AllocError>
     requires few { length ends.now < 4294967296 }
     requires inside { (k : ℕ) → k < length ends.now → slice_index ends.now k < nodes }

@@ -1,6 +1,7 @@
-// Minimum-cost flow on transportation networks with hosts, by successive shortest paths with node potentials (Ahuja, Magnanti
-// and Orlin, Network Flows, section 9.7): a flow that meets every source at the least cost, with prices that show it, or a
-// set of sources that is short. Nothing is asked of the order in which nodes wait but the law of a priority queue.
+// Minimum-cost flow on transportation networks with hosts, by successive shortest paths with node potentials (Ahuja,
+// Magnanti and Orlin, Network Flows, section 9.7). It finds a flow that meets every source at the least cost, with
+// prices that show it, or a set of sources that is short. The order in which nodes wait only has to obey the law of a
+// priority queue.
 #![tactic(auto)]
 
 mod answer;

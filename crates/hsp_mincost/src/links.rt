@@ -2,16 +2,17 @@ ghost use Rattle.std.specs.Prelude.{length};
 ghost use Rattle.hsp_mincost.specs.Index.{AreChains};
 ghost use Rattle.hsp_mincost.specs.Graph.{Graph, Scale};
 
-/// The links of each node in a chain, from the last of them back to the first. Links are counted from 1; 0 stands for none.
+/// The links of each node in a chain, from the last of them back to the first. Links are counted from 1, and 0 stands
+/// for no link.
 #[derive(Clone, Copy)]
 pub struct Chains<'a> {
     /// The last link of each node.
     pub lasts: &'a [usize],
-    /// The one before each link in its chain.
+    /// The link before each link in its chain.
     pub before: &'a [usize],
 }
 
-/// The nodes and links that a flow runs on: each link leads from a node to a lower one, in the order of their tails,
+/// The nodes and links that a flow runs on. Each link leads from a node to a lower one, in the order of their tails,
 /// and node 0 is the sink. The nodes from `first` on are the sources.
 #[derive(Drop)]
 pub struct Links<'a> {
@@ -28,8 +29,11 @@ pub struct Links<'a> {
     /// The chains of the links that enter each node.
     pub last_entering: &'a [usize],
     pub before_entering: &'a [usize],
+    /// No link costs more than this.
     pub most: u64,
+    /// The limit on prices: `most` for each node.
     pub limit: u64,
+    /// The sum of `limit` and `most`: no arc of a path adds more than this to a distance.
     pub step: u64,
     pub ghost graph: { Graph (length supplies.now) tails.now heads.now costs.now capacities.now
         supplies.now },
@@ -41,7 +45,7 @@ pub struct Links<'a> {
         step },
 }
 
-/// The lists of a network's links: an entry of `supplies` for each node, of the others for each link.
+/// The lists of a network's links: `supplies` has an entry for each node, the other lists have one for each link.
 #[derive(Clone, Copy)]
 pub struct LinkLists<'a> {
     pub tails: &'a [u32],
@@ -51,8 +55,8 @@ pub struct LinkLists<'a> {
     pub supplies: &'a [u64],
 }
 
-/// A flow with its prices: what flows on each link and what room is left, the price of each node, and what of its supply
-/// is not met.
+/// A flow with its prices. Per link: what flows on it, and what room is left. Per node: its price, and what of its
+/// supply is not met.
 #[derive(Drop)]
 pub struct Flow<'a> {
     pub flows: &'a mut [u64],
@@ -61,7 +65,8 @@ pub struct Flow<'a> {
     pub unmet: &'a mut [u64],
 }
 
-/// How much work a run took: the searches that were begun, the nodes that they settled, and the paths along which flow was sent.
+/// How much work a run took: how many searches it began, how many nodes they settled, and along how many paths flow was
+/// sent.
 #[derive(Clone, Copy, Default)]
 pub struct SearchEffort {
     pub searches: u64,
@@ -69,8 +74,7 @@ pub struct SearchEffort {
     pub augmentations: u64,
 }
 
-/// What a search knows of each node: its distance, the link by which the search came to it, what can be sent to it that
-/// way, and over how many links.
+/// Per node: distance label, predecessor link, bottleneck capacity of its path, and path length in links.
 #[derive(Drop)]
 pub struct SearchTree<'a> {
     pub distance: &'a mut [u64],
@@ -79,7 +83,7 @@ pub struct SearchTree<'a> {
     pub depth: &'a mut [usize],
 }
 
-/// The tree of the search that is on or was last, and the work of all searches so far.
+/// The tree of the present or the last search, and the work of all searches so far.
 #[derive(Drop)]
 pub struct Progress<'a> {
     pub tree: SearchTree<'a>,

@@ -1,4 +1,5 @@
-// The prices before any flow: no link has a negative reduced cost under them, so the first searches find near servers at once.
+// The prices before any flow: no link has a negative reduced cost under them, so the first searches find near servers
+// at once.
 
 ghost use Rattle.std.specs.Prelude.{◌≡◌, ◌<◌, IfOk, length};
 ghost use Rattle.hsp_mincost.specs.Opening.{FirstPrices, LeastCost};
@@ -8,7 +9,7 @@ use crate::links::Links;
 use crate::residual::chains;
 use std::alloc::{AllocError, Global};
 
-/// The least cost of a link that leaves the node, 0 where none does.
+/// The least cost of a link that leaves the node, or 0 where no link does.
 fn least_cost(links: &Links, node: usize) -> u64
     requires { node < nodes links.now }
     ensures { LeastCost links.now.tails.now links.now.costs.now node result }

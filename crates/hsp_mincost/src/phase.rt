@@ -9,7 +9,7 @@ use crate::raise::raise;
 use crate::search::search;
 use std::alloc::AllocError;
 
-/// Meets some more of the source `root`, or finds that it can't be.
+/// Meets some more of the source `root`, and returns whether that was possible.
 pub fn meet_some<F: Frontier>(
     frontier: &mut F,
     links: &Links,
@@ -43,7 +43,7 @@ pub fn meet_some<F: Frontier>(
     Ok(true)
 }
 
-/// Meets the source `root` whole, or finds that it can't be.
+/// Meets the source `root` whole, and returns whether that was possible.
 pub fn meet_source<F: Frontier>(
     frontier: &mut F,
     links: &Links,
@@ -72,7 +72,7 @@ pub fn meet_source<F: Frontier>(
     Ok(true)
 }
 
-/// Meets every source whole, or finds one that can't be: whether all are met.
+/// Meets every source whole, or stops at one that can't be met. Returns whether all are met.
 pub fn meet_all<F: Frontier>(
     frontier: &mut F,
     links: &Links,

@@ -1,7 +1,7 @@
 ghost use Rattle.std.specs.Prelude.{◌≡◌, ℕ, ◌+◌, ◌-◌, ◌<◌, ◌^◌, length, slice_index};
 ghost use Rattle.hsp_mincost.specs.Search.{top};
 
-/// Raises each price by what the node's distance lacks to `reach`, and forgets the distances.
+/// Raises each price by the amount by which the node's distance is below `reach`, and forgets the distances.
 pub fn raise(price: &mut [u64], distance: &mut [u64], reach: u64)
     requires many { length distance.old ≡ length price.old }
     requires fits { (v : ℕ) → v < length price.old → slice_index price.old v

@@ -5,7 +5,7 @@ use crate::frontier::Frontier;
 use crate::links::{Offer, SearchTree};
 use std::alloc::AllocError;
 
-/// Offers a node a way, which it takes if it is shorter.
+/// Offers a way to a node. The node takes it if it is shorter than the way that the node has, if any.
 pub fn relax<F: Frontier>(
     frontier: &mut F,
     tree: &mut SearchTree,

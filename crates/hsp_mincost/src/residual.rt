@@ -1,4 +1,5 @@
-// Residual arcs: a link with a direction, `along` it over what room it has left, or against it over what flows on it.
+// Residual arcs: a link with a direction. An arc `along` the link has the room left on it as its capacity, and an arc
+// against the link has what flows on it.
 
 ghost use Rattle.std.specs.Prelude.{◌≡◌, ◌+◌, ◌<◌, length};
 ghost use Rattle.hsp_mincost.specs.Index.{AreChains};

@@ -57,7 +57,7 @@ pub fn expand<F: Frontier>(
     Ok(())
 }
 
-/// Whether the sink can be reached from the node `root`. Where it can, the tree has a shortest path to it.
+/// Whether the sink can be reached from the node `root`. If it can, the tree has a shortest path to it.
 pub fn search<F: Frontier>(
     frontier: &mut F,
     links: &Links,

@@ -135,8 +135,9 @@ fn solve_links<F: Frontier>(
     solve_from_none::<F>(alloc, network, &links, effort)
 }
 
-/// A flow that meets every source at the least cost, with prices that show it, or a set of sources that demand more than
-/// the servers that they may use can take (Network Flows, section 9.7). `effort` gains the work that it took.
+/// A flow that meets every source at the least cost, with prices that show it, or a set of sources that demand more
+/// than the servers that they may use can take (Network Flows, section 9.7). The work that it took is added to
+/// `effort`.
 pub fn minimum_cost_flow<F: Frontier>(
     alloc: Global,
     network: &Network,

@@ -18,7 +18,7 @@ pub fn push_shifted(target: &mut Vec<u32>, numbers: &[u32], shift: u32) -> Resul
     Ok(())
 }
 
-/// Appends the node of each server's host, or the sink.
+/// Appends, for each server, the node of its host, or the sink where it stands on no host.
 pub fn push_hosts(target: &mut Vec<u32>, hosts: &[Option<u32>]) -> Result<(), AllocError>
     requires fits { (j : ℕ) → host_node (slice_index_or hosts.now j None) < 4294967296 }
     ensures { OnOk result (Appends target.old.items target.new.items (length hosts.now)
@@ -78,14 +78,14 @@ pub fn link_costs(alloc: Global, network: &Network) -> Result<Vec<u64>, AllocErr
     Ok(costs)
 }
 
-/// What nothing bounds, for each arc.
+/// The capacities of `many` arcs that nothing bounds.
 pub fn unbounded(alloc: Global, many: usize) -> Result<Vec<u64>, AllocError>
     ensures { IfOk result (λ room. room.items ≡ replicate many u64.MAX) }
 {
     vec![in alloc; u64::MAX; many]
 }
 
-/// The capacity of each link; what arcs can take isn't bounded.
+/// The capacity of each link. What arcs can take isn't bounded.
 pub fn link_capacities(alloc: Global, network: &Network) -> Result<Vec<u64>, AllocError>
     ensures { IfOk result (λ capacities. CapacitiesOf (problem_of network.now) capacities.items) }
 {

@@ -1,4 +1,4 @@
-/// Why octets are no handle. Of several reasons the first in this order is told.
+/// Why octets are not a handle. Of several reasons, the first in this order is reported.
 #[derive(Clone, Copy, Debug, PartialEq, Eq)]
 pub enum HandleFault {
     /// More than 4,096 octets.

@@ -12,8 +12,9 @@ use std::str;
 
 /// A handle: a naming authority, one `/`, and a local name (RFC 3651, section 2).
 ///
-/// The first `/` ends the naming authority, which is one or more segments joined by `.`, none of them empty. The local name
-/// may be empty and may hold further `/`. A handle is UTF-8 of at most 4,096 octets; two handles are equal when their octets are.
+/// The first `/` ends the naming authority, which is one or more segments joined by `.`. No segment is empty. The local
+/// name may be empty and may hold further `/`. A handle is UTF-8 of at most 4,096 octets. Two handles are equal when
+/// their octets are equal.
 #[derive(Clone, Copy, Debug)]
 pub struct HandleRef<'a> {
     octets: &'a [u8],
@@ -89,7 +90,8 @@ impl<'a> HandleRef<'a> {
         Ok(HandleRef { octets, slash })
     }
 
-    /// The handle that octets spell which were read as one before. They are not tested again: only the slash is sought.
+    /// The handle that these octets spell. They were parsed as a handle before and are not tested again: only the slash
+    /// is sought.
     #[tactic(auto, using(crate::proofs::Reading::reads, crate::proofs::Reading::read_has_slash))]
     pub fn accepted(octets: &'a [u8]) -> HandleRef<'a>
         requires { handle_in octets.now ≡ Ok octets.now }

@@ -7,7 +7,7 @@ pub fn parts_are_unique()
     ensures { PartsAreUnique }
 {}
 
-/// What is read as a handle is a handle, with the parts that the definition gives it, and every handle is read.
+/// Octets that are read as a handle are a handle, with the parts that the definition gives it. Every handle is read.
 pub fn readings_are_handles()
     ensures { ReadingsAreHandles }
 {}

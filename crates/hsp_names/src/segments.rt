@@ -12,7 +12,7 @@ fn dot_in(text: &[u8]) -> Option<usize>
     text.iter().position(|octet| *octet == b'.')
 }
 
-/// The segments that a naming authority still has: what stands before, between and after its dots.
+/// The segments of a naming authority that are still to come: what stands before, between and after its dots.
 #[derive(Clone, Copy, Debug)]
 pub struct Segments<'a> {
     rest: Option<&'a [u8]>,

@@ -27,7 +27,7 @@ pub record IsBalanced (net : Transport) (plan : PricedFlow) : Type 0 where
 abbrev pub ArePlanPaid : Transport → PricedFlow → List ℕ → Type 0
 ArePlanPaid net plan paid = ArePaid net.hosts plan.server_prices.items plan.host_prices.items paid
 
--- sums of sources that are their demands, sums of servers and hosts within their bounds, and prices of full ones alone
+-- sums of sources that are their demands, sums of servers and hosts within their bounds, and prices only of full ones
 pub record AreKept (net : Transport) (plan : PricedFlow) (sent loads hosted : List ℕ) : Type 0 where
   pub met : sent ≡ net.demands
   pub within : AreWithin net.capacities loads

@@ -12,7 +12,7 @@ source_price arcs k = slice_index arcs.source_prices.now (slice_index arcs.sourc
 abbrev pub whole_cost : PricedArcs → ℕ → ℕ
 whole_cost arcs k = slice_index arcs.costs.now k + slice_index arcs.paid.now (slice_index arcs.servers.now k)
 
--- the source pays no more than a unit on the arc costs, and just that where something flows
+-- the source pays no more than a unit on the arc costs, and exactly that where something flows
 pub record IsPriced (arcs : PricedArcs) (k : ℕ) : Type 0 where
   pub below : source_price arcs k ≤ whole_cost arcs k
   pub used : 0 < slice_index arcs.flows.now k → source_price arcs k ≡ whole_cost arcs k

@@ -3,7 +3,7 @@ use Rattle.std.specs.Prelude.{◌≡◌, ℕ, suc, zero, ◌<◌, ◌==◌, ◌|
 pub use Rattle.hsp_sums.specs.Lists.{AreZero, is_on}
 pub use Rattle.hsp_sums.specs.Sums.{sum_below}
 
--- n where the two numbers are one, else 0
+-- n where the two numbers are one, and 0 otherwise
 abbrev pub only : ℕ → ℕ → ℕ → ℕ
 only w v n = if w == v then n else 0
 

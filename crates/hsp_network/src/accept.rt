@@ -11,7 +11,7 @@ use crate::network::{Network, Outcome, PricedFlow};
 use crate::sums::host_sums;
 use std::alloc::{AllocError, Global};
 
-/// The greatest cost, 0 where there is none.
+/// The greatest of the costs, or 0 where there are none.
 pub fn greatest(costs: &[u64]) -> u64
     ensures bound { (k : ℕ) → k < length costs.now → slice_index costs.now k ≤ result }
     ensures attained { (result ≡ 0) ⊎ ((k : ℕ) × (k < length costs.now)
@@ -43,7 +43,7 @@ fn are_low(prices: &[u64], limit: u64) -> bool
     prices.iter().all(|price| *price <= limit)
 }
 
-// Whether no price is above the greatest cost for each source, server and host, and once more.
+// Whether no price is above N + 1 times the greatest cost, where N counts the sources, servers and hosts.
 fn has_bounded_prices(network: &Network<'_>, plan: &PricedFlow) -> bool
     ensures { IsTrue result → HasBoundedPrices (problem_of network.now) plan.now }
 {
@@ -58,7 +58,8 @@ fn has_bounded_prices(network: &Network<'_>, plan: &PricedFlow) -> bool
     }
 }
 
-// Whether the sums are within their bounds, the sources' just these, and only full servers and hosts have prices.
+// Whether the sums are within their bounds (the sources' exactly at theirs), and only full servers and hosts have
+// prices.
 fn are_kept(
     network: &Network<'_>,
     plan: &PricedFlow,
@@ -120,10 +121,12 @@ fn is_met(alloc: Global, network: &Network<'_>, plan: &PricedFlow) -> Result<boo
     is_balanced(alloc, network, plan, &paid)
 }
 
-/// Whether the outcome is seen to answer the network: a flow that meets every source within all bounds and has
-/// complementary slackness with its prices, none of which is above the greatest cost for each source, server and host and
-/// once more; or sources that demand more than the servers that they may use can take. It takes time in proportion to the
-/// network's lists, and refuses prices or flows whose sums are above 64 bits.
+/// Whether the outcome is seen to answer the network. It is one of two:
+/// - A flow that meets every source within all bounds and has complementary slackness with its prices. No price is
+///   above N + 1 times the greatest cost, where N counts the sources, servers and hosts.
+/// - Sources that demand more than the servers that they may use can take.
+///
+/// The test takes time in proportion to the network's lists. It refuses prices or flows whose sums are above 64 bits.
 pub fn accepts(alloc: Global, network: &Network<'_>, outcome: &Outcome) -> Result<bool, AllocError>
     ensures right { IfOk result (λ yes. IsTrue yes → Answers (problem_of network.now) outcome.now) }
     // No short set is refused.

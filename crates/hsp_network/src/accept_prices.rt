@@ -35,7 +35,7 @@ pub(crate) struct PricedArcs<'a> {
 impl<'a> PricedArcs<'a> {
     ghost use Rattle.hsp_network.specs.Priced.{AreArcSums, ArePriced, IsPriced};
 
-    // Whether the arc's source pays no more than a unit on the arc costs, and just that where something flows.
+    // Whether the arc's source pays no more than a unit on the arc costs, and exactly that where something flows.
     fn is_priced(self, arc: usize) -> bool
         requires { arc < length self.sources.now }
         ensures { IsTrue result → IsPriced self.entry arc }
@@ -47,8 +47,8 @@ impl<'a> PricedArcs<'a> {
         }
     }
 
-    // Whether each arc is rightly priced; if so, adds what flows on it to the sums of its source and of its server, which
-    // are 0. Refuses sums that wrap.
+    // Whether each arc is rightly priced. If so, adds what flows on it to the sums of its source and of its server,
+    // which are 0 at first. Refuses sums that wrap.
     fn add_up(self, sent: &mut [u64], loads: &mut [u64]) -> bool
         requires sources { length sent.old ≡ length self.source_prices.now }
         requires servers { length loads.old ≡ length self.paid.now }
@@ -75,7 +75,8 @@ impl<'a> PricedArcs<'a> {
         true
     }
 
-    /// What flows on the arcs, added up by source and by server, or None where an arc is not rightly priced or a sum wraps.
+    /// What flows on the arcs, added up by source and by server, or None where an arc is not rightly priced or a sum
+    /// wraps.
     pub(crate) fn sums(self, alloc: Global) -> Result<Option<ArcSums>, AllocError>
         ensures priced { IfOk result (λ made. IfSome made (λ _. ArePriced self.entry)) }
         ensures sums { IfOk result (λ made. IfSome made (AreArcSums self.entry)) }
@@ -136,7 +137,7 @@ pub(crate) fn paid_at(
     }
 }
 
-/// Whether each load is within its bound, and the price is 0 of each that is below it.
+/// Whether each load is within its bound, and the price is 0 where the load is below it.
 pub(crate) fn are_loaded(bounds: &[u64], loads: &[u64], prices: &[u64]) -> bool
     requires loads { length loads.now ≡ length bounds.now }
     requires prices { length prices.now ≡ length bounds.now }

@@ -4,8 +4,8 @@ ghost use Rattle.std.specs.Prelude.{◌≡◌, ◌↔◌, IfSome, IfNone, IsTrue
 ghost use Rattle.hsp_network.specs.Lists.{AreBelow, AreOrdered, HostsAreBelow};
 ghost use Rattle.hsp_network.specs.Network.{IsNetwork};
 
-/// The lists of a network: an entry of `demands` for each source, of `capacities` and `hosts` for each server, of `limits`
-/// for each host, and of `sources`, `servers` and `costs` for each arc.
+/// The lists of a network: `demands` has an entry for each source, `capacities` and `hosts` for each server, `limits`
+/// for each host, and `sources`, `servers` and `costs` for each arc.
 #[derive(Clone, Copy)]
 pub struct NetworkLists<'a> {
     pub demands: &'a [u64],
@@ -17,10 +17,11 @@ pub struct NetworkLists<'a> {
     pub costs: &'a [u64],
 }
 
-/// A transportation network with hosts. Each slice has an entry for each of its things: `demands` for each source,
-/// `capacities` and `hosts` for each server, `limits` for each host; `sources`, `servers` and `costs` for each arc
-/// the source that it leaves, the server that it enters, and what a unit on it costs. The arcs stand in the order of
-/// their sources.
+/// A transportation network with hosts.
+///
+/// `demands` has an entry for each source, `capacities` and `hosts` for each server, and `limits` for each host. For
+/// each arc, `sources` has the source that it leaves, `servers` the server that it enters, and `costs` what a unit on
+/// it costs. The arcs stand in the order of their sources.
 #[derive(Drop)]
 pub struct Network<'a> {
     pub demands: &'a [u64],
@@ -82,8 +83,10 @@ fn are_ordered(ends: &[u32]) -> bool
 impl<'a> Network<'a> {
     ghost use Rattle.hsp_network.specs.Problem.{problem_in, problem_of};
 
-    /// The network of these lists, or None where lists differ in length that have an entry for the same things, an end of
-    /// an arc or a server's host isn't there, or the arcs don't stand in the order of their sources.
+    /// The network of these lists. It is None in each of these cases:
+    /// - Lists that have an entry for the same things differ in length.
+    /// - An end of an arc, or a server's host, isn't there.
+    /// - The arcs don't stand in the order of their sources.
     pub fn checked(lists: NetworkLists<'a>) -> Option<Network<'a>>
         ensures made { IfSome result (λ network. problem_of network ≡ problem_in lists.entry) }
         ensures none { IfNone result (IsNetwork (problem_in lists.entry) → ⊥) }
@@ -131,6 +134,7 @@ pub struct PricedFlow {
 pub enum Outcome {
     /// Every source is met, at the least cost.
     Met(PricedFlow),
-    /// Some sources demand more than the servers that they may use can take: whether each source is one of them.
+    /// Some sources demand more than the servers that they may use can take. A flag for each source says whether it is
+    /// one of them.
     Short(Vec<bool>),
 }

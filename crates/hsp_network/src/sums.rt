@@ -6,7 +6,7 @@ ghost use Rattle.hsp_network.specs.Sums.{AreHosted, AreZero, only};
 
 use std::alloc::{AllocError, Global};
 
-/// Adds the amount to the sum at the place, or tells that this wraps.
+/// Adds the amount to the sum at the place, or returns `false` where the sum would wrap.
 pub(crate) fn add(sums: &mut [u64], place: usize, amount: u64) -> bool
     requires { place < length sums.old }
     ensures { IsTrue result → (v : ℕ)
@@ -24,7 +24,8 @@ pub(crate) fn add(sums: &mut [u64], place: usize, amount: u64) -> bool
     }
 }
 
-// Adds the numbers of servers to the sums of their hosts, which are 0, or tells that one wraps.
+// Adds the numbers of servers to the sums of their hosts, which are 0 at first, or returns `false` where a sum would
+// wrap.
 fn add_hosts(sums: &mut [u64], hosts: &[Option<u32>], numbers: &[u64]) -> bool
     requires many { length numbers.now ≡ length hosts.now }
     requires hosts { HostsAreBelow (length sums.old) hosts.now }
@@ -41,7 +42,7 @@ fn add_hosts(sums: &mut [u64], hosts: &[Option<u32>], numbers: &[u64]) -> bool
     true
 }
 
-/// The numbers of servers, added up for each host below the count, or None where a sum wraps.
+/// The numbers of servers, added up for each host below the count, or None where a sum would wrap.
 pub(crate) fn host_sums(
     alloc: Global,
     hosts: &[Option<u32>],

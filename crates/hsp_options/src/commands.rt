@@ -20,7 +20,7 @@ fn arg_of<'a>(alloc: Global, argument: Argument<'a>) -> Arg<'a>
     }
 }
 
-// The command with these arguments more.
+// The command with these arguments added.
 fn with_arguments<'a>(
     alloc: Global,
     mut command: Command<'a>,
@@ -72,7 +72,7 @@ fn with_subcommands<'a>(
     Ok(command)
 }
 
-/// All commands of the program, for words that don't begin with its name. The error is want of memory.
+/// All commands of the program, for words that don't begin with its name. An error means that memory ran out.
 pub fn hsplan_command<'a>(alloc: Global) -> Result<Command<'a>, AllocError>
     ensures { IfOk result (λ c. app_of c ≡ hsplan_app) }
 {

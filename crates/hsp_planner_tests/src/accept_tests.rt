@@ -33,7 +33,7 @@ fn judged_set(alloc: Global, network: &Network<'_>, set: &[bool]) -> Result<bool
     accepts(alloc, network, &outcome)
 }
 
-/// The plan is judged so. A call that tells want of memory is made once more: where one growth is refused, the second
+/// The plan is judged so. A call for which memory ran out is made once more: where one growth is refused, the second
 /// answer is that of ample memory.
 fn judges_plan(rt: &impl Abort, alloc: Global, network: &Network<'_>, plan: Plan<'_>, right: bool) {
     let answer = match judged_plan(alloc, network, plan) {
@@ -201,7 +201,7 @@ fn shorter_lists_are_refused(rt: HostRuntime) {
     }
 }
 
-/// A source that fills its only server, so that prices may rise together: the greatest that are told are 3.
+/// A source that fills its only server, so that prices may rise together: the greatest that are stated are 3.
 const FULL_SERVER: NetworkLists<'static> = NetworkLists {
     demands: &[2],
     capacities: &[2],

@@ -57,7 +57,7 @@ fn push_server(octets: &mut Vec<u8>, id: u32) -> Result<(), AllocError> {
     octets.extend_from_slice(&[0; 24])
 }
 
-// A record of so many servers, of the identifiers from 0 on.
+// A record of `servers` servers, of the identifiers from 0 on.
 fn site_octets(alloc: Global, servers: u32) -> Result<Vec<u8>, AllocError> {
     let mut octets = [HEAD, &servers.to_be_bytes()].concat(alloc)?;
     for id in 0..servers {
@@ -115,7 +115,8 @@ fn held_values_at_the_limit(rt: &impl Abort, alloc: Global) -> Vec<u8> {
     }
 }
 
-// What texts and octets spell. Where a growth is refused, the second call finds memory: so the answers below are insisted on.
+// What texts and octets spell. Where a growth is refused, the second call finds memory: so the answers below are
+// insisted on.
 fn settings_of(rt: &impl Abort, alloc: Global, text: &[u8]) -> Settings {
     let settings = match read_settings(alloc, text) {
         Err(TableFault::OutOfMemory) => read_settings(alloc, text),
@@ -152,7 +153,7 @@ fn groups_of(rt: &impl Abort, alloc: Global, instance: &Instance) -> Groups
     }
 }
 
-// The fault of the sites that settings have no need of values for, and None where there is none.
+// The fault of the sites that settings have no need of values for, or None where there is no fault.
 fn sites_fault(rt: &impl Abort, alloc: Global, settings: &[u8]) -> Option<BuildFault> {
     let settings = settings_of(rt, alloc, settings);
     sites_of(alloc, &settings, None).err()

@@ -18,7 +18,7 @@ joined (field ∷ fields) = field ++ joined fields
 abbrev pub run_fields : List ℕ → List (List ℕ)
 run_fields octets = to_be_bytes w32 (length octets) ∷ octets ∷ []
 
--- octets whose length 4 octets can tell
+-- octets whose length 4 octets can state
 abbrev pub IsRun : List ℕ → Type 0
 IsRun octets = (length octets < 2 ^ 32) × IsOctets octets
 
@@ -31,7 +31,7 @@ all_fields fields (x ∷ xs) = fields x ++ all_fields fields xs
 abbrev pub list_fields : {A : Type 0} → (A → List (List ℕ)) → List A → List (List ℕ)
 list_fields fields xs = to_be_bytes w32 (length xs) ∷ all_fields fields xs
 
--- a list whose number of elements 4 octets can tell, each of which fits
+-- a list whose number of elements 4 octets can state, each of which fits
 abbrev pub IsCounted : {A : Type 0} → (A → Type 0) → List A → Type 0
 IsCounted Fits xs = (length xs < 2 ^ 32) × AllByRecursion Fits xs
 

@@ -76,7 +76,7 @@ pub record IsHead (s : Site) : Type 0 where
   pub filter : IsRun s.filter
   pub attributes : IsCounted IsAttribute s.attributes
 
--- a record with any number of servers that 4 octets can tell
+-- a record with any number of servers that 4 octets can state
 abbrev pub IsWideSite : Site → Type 0
 IsWideSite s = IsHead s × IsCounted IsServer s.servers
 

@@ -1,4 +1,4 @@
-// What all of the octets are: a value, or the one fault that stands.
+// What all of the octets spell: a value, or the one fault that they have.
 
 ghost use Rattle.std.specs.Prelude.{◌≡◌, ◌<◌, ◌≤◌, ◌-◌, List, [], length, Result, OnOk, IfErr};
 ghost use Rattle.hsp_record.specs.Fields.{Means, Agrees};
@@ -18,7 +18,7 @@ use crate::values::ValueList;
 use crate::values_decoding::read_value_list;
 use std::alloc::Global;
 
-// The fault of so many octets, at which reading failed so.
+// The fault of an input of `len` octets, where reading failed with `e`.
 fn fault_at(len: usize, e: ReadError) -> RecordFault
     requires { LeavesWithin len e }
     ensures { result ≡ fault_of len e }
@@ -31,7 +31,7 @@ fn fault_at(len: usize, e: ReadError) -> RecordFault
     }
 }
 
-// That nothing is left of so many octets.
+// Checks that none of the `len` octets is left.
 fn check_end(len: usize, rest: &[u8]) -> Result<(), RecordFault>
     requires { length rest.now ≤ len }
     ensures ok { OnOk result (rest.now ≡ []) }
@@ -60,12 +60,14 @@ fn site_answer(alloc: Global, octets: &[u8]) -> Result<SiteRecord, RecordFault>
     }
 }
 
-/// Reads HS_SITE data (RFC 3651, section 3.2.2): the record that all of the octets spell. Octets that spell none have
-/// one fault: Truncated, TooManyServers (which stands at the number of servers, before any server is read) or Trailing.
+/// Reads HS_SITE data (RFC 3651, section 3.2.2): the record that all of the octets spell.
+///
+/// Octets that spell no record have one fault: Truncated, TooManyServers or Trailing. TooManyServers stands at the
+/// number of servers, before any server is read.
 pub fn decode_site(alloc: Global, octets: &[u8]) -> Result<SiteRecord, RecordFault>
-    // What is answered is true of the octets,
+    // What is returned is true of the octets,
     ensures means { Means site_format octets.now result }
-    // and whatever is true of them is answered, unless memory runs out.
+    // and whatever is true of them is returned, unless memory runs out.
     ensures only { (other : Result Site RecordFault) → Means site_format octets.now other
         → Agrees result other }
 {
@@ -85,13 +87,15 @@ fn values_answer(alloc: Global, octets: &[u8]) -> Result<ValueList<'_>, RecordFa
     }
 }
 
-/// Reads a list of handle values (RFC 3651, section 3.1): the values that all of the octets spell, which lend their
-/// types and data from them. Octets that spell none have one fault: Truncated, IndexTwice (which stands at an index,
-/// before the rest of its value is read) or Trailing.
+/// Reads a list of handle values (RFC 3651, section 3.1): the values that all of the octets spell. Their types and data
+/// are lent from the octets.
+///
+/// Octets that spell no list have one fault: Truncated, IndexTwice or Trailing. IndexTwice stands at an index, before
+/// the rest of its value is read.
 pub fn decode_values(alloc: Global, octets: &[u8]) -> Result<ValueList<'_>, RecordFault>
-    // What is answered is true of the octets,
+    // What is returned is true of the octets,
     ensures means { Means values_format octets.now result }
-    // and whatever is true of them is answered, unless memory runs out.
+    // and whatever is true of them is returned, unless memory runs out.
     ensures only { (other : Result (List HandleValue) RecordFault)
         → Means values_format octets.now other → Agrees result other }
 {
@@ -111,12 +115,12 @@ fn request_answer(octets: &[u8]) -> Result<Request<'_>, RecordFault>
 }
 
 /// Reads the body of a resolution request (RFC 3652, section 3.2.1): the handle of the body that all of the octets
-/// spell. Octets that spell none are Truncated or Trailing. It takes no memory.
+/// spell. Octets that spell no body are Truncated or Trailing. It takes no memory.
 pub fn decode_request(octets: &[u8]) -> Result<Request<'_>, RecordFault>
-    // What is answered is true of the octets,
+    // What is returned is true of the octets,
     ensures means { (answer : Result RequestBody RecordFault)
         × Means request_format octets.now answer × (result ≡ handle_of answer) }
-    // and whatever is true of them is answered.
+    // and whatever is true of them is returned.
     ensures only { (other : Result RequestBody RecordFault)
         → Means request_format octets.now other → Agrees result (handle_of other) }
     ensures memory { result ≡ Err OutOfMemory → ⊥ }

@@ -1,9 +1,9 @@
-// Why octets are no spelling, for callers and within the crate.
+// Why octets are not a spelling: the faults for callers, and those within the crate.
 
 use std::alloc::{AllocError, AllocFailed};
 
-/// What is wrong with the octets of a site record, a value list or a request body: the first place, from left to
-/// right, where they leave the spelling.
+/// What is wrong with the octets of a site record, a value list or a request body: the fault at the first place, from
+/// left to right, where they leave the spelling.
 #[derive(Clone, Copy, Debug, PartialEq, Eq)]
 pub enum RecordFault {
     /// The octets end inside the field that begins at the octet `at`.
@@ -21,7 +21,7 @@ pub enum RecordFault {
 /// Where reading from left to right stops.
 #[derive(Clone, Copy, Debug, PartialEq, Eq)]
 pub(crate) enum Stop {
-    /// A field is not wholly there, and so many octets are left from where it begins.
+    /// A field is not wholly there. The number says how many octets are left from where the field begins.
     Short(usize),
     /// The number of servers is above the limit.
     TooMany,
@@ -29,7 +29,7 @@ pub(crate) enum Stop {
     Twice(u32),
 }
 
-/// Why what is there was not read into memory.
+/// Why octets were not read into memory.
 #[derive(Clone, Copy, Debug, PartialEq, Eq)]
 pub(crate) enum ReadError {
     Memory,

@@ -5,14 +5,14 @@ ghost use Rattle.hsp_record.specs.Site.{site_format};
 ghost use Rattle.hsp_record.specs.Values.{values_format};
 ghost use Rattle.hsp_record.specs.Request.{request_format};
 
-/// No two records are spelled alike.
+/// No two records have the same spelling.
 pub fn one_spelling()
     ensures sites { HasOneSpelling site_format }
     ensures value_lists { HasOneSpelling values_format }
     ensures requests { HasOneSpelling request_format }
 {}
 
-/// What follows a spelling changes nothing of what is read, so no spelling is a proper prefix of another.
+/// Octets after a spelling do not change what is read, so no spelling is a proper prefix of another.
 pub fn nothing_after()
     ensures sites { HasNothingAfter site_format }
     ensures value_lists { HasNothingAfter values_format }

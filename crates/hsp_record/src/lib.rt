@@ -1,5 +1,5 @@
-// The octets of HS_SITE data, of value lists and of the bodies of resolution requests: exactly the spellings are read,
-// and for all other octets the one fault that stands is answered.
+// The octets of HS_SITE data, of value lists and of the bodies of resolution requests. Exactly the spellings are read;
+// for all other octets the one fault that they have is returned.
 #![tactic(auto)]
 
 mod decoding;

@@ -1,5 +1,5 @@
-// Readers of fields. Each takes its field from the front of the octets and lends the rest, or says how many octets
-// are left where the first field that is not wholly there begins. None takes memory.
+// Readers of fields. Each takes its field from the front of the octets and lends the rest. Where a field is not wholly
+// there, the reader returns how many octets are left from where the first such field begins. No reader takes memory.
 
 ghost use Rattle.std.specs.Prelude.{◌≡◌, List, length};
 ghost use Rattle.std.specs.Int.{w8, w16, w32, w64};

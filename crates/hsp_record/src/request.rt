@@ -1,4 +1,4 @@
-// The bodies of resolution requests, of which only the handle has a use.
+// The bodies of resolution requests. Only the handle of a body is used.
 
 ghost use Rattle.std.specs.Prelude.{◌≡◌};
 ghost use Rattle.std.specs.Int.{w32};
@@ -23,7 +23,7 @@ impl<'a> Model for Request<'a> {
 }
 
 impl<'a> Request<'a> {
-    /// The octets of the handle that is asked for, a slice of the body.
+    /// The octets of the requested handle, a slice of the body.
     pub fn handle(&self) -> &'a [u8]
         ensures { result.now ≡ self.now }
     {

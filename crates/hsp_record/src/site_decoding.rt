@@ -1,4 +1,4 @@
-// Reading HS_SITE data into memory. A server record takes room only once it was found whole.
+// Reading HS_SITE data into memory. A server record takes memory only after it was found whole.
 
 ghost use Rattle.std.specs.Prelude.{◌≡◌, List, Ok};
 ghost use Rattle.hsp_record.specs.Site.{Interface};
@@ -69,7 +69,7 @@ struct FoundServer<'a> {
     interfaces: &'a [u8],
 }
 
-// Finds a server record whole, and takes no room.
+// Finds a server record whole, and takes no memory.
 #[tactic(auto, unfolding(crate::specs::Reading::server_at, crate::specs::Reading::list_at))]
 fn find_server(bytes: &[u8]) -> Result<(FoundServer<'_>, &[u8]), Stop>
     ensures { Finds (λ x read. (times_at interface_at x.0.interface_count x.0.interfaces.now ≡ Ok

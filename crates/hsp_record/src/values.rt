@@ -5,7 +5,7 @@ ghost use Rattle.std.specs.List.{find};
 
 use std::marker::Model;
 
-/// The references of a value: so many, and the octets that spell them.
+/// The references of a value: their number, and the octets that spell them.
 #[derive(Debug, Drop)]
 pub(crate) struct References<'a> {
     pub(crate) count: u32,
@@ -36,7 +36,7 @@ impl<'a> References<'a> {
     }
 }
 
-/// A handle value (RFC 3651, section 3.1), which lends its type and data from the octets that it was read from.
+/// A handle value (RFC 3651, section 3.1). Its type and data are lent from the octets that it was read from.
 #[derive(Debug, Drop)]
 pub struct Value<'a> {
     pub(crate) index: u32,
@@ -137,7 +137,7 @@ impl<'a> ValueList<'a> {
         self.values.is_empty()
     }
 
-    /// The value of that index, and None where the list has none.
+    /// The value with this index, or None where the list has no such value.
     pub fn find(&self, index: u32) -> Option<Value<'a>>
         ensures { result ≡ find (λ v. v.index == index) self.now }
     {

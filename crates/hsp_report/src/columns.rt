@@ -20,7 +20,7 @@ pub(crate) fn aligned(width: usize, number: u128) -> Column
     Column { width, number }
 }
 
-/// Appends a line: numbers, each right-aligned in its column and a space behind it, and a name.
+/// Appends a line: numbers, each right-aligned in its column with a space behind it, and a name.
 pub(crate) fn push_columns(
     out: &mut Vec<u8>,
     columns: &[Column],

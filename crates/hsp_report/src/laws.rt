@@ -2,7 +2,7 @@
 
 ghost use Rattle.hsp_report.specs.RegionTotals.{CostsAddUp, DemandsAddUp};
 
-/// The regions of a report ask together for what its total says, and cost together what its total says.
+/// The regions of a report together ask for what its total says, and together cost what its total says.
 pub fn regions_add_up()
     ensures demands { DemandsAddUp }
     ensures costs { CostsAddUp }

@@ -84,12 +84,14 @@ fn loads_text(alloc: Global, instance: &Instance, plan: &BestRef<'_>) -> Result<
     Ok(text)
 }
 
-/// What each server takes by a plan that [`check`](hsp_check::check) says Yes to, and the bound that shows that no plan costs less.
+/// What each server takes by a plan, and the bound that shows that no plan costs less. The plan is one to which
+/// [`check`](hsp_check::check) says Yes.
 ///
-/// A header, a line for each server in ascending number, and `bound A - B = C`: A the rows' counts at their prices, B the
-/// capacities and the limits at the prices of servers and hosts, C what the plan costs. A line of a server has its place in 5
-/// places, its identifier, its load and its capacity in 10 each and its price in 13, right-aligned, and the name of its site.
-/// A number that is wider than its column stands whole.
+/// The report has a header, a line for each server in ascending number, and `bound A - B = C`: A is the rows' counts at
+/// their prices, B the capacities and the limits at the prices of servers and hosts, and C what the plan costs.
+///
+/// A server's line has its place in 5 columns, its identifier, its load and its capacity in 10 each and its price in
+/// 13, right-aligned, and the name of its site. A number that is wider than its columns stands whole.
 pub fn load_report(
     alloc: Global,
     instance: &Instance,

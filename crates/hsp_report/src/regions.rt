@@ -145,11 +145,14 @@ fn regions_text(
     Ok(text)
 }
 
-/// What each region asks for, and what that costs by a plan that [`check`](hsp_check::check) says Yes to.
+/// What each region asks for, and what that costs by a plan. The plan is one to which [`check`](hsp_check::check) says
+/// Yes.
 ///
-/// A header, a line for each region in the order in which the rows name them first, and `total D C`: D what all rows ask for,
-/// C what the plan costs. A line of a region has its demand in 10 places and its cost in 16, right-aligned, and its name. A
-/// number that is wider than its column stands whole.
+/// The report has a header, a line for each region in the order in which the rows name them first, and `total D C`: D
+/// is what all rows ask for, and C what the plan costs.
+///
+/// A region's line has its demand in 10 columns and its cost in 16, right-aligned, and its name. A number that is wider
+/// than its columns stands whole.
 pub fn region_report(
     alloc: Global,
     instance: &Instance,

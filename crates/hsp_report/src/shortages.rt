@@ -107,12 +107,16 @@ fn shortage_text(
     Ok(text)
 }
 
-/// The rows of a short set that [`check`](hsp_check::check) says Yes to, and the servers that they reach.
+/// The rows of a short set, and the servers that they reach. The set is one to which [`check`](hsp_check::check) says
+/// Yes.
 ///
-/// `short D - K = M`: D what the rows ask for, K what all that they can reach takes, M what is missing. Then a header and a line
-/// for each row, its number in 4 places, its count in 7, right-aligned, and its region; and a header and a line for each server
-/// that the rows may use, once and in ascending number, its place in 5 places, its identifier and its capacity in 10 each,
-/// right-aligned, and the name of its site. A number that is wider than its column stands whole.
+/// The report begins with `short D - K = M`: D is what the rows ask for, K what all that they can reach can take, and M
+/// what is missing. Then it has a header and a line for each row, and a header and a line for each server that the rows
+/// may use, once and in ascending number.
+///
+/// A row's line has its number in 4 columns and its count in 7, right-aligned, and its region. A server's line has its
+/// place in 5 columns, its identifier and its capacity in 10 each, right-aligned, and the name of its site. A number
+/// that is wider than its columns stands whole.
 pub fn shortage_report(
     alloc: Global,
     instance: &Instance,

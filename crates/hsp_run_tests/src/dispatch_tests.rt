@@ -32,7 +32,7 @@ impl Write for Page {
     }
 }
 
-// A page with room for so many octets. Where this growth is refused, the second finds memory.
+// A page with room for `room` octets. Where this growth is refused, the second finds memory.
 pub(crate) fn page_of(rt: &impl Abort, alloc: Global, room: usize) -> Page {
     let taken = match Vec::with_capacity(alloc, room) {
         Ok(taken) => taken,
@@ -41,7 +41,7 @@ pub(crate) fn page_of(rt: &impl Abort, alloc: Global, room: usize) -> Page {
     Page { taken, room }
 }
 
-// Gives an octet of a log a call, and fails once so many were given.
+// Gives an octet of a log for each call, and fails once that many were given.
 #[derive(Clone, Copy, Drop)]
 pub(crate) struct Cut<'a> {
     pub(crate) log: &'a [u8],
@@ -116,7 +116,7 @@ fn has_ended(rt: &impl Abort, ended: &Ended, answer: Result<LogSums, Fault>, tex
     is_same(rt, ended.page.taken.as_slice(), text);
 }
 
-// The run has stopped at the fault, behind so many octets of the lines.
+// The run has stopped at the fault, behind `count` octets of the lines.
 fn has_stopped(rt: &impl Abort, ended: &Ended, fault: LogFault, count: usize) {
     is_same(rt, &ended.answer, &Err(Fault::Log(fault)));
     let taken = ended.page.taken.as_slice();
@@ -200,7 +200,7 @@ fn a_log_that_cannot_be_read_is_told(rt: HostRuntime) {
 // Up to how many octets of the log no further row is read whole, and how many octets the lines of the rows before have.
 const ROWS: [(usize, usize); 6] = [(22, 0), (30, 15), (38, 30), (46, 45), (54, 51), (55, 59)];
 
-// A reader that fails behind each octet from one on, up to another, tells so behind so many octets of lines.
+// A reader that fails behind each octet from one on, up to another, is reported behind `lines` octets of lines.
 fn reads_fail(rt: &impl Abort, alloc: Global, from: usize, until: usize, lines: usize) {
     for good in from..until {
         let log = Cut { log: LOG, good };

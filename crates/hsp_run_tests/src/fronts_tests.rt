@@ -64,7 +64,7 @@ fn has_ended(rt: &impl Abort, ended: &Ended, answer: Result<FrontSums, Fault>, t
     is_same(rt, ended.page.taken.as_slice(), text);
 }
 
-// The run has stopped at the fault, behind so many octets of the lines.
+// The run has stopped at the fault, behind `count` octets of the lines.
 fn has_stopped(rt: &impl Abort, ended: &Ended, fault: LogFault, count: usize) {
     is_same(rt, &ended.answer, &Err(Fault::Log(fault)));
     let taken = ended.page.taken.as_slice();
@@ -214,7 +214,7 @@ const ROWS: [(usize, usize); 8] = [
     (91, 82),
 ];
 
-// A reader that fails behind each octet from one on, up to another, tells so behind so many octets of lines.
+// A reader that fails behind each octet from one on, up to another, is reported behind `lines` octets of lines.
 fn reads_fail(rt: &impl Abort, alloc: Global, from: usize, until: usize, lines: usize) {
     for good in from..until {
         let ended = run_twice(rt, alloc, TWO, Cut { log: LOG, good }, 100);

@@ -1,6 +1,5 @@
-// What tests hold. It is made by calls that end a test where there is no memory, since one that
-// returns early beside what it holds is dear to prove. Where a growth is refused, the second call
-// finds memory.
+// What tests hold. It is made by calls that end a test where there is no memory, since one that returns early beside
+// what it holds is expensive to prove. Where a growth is refused, the second call finds memory.
 
 use std::alloc::{AllocError, Global};
 use std::process::Abort;

@@ -22,7 +22,7 @@ impl Read for Broken {
     }
 }
 
-// A reader of so many octets of one kind.
+// A reader of that many octets of one kind.
 #[derive(Clone, Copy, Drop)]
 struct Run {
     octet: u8,
@@ -508,7 +508,7 @@ fn run_of(octet: u8, left: usize) -> Run {
     Run { octet, left }
 }
 
-// Whether a line of so many octets is read.
+// Whether a line of that many octets is read.
 fn is_line(rt: &impl Abort, alloc: Global, left: usize) -> bool {
     let found = line_of(rt, alloc, run_of(b'x', left));
     found.is_some()
@@ -535,7 +535,7 @@ fn whole_files_are_read(rt: HostRuntime) {
     is_same(&rt, file.as_slice(), text);
 }
 
-// Whether a file of so many octets is read.
+// Whether a file of that many octets is read.
 fn is_file(rt: &impl Abort, alloc: Global, left: usize) -> bool {
     let found = file_of(rt, alloc, run_of(0, left));
     found.is_some()

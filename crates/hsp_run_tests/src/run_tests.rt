@@ -201,7 +201,7 @@ fn sites_of_values_are_planned_for(rt: HostRuntime) {
     checks(&rt, rt.alloc(), texts, plan, Verdict::Yes);
 }
 
-// The texts have the fault, as it is told for an empty certificate.
+// The texts have the fault, as it is returned for an empty certificate.
 fn has_fault(rt: &impl Abort, alloc: Global, texts: Texts<'_>, fault: Fault) {
     is_same(rt, judged(rt, alloc, texts, b""), Err(fault));
 }

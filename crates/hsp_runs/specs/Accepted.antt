@@ -15,7 +15,7 @@ use Rattle.hsp_lines.specs.declared.fault.Fault.{Fault}
 use Rattle.hsp_lines.specs.declared.fault.Fault.TheVariants.{Refused, WrongKind}
 use Rattle.hsp_runs.specs.declared.inputs.Inputs.{Inputs}
 
--- the instance with the claim, where that is valid for it, else the first reason why it isn't
+-- the instance with the claim, where that is valid for it, otherwise the first reason why it isn't
 abbrev pub IsAccepted : Instance → Claim → Result Accepted Fault → Type 0
 IsAccepted instance claim (Ok accepted) = (accepted.instance ≡ instance) × (accepted.certificate ≡ claim) × IsValid (network_of instance) claim
 IsAccepted instance claim (Err (Refused reason)) = IsVerdict (network_of instance) claim (No reason)

@@ -23,8 +23,8 @@ use Rattle.hsp_runs.specs.declared.inputs.Inputs.{Inputs}
 
 -- ---- who answers
 
--- Who answers logs by plans: what is so of a desk that has the plan of an instance at the start, with what is then left of it; and how
--- the sums that are told count the answers.
+-- Who answers logs by plans: what is so of a desk that has the plan of an instance at the start, with what is then left
+-- of it; and how the sums that are reported count the answers.
 pub record Staff (S : Type 0) : Type 1 where
   pub At : Instance → Plan → (Desk → Type 0) → Type 0
   pub all : S → FrontSums
@@ -36,7 +36,7 @@ a_dispatcher = record {
   all = all_of;
 }
 
--- so many fronts, each with its share of the plan
+-- `fronts` fronts, each with its share of the plan
 abbrev pub so_many : ℕ → Staff FrontSums
 so_many fronts = record {
   At = λ it x Is. (old : Tables) × (new : Tables) × AreFrontsOf it x fronts old × Is (by_fronts old new);
@@ -69,7 +69,7 @@ AnswersAs staff it (short c) run answer = Refuses run WrongKind answer
 abbrev pub AnswersBy : {S : Type 0} → Staff S → Accepted → Streams → Result S Fault → Type 0
 AnswersBy staff accepted run answer = Refuses run OutOfMemory answer ⊎ AnswersAs staff accepted.instance accepted.certificate run answer
 
--- by what is accepted; where nothing is, its fault is told
+-- by what is accepted; where nothing is, its fault is returned
 abbrev pub AnswersWhere : {S : Type 0} → Staff S → Result Accepted Fault → Streams → Result S Fault → Type 0
 AnswersWhere staff (Ok accepted) run answer = AnswersAs staff accepted.instance accepted.certificate run answer
 AnswersWhere staff (Err e) run answer = Refuses run e answer
@@ -89,7 +89,7 @@ IsDispatched inputs octets run answer = IsAnsweredBy a_dispatcher inputs octets 
 abbrev pub fronts_at : List ℕ → Result ℕ Fault
 fronts_at word = count_at BadFronts MOST_FRONTS word
 
--- the same by so many fronts; where there is no number of them, its fault is told
+-- the same by that many fronts; where there is no number of them, its fault is returned
 abbrev pub AreAnsweredBy : Result ℕ Fault → Inputs → List ℕ → Streams → Result FrontSums Fault → Type 0
 AreAnsweredBy (Ok fronts) inputs octets run answer = IsAnsweredBy (so_many fronts) inputs octets run answer
 AreAnsweredBy (Err e) inputs octets run answer = Refuses run e answer

@@ -1,9 +1,9 @@
--- The headline on one page: which inputs are accepted, which instance they define, and what plans show of it.
--- These are relations between texts and what they hold, without faults. laws.rt ties them to the runs.
+-- The headline on one page: which inputs are accepted, which instance they define, and what plans show of it. These are
+-- relations between texts and what they hold, without faults. laws.rt ties them to the runs.
 --
--- Read before it: handles in hsp_names/specs/Handle.antt (RFC 3651, section 2), value lists and site records
--- in hsp_record/specs (RFC 3651, sections 3.1 and 3.2.2), the responsible server in hsp_hash/specs/Place.antt
--- (RFC 3652, section 3.1.3), how documents and tables tell rows in Told.antt.
+-- Read before it: handles in hsp_names/specs/Handle.antt (RFC 3651, section 2), value lists and site records in
+-- hsp_record/specs (RFC 3651, sections 3.1 and 3.2.2), the responsible server in hsp_hash/specs/Place.antt (RFC 3652,
+-- section 3.1.3), how documents and tables state rows in Told.antt.
 use Rattle.std.specs.Prelude.{◌≡◌, ◌≢◌, ◌≤◌, ◌==◌, ◌&&◌, ◌↔◌, IsUtf8, true, ℕ, List, [], ◌∷◌, codes, decimal}
 use Rattle.std.specs.Prelude.{Option, Some, None, length, map, option_map}
 use Rattle.std.specs.List.{AllByRecursion, Contains, IsDistinct, slice_get}
@@ -50,7 +50,7 @@ IsDemand row =
     × ((authority : List ℕ) × (local : List ℕ) × IsHandle row.handle authority local)
     × (row.count ≤ GREATEST_COUNT)
 
--- so many queries for a handle come from a region
+-- a count of queries for a handle comes from a region
 abbrev pub AreDemand : List ℕ → List Row → Type 0
 AreDemand text rows =
     IsTable (codes "region" ∷ codes "handle" ∷ codes "count" ∷ []) MOST_DEMAND_ROWS
@@ -76,7 +76,7 @@ IsCapacity sites row =
     (site : Site) × (own : SiteServer) × Contains sites site × (site.name ≡ row.site)
     × Contains site.servers own × (own.id ≡ row.server_id) × (row.capacity ≤ GREATEST_CAPACITY)
 
--- the server of an identifier takes so many queries at a site
+-- the server of an identifier has a capacity at a site
 abbrev pub AreCapacities : List Site → List ℕ → List CapacityEntry → Type 0
 AreCapacities sites text rows =
     IsTable (codes "site" ∷ codes "server_id" ∷ codes "capacity" ∷ []) MOST_CAPACITY_ROWS

@@ -1,4 +1,4 @@
--- The texts that tell where a handle is served.
+-- The texts that state where a handle is served.
 use Rattle.std.specs.Prelude.{◌≡◌, ◌++◌, ◌∷◌, [], ℕ, List, length, codes, decimal, option_map, slice_get, Option, Some, None, Result, Ok, Err, if◌then◌else◌}
 use Rattle.std.specs.Str.{bytes_eq}
 use Rattle.hsp_text.specs.declared.limits.TheConstants.{MOST_SERVERS}

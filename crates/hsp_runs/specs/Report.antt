@@ -1,4 +1,4 @@
--- What a report of a certificate tells.
+-- What a report of a certificate shows.
 use Rattle.std.specs.Prelude.{◌≡◌, ℕ, List, Result, Ok}
 use Rattle.hsp_text.specs.Answers.{◌>>=◌, Then}
 use Rattle.hsp_instance.specs.Instance.{Instance}
@@ -13,7 +13,7 @@ use Rattle.hsp_runs.specs.declared.inputs.Inputs.{Inputs}
 use Rattle.hsp_runs.specs.declared.report.ReportKind.{ReportKind}
 use Rattle.hsp_runs.specs.declared.report.ReportKind.TheVariants.{Load, Region, Shortage}
 
--- loads and regions are told of a plan, and a shortage of a short set
+-- loads and regions are reported of a plan, and a shortage of a short set
 abbrev pub report_of : ReportKind → Instance → Claim → Result (List ℕ) Fault
 report_of Load it claim = plan_in claim >>= (λ plan. Ok (load_report it plan))
 report_of Region it claim = plan_in claim >>= (λ plan. Ok (region_report it plan))
@@ -22,6 +22,6 @@ report_of Shortage it claim = shortage_in claim >>= (λ set. Ok (shortage_report
 abbrev pub IsReport : ReportKind → Accepted → Result (List ℕ) Fault → Type 0
 IsReport kind accepted answer = answer ≡ report_of kind accepted.instance accepted.certificate
 
--- first the inputs are read, then the certificate, and it is judged; where it is accepted, the report is told of it
+-- first the inputs are read, then the certificate, and it is judged; where it is accepted, the report of it is made
 abbrev pub IsReported : Inputs → List ℕ → ReportKind → Result (List ℕ) Fault → Type 0
 IsReported inputs octets kind = Then (IsAcceptedOf inputs octets) (IsReport kind)

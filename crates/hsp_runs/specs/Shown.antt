@@ -13,17 +13,17 @@ use Rattle.hsp_sums.specs.Sums.{times}
 use Rattle.hsp_check.specs.Uses.{table}
 use Rattle.hsp_check.specs.Valid.{IsValidPlan, IsValidSet}
 
--- The plan is feasible at the cost that is told, no arc's reduced cost is negative, an arc in use has reduced
--- cost 0, and servers and hosts with room left have price 0 (complementary slackness, section 9.3). So the
--- plan is best, and what its rows pay is the cost and what servers and hosts earn (section 9.4).
+-- The plan is feasible at the stated cost, no arc's reduced cost is negative, an arc in use has reduced cost 0, and
+-- servers and hosts with room left have price 0 (complementary slackness, section 9.3). So the plan is best, and what
+-- its rows pay is the cost and what servers and hosts earn (section 9.4).
 pub record HoldsBest (n : Network) (c : certificates.Best) : Type 0 where
   pub valid : IsValidPlan n c
   pub best : Best n (table c.uses)
   pub dual : times n.demands c.row_prices
       ≡ c.cost + times n.capacities c.server_prices + times n.limits c.host_prices
 
--- The rows ask for the demand that is told, all servers that they can reach take the capacity that is told,
--- and that is less (a cut, section 6.7). So no plan is feasible.
+-- The rows ask for the stated demand, all servers that they can reach take the stated capacity, and that is less (a
+-- cut, section 6.7). So no plan is feasible.
 pub record HoldsShort (n : Network) (c : certificates.Short) : Type 0 where
   pub valid : IsValidSet n c
   pub none : (x : Plan) → Feasible n x → ⊥

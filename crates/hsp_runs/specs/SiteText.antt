@@ -35,7 +35,7 @@ server_lines place (s ∷ ss) = server_line place s ++ server_lines (place + 1) 
 abbrev pub site_text : Site → List ℕ
 site_text s = numbers_text s ++ (counts_text s ++ server_lines 0 s.servers)
 
--- a fault of the octets, and no want of memory
+-- a fault of the octets, and not that memory ran out
 abbrev pub IsRefused : {A : Type 0} → (Result A RecordFault → Type 0) → RecordFault → Type 0
 IsRefused means record_fault.OutOfMemory = ⊥
 IsRefused means e = means (Err e)

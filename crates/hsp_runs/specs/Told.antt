@@ -1,4 +1,4 @@
--- How tables tell their rows, values their octets, and the tables of a TOML document sites and hosts.
+-- How tables state their rows, values their octets, and the tables of a TOML document sites and hosts.
 use Rattle.std.specs.Prelude.{◌≡◌, ◌≤◌, ◌<◌, ◌==◌, ◌⊎◌, ⊤, Bool, true, ℕ, pos, List, [], ◌∷◌, codes, length}
 use Rattle.std.specs.Prelude.{Option, Some, None, Ok, map}
 use Rattle.std.specs.List.{AllByRecursion, Contains, IsDistinct, list_all, list_any}
@@ -44,7 +44,7 @@ AreFew regions = length (first_seen regions) ≤ MOST_REGIONS
 abbrev pub HasKeys : List (List ℕ) → Members → Type 0
 HasKeys keys members = list_all (λ key. list_any (bytes_eq key) keys) (keys_in members) ≡ true
 
--- the tables of an array tell the rows, one each
+-- the tables of an array state the rows, one each
 abbrev pub Tell : {Row : Type 0} → (Members → Row → Type 0) → Items → List Row → Type 0
 Tell Tells toml.no_items [] = ⊤
 Tell Tells (toml.item value items) (row ∷ rows) =

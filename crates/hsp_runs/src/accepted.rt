@@ -26,7 +26,7 @@ pub(crate) struct Accepted {
 }
 
 impl Accepted {
-    /// The plan of the certificate with its prices; `WrongKind` where it shows a shortage.
+    /// The plan of the certificate with its prices, or `WrongKind` where the certificate shows a shortage.
     pub(crate) fn plan(&self) -> Result<BestRef<'_>, Fault>
         ensures { Gives (λ plan. plan) result (plan_in self.now.certificate) }
     {
@@ -36,7 +36,7 @@ impl Accepted {
         }
     }
 
-    /// The short set of the certificate; `WrongKind` where it shows a plan.
+    /// The short set of the certificate, or `WrongKind` where the certificate shows a plan.
     pub(crate) fn shortage(&self) -> Result<ShortRef<'_>, Fault>
         ensures { Gives (λ set. set) result (shortage_in self.now.certificate) }
     {
@@ -64,8 +64,10 @@ fn accepting(alloc: Global, instance: Instance, certificate: Certificate) -> Res
     }
 }
 
-/// The instance of the inputs, and the certificate that the octets spell, which is valid for it. Faults in this order:
-/// `Settings`, `Values`, `Demand`, `Costs`, `Capacity`, `Build`, `Cert`, `Refused` with the first reason.
+/// The instance of the inputs, and the certificate that the octets spell, which is valid for it.
+///
+/// Faults in this order: `Settings`, `Values`, `Demand`, `Costs`, `Capacity`, `Build`, `Cert`, `Refused` with the first
+/// reason.
 pub(crate) fn accepted_in(alloc: Global, inputs: &Inputs, octets: &[u8]) -> Result<Accepted, Fault>
     ensures accepted { Tells (IsAcceptedOf inputs.now octets.now) result }
     ensures valid { IfOk result (λ accepted.

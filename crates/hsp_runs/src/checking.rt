@@ -49,11 +49,13 @@ fn judged_text(alloc: Global, instance: &Instance, octets: &[u8]) -> Result<Verd
     judged(alloc, instance, &certificate)
 }
 
-/// Whether the text is that of a certificate which is valid for the instance of the inputs, and the first reason why it isn't.
+/// Whether the text is that of a certificate which is valid for the instance of the inputs, and otherwise the first
+/// reason why it isn't.
+///
 /// Faults in this order: `Settings`, `Values`, `Demand`, `Costs`, `Capacity`, `Build`, `Cert`.
 pub fn check_run(alloc: Global, inputs: &Inputs, cert: &[u8]) -> Result<Verdict, Fault>
     ensures verdict { Tells (IsChecked inputs.now cert.now) result }
-    // Yes says that the certificate's plan is best, or that there is no feasible plan.
+    // Yes means that the certificate's plan is best, or that there is no feasible plan.
     ensures shows { IfOk result (λ verdict. verdict ≡ Yes → ShowsOf inputs.now cert.now) }
 {
     let instance = instance_in(alloc, inputs)?;

@@ -7,7 +7,7 @@ ghost use Rattle.hsp_runs.specs.Counts.{count_at};
 use hsp_lines::Fault;
 use hsp_text::read_whole;
 
-/// The number from 1 to `most` that a word spells, or else the fault.
+/// The number from 1 to `most` that a word spells, or the fault where it spells no such number.
 pub(crate) fn count_at(word: &[u8], most: u32, fault: Fault) -> Result<u32, Fault>
     ensures count { Gives (λ count. count) result (count_at fault most word.now) }
     ensures some { IfOk result (λ count. 1 ≤ count) }

@@ -28,10 +28,12 @@ fn dispatched<R: Read + Drop, W: Write>(
     Ok(run_log(alloc, reader, writer, &mut dispatcher)?)
 }
 
-/// Answers the entries of the log that `reader` gives, by the plan that the octets of `certificate` spell, with a line each on
-/// `writer`. Faults in this order, with nothing written: those of the inputs (`Settings`, `Values`, `Demand`, `Costs`, `Capacity`,
-/// `Build`), `Cert`, `Refused`, `WrongKind` for a shortage; then `Log`, when the entries before it were answered. Want of memory
-/// stops a run anywhere.
+/// Answers the entries of the log that `reader` gives, by the plan that the octets of `certificate` spell, with a line
+/// for each on `writer`.
+///
+/// Faults in this order: those of the inputs (`Settings`, `Values`, `Demand`, `Costs`, `Capacity`, `Build`), `Cert`,
+/// `Refused`, and `WrongKind` for a shortage, all with nothing written; then `Log`, when the entries before it were
+/// answered. A run stops anywhere if memory runs out.
 pub fn dispatch_run<R: Read + Drop, W: Write>(
     alloc: Global,
     inputs: &Inputs,
@@ -41,7 +43,7 @@ pub fn dispatch_run<R: Read + Drop, W: Write>(
 ) -> Result<LogSums, Fault>
     ensures answers { IsDispatched inputs.now certificate.now
         (over (R.remaining reader) (W.contents writer.old) (W.contents writer.new)) result }
-    // The answers, also those before a fault, are of a best plan, none beyond it, each by the hash of its handle.
+    // The answers, also those before a fault, are those of a best plan, none beyond it, each by the hash of its handle.
     ensures shows { ShowsLogOf inputs.now certificate.now
         (over (R.remaining reader) (W.contents writer.old) (W.contents writer.new)) result }
 {

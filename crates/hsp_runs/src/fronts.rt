@@ -26,7 +26,7 @@ fn fronts_at(word: &[u8]) -> Result<u32, Fault>
     count_at(word, MOST_FRONTS, Fault::BadFronts)
 }
 
-// The log, answered by so many fronts that share the plan of a certificate.
+// The log, answered by `fronts` fronts that share the plan of a certificate.
 fn dispatched_at<R: Read + Drop, W: Write>(
     alloc: Global,
     accepted: &Accepted,
@@ -45,9 +45,11 @@ fn dispatched_at<R: Read + Drop, W: Write>(
     Ok(run_fronts(alloc, reader, writer, &mut all)?)
 }
 
-/// Answers the events of the log that `reader` gives as [`dispatch_run`] does entries, each by the front that it names, which has
-/// its share of the plan alone. The word `fronts` spells how many fronts there are, from 1 to 64; else the fault is `BadFronts`,
-/// before any other.
+/// Answers the events of the log that `reader` gives as [`dispatch_run`] does entries. Each event is answered by the
+/// front that it names, which has only its share of the plan.
+///
+/// The word `fronts` spells how many fronts there are, from 1 to 64. Otherwise the fault is `BadFronts`, before any
+/// other.
 pub fn fronts_run<R: Read + Drop, W: Write>(
     alloc: Global,
     inputs: &Inputs,

@@ -1,4 +1,4 @@
-/// The octets of the inputs that define an instance. The value list is what sites of the settings refer to by its indices.
+/// The octets of the inputs that define an instance. Sites of the settings refer to the value list by its indices.
 #[derive(Debug, Drop)]
 pub struct Inputs {
     pub settings: Vec<u8>,

@@ -134,10 +134,12 @@ fn with_settings(alloc: Global, inputs: &Inputs, settings: &Settings) -> Result<
     with_values(alloc, inputs, settings, values.as_ref())
 }
 
-/// The instance that the inputs define. Faults in this order: `Settings`, `Values`, `Demand`, `Costs`, `Capacity`, `Build`.
+/// The instance that the inputs define.
+///
+/// Faults in this order: `Settings`, `Values`, `Demand`, `Costs`, `Capacity`, `Build`.
 pub(crate) fn instance_in(alloc: Global, inputs: &Inputs) -> Result<Instance, Fault>
     ensures instance { Tells (IsInstanceOf inputs.now) result }
-    // The inputs define it, by the page of the headline.
+    // The inputs define it, as the page of the headline states.
     ensures defines { IfOk result (λ instance. Defines inputs.now instance) }
 {
     instances_are_defined();

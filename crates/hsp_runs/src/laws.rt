@@ -5,14 +5,14 @@ ghost use Rattle.hsp_runs.specs.Laws.{AcceptsTheDefined, DispatchedLogsShow, Fro
 use hsp_names::laws::readings_are_handles;
 use hsp_record::laws::one_spelling;
 
-/// Where inputs and a certificate of a plan are accepted, each entry of a log is answered by the server that is responsible for its
-/// handle, by the hash option and the servers of the site's record; so is each event at a front.
+/// Where inputs and a certificate of a plan are accepted, each entry of a log is answered by the server that is
+/// responsible for its handle, by the hash option and the servers of the site's record. So is each event at a front.
 pub fn logs_go_by_hash()
     ensures { LogsGoByHash }
 {}
 
-/// The page of the headline is what runs do: an instance that inputs give is one that they define by the page, and inputs that define an
-/// instance by the page give it and nothing else, no other instance and no fault.
+/// The page of the headline is what runs do. An instance that inputs give is one that they define by the page. Inputs
+/// that define an instance by the page give it and nothing else, no other instance and no fault.
 pub fn instances_are_defined()
     ensures given { GivesTheDefined }
     ensures accepted { AcceptsTheDefined }
@@ -22,8 +22,9 @@ pub fn instances_are_defined()
     one_spelling();
 }
 
-/// A log is answered, to its end or up to a fault, by a best plan of the instance that the inputs define, none beyond what the plan
-/// sends, and each entry by the hash of its handle; fronts answer each by its share of such a plan. Any other run writes nothing.
+/// A log is answered, to its end or up to a fault, by a best plan of the instance that the inputs define: none beyond
+/// what the plan sends, and each entry by the hash of its handle. Fronts answer each by its share of such a plan. Any
+/// other run writes nothing.
 pub fn dispatched_logs_show()
     ensures logs { DispatchedLogsShow }
     ensures fronts { FrontsLogsShow }

@@ -97,9 +97,10 @@ fn sites_run(
     Ok(site_lines(alloc, &sites, handle)?)
 }
 
-/// Where the handle is served: the place of its server, on a line of its own; or a line for each site, of its name and the
-/// place and the identifier of the handle's server there. Faults in this order: `BadOption`, `BadServers`, `Handle`;
-/// for sites: `Handle`, `Settings`, `Values`, `Build`.
+/// Where the handle is served: the place of its server, on a line of its own; or a line for each site, with its name
+/// and the place and the identifier of the handle's server there.
+///
+/// Faults in this order: `BadOption`, `BadServers`, `Handle`. For sites: `Handle`, `Settings`, `Values`, `Build`.
 pub fn locate_run(alloc: Global, locate: &Locate, handle: &[u8]) -> Result<Vec<u8>, Fault>
     ensures { Stands Fault.OutOfMemory (λ text. text.items)
         (IsLocated locate.now handle.now) result }

@@ -46,7 +46,7 @@ impl PlanText {
         self.bytes
     }
 
-    /// Whether the text tells of a shortage.
+    /// Whether the text shows a shortage.
     pub fn is_short(&self) -> bool
         ensures { result ≡ self.now.is_short }
     {
@@ -78,9 +78,10 @@ fn planned(alloc: Global, instance: &Instance) -> Result<PlanText, Fault>
     Ok(text_of(alloc, &certificate)?)
 }
 
-/// The text of a plan for the instance of the inputs at the least cost, with prices that show it; or that of a shortage, a set of
-/// rows that asks for more than all that it can reach takes. Faults in this order: `Settings`, `Values`, `Demand`, `Costs`,
-/// `Capacity`, `Build`.
+/// The text of a plan for the instance of the inputs at the least cost, with prices that show it; or that of a
+/// shortage, a set of rows that asks for more than all that it can reach can take.
+///
+/// Faults in this order: `Settings`, `Values`, `Demand`, `Costs`, `Capacity`, `Build`.
 pub fn plan_run(alloc: Global, inputs: &Inputs) -> Result<PlanText, Fault>
     ensures text { Tells (IsPlanned inputs.now) result }
     // The plan is best, or there is no feasible plan.

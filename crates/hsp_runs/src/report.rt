@@ -11,7 +11,7 @@ use hsp_lines::Fault;
 use hsp_report::{load_report, region_report, shortage_report};
 use std::alloc::Global;
 
-/// What a report tells.
+/// What a report shows.
 #[derive(Debug, Clone, Copy, PartialEq, Eq)]
 pub enum ReportKind {
     /// What each server takes by a plan.
@@ -44,9 +44,10 @@ fn reported(alloc: Global, accepted: &Accepted, kind: ReportKind) -> Result<Vec<
     }
 }
 
-/// The report of the certificate that the octets of `certificate` spell. Faults in this order: those of the inputs (`Settings`,
-/// `Values`, `Demand`, `Costs`, `Capacity`, `Build`), `Cert`, `Refused` with the first reason, and `WrongKind` for `Load` or `Region`
-/// of a shortage and for `Shortage` of a plan.
+/// The report of the certificate that the octets of `certificate` spell.
+///
+/// Faults in this order: those of the inputs (`Settings`, `Values`, `Demand`, `Costs`, `Capacity`, `Build`), `Cert`,
+/// `Refused` with the first reason, and `WrongKind` for `Load` or `Region` of a shortage and for `Shortage` of a plan.
 pub fn report_run(
     alloc: Global,
     inputs: &Inputs,

@@ -1,4 +1,4 @@
-// The lines that tell of a handle's server at each site.
+// The lines that state a handle's server at each site.
 
 ghost use Rattle.std.specs.Prelude.{◌≡◌, ◌++◌, ◌<◌, IfOk, OnOk, Some, length, option_map, slice_get};
 ghost use Rattle.hsp_names.specs.Lent.{octets_of};

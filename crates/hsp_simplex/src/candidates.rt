@@ -2,7 +2,7 @@
 // that are near to the best.
 //
 // Few other arcs are in a best tree. So the last steps to the first prices, the first tree and most of the pricing look
-// at candidates alone, and all arcs are priced again at the end.
+// only at candidates, and all arcs are priced again at the end.
 
 use crate::first_prices::FirstPrices;
 use crate::graph::Graph;
@@ -10,7 +10,7 @@ use crate::lists::number_of;
 use crate::star::ForwardStar;
 use std::alloc::{AllocError, Global};
 
-/// The arcs that cost at most so much more, with prices, than the cheapest one of their source.
+/// The arcs that cost, with prices, at most `window` more than the cheapest one of their source.
 pub fn candidates(
     alloc: Global,
     graph: &Graph,

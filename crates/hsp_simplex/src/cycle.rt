@@ -14,13 +14,13 @@ pub struct Entering {
     pub arc: u32,
     pub tail: usize,
     pub head: usize,
-    /// How much more fits on it.
+    /// How much more can be sent over it.
     pub residual: u64,
     /// By how much a unit's way over it is cheaper than the tail's potential.
     pub violation: u64,
 }
 
-/// On which way the leaving arc is.
+/// Where on the cycle the leaving arc is.
 #[derive(Clone, Copy, PartialEq, Eq, Drop)]
 pub enum LeavingSide {
     /// It is the entering arc itself, which goes from one bound to the other.
@@ -46,7 +46,7 @@ pub fn leads_up(node: usize, parent: u32) -> bool {
     (parent as usize) < node
 }
 
-// How much more can be sent from the node to its parent, or else from the parent to the node.
+// How much more can be sent: from the node to its parent if `upward`, and otherwise from the parent to the node.
 #[inline(always)]
 fn residual(graph: &Graph, node: usize, link: &Node, upward: bool) -> u64 {
     if upward != leads_up(node, link.parent) {
@@ -121,7 +121,7 @@ impl Tree {
         closed(tail, head)
     }
 
-    /// Sends an amount from a node up to the apex, or else from the apex down to the node.
+    /// Sends an amount from a node up to the apex if `upward`, and otherwise from the apex down to the node.
     pub(crate) fn augment(&mut self, from: usize, apex: usize, amount: u64, upward: bool) {
         let mut node = from;
         for _ in 0..self.nodes.len() {

@@ -19,18 +19,18 @@ const ROUNDS: u32 = 7;
 
 const LAST_ROUNDS: u32 = 6;
 
-/// How many rises of the next round candidates may cost more than the cheapest arc.
+/// A candidate may cost more than the cheapest arc by this many rises of the next round.
 const WINDOW: u64 = 4;
 
 /// How often all prices fall in a round.
 const FALLS: usize = 32;
 
-/// Prices in the making, of each node that is no source.
+/// Prices in the making, for each node that is not a source.
 #[derive(Drop)]
 pub struct FirstPrices {
     /// The price of a host, or of a server with its host's.
     totals: Vec<u64>,
-    /// The price of a server alone.
+    /// The price of a server without its host's.
     prices: Vec<u64>,
     /// What a unit adds to the price, in 1/65536.
     unit_rises: Vec<u64>,
@@ -96,7 +96,7 @@ impl FirstPrices {
         })
     }
 
-    // Makes so many rounds over the arcs, the first with this rise; the rise of the next one.
+    // Makes `count` rounds over the arcs, the first with this rise, and returns the rise of the next one.
     fn rounds(&mut self, graph: &Graph, star: &ForwardStar, count: u32, first_rise: u64) -> u64 {
         let mut rise = first_rise;
         for _ in 0..count {

@@ -30,7 +30,7 @@ impl Room {
         self.at(server) > 0 && (host == ROOT || self.at(host) > 0)
     }
 
-    // Takes up to an amount at a server; how much it took.
+    // Takes up to an amount at a server, and returns how much it took.
     fn take(&mut self, graph: &Graph, server: usize, amount: u64) -> u64 {
         let host = graph.outlet_head(server);
         let mut taken = amount.min(self.at(server));
@@ -143,8 +143,8 @@ impl Tree {
         }
     }
 
-    // Puts the outlet at its upper bound that is full: of the server's host, which then hangs from the server, or
-    // else the server's own.
+    // Puts a full outlet at its upper bound: that of the server's host, which then hangs from the server, or otherwise
+    // the server's own.
     fn fill(&mut self, graph: &Graph, room: &Room, server: usize) {
         let host = graph.outlet_head(server);
         if host != ROOT && room.at(host) == 0 {

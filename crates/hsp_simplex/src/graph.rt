@@ -38,7 +38,7 @@ impl Graph {
         self.transit_count().saturating_add(self.source_count)
     }
 
-    /// How many nodes are no sources.
+    /// How many nodes are not sources.
     #[inline(always)]
     pub(crate) fn transit_count(&self) -> usize {
         self.transshipment_count.saturating_add(1)
@@ -71,7 +71,7 @@ impl Graph {
             .wrapping_add(source)
     }
 
-    /// What a unit on an arc costs: on an outlet, nothing.
+    /// What a unit on an arc costs. On an outlet it costs nothing.
     #[inline(always)]
     pub(crate) fn cost_of(&self, arc: u32) -> u64 {
         if arc == ABSENT {
@@ -81,7 +81,7 @@ impl Graph {
         }
     }
 
-    /// The number of a transshipment node's outlet: they stand behind the arcs of the sources.
+    /// The number of a transshipment node's outlet. Outlets stand behind the arcs of the sources.
     #[inline(always)]
     pub(crate) fn outlet_of(&self, node: usize) -> u32 {
         number_of(self.star.arcs.len().wrapping_add(node))
@@ -92,7 +92,7 @@ impl Graph {
         arc != ABSENT && arc as usize >= self.star.arcs.len()
     }
 
-    /// The node whose outlet that is.
+    /// The node whose outlet the arc of this number is.
     #[inline(always)]
     pub(crate) fn outlet_tail(&self, outlet: u32) -> usize {
         (outlet as usize).wrapping_sub(self.star.arcs.len())

@@ -1,5 +1,5 @@
-// A solver that proposes an outcome of a network by the network simplex method (Ahuja, Magnanti and Orlin, Network Flows,
-// chapters 11 and 16). Nothing is claimed of what it proposes: `hsp_network::accepts` tests it.
+// A solver that proposes an outcome of a network by the network simplex method (Ahuja, Magnanti and Orlin, Network
+// Flows, chapters 11 and 16). Nothing is claimed of what it proposes: `hsp_network::accepts` tests it.
 #![tactic(auto)]
 
 mod candidates;

@@ -30,7 +30,7 @@ pub fn increase(list: &mut [u64], place: usize, amount: u64) {
     }
 }
 
-/// Sets a flag; whether it was not set before.
+/// Sets a flag, and returns whether it was not set before.
 #[inline(always)]
 pub fn mark(flags: &mut [bool], place: usize) -> bool {
     let marked = get_or(flags, place, true);
@@ -38,7 +38,7 @@ pub fn mark(flags: &mut [bool], place: usize) -> bool {
     !marked
 }
 
-/// The items from `start` up to `end`, none where these are no places of the list.
+/// The items from `start` up to `end`, or none where these are not places of the list.
 #[inline(always)]
 pub fn between<T>(list: &[T], start: usize, end: usize) -> &[T] {
     if start <= end && end <= list.len() {
@@ -48,7 +48,7 @@ pub fn between<T>(list: &[T], start: usize, end: usize) -> &[T] {
     }
 }
 
-/// A place as the number that lists keep of it, `ABSENT` where that has too few bits.
+/// A place as the number that lists keep of it, or `ABSENT` where that number has too few bits.
 #[inline(always)]
 pub fn number_of(place: usize) -> u32 {
     if place < 4_294_967_295 {

@@ -23,7 +23,7 @@ impl Tree {
         }
     }
 
-    // Notes the state of an outlet that enters; what flows on the entering arc.
+    // Notes the state of an outlet that enters, and returns what flows on the entering arc.
     fn enter(&mut self, graph: &Graph, entering: &Entering, cycle: &Cycle) -> u64 {
         if !graph.is_outlet(entering.arc) {
             return cycle.bottleneck;

@@ -1,8 +1,8 @@
 // Pricing: which arc enters next (Network Flows, 11.5).
 //
-// The sources are swept over in turn. Of each source the arc by which a unit costs least enters, if it violates the
-// optimality conditions by more than a threshold; outlets are priced in between. The threshold begins high, so that
-// the worst violations go first, and falls to 0. These sweeps look at candidates alone. When then a sweep over all arcs
+// The sources are swept over in turn. For each source, the arc by which a unit costs least enters, if it violates the
+// optimality conditions by more than a threshold. Outlets are priced in between. The threshold begins high, so that the
+// worst violations go first, and falls to 0. These sweeps look only at candidates. When a sweep over all arcs then
 // finds nothing at 0, the tree is optimal.
 
 use crate::cycle::Entering;
@@ -12,12 +12,12 @@ use crate::star::{Arc, ForwardStar};
 use crate::tree::{INFINITE_COST, OutletState, Tree};
 use std::ops::Range;
 
-/// How many sweeps are made at most at each threshold above 0, and how many at 0.
+/// The most sweeps that are made at each threshold above 0, and the most at 0.
 const SWEEPS: u32 = 5;
 
 const LAST_SWEEPS: u32 = 1_000;
 
-/// How many pivots are made for each node, about, before the solver gives up.
+/// About how many pivots are made for each node before the solver gives up.
 const PIVOTS_EACH: u64 = 20;
 
 // When outlets are priced in a sweep: `batch` of them after each `stride` sources.
@@ -39,7 +39,7 @@ impl Schedule {
 }
 
 impl Tree {
-    /// Improves the tree until it is optimal; whether that came to pass.
+    /// Improves the tree until it is optimal, and returns whether it became so.
     pub(crate) fn optimize(&mut self, graph: &Graph, candidates: &ForwardStar) -> bool {
         let mut threshold = graph.greatest_cost / 4;
         for _ in 0..64 {
@@ -62,7 +62,7 @@ impl Tree {
         }
     }
 
-    // Sweeps over the arcs until none enters; whether that came to pass.
+    // Sweeps over the arcs until none enters, and returns whether it came to that.
     fn finish(&mut self, graph: &Graph, star: &ForwardStar) -> bool {
         let pivot_limit = (graph.node_count() as u64)
             .saturating_add(1_000)
@@ -78,7 +78,7 @@ impl Tree {
         false
     }
 
-    // Prices these arcs of all sources, and the outlets; how many arcs entered.
+    // Prices these arcs of all sources, and the outlets, and returns how many arcs entered.
     fn sweep(&mut self, graph: &Graph, star: &ForwardStar, threshold: u64) -> u64 {
         let schedule = Schedule::of(graph);
         let before = self.effort.pivots;

@@ -9,13 +9,14 @@ use crate::tree::{SimplexEffort, Tree};
 use hsp_network::{Network, Outcome, greatest};
 use std::alloc::{AllocError, Global};
 
-/// An outcome that may be the network's; `None` where the network is too large for the solver's numbers, with a cost
-/// from 2^31, demands of 2^60 together, 16 million servers or hosts or a thousand million sources or arcs, or where
-/// the solver gave up after many pivots. The proposal is the same for the same network. An error says that memory is
-/// wanting.
+/// An outcome that may be the network's, or `None` where the network is too large for the solver's numbers or the
+/// solver gave up after many pivots. An error means that memory ran out. The proposal is the same for the same network.
 ///
-/// No clause says more of it, since nothing rests on it: a proposal counts where the test `hsp_network::accepts` says so, which
-/// knows nothing of how it came about. A mistake here would cost time alone.
+/// Too large is a network with a cost of 2^31 or more, demands of 2^60 or more together, 16 million servers or hosts,
+/// or a thousand million sources or arcs.
+///
+/// No clause says more of it, since nothing rests on it. A proposal counts only where the test `hsp_network::accepts`
+/// says so, and the test knows nothing of how it came about. A mistake here would cost only time.
 pub fn propose(alloc: Global, network: &Network<'_>) -> Result<Option<Outcome>, AllocError> {
     let mut effort = SimplexEffort {
         pivots: 0,
@@ -24,7 +25,7 @@ pub fn propose(alloc: Global, network: &Network<'_>) -> Result<Option<Outcome>, 
     propose_counted(alloc, network, &mut effort)
 }
 
-/// What `propose` answers, and what it took, which is added to `effort`.
+/// Does as `propose`, and adds the work that it took to `effort`.
 pub fn propose_counted(
     alloc: Global,
     network: &Network<'_>,

@@ -1,4 +1,4 @@
-// What an optimal tree tells of its network: flows and prices, or where artificial flow is left a shortage.
+// What an optimal tree shows of its network: flows and prices or, where artificial flow is left, a shortage.
 
 use crate::graph::Graph;
 use crate::lists::{ABSENT, between, get_or, set};
@@ -8,7 +8,7 @@ use hsp_network::{Outcome, PricedFlow};
 use std::alloc::{AllocError, Global};
 
 impl Tree {
-    /// The outcome that the tree tells of.
+    /// The outcome that the tree shows.
     pub(crate) fn outcome(&self, alloc: Global, graph: &Graph) -> Result<Outcome, AllocError> {
         let flows = self.arc_flows(alloc, graph)?;
         let unmet = self.unmet_sources(alloc, graph)?;
@@ -46,7 +46,7 @@ impl Tree {
     }
 
     // The prices of hosts and servers: what their outlets' bounds add to a unit's cost. Where all costs are 0 so are
-    // the prices, since potentials then differ by artificial costs alone.
+    // the prices, since potentials then differ only by artificial costs.
     fn outlet_prices(&self, alloc: Global, graph: &Graph) -> Result<Vec<u64>, AllocError> {
         let mut prices = vec![in alloc; 0; graph.transit_count()]?;
         if graph.greatest_cost == 0 {

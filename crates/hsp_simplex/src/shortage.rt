@@ -1,15 +1,15 @@
 // Shortages: sources that demand more than the servers that they may use can take (Network Flows, 6.5).
 //
-// Where a maximum flow leaves sources unmet, the residual network tells which sources are short: those that it
-// reaches from the unmet ones. What it reaches of servers and hosts is full, and full of these sources' flow alone,
-// or an augmenting path would be left.
+// Where a maximum flow leaves sources unmet, the residual network shows which sources are short: those that it reaches
+// from the unmet ones. The servers and hosts that it reaches are full, and only of these sources' flow. Otherwise an
+// augmenting path would be left.
 
 use crate::graph::{Graph, ROOT};
 use crate::lists::{get_or, increase, mark, set};
 use hsp_network::Network;
 use std::alloc::{AllocError, Global};
 
-/// What all servers can take together, or the greatest number where that is above it.
+/// What all servers can take together, or the greatest number where the sum is above it.
 pub fn total_capacity(alloc: Global, network: &Network<'_>) -> Result<u64, AllocError> {
     let mut total = 0u64;
     for (host, capacity) in capacities_by_host(alloc, network)?.iter().enumerate() {
@@ -74,7 +74,7 @@ fn server_loads(alloc: Global, graph: &Graph, flows: &[u64]) -> Result<Vec<u64>,
     Ok(loads)
 }
 
-// Each of these tells whether it reached anything new.
+// Each of these returns whether it reached anything new.
 impl Reached {
     fn spread_sources(&mut self, graph: &Graph, flows: &[u64]) -> bool {
         let mut any = false;

@@ -9,13 +9,14 @@ pub struct Arc {
     pub head: u32,
 }
 
-/// Arcs of the sources: all of them, or a choice.
+/// Arcs of the sources: all of them, or a selection.
 #[derive(Drop)]
 pub struct ForwardStar {
     pub arcs: Vec<Arc>,
     /// The place of each source's first arc, and how many arcs there are.
     pub firsts: Vec<u32>,
-    /// The number that each arc of a choice has among all; of all arcs it is the place, and nothing is listed.
+    /// The number that each arc of a selection has among all arcs. Of all arcs the number is the place, and nothing is
+    /// listed.
     pub numbers: Vec<u32>,
 }
 

@@ -1,16 +1,16 @@
 // A spanning tree of the graph, with the flow and the potentials that belong to it (Network Flows, 11.2 and 11.3).
 //
-// An arc beside the tree carries nothing, or where it is an outlet it may be at its upper bound. A node's potential
-// is what a unit costs on its way from there to the root by the tree's arcs, so that these have reduced cost 0. The
-// potential of a source follows from its parent's and is not kept. Most sources are leaves, and so the preorder too
-// is of the other nodes alone: a subtree is a contiguous part of it, and so are all that hang below a source. A pivot
-// moves such parts, and adds one number to the potentials in one.
+// An arc beside the tree carries nothing, but if it is an outlet it may be at its upper bound. A node's potential is
+// what a unit costs on its way from there to the root by the tree's arcs, so that these have reduced cost 0. The
+// potential of a source follows from its parent's and is not kept. Most sources are leaves, and so the preorder too has
+// only the other nodes. A subtree is a contiguous part of it, and so are all that hang below a source. A pivot moves
+// such parts, and adds one number to the potentials in one.
 
 use crate::graph::{Graph, ROOT};
 use crate::lists::{ABSENT, get_or, number_of};
 use std::alloc::{AllocError, Global};
 
-/// Whether a transshipment node's outlet is in the tree, or else at which bound.
+/// Whether a transshipment node's outlet is in the tree, and otherwise at which bound it is.
 #[derive(Clone, Copy, PartialEq, Eq, Drop)]
 pub enum OutletState {
     Basic,
@@ -22,10 +22,10 @@ pub enum OutletState {
 #[derive(Clone, Copy, Drop)]
 pub struct Node {
     pub parent: u32,
-    /// The arc between the node and its parent, `ABSENT` for an artificial one.
+    /// The arc between the node and its parent, or `ABSENT` for an artificial one.
     pub arc: u32,
-    /// Twice the number of nodes in its subtree that are no sources, and one more for a source itself: so weights
-    /// grow on each way to the root.
+    /// Twice the number of nodes in its subtree that are not sources, and one more for a source itself: so weights grow
+    /// on each way to the root.
     pub weight: u32,
     /// Of a source with children: the first node of its subtree in the preorder.
     pub lead: u32,
@@ -90,7 +90,7 @@ pub struct Tree {
 /// The root's potential, which keeps those of other nodes above 0.
 pub const ROOT_POTENTIAL: u64 = 1_152_921_504_606_846_976;
 
-/// Stands for what nothing can cost.
+/// A cost that nothing can have.
 pub const INFINITE_COST: u64 = 4_611_686_018_427_387_904;
 
 impl Tree {

@@ -152,7 +152,8 @@ impl Tree {
         }
     }
 
-    // Appends a part of the preorder without what of it has been gathered; how many nodes are gathered then.
+    // Appends a part of the preorder without what of it has been gathered, and returns how many nodes are gathered
+    // then.
     fn gather(&mut self, count: usize, part: Part, done: Part) -> usize {
         if done.start == done.end {
             self.copy(count, part)
@@ -211,7 +212,7 @@ impl Tree {
         }
     }
 
-    // Copies so many gathered nodes into the preorder.
+    // Copies `count` gathered nodes into the preorder.
     fn paste(&mut self, place: usize, count: usize) {
         let mut to = place;
         for node in between(&self.gathered, 0, count) {
@@ -229,7 +230,7 @@ impl Tree {
         }
     }
 
-    /// Lets a node stand at a place of the preorder.
+    /// Puts a node at a place of the preorder.
     #[inline(always)]
     pub(crate) fn set_place(&mut self, node: u32, place: usize) {
         set(&mut self.preorder, place, node);

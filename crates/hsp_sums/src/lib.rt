@@ -1,3 +1,3 @@
-// Sums over the numbers below a bound, and what lists of numbers and flags hold: what the solver and the checker say of networks in one
-// voice. It has definitions and lemmas alone, and no functions.
+// Sums over the numbers below a bound, and what lists of numbers and flags hold. The solver and the checker both speak
+// of networks in these terms. The crate has only definitions and lemmas, and no functions.
 #![tactic(auto)]

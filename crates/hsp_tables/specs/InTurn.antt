@@ -34,17 +34,17 @@ SpellInTurn row_in number [] (row ∷ rows) = ⊥
 SpellInTurn row_in number (item ∷ more) [] = ⊥
 SpellInTurn row_in number (item ∷ more) (row ∷ rows) = (row_in number item ≡ Ok row) × SpellInTurn row_in (number + 1) more rows
 
--- as a relation: items spell just these rows, which are within the limit, no two with the same key
+-- as a relation: items spell exactly these rows, which are within the limit, no two with the same key
 pub record SpellKeyed {Item Row : Type 0} (most : ℕ) (row_in : ℕ → Item → Result Row TableFault) (same_key : Row → Row → Bool) (items : List Item) (rows : List Row) : Type 0 where
   pub spelled : SpellInTurn row_in 0 items rows
   pub few : length rows ≤ most
   pub apart : IsDistinct same_key rows
 
--- the reading is the relation: items give just the rows that they spell
+-- the reading is the relation: items give exactly the rows that they spell
 abbrev pub ReadsAsSpelled : {Item Row : Type 0} → ℕ → (ℕ → Item → Result Row TableFault) → (Row → Row → Bool) → Reading Item Row → Type 0
 ReadsAsSpelled {Item} {Row} most row_in same_key read = (items : List Item) (rows : List Row) → (rows_after read [] items ≡ Ok rows) ↔ SpellKeyed most row_in same_key items rows
 
--- at most so many rows, each as it should be, and no two with the same key
+-- at most `most` rows, each as it should be, and no two with the same key
 pub record AreKeyed {Row : Type 0} (most : ℕ) (Is : Row → Type 0) (same_key : Row → Row → Bool) (rows : List Row) : Type 0 where
   pub few : length rows ≤ most
   pub each : AllByRecursion Is rows

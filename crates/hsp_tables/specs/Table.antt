@@ -78,7 +78,7 @@ pub record IsRowFault {Row : Type 0} (table : Table Row) (records : List Fields)
 abbrev pub IsTableFault : {Row : Type 0} → Table Row → List Fields → TableFault → Type 0
 IsTableFault table records fault = (LacksHeader table records × (fault ≡ Header)) ⊎ IsRowFault table records fault
 
--- the reading is the relation: records give just the rows of which they are the table, or just their first fault
+-- the reading is the relation: records give exactly the rows of which they are the table, or exactly their first fault
 pub record ReadsAsItsRelation {Row : Type 0} (table : Table Row) : Type 0 where
   pub rows : (records : List Fields) (rows : List Row) → (table_of table records ≡ Ok rows) ↔ IsTable table records rows
   pub fault : (records : List Fields) (fault : TableFault) → (table_of table records ≡ Err fault) ↔ IsTableFault table records fault

@@ -24,7 +24,8 @@ use std::marker::Model;
 // The names of the fields.
 const HEADER: [&[u8]; 3] = [b"site", b"server_id", b"capacity"];
 
-/// The capacities: rows of a site, the identifier of a server and its capacity, each site and identifier once.
+/// The capacities. Each row has a site, the identifier of a server and its capacity; each pair of site and identifier
+/// stands once.
 ///
 /// There are at most 1,024 rows.
 #[derive(Drop)]
@@ -64,7 +65,7 @@ impl Capacities {
         self.rows.len() as u32
     }
 
-    /// The row of a number below [`Capacities::len`].
+    /// The row with this number, which is below [`Capacities::len`].
     pub fn row(&self, number: u32) -> CapacityRow<'_>
         requires { number < length self.now }
         ensures { slice_get self.now number ≡ Some (capacity_shown result) }
@@ -77,7 +78,7 @@ impl Capacities {
         }
     }
 
-    /// The capacity of the server of an identifier at a site, None where no row says it.
+    /// The capacity of the server with this identifier at a site, or None where no row states it.
     pub fn find(&self, site: &[u8], server_id: u32) -> Option<u64>
         ensures { result ≡ option_map (λ (row : CapacityEntry). row.capacity)
             (find (λ (row : CapacityEntry). bytes_eq row.site site.now && (row.server_id == server_id)) self.now) }
@@ -121,8 +122,8 @@ fn add_record(alloc: Global, rows: &mut ServerRows, fields: &ByteRecord) -> Resu
 
 /// The capacities that a text of comma-separated values spells, or its first fault.
 ///
-/// The header is `site,server_id,capacity`. The order of faults is: Header; then record by record TooManyRows (this record is
-/// one too many), Fields, BadName, BadNumber, RowTwice.
+/// The header is `site,server_id,capacity`. The order of faults is: Header; then record by record TooManyRows (this
+/// record is one too many), Fields, BadName, BadNumber, RowTwice.
 pub fn read_capacity(alloc: Global, text: &[u8]) -> Result<Capacities, TableFault>
     ensures { GivesUnless OutOfMemory (λ x. x) result (
         table_of capacity_table (records_of text.now)) }

@@ -25,7 +25,7 @@ use std::marker::Model;
 // The names of the fields.
 const HEADER: [&[u8]; 3] = [b"region", b"site", b"cost"];
 
-/// The costs: rows of a region, a site and a cost, each region and site once.
+/// The costs. Each row has a region, a site and a cost; each pair of region and site stands once.
 ///
 /// There are at most 2,048 rows and 64 regions.
 #[derive(Drop)]
@@ -66,7 +66,7 @@ impl Costs {
         self.rows.len() as u32
     }
 
-    /// The row of a number below [`Costs::len`].
+    /// The row with this number, which is below [`Costs::len`].
     pub fn row(&self, number: u32) -> CostRow<'_>
         requires { number < length self.now }
         ensures { slice_get self.now number ≡ Some (cost_shown result) }
@@ -79,7 +79,7 @@ impl Costs {
         }
     }
 
-    /// What a query from a region costs at a site, None where no row says it.
+    /// What a query from a region costs at a site, or None where no row states it.
     pub fn find(&self, region: &[u8], site: &[u8]) -> Option<u64>
         ensures { result ≡ option_map (λ (row : CostEntry). row.cost)
             (find (λ (row : CostEntry). bytes_eq row.region region.now && bytes_eq row.site site.now) self.now) }
@@ -139,8 +139,8 @@ fn add_record(
 
 /// The costs that a text of comma-separated values spells, or its first fault.
 ///
-/// The header is `region,site,cost`. The order of faults is: Header; then record by record TooManyRows (this record is one
-/// too many), Fields, BadName, BadNumber, RowTwice, TooManyRegions.
+/// The header is `region,site,cost`. The order of faults is: Header; then record by record TooManyRows (this record is
+/// one too many), Fields, BadName, BadNumber, RowTwice, TooManyRegions.
 pub fn read_costs(alloc: Global, text: &[u8]) -> Result<Costs, TableFault>
     ensures { GivesUnless OutOfMemory (λ x. x) result (
         table_of cost_table (records_of text.now)) }

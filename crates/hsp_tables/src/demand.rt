@@ -24,7 +24,7 @@ use std::marker::Model;
 // The names of the fields.
 const HEADER: [&[u8]; 3] = [b"region", b"handle", b"count"];
 
-/// The demand: rows of a region, a handle and a count, each region and handle once.
+/// The demand. Each row has a region, a handle and a count; each pair of region and handle stands once.
 ///
 /// There are at most 8,192 rows and 64 regions.
 #[derive(Drop)]
@@ -49,7 +49,7 @@ impl Model for Demand {
 pub struct DemandRow<'a> {
     /// The name of the region.
     pub region: &'a [u8],
-    /// The handle that is asked for.
+    /// The handle that the queries ask for.
     pub handle: HandleRef<'a>,
     /// How many queries there are, at most 1,000,000.
     pub count: u64,
@@ -65,7 +65,7 @@ impl Demand {
         self.rows.len() as u32
     }
 
-    /// The row of a number below [`Demand::len`].
+    /// The row with this number, which is below [`Demand::len`].
     pub fn row(&self, number: u32) -> DemandRow<'_>
         requires { number < length self.now }
         ensures { slice_get self.now number ≡ Some (demand_shown result) }
@@ -130,8 +130,8 @@ fn add_record(
 
 /// The demand that a text of comma-separated values spells, or its first fault.
 ///
-/// The header is `region,handle,count`. The order of faults is: Header; then record by record TooManyRows (this record is one
-/// too many), Fields, BadName, BadHandle, BadNumber, RowTwice, TooManyRegions.
+/// The header is `region,handle,count`. The order of faults is: Header; then record by record TooManyRows (this record
+/// is one too many), Fields, BadName, BadHandle, BadNumber, RowTwice, TooManyRegions.
 pub fn read_demand(alloc: Global, text: &[u8]) -> Result<Demand, TableFault>
     ensures { GivesUnless OutOfMemory (λ x. x) result (
         table_of demand_table (records_of text.now)) }

@@ -10,9 +10,9 @@ use std::alloc::{AllocError, AllocFailed};
 /// The first fault of a table or of the settings. Rows, sites and hosts are numbered from 0.
 #[derive(Clone, Copy, Debug, PartialEq, Eq)]
 pub enum TableFault {
-    /// The settings are not UTF-8, or no TOML.
+    /// The settings are not UTF-8, or not TOML.
     NotToml,
-    /// The settings have a key that means nothing.
+    /// The settings have a key that has no meaning.
     UnknownKey,
     /// A site of the settings is not as it should be.
     BadSite { site: u32 },
@@ -20,13 +20,13 @@ pub enum TableFault {
     SiteTwice { site: u32 },
     /// The first record of a table is not its header.
     Header,
-    /// A record has not as many fields as the header.
+    /// A record does not have as many fields as the header.
     Fields { row: u32 },
-    /// A field is no name of a region or a site.
+    /// A field is not the name of a region or a site.
     BadName { row: u32 },
-    /// A field is no handle.
+    /// A field is not a handle.
     BadHandle { row: u32, fault: HandleFault },
-    /// A field is no whole number, or one beyond its limit.
+    /// A field is not a whole number, or is beyond its limit.
     BadNumber { row: u32 },
     /// An earlier row has the same key.
     RowTwice { row: u32 },

@@ -72,7 +72,7 @@ impl Model for PairRows {
     ghost view = { λ t. map pair_entry t.rows.entries };
 }
 
-// Adds a row whose key is new, and tells whether it is.
+// Adds a row if its key is new, and returns whether it is new.
 fn insert_pair(
     alloc: Global,
     rows: &mut IndexMap<PairKey, u64>,
@@ -128,7 +128,7 @@ impl PairRows {
         Some(*number)
     }
 
-    // Adds a row whose key is new, and tells whether it is.
+    // Adds a row if its key is new, and returns whether it is new.
     pub(crate) fn insert(&mut self, alloc: Global, row: PairRow<'_>) -> Result<bool, TableFault>
         ensures found { IfOk result
             (λ new. new ≡ not (list_any (same_pair (pair_of row.entry)) self.old)) }
@@ -189,7 +189,7 @@ impl Model for ServerRows {
     ghost view = { λ t. map server_entry t.rows.entries };
 }
 
-// Adds the capacity of a server that is new, and tells whether it is.
+// Adds the capacity of a server if the server is new, and returns whether it is new.
 fn insert_server(
     alloc: Global,
     rows: &mut IndexMap<ServerKey, u64>,
@@ -243,7 +243,7 @@ impl ServerRows {
         Some(*capacity)
     }
 
-    // Adds the capacity of a server that is new, and tells whether it is.
+    // Adds the capacity of a server if the server is new, and returns whether it is new.
     pub(crate) fn insert(
         &mut self,
         alloc: Global,

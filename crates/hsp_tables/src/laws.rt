@@ -8,8 +8,8 @@ ghost use Rattle.hsp_tables.specs.InTurn.{FaultStays, ReadsAsSpelled};
 ghost use Rattle.hsp_tables.specs.Settings.{host_after, host_at, same_address, same_name, site_after, site_at};
 ghost use Rattle.hsp_tables.specs.Table.{KeepsFirstFault, ReadsAsItsRelation};
 
-/// What a table reads as is its relation: just the rows that its records spell under the header, where they are within the limits
-/// and no two have one key, or else just its first fault.
+/// A table reads as its relation says: exactly the rows that its records spell under the header, where they are within
+/// the limits and no two have the same key; otherwise exactly its first fault.
 #[tactic(auto, using(crate::proofs::TableKinds::demand_is_its_relation, crate::proofs::TableKinds::costs_are_their_relation, crate::proofs::TableKinds::capacities_are_their_relation))]
 pub fn reading_is_the_relation()
     ensures demand { ReadsAsItsRelation demand_table }
@@ -17,7 +17,7 @@ pub fn reading_is_the_relation()
     ensures capacity { ReadsAsItsRelation capacity_table }
 {}
 
-/// A fault is decided by the records up to it: it stays, whatever records follow.
+/// The records up to a fault decide it: it stays, whatever records follow.
 #[tactic(auto, using(crate::proofs::TableKinds::demand_keeps_first_fault, crate::proofs::TableKinds::costs_keep_first_fault, crate::proofs::TableKinds::capacities_keep_first_fault))]
 pub fn fault_is_first()
     ensures demand { KeepsFirstFault demand_table }
@@ -25,14 +25,15 @@ pub fn fault_is_first()
     ensures capacity { KeepsFirstFault capacity_table }
 {}
 
-/// What the sites and the hosts of the settings read as is their relation: just those that the elements spell, each by its number,
-/// where they are within their limits and no two sites have one name and no two hosts one address.
+/// The sites and the hosts of the settings read as their relation says: exactly those that the elements spell, each by
+/// its number, where they are within their limits, no two sites have the same name and no two hosts have the same
+/// address.
 pub fn settings_are_as_spelled()
     ensures sites { ReadsAsSpelled MOST_SITES site_at same_name site_after }
     ensures hosts { ReadsAsSpelled MOST_HOSTS host_at same_address host_after }
 {}
 
-/// A fault of a site or a host is decided by the elements up to it: it stays, whatever elements follow in the array.
+/// The elements up to a fault of a site or a host decide it: it stays, whatever elements follow in the array.
 #[tactic(auto, using(crate::proofs::TurnLaws::fault_stays))]
 pub fn fault_of_settings_is_first()
     ensures sites { FaultStays site_after }

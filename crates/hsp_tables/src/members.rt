@@ -93,7 +93,7 @@ pub(crate) fn has_host_keys(table: &Table) -> bool
     true
 }
 
-// The text of a value, or else the fault.
+// The text of a value, or the fault where it has none.
 pub(crate) fn text_of(fault: TableFault, value: Option<&Value>) -> Result<&str, TableFault>
     ensures { Gives (λ s. s.now) result (text_of fault (option_map (λ v. view v.now) value.entry)) }
 {
@@ -106,7 +106,7 @@ pub(crate) fn text_of(fault: TableFault, value: Option<&Value>) -> Result<&str, 
     }
 }
 
-// The integer of a value, or else the fault.
+// The integer of a value, or the fault where it has none.
 pub(crate) fn integer_of(fault: TableFault, value: Option<&Value>) -> Result<i64, TableFault>
     ensures { Gives (λ n. n) result (integer_of fault (option_map (λ v. view v.now) value.entry)) }
 {

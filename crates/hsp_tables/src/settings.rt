@@ -47,14 +47,14 @@ impl Settings {
     /// How many sites there are.
     pub fn len(&self) -> u32
         ensures count { result ≡ length self.now.sites }
-        // The settings are within their limits, each site and host is as it should be, and no two sites have one name and no
-        // two hosts one address.
+        // The settings are within their limits, each site and host is as it should be, no two sites have the same name,
+        // and no two hosts have the same address.
         ensures settings { AreSettings self.now }
     {
         self.sites.len() as u32
     }
 
-    /// The name of the site of a number below [`Settings::len`].
+    /// The name of the site with this number, which is below [`Settings::len`].
     pub fn name(&self, number: u32) -> &[u8]
         requires { number < length self.now.sites }
         ensures { option_map (λ s. s.name) (slice_get self.now.sites number) ≡ Some result.now }
@@ -62,7 +62,7 @@ impl Settings {
         self.sites[number as usize].name.as_slice()
     }
 
-    /// What the site of a number below [`Settings::len`] is read from.
+    /// What the site with this number is read from. The number is below [`Settings::len`].
     pub fn source(&self, number: u32) -> Source<'_>
         requires { number < length self.now.sites }
         ensures { option_map (λ s. s.source) (slice_get self.now.sites number)
@@ -77,13 +77,13 @@ impl Settings {
     /// How many hosts there are.
     pub fn host_count(&self) -> u32
         ensures count { result ≡ length self.now.hosts }
-        // The settings are within their limits, as [`Settings::len`] has it.
+        // The settings are within their limits, as [`Settings::len`] states.
         ensures settings { AreSettings self.now }
     {
         self.hosts.len() as u32
     }
 
-    /// The address and the limit of the host of a number below [`Settings::host_count`].
+    /// The address and the limit of the host with this number, which is below [`Settings::host_count`].
     pub fn host(&self, number: u32) -> ([u8; 16], u64)
         requires { number < length self.now.hosts }
         ensures { slice_get self.now.hosts number
@@ -124,10 +124,13 @@ fn listed_hosts(alloc: Global, table: &Table) -> Result<Vec<Host>, TableFault>
 
 /// The settings that a TOML document lists, or its first fault.
 ///
-/// Each element of `site` has a `name` and exactly one of `record`, hexadecimal digits, and `index`, from 0 to 4,294,967,295;
-/// each element of `host` has an `address`, 32 hexadecimal digits, and a `limit`, from 0 to 1,000,000,000,000. The order of faults
-/// is: NotToml; UnknownKey of the document; BadSite of site 0 where `site` is no array; then site by site TooManySites (this
-/// element is one too many), BadSite where it is no table, UnknownKey, BadSite, SiteTwice; then the same for the hosts.
+/// Each element of `site` has a `name` and exactly one of `record`, in hexadecimal digits, and `index`, from 0 to
+/// 4,294,967,295. Each element of `host` has an `address` of 32 hexadecimal digits and a `limit` from 0 to
+/// 1,000,000,000,000.
+///
+/// The order of faults is: NotToml; UnknownKey of the document; BadSite of site 0 where `site` is not an array; then
+/// site by site TooManySites (this element is one too many), BadSite where it is not a table, UnknownKey, BadSite,
+/// SiteTwice; then the same for the hosts.
 pub fn read_settings(alloc: Global, octets: &[u8]) -> Result<Settings, TableFault>
     ensures { GivesUnless OutOfMemory (λ x. x) result (settings_of octets.now) }
 {

@@ -1,7 +1,7 @@
 -- What a call answers, against what the definitions give: one vocabulary for every kind of fault.
 --
--- A definition gives a value or a fault. A call gives the same, seen by a view that leaves out where things lie in memory, or
--- tells that memory ran out, which is a fault of its own kind, here called `memory`.
+-- A definition gives a value or a fault. A call gives the same, seen by a view that leaves out where things lie in
+-- memory, or reports that memory ran out, which is a fault of its own kind, here called `memory`.
 use Rattle.std.specs.Prelude.{◌≡◌, ◌⊎◌, Option, Some, None, Result, Ok, Err}
 
 -- ---- steps
@@ -12,7 +12,7 @@ abbrev pub ◌>>=◌ : {A B E : Type 0} → Result A E → (A → Result B E) �
 (Ok x) >>= f = f x
 (Err e) >>= f = Err e
 
--- what there is, or else the fault
+-- what there is, or the fault where there is nothing
 abbrev pub or_fault : {A E : Type 0} → E → Option A → Result A E
 or_fault fault None = Err fault
 or_fault fault (Some x) = Ok x

@@ -19,6 +19,6 @@ up_to max n = if nat_le n max then Ok n else Err TooLarge
 abbrev pub whole_within : ℕ → List ℕ → Result ℕ WholeFault
 whole_within max text = if is_whole text then up_to max (digits_value 10 text) else Err NotWhole
 
--- the texts that spell a number are its digits alone
+-- only the digits of a number spell it
 abbrev pub DigitsSpellTheirNumber : Type 0
 DigitsSpellTheirNumber = (n : ℕ) (text : List ℕ) → n < 2 ^ 64 → ((is_whole text ≡ true) × (digits_value 10 text ≡ n)) ↔ (text ≡ decimal n)

@@ -1,4 +1,4 @@
-// The texts that every other part reads and writes: whole numbers in decimal digits, names, and lines; and the limits.
+// What every other part reads and writes: whole numbers in decimal digits, names and lines. The limits are here too.
 #![tactic(auto)]
 
 pub mod laws;

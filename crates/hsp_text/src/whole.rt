@@ -5,16 +5,16 @@ ghost use Rattle.hsp_text.specs.Whole.{is_whole, whole_within};
 
 use std::alloc::AllocError;
 
-/// Why a text is no whole number up to a limit.
+/// Why a text is not a whole number up to a limit.
 #[derive(Clone, Copy, Debug, PartialEq, Eq)]
 pub enum WholeFault {
-    /// Not decimal digits alone, none at all, or a leading zero before another digit.
+    /// The text is empty, has an octet that is not a decimal digit, or has a leading zero before another digit.
     NotWhole,
-    /// The digits of a number above the limit.
+    /// The text has the digits of a number above the limit.
     TooLarge,
 }
 
-// The room that the digits of any number of 64 bits take at the most, in octets.
+// The most octets that the digits of a 64-bit number take.
 const MOST_DIGITS: usize = 20;
 
 // Whether the octets are decimal digits without a leading zero, except `0` itself.
@@ -35,7 +35,8 @@ fn is_whole(text: &[u8]) -> bool
     true
 }
 
-/// The number whose decimal digits the text is, without sign and without a leading zero, where it is at most `max`.
+/// The number that the text spells in decimal digits, without a sign and without a leading zero, if it is at most
+/// `max`.
 ///
 /// Digits of any length are read. `NotWhole` comes before `TooLarge`.
 pub fn read_whole(text: &[u8], max: u64) -> Result<u64, WholeFault>
@@ -55,7 +56,7 @@ pub fn read_whole(text: &[u8], max: u64) -> Result<u64, WholeFault>
     Ok(number)
 }
 
-/// Appends the decimal digits of a number, for which there is room.
+/// Appends the decimal digits of a number. `out` must have room for them.
 #[tactic(auto, using(std::proofs::lemmas::Fmt::decimal_step, std::proofs::lemmas::Fmt::decimal_digit))]
 pub fn put_digits(out: &mut Vec<u8>, number: u64)
     requires { vec_len out.old + length (decimal number) ≤ vec_capacity out.old }
@@ -71,8 +72,8 @@ pub fn put_digits(out: &mut Vec<u8>, number: u64)
     out.push(b'0' + (number % 10) as u8).unwrap();
 }
 
-/// Appends the decimal digits of a number, at most twenty. It can't fail where there is room for twenty octets, and leaves
-/// `out` as it was where a growth is refused.
+/// Appends the decimal digits of a number, at most 20. It can't fail where `out` has room for 20 octets. If memory runs
+/// out, `out` stays as it was.
 pub fn push_whole(out: &mut Vec<u8>, number: u64) -> Result<(), AllocError>
     ensures digits { OnOk result (out.new.items ≡ out.old.items ++ decimal number) }
     ensures len { OnOk result (vec_len out.new ≤ vec_len out.old + 20) }

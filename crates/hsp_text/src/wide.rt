@@ -5,10 +5,10 @@ ghost use Rattle.std.specs.Prelude.{◌≡◌, ◌≤◌, ◌+◌, ◌++◌, len
 use crate::whole::put_digits;
 use std::alloc::AllocError;
 
-// The room that the digits of any number of 128 bits take at the most, in octets.
+// The most octets that the digits of a 128-bit number take.
 const MOST_DIGITS: usize = 39;
 
-// Appends the decimal digits of a number, for which there is room.
+// Appends the decimal digits of a number. `out` must have room for them.
 fn put_wide(out: &mut Vec<u8>, number: u128)
     requires { vec_len out.old + length (decimal number) ≤ vec_capacity out.old }
     ensures digits { out.new.items ≡ out.old.items ++ decimal number }
@@ -23,7 +23,7 @@ fn put_wide(out: &mut Vec<u8>, number: u128)
     out.push(b'0' + (number % 10) as u8).unwrap();
 }
 
-/// Appends the decimal digits of a number of 128 bits, at most 39, and leaves `out` as it was where a growth is refused.
+/// Appends the decimal digits of a 128-bit number, at most 39. If memory runs out, `out` stays as it was.
 pub fn push_wide(out: &mut Vec<u8>, number: u128) -> Result<(), AllocError>
     ensures digits { OnOk result (out.new.items ≡ out.old.items ++ decimal number) }
     ensures err { OnErr result (out.new.items ≡ out.old.items) }

@@ -17,7 +17,7 @@ fn push_number_part(out: &mut Vec<u8>, number: u64) -> Result<(), AllocError>
     push_whole(out, number)
 }
 
-// The pieces of a line, or a part of them where a growth is refused.
+// Appends the pieces of a line, or a part of them where a growth is refused.
 #[tactic(auto, using(crate::proofs::Kept::kept_behind, crate::proofs::Kept::kept_on))]
 fn push_line_part(out: &mut Vec<u8>, word: &[u8], numbers: &[u64]) -> Result<(), AllocError>
     ensures line { OnOk result (out.new.items ≡ out.old.items ++ numbered word.now numbers.now) }
@@ -31,7 +31,7 @@ fn push_line_part(out: &mut Vec<u8>, word: &[u8], numbers: &[u64]) -> Result<(),
     Ok(())
 }
 
-/// Appends a space and the digits of a number, and leaves `out` as it was where a growth is refused.
+/// Appends a space and the digits of a number. If memory runs out, `out` stays as it was.
 pub fn push_number(out: &mut Vec<u8>, number: u64) -> Result<(), AllocError>
     ensures number { OnOk result (out.new.items ≡ out.old.items ++ 32 ∷ decimal number) }
     ensures err { OnErr result (out.new.items ≡ out.old.items) }
@@ -44,8 +44,8 @@ pub fn push_number(out: &mut Vec<u8>, number: u64) -> Result<(), AllocError>
     pushed
 }
 
-/// Appends a line: a word and the numbers behind it, each after a space, and LF. Where a growth is refused, `out` is left as it
-/// was.
+/// Appends a line: a word, the numbers behind it with a space before each, and LF. If memory runs out, `out` stays as
+/// it was.
 pub fn push_line(out: &mut Vec<u8>, word: &[u8], numbers: &[u64]) -> Result<(), AllocError>
     ensures line { OnOk result (out.new.items ≡ out.old.items ++ numbered word.now numbers.now) }
     ensures err { OnErr result (out.new.items ≡ out.old.items) }
@@ -58,7 +58,7 @@ pub fn push_line(out: &mut Vec<u8>, word: &[u8], numbers: &[u64]) -> Result<(), 
     pushed
 }
 
-// Appends so many spaces, or a part of them where a growth is refused.
+// Appends `count` spaces, or a part of them where a growth is refused.
 #[tactic(auto, using(crate::proofs::Kept::kept_behind, crate::proofs::Kept::kept_on))]
 fn push_spaces(out: &mut Vec<u8>, count: usize) -> Result<(), AllocError>
     ensures spaces { OnOk result (out.new.items ≡ out.old.items ++ replicate count 32) }
@@ -81,8 +81,8 @@ fn digit_count(number: u128) -> usize
     digit_count(number / 10) + 1
 }
 
-/// Appends the digits of a number, right-aligned in `width` places; a longer number stands as it is. Where a growth is refused,
-/// `out` is left as it was.
+/// Appends the digits of a number, right-aligned in `width` places. A longer number is written whole. If memory runs
+/// out, `out` stays as it was.
 pub fn push_aligned(out: &mut Vec<u8>, number: u128, width: usize) -> Result<(), AllocError>
     ensures aligned { OnOk result
         (out.new.items ≡ out.old.items ++ right_aligned width (decimal number)) }

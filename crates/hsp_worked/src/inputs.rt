@@ -1,5 +1,5 @@
-// Inputs, the instances and certificates that they make, and verdicts. Where a growth is refused, the second call finds memory:
-// so the tests insist on what they make.
+// Inputs, the instances and certificates that they make, and verdicts. Where a growth is refused, the second call finds
+// memory: so the tests insist on what they make.
 use crate::same::is_same;
 use hsp_cert::{Certificate, UseLine};
 use hsp_check::{Verdict, check};

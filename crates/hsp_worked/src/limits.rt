@@ -31,7 +31,7 @@ const HEAD: &[u8] = b"\"\nrecord = \"0001020000010001000000000000000000000020";
 // What stands in the record of a server behind its identifier.
 const TAIL: &[u8] = b"000000000000000000000000000000000000000000000000";
 
-// The digits of a server's place are the last two digits of its identifier, which is told in base 16.
+// The digits of a server's place are the last two digits of its identifier, which is stated in base 16.
 fn push_servers(text: &mut Vec<u8>) -> Result<(), AllocError> {
     for place in 0..32u32 {
         push_numbers(text, &[(b"000000", place / 10), (b"", place % 10)])?;
@@ -54,7 +54,7 @@ fn push_settings(text: &mut Vec<u8>) -> Result<(), AllocError> {
     Ok(())
 }
 
-// A million queries for each of so many rows, from 64 regions.
+// A million queries for each of `rows` rows, from 64 regions.
 fn push_demand(text: &mut Vec<u8>, rows: u32) -> Result<(), AllocError> {
     text.extend_from_slice(b"region,handle,count\n")?;
     for row in 0..rows {
@@ -73,7 +73,8 @@ fn push_costs(text: &mut Vec<u8>) -> Result<(), AllocError> {
     Ok(())
 }
 
-// Five million queries at each server of the first 31 sites. At the last site each takes as many as any may, but for that of place 0.
+// Five million queries at each server of the first 31 sites. At the last site each takes as many as any may, but for
+// that of place 0.
 fn capacity_of(row: u32, last: u32) -> u32 {
     match (row / 32, row % 32) {
         (31, 0) => last,
@@ -138,9 +139,10 @@ fn lent(texts: &LimitTexts) -> Texts<'_> {
     }
 }
 
-// Each row's server at a site stands at the place that is the absolute value of the last four octets of the MD5 of its number, modulo 32. That is place 0
-// for 277 rows, and each place for 229 at least. So the first 31 sites take five of the rows of each place, and the last site takes all others: by
-// each million queries the cost is 32 * 5 * (1 + .. + 31) + 32 * (8192 - 32 * 155). What the last server of place 0 can take is just enough.
+// Each row's server at a site stands at the place that is the absolute value of the last four octets of the MD5 of its
+// number, modulo 32. That is place 0 for 277 rows, and each place for 229 at least. So the first 31 sites take five of
+// the rows of each place, and the last site takes all others: by each million queries the cost is 32 * 5 * (1 + .. +
+// 31) + 32 * (8192 - 32 * 155). What the last server of place 0 can take is just enough.
 #[test]
 fn a_plan_at_the_limits_is_found(rt: HostRuntime) {
     let texts = texts_of(&rt, rt.alloc(), 8192, 122_000_000);
@@ -212,8 +214,8 @@ fn a_shortage_at_the_limits_reaches_its_servers(rt: HostRuntime) {
     are_first_servers(&rt, &servers);
 }
 
-// Of the first 256 rows a place has 13 at most: of those of one place five cost one, the next five two and the others three, a million times. The nodes of the
-// search are the groups of rows, more than a thousand servers and the sink.
+// Of the first 256 rows a place has 13 at most: of those of one place five cost one, the next five two and the others
+// three, a million times. The nodes of the search are the groups of rows, more than a thousand servers and the sink.
 #[test]
 fn searches_over_a_heap_meet_as_many_servers_as_there_may_be(rt: HostRuntime) {
     let texts = texts_of(&rt, rt.alloc(), 256, 0);

@@ -33,7 +33,7 @@ pub(crate) fn planned<F: Frontier>(rt: &impl Abort, alloc: Global, texts: Texts<
     certificate
 }
 
-// The certificate is that of a plan of this cost and, where they are told, these uses.
+// The certificate is that of a plan of this cost and, where they are given, these uses.
 pub(crate) fn is_plan(
     rt: &impl Abort,
     certificate: &Certificate,
@@ -47,7 +47,7 @@ pub(crate) fn is_plan(
     }
 }
 
-// The frontier gives a plan of this cost and, where they are told, these uses.
+// The frontier gives a plan of this cost and, where they are given, these uses.
 pub(crate) fn plans_over<F: Frontier>(
     rt: &impl Abort,
     alloc: Global,
@@ -61,7 +61,7 @@ pub(crate) fn plans_over<F: Frontier>(
     is_plan(rt, &certificate, cost, uses);
 }
 
-// Both frontiers give a plan of this cost and, where they are told, these uses.
+// Both frontiers give a plan of this cost and, where they are given, these uses.
 fn plans(rt: &impl Abort, alloc: Global, texts: Texts<'_>, cost: u64, uses: Option<&[UseLine]>) {
     plans_over::<ScanFrontier>(rt, alloc, texts, cost, uses);
     plans_over::<HeapFrontier>(rt, alloc, texts, cost, uses);
@@ -233,7 +233,7 @@ impl Frontier for Narrow {
     }
 }
 
-// The certificate is that of a plan of this cost and of so many uses.
+// The certificate is that of a plan of this cost and of `many` uses.
 fn has_uses(rt: &impl Abort, certificate: &Certificate, cost: u64, many: usize) {
     let best = certificate.as_best().expect(rt, "a plan came");
     is_same(rt, best.cost(), cost);
@@ -264,7 +264,7 @@ fn searches_for(rt: &impl Abort, alloc: Global, instance: &Instance) -> u64 {
     effort.searching.searches
 }
 
-// The loop begins so many searches for the instance of the texts.
+// The loop begins `wanted` searches for the instance of the texts.
 fn takes_searches(rt: &impl Abort, alloc: Global, texts: Texts<'_>, wanted: u64) {
     let instance = instance_of(rt, alloc, texts);
     is_same(rt, searches_for(rt, alloc, &instance), wanted);
@@ -279,8 +279,8 @@ const TWO_KINDS: Texts<'static> = Texts {
     ..BASE
 };
 
-// Of the first kind 6 go to X and 3 to Y, and the second kind goes to Y: a search for each. Were that not taken for the rows,
-// there would be searches from the rows as well.
+// Of the first kind 6 go to X and 3 to Y, and the second kind goes to Y: a search for each. Were that not taken for the
+// rows, there would be searches from the rows as well.
 #[test]
 fn kinds_of_rows_are_searched_from(rt: HostRuntime) {
     let uses = [used(0, 0, 5), used(1, 0, 1), used(1, 1, 3), used(2, 1, 3)];

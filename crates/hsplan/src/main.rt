@@ -1,4 +1,4 @@
-// The program: one command a run, from its arguments or, without any, from the first line of standard input.
+// The program: one command for each run, from its arguments or, without any, from the first line of standard input.
 #![tactic(auto)]
 
 use hsp_edge::{Completed, Failure, Output, end_with, last_line, obey, take_words};
