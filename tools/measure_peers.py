@@ -1,0 +1,114 @@
+#!/usr/bin/env python3
+"""Measures whole runs of `hsplan plan` beside LEMON's network simplex on the same networks, by turns: seconds of the processor.
+
+    tools/measure_peers.py [--turns N] [--program FILE] [FACTOR..]
+
+Of hsplan the whole run counts: reading the files, hashing, solving, and printing the certificate. Of LEMON only making its graph and solving count: the
+network is given to it as numbers. Both costs have to be the same. The instances have 8,192 rows of 64 regions, 32 sites of 16 to 47 servers, 2,048 costs up
+to 1,000,000, and capacities that are the factor times the demand. It takes a C++ compiler and LEMON (Debian's liblemon-dev).
+"""
+from __future__ import annotations
+
+import argparse
+import concurrent.futures
+import os
+import random
+import statistics
+import subprocess
+import sys
+import tempfile
+
+import measure_dispatch
+import programs
+
+SITES, REGIONS, ROWS = 32, 64, 8192
+FACTORS = [2.0, 1.2, 1.05, 1.01]
+
+
+def record(servers: int) -> str:
+    """A site record of so many servers without keys and interfaces, which hashes the whole handle."""
+    head = bytes.fromhex("0001" "0201" "0001" "00" "02") + bytes(8) + servers.to_bytes(4, "big")
+    return (head + b"".join(it.to_bytes(4, "big") + bytes(24) for it in range(servers))).hex()
+
+
+class Instance:
+    """Drawn inputs, as files and as a network of numbers."""
+
+    def __init__(self, folder: str, factor: float) -> None:
+        draw = random.Random(1)
+        self.sites = list(range(16, 16 + SITES))
+        self.counts = [draw.randint(1, 1_000_000) for _ in range(ROWS)]
+        self.regions = [draw.randrange(REGIONS) for _ in range(ROWS)]
+        self.costs = [[draw.randrange(1_000_001) for _ in range(SITES)] for _ in range(REGIONS)]
+        weights = [draw.randint(1, 1000) for _ in range(sum(self.sites))]
+        self.capacities = [min(int(factor * sum(self.counts) * it / sum(weights)), 1_000_000_000) for it in weights]
+        self.words = self.written(folder)
+
+    def handle(self, row: int) -> str:
+        return f"20.500.12345/object-{row:06}"
+
+    def written(self, folder: str) -> list[str]:
+        """Writes the four files, and returns the options that name them."""
+        servers = iter(self.capacities)
+        tables = {
+            "settings": ("settings.toml", [f'[[site]]\nname = "site-{at}"\nrecord = "{record(many)}"' for at, many in enumerate(self.sites)]),
+            "demand": ("demand.csv", ["region,handle,count"] + [f"region-{self.regions[row]},{self.handle(row)},{self.counts[row]}" for row in range(ROWS)]),
+            "costs": ("costs.csv", ["region,site,cost"] + [f"region-{region},site-{site},{self.costs[region][site]}" for region in range(REGIONS) for site in range(SITES)]),
+            "capacity": ("capacity.csv", ["site,server_id,capacity"] + [f"site-{site},{place},{next(servers)}" for site, many in enumerate(self.sites) for place in range(many)]),
+        }
+        return [word for option, (name, lines) in tables.items() for word in (f"--{option}", measure_dispatch.write(folder, name, lines))]
+
+    def network(self, program: str) -> str:
+        """The network in numbers, with the servers that `hsplan locate` names for each handle."""
+        firsts = [sum(self.sites[:site]) for site in range(SITES)]
+
+        def places(row: int) -> list[int]:
+            words = [program, "locate", *self.words[:2], self.handle(row)]
+            return [int(line.split()[1]) for line in subprocess.run(words, stdout=subprocess.PIPE, text=True, check=True).stdout.splitlines()]
+
+        with concurrent.futures.ThreadPoolExecutor() as pool:
+            found = list(pool.map(places, range(ROWS)))
+        arcs = [f"{row} {firsts[site] + found[row][site]} {self.costs[self.regions[row]][site]}" for row in range(ROWS) for site in range(SITES)]
+        head = f"{ROWS} {len(self.capacities)} {len(arcs)}"
+        return "\n".join([head, " ".join(map(str, self.counts)), " ".join(map(str, self.capacities)), *arcs]) + "\n"
+
+
+def built_peer(folder: str) -> str:
+    peer = os.path.join(folder, "lemon_peer")
+    subprocess.run(["g++", "-O3", "-o", peer, os.path.join(programs.TOP, "tools", "lemon_peer.cpp"), "-lemon"], check=True)
+    return peer
+
+
+def turn(program: str, peer: str, words: list[str], network: str) -> tuple[float, float, str, str]:
+    """Seconds of hsplan and of LEMON, and what each says the least cost is."""
+    with tempfile.TemporaryFile("w+") as out, open(os.devnull, "w", encoding="utf-8") as told:
+        _, seconds, _ = measure_dispatch.spent_by([program, "plan", *words], out, told)
+        out.seek(0)
+        cost = next((line.split()[1] for line in out if line.startswith("cost ")), "-1")
+    other, took = subprocess.run([peer], input=network, stdout=subprocess.PIPE, text=True, check=True).stdout.split()
+    return seconds, float(took), cost, other
+
+
+def main() -> int:
+    arguments = argparse.ArgumentParser(description="Measures hsplan beside LEMON.")
+    arguments.add_argument("--turns", type=int, default=5)
+    arguments.add_argument("--program", default=programs.built_path("hsplan"))
+    arguments.add_argument("factors", type=float, nargs="*", default=FACTORS)
+    chosen = arguments.parse_args()
+    print("| Capacity over demand | Cost | hsplan, files to certificate | LEMON, solving only | hsplan over LEMON |\n|---|---|---|---|---|")
+    with tempfile.TemporaryDirectory() as folder:
+        peer = built_peer(folder)
+        for factor in chosen.factors:
+            instance = Instance(folder, factor)
+            network = instance.network(chosen.program)
+            turns = [turn(chosen.program, peer, instance.words, network) for _ in range(chosen.turns)]
+            own, other = statistics.median(it[0] for it in turns), statistics.median(it[1] for it in turns)
+            if any(it[2] != it[3] for it in turns):
+                print(f"at factor {factor} the costs differ: {turns}", file=sys.stderr)
+                return 1
+            print(f"| {factor:.2f} | {int(turns[0][2]):,} | {own:.3f} | {other:.3f} | {own / other:.2f} |", flush=True)
+    return 0
+
+
+if __name__ == "__main__":
+    sys.exit(main())
