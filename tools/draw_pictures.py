@@ -7,6 +7,7 @@ record.svg shows the octets of examples/two-sites/paris.site; floors.svg shows c
     tools/draw_pictures.py            writes the pictures
     tools/draw_pictures.py --check    writes nothing, and compares the pictures that are there
 """
+import argparse
 import csv
 import dataclasses
 import hashlib
@@ -114,7 +115,7 @@ def flow_box(picture: svg.Picture, place: tuple[float, float, float, float], sty
     left, top, width, height = place
     picture.rectangle(left, top, width, height, style, 5)
     base = top + height / 2 + 5 - 8 * (len(texts) - 1)
-    picture.lines(left + width / 2, base, texts)
+    picture.label(left + width / 2, base, texts)
 
 
 def flow_inputs(picture: svg.Picture) -> None:
@@ -416,17 +417,33 @@ PICTURES: dict[str, Callable[[], svg.Picture]] = {
 }
 
 
-def main() -> int:
+def differing(drawn: dict[str, str]) -> list[str]:
+    """The files of the folder that are not what is drawn."""
     faults = []
-    for name, draw in PICTURES.items():
-        path, drawn = os.path.join(FOLDER, name), draw().drawn()
-        if sys.argv[1:] != ["--check"]:
-            with open(path, "w", encoding="utf-8") as file:
-                file.write(drawn)
-        elif not os.path.exists(path) or open(path, encoding="utf-8").read() != drawn:
+    for name in sorted(set(drawn) | set(os.listdir(FOLDER))):
+        path = os.path.join(FOLDER, name)
+        there = None
+        if os.path.exists(path):
+            with open(path, encoding="utf-8") as file:
+                there = file.read()
+        if there != drawn.get(name):
             faults.append(f"docs/pictures/{name} is not what tools/draw_pictures.py draws")
-    print("\n".join(faults + [f"pictures: {len(PICTURES)} drawn, {len(faults)} faults"]))
-    return 1 if faults else 0
+    return faults
+
+
+def main() -> int:
+    arguments = argparse.ArgumentParser(description="Draws the pictures of docs/pictures/ from files of the repository.")
+    arguments.add_argument("--check", action="store_true", help="write nothing, and compare the pictures that are there")
+    chosen = arguments.parse_args()
+    drawn = {name: draw().drawn() for name, draw in PICTURES.items()}
+    if chosen.check:
+        faults = differing(drawn)
+        print("\n".join(faults + [f"pictures: {len(drawn)} compared, {len(faults)} faults"]))
+        return 1 if faults else 0
+    for name, text in drawn.items():
+        with open(os.path.join(FOLDER, name), "w", encoding="utf-8") as file:
+            file.write(text)
+    return 0
 
 
 if __name__ == "__main__":

@@ -84,7 +84,7 @@ class Picture:
         written = html.escape(words, quote=False)
         self.shapes.append(f'<text class="{classes}" x="{number(at)}" y="{number(base)}" font-size="{number(size)}"{place}>{written}</text>')
 
-    def lines(self, middle: float, base: float, texts: list[str], size: float = 13) -> None:
+    def label(self, middle: float, base: float, texts: list[str], size: float = 13) -> None:
         """A name and what is said of it below, each centred."""
         self.text(middle, base, texts[0], size, anchor="middle", form="bold")
         for at, words in enumerate(texts[1:]):
