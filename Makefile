@@ -35,7 +35,7 @@ release:
 # What needs no built program stands before the proofs.
 test:
 	tools/make_examples.py --check
-	tools/draw_loads.py --check
+	tools/draw_pictures.py --check
 	tools/check_docs.py --names
 	tools/list_reading.py --check
 	tools/list_proof.py --check

@@ -41,7 +41,7 @@ FILES = (
     ("Headline.antt", "the page"),
     ("Shown.antt", "what a certificate shows"),
     ("Logs.antt", "what logs show"),
-    ("Told.antt", "how documents and tables tell rows"),
+    ("Told.antt", "how documents and tables state their rows"),
 )
 # What an auditor asks, and the file of hsp_runs/specs and the words in it that answer it.
 QUESTIONS = (
@@ -51,7 +51,7 @@ QUESTIONS = (
     ("To which server of a site does a row's handle go?", "Headline.antt", "number_at sites arc.site (server_place"),
     ("Is a site's server without a row of capacity let in?", "Headline.antt", "× Contains capacities (record {"),
     ("What does the text of a plan show of cheaper plans?", "Shown.antt", "pub best : Best n"),
-    ("What must hold of each price that the text tells?", "Shown.antt", "pub valid : IsValidPlan n c"),
+    ("What must hold of each price in the text?", "Shown.antt", "pub valid : IsValidPlan n c"),
     ("Are the demand and the capacity of a shortage the true sums?", "Shown.antt", "pub valid : IsValidSet n c"),
     ("What was answered when a log stopped at a fault?", "Logs.antt", "Ends all run (Err (Log fault)) desk"),
     ("Do all fronts together stay within the plan?", "Logs.antt", "pub within : (events : List Event)"),

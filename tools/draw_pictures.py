@@ -1,0 +1,450 @@
+#!/usr/bin/env python3
+"""Draws the pictures of docs/pictures/ from files of the repository.
+
+loads.svg and network.svg show numbers of the transcript of examples/two-sites, which tools/check_examples.py compares with the program;
+record.svg shows the octets of examples/two-sites/paris.site; floors.svg shows crates.txt; flow.svg shows the commands.
+
+    tools/draw_pictures.py            writes the pictures
+    tools/draw_pictures.py --check    writes nothing, and compares the pictures that are there
+"""
+import argparse
+import csv
+import dataclasses
+import hashlib
+import os
+import re
+import sys
+from collections.abc import Callable
+
+import svg
+import transcripts
+
+TOP = transcripts.TOP
+FOLDER = os.path.join(TOP, "docs", "pictures")
+EXAMPLE = os.path.join(TOP, "examples", "two-sites")
+SERVER = re.compile(r" *(\d+) +(\d+) +(\d+) +(\d+) +(\d+) (\S+)")
+USE = re.compile(r"use (\d+) (\d+) (\d+)")
+REGION_STYLES = ("blue", "amber", "green")
+
+
+@dataclasses.dataclass
+class Server:
+    """A line of a load report."""
+
+    site: str
+    place: int
+    number: int
+    load: int
+    capacity: int
+    price: int
+
+
+def printed_by(words: str) -> list[str]:
+    """What the example's command with these words prints."""
+    with open(os.path.join(EXAMPLE, "transcript.txt"), encoding="utf-8") as file:
+        steps = transcripts.steps_of(file.read().splitlines())
+    found = [it.wanted for it in steps if words in it.command()]
+    if len(found) != 1:
+        raise ValueError(f"the transcript has not exactly one command with {words}")
+    return found[0]
+
+
+def load_report(words: str) -> list[Server]:
+    found = [it for it in map(SERVER.fullmatch, printed_by(words)) if it]
+    return [Server(it.group(6), *(int(it.group(at)) for at in range(1, 6))) for it in found]
+
+
+def table(name: str) -> list[dict[str, str]]:
+    with open(os.path.join(EXAMPLE, name), encoding="utf-8", newline="") as file:
+        return list(csv.DictReader(file))
+
+
+# The loads of the servers of the example.
+LOADS_LEFT, LOADS_SCALE, LOADS_STEP = 100, 0.27, 58
+
+
+def load_bar(picture: svg.Picture, top: float, server: Server, capacity: int, style: str) -> None:
+    """A bar of a load, with its number; what is above the capacity has another colour."""
+    within = min(server.load, capacity)
+    picture.rectangle(LOADS_LEFT, top, within * LOADS_SCALE, 16, style)
+    if server.load > capacity:
+        picture.rectangle(LOADS_LEFT + within * LOADS_SCALE, top, (server.load - capacity) * LOADS_SCALE, 16, "solid-red")
+    words = f"{server.load:,}" + (f" ({server.load - capacity:,} above)" if server.load > capacity else "")
+    picture.text(LOADS_LEFT + server.load * LOADS_SCALE + 8, top + 13, words, 12)
+
+
+def draw_loads() -> svg.Picture:
+    nearest = load_report("--plan nearest.txt --kind load")
+    planned = load_report("$inputs --plan plan.txt --kind load")
+    said = "; ".join(f"{it.site} {it.number}: {was.load:,}, {it.load:,}, {it.capacity:,}" for was, it in zip(nearest, planned))
+    title = "Queries in the busiest hour at each server"
+    picture = svg.Picture(760, 98 + LOADS_STEP * len(planned), title, f"Server: load at the nearest site, load by plan, capacity. {said}.")
+    picture.text(16, 28, title, 16, form="bold")
+    at = picture.swatch(16, 56, "solid-grey", "each region asks its nearest site")
+    at = picture.swatch(at, 56, "solid-red", "of these, above capacity")
+    at = picture.swatch(at, 56, "solid-blue", "by plan")
+    picture.swatch(at, 56, "mark", "capacity")
+    picture.text(744, 84, "capacity", 12, "faint", "end")
+    for at, (was, server) in enumerate(zip(nearest, planned)):
+        top = 92 + LOADS_STEP * at
+        edge = LOADS_LEFT + server.capacity * LOADS_SCALE
+        picture.text(LOADS_LEFT - 12, top + 23, f"{server.site} {server.number}", 14, anchor="end")
+        load_bar(picture, top, was, server.capacity, "solid-grey")
+        load_bar(picture, top + 18, server, server.capacity, "solid-blue")
+        picture.line([(edge, top - 5), (edge, top + 39)], "mark", 2.5)
+        picture.text(744, top + 23, f"{server.capacity:,}", 13, anchor="end")
+    return picture
+
+
+# From the inputs to the answers.
+FILES = (
+    ("settings", "each site's record, hosts"),
+    ("demand", "queries by region and handle"),
+    ("costs", "from each region to each site"),
+    ("capacity", "of each server"),
+)
+# Each command that takes a certificate: what it prints, and its place.
+READERS = (
+    ("check", ("yes or no", "a no with its reason"), 94, 38),
+    ("report", ("a table", "loads, regions or shortage"), 184, 38),
+    ("dispatch", ("answers", "for each query a server"), 270, 76),
+)
+
+
+def flow_box(picture: svg.Picture, place: tuple[float, float, float, float], style: str, texts: list[str]) -> None:
+    left, top, width, height = place
+    picture.rectangle(left, top, width, height, style, 5)
+    base = top + height / 2 + 5 - 8 * (len(texts) - 1)
+    picture.label(left + width / 2, base, texts)
+
+
+def flow_inputs(picture: svg.Picture) -> None:
+    """The four files, and the instance that they define."""
+    for at, (name, said) in enumerate(FILES):
+        top = 80 + 66 * at
+        flow_box(picture, (16, top, 196, 50), "grey", [name, said])
+        picture.line([(212, top + 25), (244, top + 25)], arrow=True)
+    flow_box(picture, (244, 80, 104, 248), "frame", ["instance", "rows, servers,", "arcs, costs,", "capacities"])
+
+
+def flow_readers(picture: svg.Picture) -> None:
+    """The commands that take a certificate, and what each prints."""
+    picture.rectangle(636, 78, 122, 280, "frame", 5)
+    for name, answer, top, high in READERS:
+        middle = top + high / 2
+        flow_box(picture, (648, top, 98, high), "blue", [name])
+        flow_box(picture, (790, middle - 25, 190, 50), "green", list(answer))
+        picture.line([(746, middle), (790, middle)], arrow=True)
+    picture.line([(296, 80), (296, 58), (697, 58), (697, 78)], arrow=True)
+    picture.text(496, 52, "the same instance", 11, "faint", "middle")
+
+
+def draw_flow() -> svg.Picture:
+    title = "From the inputs to the answers"
+    said = (
+        "The settings, the demand, the costs and the capacity define an instance. The command plan prints a certificate of it: a plan or a shortage. "
+        "The command check judges a certificate, report prints its tables, and dispatch answers the queries of a log by a plan. "
+        "All three read the same instance."
+    )
+    picture = svg.Picture(996, 388, title, said)
+    picture.text(16, 28, title, 16, form="bold")
+    at = picture.swatch(700, 28, "grey", "input file")
+    at = picture.swatch(at, 28, "blue", "command")
+    picture.swatch(at, 28, "green", "output")
+    flow_inputs(picture)
+    flow_box(picture, (380, 185, 70, 38), "blue", ["plan"])
+    flow_box(picture, (482, 94, 128, 200), "green", ["certificate", "a plan with prices,", "or a shortage"])
+    flow_box(picture, (482, 308, 128, 38), "grey", ["log"])
+    flow_readers(picture)
+    for start, end, level in ((348, 380, 204), (450, 482, 204), (610, 648, 113), (610, 648, 203), (610, 648, 283), (610, 648, 327)):
+        picture.line([(start, level), (end, level)], arrow=True)
+    picture.text(980, 378, "report and dispatch judge the certificate first, as check does", 11, "faint", "end")
+    return picture
+
+
+# A site record as a ruler of octets.
+@dataclasses.dataclass
+class Field:
+    """A field of a record: its name, its octets, what they spell, how many fields the name stands over, and how many octets are drawn."""
+
+    name: str
+    octets: bytes
+    means: str
+    over: int = 1
+    drawn: int = 0
+
+
+CELL, RULER_LEFT, RULER_STEP = 40, 62, 80
+
+
+def head_fields(octets: bytes) -> list[list[Field]]:
+    """The fields up to the first server, in two lines and the number of servers."""
+    names = ["version", "protocol", "", "serial number", "mask", "option", "hash filter: length", "attributes: number"]
+    at, line = 0, []
+    for name, wide in zip(names, (2, 1, 1, 2, 1, 1, 4, 4)):
+        line.append(Field(name, octets[at : at + wide], str(int.from_bytes(octets[at : at + wide], "big")), 2 if name == "protocol" else 1))
+        at += wide
+    texts: list[Field] = []
+    for name in ("name", "value"):
+        long = int.from_bytes(octets[at : at + 4], "big")
+        words = octets[at + 4 : at + 4 + long]
+        texts += [Field(f"{name}: length", octets[at : at + 4], str(long)), Field(f"{name} of the attribute", words, words.decode())]
+        at += 4 + long
+    count = Field("servers: number", octets[at : at + 4], str(int.from_bytes(octets[at : at + 4], "big")))
+    return [line + texts[:1], texts[1:], [count]]
+
+
+def server_fields(octets: bytes) -> list[list[Field]]:
+    """The fields of a server that begins at the first of these octets, in three lines."""
+    key = int.from_bytes(octets[20:24], "big")
+    behind = 24 + key
+    count = int.from_bytes(octets[behind : behind + 4], "big")
+    who = Field("identifier", octets[:4], str(int.from_bytes(octets[:4], "big")))
+    where = Field("address", octets[4:20], "IPv4 " + ".".join(str(it) for it in octets[16:20]))
+    key_length, key_octets = Field("key: length", octets[20:24], str(key)), Field("public key record", octets[24:behind], "read past", drawn=12)
+    doors = []
+    for at in range(behind + 4, behind + 4 + 6 * count, 6):
+        doors += [Field("interface: type, protocol, port", octets[at : at + 1], str(octets[at]), 3), Field("", octets[at + 1 : at + 2], str(octets[at + 1]))]
+        doors.append(Field("", octets[at + 2 : at + 6], str(int.from_bytes(octets[at + 2 : at + 6], "big"))))
+    return [[who, where], [key_length, key_octets, Field("interfaces: number", octets[behind : behind + 4], str(count))], doors]
+
+
+def ruler_cells(field: Field) -> list[str]:
+    """The octets of a field as they are drawn, those in the middle left out where there are too many."""
+    cells = [f"{it:02x}" for it in field.octets]
+    if not field.drawn:
+        return cells
+    half = field.drawn // 2
+    return cells[: half] + ["…"] + cells[len(cells) - (field.drawn - half - 1) :]
+
+
+def ruler_line(picture: svg.Picture, top: float, start: int, fields: list[Field]) -> int:
+    """A line of fields; gives the offset behind it."""
+    picture.text(RULER_LEFT - 12, top + 34, str(start), 12, "faint", "end")
+    left, styles = RULER_LEFT, ("blue", "grey")
+    for at, field in enumerate(fields):
+        cells = ruler_cells(field)
+        wide = CELL * len(cells)
+        picture.rectangle(left, top + 18, wide, 24, styles[at % 2])
+        for place, cell in enumerate(cells):
+            if place:
+                picture.line([(left + CELL * place, top + 36), (left + CELL * place, top + 42)], "line", 1)
+            picture.text(left + CELL * place + CELL / 2, top + 34, cell, 13, anchor="middle", form="mono")
+        if field.name:
+            over = sum(CELL * len(ruler_cells(it)) for it in fields[at : at + field.over])
+            picture.text(left + over / 2, top + 12, field.name, 11, "faint", "middle")
+        picture.text(left + wide / 2, top + 57, field.means, 12, anchor="middle")
+        left += wide
+        start += len(field.octets)
+    return start
+
+
+def draw_record() -> svg.Picture:
+    with open(os.path.join(EXAMPLE, "paris.site"), "rb") as file:
+        octets = file.read()
+    title = "A site record: the octets of examples/two-sites/paris.site"
+    said = "The fields of a site record with their octets and what they spell: the head, and the first of two servers."
+    picture = svg.Picture(880, 66 + RULER_STEP * 6 + 24, title, said)
+    picture.text(16, 28, title, 16, form="bold")
+    picture.text(16, 48, "Above each field its name, below it what its octets spell; at the left the offset of the line's first octet.", 12, "faint")
+    start, top = 0, 66.0
+    for fields in head_fields(octets):
+        start = ruler_line(picture, top, start, fields)
+        top += RULER_STEP
+    picture.text(RULER_LEFT + 4 * CELL + 20, top - RULER_STEP + 34, f"then each server; the first one has the octets from {start} on:", 12, "faint")
+    for fields in server_fields(octets[start:]):
+        start = ruler_line(picture, top, start, fields)
+        top += RULER_STEP
+    picture.text(RULER_LEFT, top + 6, f"The second server has the octets from {start} to {len(octets) - 1}, in the same order.", 12, "faint")
+    return picture
+
+
+# The network of the example with the flows of its plan.
+def place_of(handle: str, servers: int) -> int:
+    """The place of the responsible server by the whole handle (RFC 3652, section 3.1.3)."""
+    last = int.from_bytes(hashlib.md5(handle.upper().encode()).digest()[12:], "big", signed=True)
+    return abs(last) % servers
+
+
+def flows(servers: list[Server]) -> dict[tuple[str, int], int]:
+    """How much of each region's demand the plan sends to each server, by the recorded text of the plan."""
+    rows, sites = table("demand.csv"), list(dict.fromkeys(it.site for it in servers))
+    found: dict[tuple[str, int], int] = {}
+    for it in filter(None, map(USE.fullmatch, printed_by("cat plan.txt"))):
+        row, site = rows[int(it.group(1))], sites[int(it.group(2))]
+        beside = [at for at, server in enumerate(servers) if server.site == site]
+        key = (row["region"], beside[place_of(row["handle"], len(beside))])
+        found[key] = found.get(key, 0) + int(it.group(3))
+    for at, server in enumerate(servers):
+        if server.load != sum(many for (_, to), many in found.items() if to == at):
+            raise ValueError(f"the plan does not give {server.site} {server.number} the load of the report")
+    return found
+
+
+FLOW_SCALE, FLOW_MIDDLE, REGION_GAP, SERVER_GAP = 0.06, 326, 48, 24
+REGIONS_AT, SERVERS_AT, SINK_AT = 150, 440, 826
+
+
+def stacked(sizes: list[int], gap: float) -> list[float]:
+    """The tops of boxes for these flows, one below the other around the middle."""
+    tops, at = [], FLOW_MIDDLE - (sum(sizes) * FLOW_SCALE + gap * (len(sizes) - 1)) / 2
+    for size in sizes:
+        tops.append(at)
+        at += size * FLOW_SCALE + gap
+    return tops
+
+
+def region_bands(picture: svg.Picture, servers: list[Server], regions: dict[str, int], sent: dict[tuple[str, int], int]) -> None:
+    """The flows from regions to servers, each end below those before it."""
+    left, right = stacked(list(regions.values()), REGION_GAP), stacked([it.load for it in servers], SERVER_GAP)
+    for at, region in enumerate(regions):
+        for to in range(len(servers)):
+            many = sent.get((region, to), 0)
+            wide = many * FLOW_SCALE
+            if many:
+                picture.band((REGIONS_AT + 16, left[at] + wide / 2), (SERVERS_AT, right[to] + wide / 2), wide, f"solid-{REGION_STYLES[at]}", 40)
+                picture.text(REGIONS_AT + 22, left[at] + wide / 2 + 4, f"{many:,}", 11)
+            left[at] += wide
+            right[to] += wide
+
+
+def region_nodes(picture: svg.Picture, regions: dict[str, int]) -> None:
+    for (region, demand), top, style in zip(regions.items(), stacked(list(regions.values()), REGION_GAP), REGION_STYLES):
+        middle = top + demand * FLOW_SCALE / 2
+        picture.rectangle(REGIONS_AT, top, 16, demand * FLOW_SCALE, f"solid-{style}")
+        picture.text(REGIONS_AT - 12, middle - 14, region, 14, anchor="end", form="bold")
+        picture.text(REGIONS_AT - 12, middle + 3, f"demand {demand:,}", 12, anchor="end")
+        costs = [f"cost at {it['site']} {it['cost']}" for it in table("costs.csv") if it["region"] == region]
+        for at, words in enumerate(costs):
+            picture.text(REGIONS_AT - 12, middle + 19 + 15 * at, words, 11, "faint", "end")
+
+
+def server_nodes(picture: svg.Picture, servers: list[Server]) -> None:
+    """The servers and the sink, with the flows between them."""
+    whole = sum(it.load for it in servers)
+    first = last = stacked([whole], 0)[0]
+    for server, top in zip(servers, stacked([it.load for it in servers], SERVER_GAP)):
+        wide = server.load * FLOW_SCALE
+        picture.band((SERVERS_AT + 16, top + wide / 2), (SINK_AT, last + wide / 2), wide, "solid-grey", 190)
+        picture.rectangle(SERVERS_AT, top, 16, wide, "solid-red" if server.load == server.capacity else "ink")
+        picture.text(SERVERS_AT + 26, top + wide / 2 - 3, f"{server.site} {server.number}", 13, form="bold")
+        picture.text(SERVERS_AT + 26, top + wide / 2 + 14, f"{server.load:,} of {server.capacity:,}, price {server.price}", 12)
+        last += wide
+    picture.rectangle(SINK_AT, first, 16, whole * FLOW_SCALE, "ink")
+    picture.text(SINK_AT + 26, FLOW_MIDDLE, "sink", 14, form="bold")
+    picture.text(SINK_AT + 26, FLOW_MIDDLE + 17, f"{whole:,}", 12)
+
+
+def draw_network() -> svg.Picture:
+    servers = load_report("$inputs --plan plan.txt --kind load")
+    sent, regions = flows(servers), {}
+    for row in table("demand.csv"):
+        regions[row["region"]] = regions.get(row["region"], 0) + int(row["count"])
+    title = "A cheapest flow of examples/two-sites"
+    said = "; ".join(f"{region} to {servers[to].site} {servers[to].number}: {many:,}" for (region, to), many in sent.items())
+    picture = svg.Picture(920, 602, title, f"How many queries the plan sends from each region to each server. {said}.")
+    picture.text(16, 28, title, 16, form="bold")
+    picture.swatch(720, 28, "solid-red", "server without room")
+    for at, words in ((16, "rows, by region"), (SERVERS_AT, "servers: load of capacity, price"), (SINK_AT, "sink")):
+        picture.text(at, 60, words, 12, "faint")
+    region_bands(picture, servers, regions, sent)
+    region_nodes(picture, regions)
+    server_nodes(picture, servers)
+    words = f"The {len(table('demand.csv'))} rows of the demand are drawn by their regions. A row has one server in each site."
+    picture.text(16, 590, words + " Without hosts each server leads to the sink.", 11, "faint")
+    return picture
+
+
+# The crates as floors of a house.
+def crates() -> dict[str, list[str]]:
+    """Each crate with those that it stands on."""
+    with open(os.path.join(TOP, "crates.txt"), encoding="utf-8") as file:
+        lines = [it.split(":") for it in file.read().splitlines() if ":" in it]
+    return {name.strip(): under.split() for name, under in lines}
+
+
+def floor_of(name: str, under: dict[str, list[str]]) -> int:
+    """The longest way down from a crate over crates of the repository."""
+    return max((floor_of(it, under) + 1 for it in under[name] if it in under), default=0)
+
+
+def is_beside(name: str) -> bool:
+    """Whether a crate is no part of the program: tests, worked cases and the bench."""
+    return name.endswith("_tests") or name in ("hsp_bench", "hsp_worked")
+
+
+FLOOR_HEIGHT, FLOORS_LEFT, FLOORS_BESIDE, ROOM = 40, 44, 590, 90
+
+
+def floor_rooms(picture: svg.Picture, left: float, top: float, names: list[str], style: str) -> None:
+    for name in names:
+        wide = max(ROOM, svg.width_of(name, 12) + 18)
+        picture.rectangle(left, top, wide, 28, style, 4)
+        picture.text(left + wide / 2, top + 18, name, 12, anchor="middle")
+        left += wide + 8
+
+
+def draw_floors() -> svg.Picture:
+    under = crates()
+    floors = {name: floor_of(name, under) for name in under}
+    rows = [[name for name in under if floors[name] == at] for at in range(max(floors.values()) + 1)]
+    others = sorted({it for names in under.values() for it in names if it not in under})
+    title = "The crates as floors: each stands only on floors below its own"
+    said = ". ".join(f"Floor {at}: {', '.join(names)}" for at, names in enumerate(rows))
+    bottom = 80 + FLOOR_HEIGHT * len(rows)
+    picture = svg.Picture(960, bottom + 58, title, said)
+    picture.text(16, 28, title, 16, form="bold")
+    picture.text(FLOORS_LEFT, 62, "the program", 12, "faint")
+    picture.text(FLOORS_BESIDE, 62, "tests and measurements", 12, "faint")
+    for at, names in enumerate(rows):
+        top = bottom - FLOOR_HEIGHT * (at + 1)
+        picture.text(30, top + 24, str(at), 12, "faint", "end")
+        picture.line([(FLOORS_LEFT, top + FLOOR_HEIGHT), (944, top + FLOOR_HEIGHT)], "hair", 1)
+        floor_rooms(picture, FLOORS_LEFT, top + 6, [it for it in names if not is_beside(it)], "blue")
+        floor_rooms(picture, FLOORS_BESIDE, top + 6, [it for it in names if is_beside(it)], "amber")
+    words = "The number of a floor is the length of the longest chain of crates below it."
+    picture.text(FLOORS_LEFT, bottom + 24, words + " The file crates.txt has what each stands on.", 11, "faint")
+    picture.text(FLOORS_LEFT, bottom + 42, f"Not drawn are the crates from outside of the repository: {', '.join(others)}.", 11, "faint")
+    return picture
+
+
+PICTURES: dict[str, Callable[[], svg.Picture]] = {
+    "loads.svg": draw_loads,
+    "flow.svg": draw_flow,
+    "record.svg": draw_record,
+    "network.svg": draw_network,
+    "floors.svg": draw_floors,
+}
+
+
+def differing(drawn: dict[str, str]) -> list[str]:
+    """The files of the folder that are not what is drawn."""
+    faults = []
+    for name in sorted(set(drawn) | set(os.listdir(FOLDER))):
+        path = os.path.join(FOLDER, name)
+        there = None
+        if os.path.exists(path):
+            with open(path, encoding="utf-8") as file:
+                there = file.read()
+        if there != drawn.get(name):
+            faults.append(f"docs/pictures/{name} is not what tools/draw_pictures.py draws")
+    return faults
+
+
+def main() -> int:
+    arguments = argparse.ArgumentParser(description="Draws the pictures of docs/pictures/ from files of the repository.")
+    arguments.add_argument("--check", action="store_true", help="write nothing, and compare the pictures that are there")
+    chosen = arguments.parse_args()
+    drawn = {name: draw().drawn() for name, draw in PICTURES.items()}
+    if chosen.check:
+        faults = differing(drawn)
+        print("\n".join(faults + [f"pictures: {len(drawn)} compared, {len(faults)} faults"]))
+        return 1 if faults else 0
+    for name, text in drawn.items():
+        with open(os.path.join(FOLDER, name), "w", encoding="utf-8") as file:
+            file.write(text)
+    return 0
+
+
+if __name__ == "__main__":
+    sys.exit(main())
