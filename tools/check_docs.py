@@ -101,7 +101,8 @@ def blocks(text):
 
 def missing_links():
     """The files and headings that a document links to and that are not there, and how many links there are."""
-    links = [(path, it) for path in documents() for it in re.findall(r"\]\(([^)#:]*(?:#[^)]*)?)\)", text_of(path))]
+    inline, named = r"\]\(([^)#:]*(?:#[^)]*)?)\)", r"^\[\w+\]: ([^#:\s]*(?:#\S*)?)$"
+    links = [(path, it) for path in documents() for kind in (inline, named) for it in re.findall(kind, text_of(path), re.M)]
     return [f"{path} links to nothing: {it}" for path, it in links if not leads_somewhere(path, it)], len(links)
 
 

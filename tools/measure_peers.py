@@ -75,7 +75,7 @@ class Instance:
 
 def built_peer(folder: str) -> str:
     peer = os.path.join(folder, "lemon_peer")
-    subprocess.run(["g++", "-O3", "-o", peer, os.path.join(programs.TOP, "tools", "lemon_peer.cpp"), "-lemon"], check=True)
+    subprocess.run(["g++", "-O3", "-o", peer, os.path.join(programs.TOP, "tools", "lemon_peer.cpp"), "-llemon"], check=True)
     return peer
 
 

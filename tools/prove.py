@@ -1,13 +1,15 @@
 #!/usr/bin/env python3
 """Proves the crates of the programs from nothing, those that do not need each other side by side, and builds the programs.
 
-The kit's prover, `rattle build`, makes a library, or a program, only of a crate that it has proved. Crates with the longest chain of others above them come
-first and get all processors; the others fill in what those leave idle. It shows how far it is: crates, minutes gone, and about how many are left, by the
-octets of source. Nothing that was proved before is taken. This is no gate: `make test` proves all crates by `rt ci`, with their edits and tests.
+The kit's prover, `rattle build`, makes a library, or a program, only of a crate that it has proved. The crate with the longest chain of others above it
+gets all processors; the others get one each, and give way the more, the shorter their chains are. It shows how far it is: crates, minutes gone, and about
+how many are left, by the times of docs/maintain/GATE.md. Nothing that was proved before is taken. This is not the gate: `make test` proves all crates by
+`rt ci`, with their edits and tests.
 """
 from __future__ import annotations
 
 import os
+import re
 import shutil
 import subprocess
 import sys
@@ -56,27 +58,29 @@ class Kit:
         return words + ["-o", os.path.join(room, program), os.path.join(room, program + ".o"), self.path("c", "libos_c.a"), self.path("c", "liblibc_c.a")]
 
 
+def seconds() -> dict[str, float]:
+    """How long the proof of each crate takes about, as the gate's page has it."""
+    rows = re.findall(r"^\| `(\w+)` \| (\d+) \|", programs.text_of("docs", "maintain", "GATE.md"), re.M)
+    return {crate: float(number) for crate, number in rows}
+
+
 class Plan:
-    """The crates that are left, with how much they are and how long the chain above each is, both in octets of source."""
+    """The crates that are left, with how long each takes about, alone and with the longest chain above it."""
 
     def __init__(self) -> None:
         self.left = programs.crates_of()
-        below = programs.dependencies()
-        self.weights = {it: sum(os.stat(os.path.join(programs.TOP, path)).st_size for path in programs.sources([it])) for it in self.left}
+        below, known = programs.dependencies(), seconds()
+        self.weights = {it: known.get(it, 100.0) for it in self.left}
         self.chains = dict(self.weights)
         for _ in self.left:
             for name in self.left:
                 above = [self.chains[it] for it in self.left if name in below[it]]
-                self.chains[name] = self.weights[name] + max(above, default=0)
+                self.chains[name] = self.weights[name] + max(above, default=0.0)
 
     def ready(self, done: set[str]) -> list[str]:
         """The crates whose libraries are built, the one with the longest chain above it first."""
         below = programs.dependencies()
         return sorted((it for it in self.left if set(below[it]) <= done), key=lambda it: -self.chains[it])
-
-    def is_first(self, crate: str, unfinished: set[str]) -> bool:
-        """Whether no unfinished crate has a longer chain above it."""
-        return self.chains[crate] == max(self.chains[it] for it in unfinished)
 
 
 class Run:
@@ -90,10 +94,10 @@ class Run:
         self.begun = time.monotonic()
 
     def begin(self, crate: str) -> None:
-        """Begins a proof: by all processors where the others wait for it longest, and otherwise by one, behind those."""
-        first = self.plan.is_first(crate, self.whole - self.done)
-        jobs = min(lanes.processors(), 4) if first else 1
-        words = ([] if first else ["nice", "-n", "10"]) + self.kit.build(crate, self.room, jobs)
+        """Begins a proof: by all processors where no unfinished crate has a longer chain, and otherwise by one."""
+        part = self.plan.chains[crate] / max(self.plan.chains[it] for it in self.whole - self.done)
+        jobs = min(lanes.processors(), 4) if part == 1 else 1
+        words = ["nice", "-n", str(round(19 * (1 - part)))] + self.kit.build(crate, self.room, jobs)
         with open(os.path.join(self.room, crate + ".log"), "wb") as log:
             folder = os.path.join(programs.TOP, "crates", crate)
             self.running[crate] = subprocess.Popen(words, cwd=folder, stdin=subprocess.DEVNULL, stdout=log, stderr=subprocess.STDOUT)
@@ -102,7 +106,7 @@ class Run:
     def show(self, crate: str) -> None:
         gone = (time.monotonic() - self.begun) / 60
         proved, every = sum(self.plan.weights[it] for it in self.done), sum(self.plan.weights.values())
-        rest = f", about {gone * (every - proved) / proved:.0f} left" if proved < every else ""
+        rest = f", about {gone * (every - proved) / proved:.0f} left" if every / 20 < proved < every else ""
         print(f"crate {len(self.done)} of {len(self.whole)}: {crate} proved; {gone:.1f} minutes gone{rest}", flush=True)
 
     def ended(self) -> Optional[str]:
