@@ -1,8 +1,8 @@
 #!/usr/bin/env python3
 """Proves the crates of the programs from nothing, those that do not need each other side by side, and builds the programs.
 
-The kit's prover, `rattle build`, makes a library, or a program, only of a crate that it has proved. The crate with the longest chain of others above it
-gets all processors; the others get one each, and give way the more, the shorter their chains are. It shows how far it is: crates, minutes gone, and about
+The kit's prover, `rattle build`, makes a library, or a program, only of a crate that it has proved. Of those with the longest chains of others above them
+one at a time gets all processors; the others get one each, and those with much shorter chains give way. It shows how far it is: crates, minutes gone, and about
 how many are left, by the times of docs/maintain/GATE.md. Nothing that was proved before is taken. This is not the gate: `make test` proves all crates by
 `rt ci`, with their edits and tests.
 """
@@ -91,13 +91,16 @@ class Run:
         self.whole = set(self.plan.left)
         self.done: set[str] = set()
         self.running: dict[str, subprocess.Popen[bytes]] = {}
+        self.first: Optional[str] = None
         self.begun = time.monotonic()
 
     def begin(self, crate: str) -> None:
-        """Begins a proof: by all processors where no unfinished crate has a longer chain, and otherwise by one."""
+        """Begins a proof: by all processors where its chain is long and no other proof has them, and otherwise by one."""
         part = self.plan.chains[crate] / max(self.plan.chains[it] for it in self.whole - self.done)
-        jobs = min(lanes.processors(), 4) if part == 1 else 1
-        words = ["nice", "-n", str(round(19 * (1 - part)))] + self.kit.build(crate, self.room, jobs)
+        is_first = part >= 0.9 and self.first not in self.running
+        self.first = crate if is_first else self.first
+        jobs = min(lanes.processors(), 4) if is_first else 1
+        words = ["nice", "-n", str(max(0, round(25 * (0.9 - part))))] + self.kit.build(crate, self.room, jobs)
         with open(os.path.join(self.room, crate + ".log"), "wb") as log:
             folder = os.path.join(programs.TOP, "crates", crate)
             self.running[crate] = subprocess.Popen(words, cwd=folder, stdin=subprocess.DEVNULL, stdout=log, stderr=subprocess.STDOUT)
