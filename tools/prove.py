@@ -2,7 +2,7 @@
 """Proves the crates of the programs from nothing, those that do not need each other side by side, and builds the programs.
 
 The kit's prover, `rattle build`, makes a library, or a program, only of a crate that it has proved. Of those with the longest chains of others above them
-one at a time gets all processors; the others get one each, and those with much shorter chains give way. It shows how far it is: crates, minutes gone, and about
+one at a time gets several processors; the others get one each, and those with much shorter chains give way. It shows how far it is: crates, minutes gone, and about
 how many are left, by the times of docs/maintain/GATE.md. Nothing that was proved before is taken. This is not the gate: `make test` proves all crates by
 `rt ci`, with their edits and tests.
 """
@@ -95,11 +95,13 @@ class Run:
         self.begun = time.monotonic()
 
     def begin(self, crate: str) -> None:
-        """Begins a proof: by all processors where its chain is long and no other proof has them, and otherwise by one."""
-        part = self.plan.chains[crate] / max(self.plan.chains[it] for it in self.whole - self.done)
-        is_first = part >= 0.9 and self.first not in self.running
+        """Begins a proof: by the processors that others with long chains leave where its own is long and no other has several, and otherwise by one."""
+        longest = max(self.plan.chains[it] for it in self.whole - self.done)
+        part = self.plan.chains[crate] / longest
+        others = [it for it in [*self.running, *self.plan.ready(self.done)] if it != crate and self.plan.chains[it] > 0.85 * longest]
+        is_first = part > 0.85 and self.first not in self.running
         self.first = crate if is_first else self.first
-        jobs = min(lanes.processors(), 4) if is_first else 1
+        jobs = max(min(lanes.processors(), 4) - len(others), 2) if is_first else 1
         words = ["nice", "-n", str(max(0, round(25 * (0.9 - part))))] + self.kit.build(crate, self.room, jobs)
         with open(os.path.join(self.room, crate + ".log"), "wb") as log:
             folder = os.path.join(programs.TOP, "crates", crate)
