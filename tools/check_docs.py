@@ -6,8 +6,9 @@ the built program, and compares what they print.
 The commands are those of the blocks marked `console`, the lines of which are a transcript as tools/transcripts.py has it; those of one
 document run in turn in one shell. In docs/use/hsplan.1 they are the examples between `.EX` and `.EE`.
 
-Fails where a crate of crates.txt is not named in the README or in docs/understand/ARCHITECTURE.md, and where docs/maintain/GATE.md counts other edits, tests, wrong bodies, crates or
-cases of the program than there are. It fails where a word of a fault has no row in docs/use/GUIDE.md or no paragraph in docs/use/hsplan.1, where a
+Fails where a crate of crates.txt is not named in the README or in docs/understand/ARCHITECTURE.md, and where docs/maintain/GATE.md counts other edits,
+tests, wrong bodies, crates or cases of the program than there are. It fails where a word of a fault has no row in docs/use/FAULTS.md or no paragraph in
+docs/use/hsplan.1, where a command stands in a block that isn't marked, where one prints something else, and where a file still has the marks of a merge.
 command stands in a block that isn't marked, where one prints something else, and where a file still has the marks of a merge.
 
     tools/check_docs.py --names               follows the names alone, without the program
@@ -142,12 +143,12 @@ def fault_words():
 
 
 def missing_words():
-    """The words of faults that the guide or the manual page doesn't tell in a row or a paragraph of their own, and how many there are."""
-    guide = {cell.split()[-1] if cell[:1].isdigit() else cell for cell in (it[0] for it in rows(text_of("docs/use/GUIDE.md")))}
+    """The words of faults without a row in docs/use/FAULTS.md or a paragraph in the manual page, and how many there are."""
+    listed = {cell.split()[-1] if cell[:1].isdigit() else cell for cell in (it[0] for it in rows(text_of("docs/use/FAULTS.md")))}
     manual = set(re.findall(r"^\.B (.*)$", text_of("docs/use/hsplan.1"), re.M))
     words = fault_words()
-    faults = [f"docs/use/GUIDE.md has no row for {it}" for it in words if it not in guide]
-    return faults + [f"docs/use/hsplan.1 does not tell {it}" for it in words if it not in manual], len(words)
+    faults = [f"docs/use/FAULTS.md has no row for {it}" for it in words if it not in listed]
+    return faults + [f"docs/use/hsplan.1 has no paragraph for {it}" for it in words if it not in manual], len(words)
 
 
 def manual_steps():
