@@ -9,7 +9,6 @@ document run in turn in one shell. In docs/use/hsplan.1 they are the examples be
 Fails where a crate of crates.txt is not named in the README or in docs/understand/ARCHITECTURE.md, and where docs/maintain/GATE.md counts other edits,
 tests, wrong bodies, crates or cases of the program than there are. It fails where a word of a fault has no row in docs/use/FAULTS.md or no paragraph in
 docs/use/hsplan.1, where a command stands in a block that isn't marked, where one prints something else, and where a file still has the marks of a merge.
-command stands in a block that isn't marked, where one prints something else, and where a file still has the marks of a merge.
 
     tools/check_docs.py --names               follows the names alone, without the program
     tools/check_docs.py [--program FILE]      does all
