@@ -8,8 +8,9 @@ from __future__ import annotations
 import hashlib
 import os
 import platform
+import sys
 import tarfile
-from typing import Dict, Iterator, List, NamedTuple, Optional, Tuple
+from typing import Callable, Dict, Iterator, List, NamedTuple, NoReturn, Optional, Tuple
 
 TOP = os.path.dirname(os.path.dirname(os.path.abspath(__file__)))
 PROGRAMS = ("hsplan",)
@@ -179,3 +180,15 @@ def chosen(name: str, folder: str) -> Program:
             why = str(missing)
     raise Missing(f"{name}: {why}, and none is built here (make prove); README.md has more under \"Try it\"")
 
+
+def ended(main: Callable[[], int]) -> NoReturn:
+    """Ends a script by the status of its `main`, and without a traceback where it is interrupted or nobody reads on."""
+    try:
+        status = main()
+        sys.stdout.flush()
+    except KeyboardInterrupt:
+        status = 130
+    except BrokenPipeError:
+        os.dup2(os.open(os.devnull, os.O_WRONLY), 1)
+        status = 141
+    sys.exit(status)
