@@ -9,18 +9,18 @@ import os
 EACH = 4_000_000
 
 
-def free():
+def free() -> int:
     """The kilobytes of memory that are free."""
     with open("/proc/meminfo") as lines:
         return next(int(line.split()[1]) for line in lines if line.startswith("MemAvailable:"))
 
 
-def processors():
+def processors() -> int:
     """How many processors this process may use."""
     return len(os.sched_getaffinity(0))
 
 
-def lanes():
+def lanes() -> int:
     """How many checks run side by side."""
     return max(1, min(processors(), free() // EACH))
 

@@ -73,7 +73,8 @@ def owner_of(line: str) -> tuple[str, bool]:
     rest = found.group("rest")
     is_trait = found.group("kind") == "trait" or " for " in rest
     kind = rest.split(" for ")[-1]
-    return re.match(r"&?\w*", kind).group(0) if re.match(r"\w", kind) else "", is_trait
+    named = re.match(r"\w+", kind)
+    return named.group(0) if named else "", is_trait
 
 
 def end_of(lines: list[str], at: int, indent: str) -> tuple[int, int]:
@@ -127,7 +128,7 @@ def functions_of(path: str, names: set[str], is_open: bool) -> Iterator[Function
     cited = brought_in(lines)
     at, file = 0, os.path.basename(path)
     while at < len(lines):
-        line, head = lines[at], HEAD.match(lines[at])
+        line, head, item = lines[at], HEAD.match(lines[at]), ITEM.match(lines[at])
         if re.match(r"^(pub )?(impl|trait)\b", line):
             owner, is_trait = owner_of(line)
         elif line.rstrip() == "}":
@@ -140,9 +141,9 @@ def functions_of(path: str, names: set[str], is_open: bool) -> Iterator[Function
             text = "\n".join(lines[at : stop + 1])
             yield Function(head.group("name"), seen, file, (at, end), public, doc_above(lines, at), tuple(clauses_in(text, cited)), "\n".join(lines[stop : end + 1]))
             at = end
-        elif ITEM.match(line):
+        elif item:
             end = next(it for it in range(at, len(lines)) if lines[it].rstrip().endswith(";"))
-            yield Function(ITEM.match(line).group("name"), "", file, (at, end), False, "", (), "\n".join(lines[at : end + 1]))
+            yield Function(item.group("name"), "", file, (at, end), False, "", (), "\n".join(lines[at : end + 1]))
             at = end
         at += 1
 
@@ -275,7 +276,8 @@ def wrong_words(prose: str) -> list[str]:
 def main() -> int:
     arguments = argparse.ArgumentParser(description=__doc__.split("\n", 1)[0])
     arguments.add_argument("--check", action="store_true", help="write nothing, and compare the tables that are there")
-    check, faults = arguments.parse_args().check, []
+    check = arguments.parse_args().check
+    faults: list[str] = []
     page = "\n".join(read(PAGE))
     made = page[: page.index(BEGIN)] + BEGIN + "\n" + tables(faults) + "\n" + page[page.index(END) :]
     faults += wrong_words(page[: page.index(BEGIN)] + page[page.index(END) :])

@@ -162,7 +162,7 @@ def unpacked(folder: str, of: str = "") -> str:
         for member in packed.getmembers():
             if not member.isfile() or os.path.normpath(member.name) != member.name or member.name.split("/")[0] != stem(of):
                 raise Missing(f"release/{os.path.basename(path)} holds what no release does: {member.name}")
-        packed.extraction_filter = getattr(tarfile, "data_filter", None)
+        setattr(packed, "extraction_filter", getattr(tarfile, "data_filter", None))
         packed.extractall(folder)
     return os.path.join(folder, stem(of))
 
