@@ -1,14 +1,18 @@
 #!/usr/bin/env python3
-"""Follows the names in the documents: each crate in the README and the map, each link, each `make` target and each script; and compares the counts of
-docs/maintain/GATE.md with what is there, and the logic of the kit in the README with that of this machine. Then it runs each command of the documents with
-the built program, and compares what they print.
+"""Follows the names in the documents: each crate in the README and the map, each link, each `make` target and
+each script; and compares the counts of docs/maintain/GATE.md with what is there, and the logic of the kit in the
+README with that of this machine. Then it runs each command of the documents with the built program, and compares
+what they print.
 
-The commands are those of the blocks marked `console`, the lines of which are a transcript as tools/transcripts.py has it; those of one
-document run in turn in one shell. In docs/use/hsplan.1 they are the examples between `.EX` and `.EE`.
+The commands are those of the blocks marked `console`, the lines of which are a transcript as tools/transcripts.py
+has it; those of one document run in turn in one shell. In docs/use/hsplan.1 they are the examples between `.EX`
+and `.EE`.
 
-Fails where a crate of crates.txt is not named in the README or in docs/understand/ARCHITECTURE.md, and where docs/maintain/GATE.md counts other edits,
-tests, wrong bodies, crates or cases of the program than there are. It fails where a word of a fault has no row in docs/use/FAULTS.md or no paragraph in
-docs/use/hsplan.1, where a command stands in a block that isn't marked, where one prints something else, and where a file still has the marks of a merge.
+Fails where a crate of crates.txt is not named in the README or in docs/understand/ARCHITECTURE.md, and where
+docs/maintain/GATE.md counts other edits, tests, wrong bodies, crates or cases of the program than there are. It
+fails where a word of a fault has no row in docs/use/FAULTS.md or no paragraph in docs/use/hsplan.1, where a
+command stands in a block that isn't marked, where one prints something else, and where a file still has the marks
+of a merge.
 
     tools/check_docs.py --names               follows the names alone, without the program
     tools/check_docs.py [--program FILE]      does all
@@ -142,7 +146,8 @@ def fault_words():
 
 
 def missing_words():
-    """The words of faults without a row in docs/use/FAULTS.md or a paragraph in the manual page, and how many there are."""
+    """The words of faults without a row in docs/use/FAULTS.md or a paragraph in the manual page, and how many
+    there are."""
     listed = {cell.split()[-1] if cell[:1].isdigit() else cell for cell in (it[0] for it in rows(text_of("docs/use/FAULTS.md")))}
     manual = set(re.findall(r"^\.B (.*)$", text_of("docs/use/hsplan.1"), re.M))
     words = fault_words()
@@ -176,7 +181,8 @@ def merge_marks():
 
 
 def wrong_kit():
-    """What the README says of the kit where this machine's proves by another logic: it names the sum of the logic, and any kit 13 that has it will do."""
+    """What the README says of the kit where this machine's proves by another logic: it names the sum of the
+    logic, and any kit 13 that has it will do."""
     if not shutil.which("rt"):
         print("note: no rt in PATH, so the kit that README.md names was not compared")
         return [], 1

@@ -1,13 +1,16 @@
 #!/usr/bin/env python3
-"""Compares the folder `release` with this tree and with what the gate has proved and built, and tries it as someone without the kit would.
+"""Compares the folder `release` with this tree and with what the gate has proved and built, and tries it as
+someone without the kit would.
 
-Fails where the version, the sources or a sum are others than those that release/MADE and release/SHA256SUMS name, where the archive holds another file
-than this tree or lacks one, and where a program in it is not octet for octet the one in crates/NAME/out. Where the kit is another one than in MADE, two
-builds may differ: then the programs are NOT COMPARED, which is printed with the lines of both kits, and the cases of checks/program are run with
-the released one.
+Fails where the version, the sources or a sum are others than those that release/MADE and release/SHA256SUMS name,
+where the archive holds another file than this tree or lacks one, and where a program in it is not octet for octet
+the one in crates/NAME/out. Where the kit is another one than in MADE, two builds may differ: then the programs
+are NOT COMPARED, which is printed with the lines of both kits, and the cases of checks/program are run with the
+released one.
 
-Then a copy of the tree in an empty folder, without anything built, is tried with a PATH that has no `rt`, and as another user than root: `make demo`,
-`make try`, `make install`, the installed program; and what is printed on another machine, without a release, and with a forged one.
+Then a copy of the tree in an empty folder, without anything built, is tried with a PATH that has no `rt`, and as
+another user than root: `make demo`, `make try`, `make install`, the installed program; and what is printed on
+another machine, without a release, and with a forged one.
 """
 from __future__ import annotations
 
@@ -44,20 +47,36 @@ def wrong_files(room: str) -> list[str]:
     """The files of the unpacked release that are others than those of this tree, beside the programs."""
     there = {os.path.relpath(os.path.join(at, it), room) for at, _, names in os.walk(room) for it in names}
     wanted = {target: source for source, target in programs.FILES.items()}
-    faults = [f"the release has no {it}" for it in sorted(set(wanted) | {f"bin/{it}" for it in programs.PROGRAMS}) if it not in there]
-    faults += [f"the release has {it}, which nothing installs" for it in sorted(there - set(wanted)) if not it.startswith("bin/")]
-    same = {it for it in there & set(wanted) if filecmp.cmp(os.path.join(room, it), os.path.join(programs.TOP, wanted[it]), shallow=False)}
-    return faults + [f"the release has another {wanted[it]}: run make release" for it in sorted(there & set(wanted) - same)]
+    faults = [
+        f"the release has no {it}"
+        for it in sorted(set(wanted) | {f"bin/{it}" for it in programs.PROGRAMS})
+        if it not in there
+    ]
+    faults += [
+        f"the release has {it}, which nothing installs"
+        for it in sorted(there - set(wanted))
+        if not it.startswith("bin/")
+    ]
+    same = {
+        it
+        for it in there & set(wanted)
+        if filecmp.cmp(os.path.join(room, it), os.path.join(programs.TOP, wanted[it]), shallow=False)
+    }
+    return faults + [
+        f"the release has another {wanted[it]}: run make release" for it in sorted(there & set(wanted) - same)
+    ]
 
 
 def wrong_programs(room: str, kit: str) -> list[str]:
-    """The released programs that are others than the built ones, by the same kit; by another one, what the cases of the program say."""
+    """The released programs that are others than the built ones, by the same kit; by another one, what the cases
+    of the program say."""
     made = programs.made().get("kit", "")
     faults = []
     for name in programs.PROGRAMS:
         path = os.path.join(room, "bin", name)
         if made != kit:
-            print(f"{name}: NOT COMPARED: it was made with {made}, and this machine has {kit}; the cases of checks/program are run with it")
+            print(f"{name}: NOT COMPARED: it was made with {made}, and this machine has {kit}")
+            print("the cases of checks/program are run with the released one")
             faults += check_program.wrong_cases(path)
         elif not programs.built(name):
             faults.append(f"{name} is not built here, or older than a source: run rt ci")
@@ -69,7 +88,8 @@ def wrong_programs(room: str, kit: str) -> list[str]:
 
 
 class Visitor:
-    """Someone who cloned the repository: a copy of it, a home, a PATH without `rt`, and a user other than root where this one is root."""
+    """Someone who cloned the repository: a copy of it, a home, a PATH without `rt`, and a user other than root
+    where this one is root."""
 
     def __init__(self, room: str) -> None:
         self.top, self.home = os.path.join(room, "hsplan"), os.path.join(room, "home")
@@ -87,15 +107,25 @@ class Visitor:
         line = f"{before} {words}".strip()
         environment = {"PATH": PATH, "HOME": self.home, "LC_ALL": "C.UTF-8"}
         more = {"user": self.user, "group": "nogroup", "extra_groups": []} if self.user else {}
-        ended = subprocess.run(["sh", "-c", line], cwd=os.path.join(self.home, within) if within else self.top, env=environment,
-                               stdin=subprocess.DEVNULL, stdout=subprocess.PIPE, stderr=subprocess.STDOUT, text=True, **more)
+        ended = subprocess.run(
+            ["sh", "-c", line],
+            cwd=os.path.join(self.home, within) if within else self.top,
+            env=environment,
+            stdin=subprocess.DEVNULL,
+            stdout=subprocess.PIPE,
+            stderr=subprocess.STDOUT,
+            text=True,
+            **more,
+        )
         return ended.stdout, ended.returncode
 
 
 def expected(visitor: Visitor, words: str, status: int, parts: list[str], **how: str) -> list[str]:
     """The fault of a command that ends otherwise, prints another text, or prints a traceback."""
     printed, got = visitor.run(words, **how)
-    fine = got == status and all(it in printed for it in parts) and "Traceback" not in printed and "***" not in printed
+    fine = (
+        got == status and all(it in printed for it in parts) and "Traceback" not in printed and "***" not in printed
+    )
     return [] if fine else [f"{words}: wanted status {status} and {parts}, got {got}:\n{printed}"]
 
 
@@ -105,9 +135,19 @@ def visit(visitor: Visitor) -> list[str]:
     installed = f"{visitor.home}/.local/bin/hsplan"
     short = PLAN.format(example, "premiere.csv")
     begun = time.monotonic()
-    faults = expected(visitor, "make demo", 0, ["By the released program", "\nyes\n", "bound 523976 - 216760 = 307216"])
-    faults += expected(visitor, "make install PREFIX=$HOME/.local", 0, ["is installed, and runs: the released program"])
-    faults += expected(visitor, f"{installed} {PLAN.format(visitor.top + '/' + example, 'demand.csv')}", 0, ["cost 307216"], within=".local")
+    faults = expected(
+        visitor, "make demo", 0, ["By the released program", "\nyes\n", "bound 523976 - 216760 = 307216"]
+    )
+    faults += expected(
+        visitor, "make install PREFIX=$HOME/.local", 0, ["is installed, and runs: the released program"]
+    )
+    faults += expected(
+        visitor,
+        f"{installed} {PLAN.format(visitor.top + '/' + example, 'demand.csv')}",
+        0,
+        ["cost 307216"],
+        within=".local",
+    )
     gone = time.monotonic() - begun
     faults += [f"demo, installation and a plan took {gone:.1f} seconds"] if gone > LIMIT else []
     faults += expected(visitor, f"make try ARGS='{short}'", 0, ["SHORTAGE", "\nstatus 3\n"])
@@ -121,7 +161,11 @@ def visit(visitor: Visitor) -> list[str]:
 def nothing_fits(visitor: Visitor, before: str, why: str) -> list[str]:
     """What is printed otherwise than in one line where no program can be run."""
     faults = []
-    for words in ("tools/demo.py", "tools/try.py locate --option local --servers 2 10/3", "tools/install.py --prefix $HOME/.local"):
+    for words in (
+        "tools/demo.py",
+        "tools/try.py locate --option local --servers 2 10/3",
+        "tools/install.py --prefix $HOME/.local",
+    ):
         printed, status = visitor.run(words, before=before)
         if status == 0 or why not in printed or README not in printed or printed.count("\n") != 1:
             faults.append(f"{before} {words}: wanted one line with {why!r}, got status {status}:\n{printed}")
@@ -159,7 +203,8 @@ def main() -> int:
         faults.append(f"{PATH} has an rt: the release was not tried without the kit")
     elif not faults:
         faults += tried(visit) + tried(strangers)
-    print("\n".join(faults + [f"release: version {programs.version()}, {len(programs.FILES) + len(programs.PROGRAMS)} files, {len(faults)} faults"]))
+    count = len(programs.FILES) + len(programs.PROGRAMS)
+    print("\n".join(faults + [f"release: version {programs.version()}, {count} files, {len(faults)} faults"]))
     return 1 if faults else 0
 
 

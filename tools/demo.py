@@ -42,11 +42,18 @@ def shown(text: str) -> str:
 
 
 def ran(program: str, folder: str) -> bool:
-    """Runs each step over the files of the folder, and shows it. Returns whether all of them ended well, and the checker said yes."""
+    """Runs each step over the files of the folder, and shows it. Returns whether all of them ended well, and the
+    checker said yes."""
     said = {}
     for meaning, words, kept in STEPS:
-        ended = subprocess.run([program, *words.split()], cwd=folder, stdout=subprocess.PIPE, stderr=subprocess.STDOUT, text=True)
-        print(f"\n# {meaning}\n$ hsplan {words}{' > ' + kept if kept else ''}\n{shown(ended.stdout)}", end="", flush=True)
+        ended = subprocess.run(
+            [program, *words.split()], cwd=folder, stdout=subprocess.PIPE, stderr=subprocess.STDOUT, text=True
+        )
+        print(
+            f"\n# {meaning}\n$ hsplan {words}{' > ' + kept if kept else ''}\n{shown(ended.stdout)}",
+            end="",
+            flush=True,
+        )
         if ended.returncode:
             return False
         said[words.split()[0]] = ended.stdout

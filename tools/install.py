@@ -1,10 +1,11 @@
 #!/usr/bin/env python3
 """Installs hsplan with its manual page, its completions and its guide, or takes them away again.
 
-    tools/install.py --prefix /usr/local [--destdir D]              the program built here where it is newer than its sources, and otherwise the released one
-    tools/install.py --prefix /usr/local [--destdir D] --uninstall
+    tools/install.py --prefix /usr/local [--destdir D] [--uninstall]
 
-The released program is compared with release/SHA256SUMS first. What is installed runs once before the script ends.
+It installs the program built here where that is newer than its sources, and otherwise the released one.
+The released program is compared with release/SHA256SUMS first. What is installed runs once before the script
+ends.
 """
 from __future__ import annotations
 

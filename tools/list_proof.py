@@ -1,12 +1,15 @@
 #!/usr/bin/env python3
-"""Writes into docs/understand/PROOF.md, for each crate, a table of its public calls from the sources: what a call says of itself, the clauses of its
-contract with the definitions that they cite, and the must-fail edits that turn it.
+"""Writes into docs/understand/PROOF.md, for each crate, a table of its public calls from the sources: what a call
+says of itself, the clauses of its contract with the definitions that they cite, and the must-fail edits that turn
+it.
 
-An edit turns the function whose text it changes. Where that function is private, it turns the public calls that come to it through private functions.
+An edit turns the function whose text it changes. Where that function is private, it turns the public calls that
+come to it through private functions.
 
     tools/list_proof.py            writes the tables
-    tools/list_proof.py --check    writes nothing, and fails where the page has other tables, where an edit turns no public call, or where the prose
-                                   above the tables names a call, a clause or a definition that is not there
+    tools/list_proof.py --check    writes nothing, and fails where the page has other tables, where an edit turns no
+                                   public call, or where the prose names a call, a clause or a definition that is
+                                   not there
 """
 from __future__ import annotations
 
@@ -29,7 +32,8 @@ USE = re.compile(r"^\s*ghost use Rattle\.(?P<crate>hsp\w+|hsplan)\.specs\.(?P<mo
 
 
 class Clause(NamedTuple):
-    """An `ensures`: its label, '' where it has none, and the definitions of this repository that it cites, each with its file below crates."""
+    """An `ensures`: its label, '' where it has none, and the definitions of this repository that it cites, each
+    with its file below crates."""
 
     label: str
     cited: tuple[str, ...]
@@ -61,7 +65,13 @@ def exported(crate: str) -> tuple[set[str], set[str]]:
     """The names that a crate's root passes on, and its public modules."""
     root = os.path.join(TOP, "crates", crate, "src", "lib.rt")
     text = "\n".join(read(root)) if os.path.exists(root) else ""
-    names = {it.strip() for found in re.findall(r"^pub use (?:crate::)?\w+::(?:\{([^}]*)\}|(\w+));", text, re.M) for part in found for it in part.split(",") if it.strip()}
+    names = {
+        it.strip()
+        for found in re.findall(r"^pub use (?:crate::)?\w+::(?:\{([^}]*)\}|(\w+));", text, re.M)
+        for part in found
+        for it in part.split(",")
+        if it.strip()
+    }
     return names, set(re.findall(r"^pub mod (\w+);", text, re.M))
 
 
@@ -119,7 +129,11 @@ def clauses_in(head: str, cited: dict[str, str]) -> Iterator[Clause]:
 def brought_in(lines: list[str]) -> dict[str, str]:
     """The definitions that the `ghost use` lines of a file bring in, each with its file below crates."""
     found = [it for it in map(USE.match, lines) if it]
-    return {word.split(" as ")[-1].strip(): f"{it.group('crate')}/specs/{it.group('module').split('.')[0]}.antt" for it in found for word in it.group("names").split(",")}
+    return {
+        word.split(" as ")[-1].strip(): f"{it.group('crate')}/specs/{it.group('module').split('.')[0]}.antt"
+        for it in found
+        for word in it.group("names").split(",")
+    }
 
 
 def functions_of(path: str, names: set[str], is_open: bool) -> Iterator[Function]:
@@ -137,9 +151,22 @@ def functions_of(path: str, names: set[str], is_open: bool) -> Iterator[Function
             stop, end = end_of(lines, at, head.group("indent"))
             seen = owner if head.group("indent") else ""
             reach = is_open or (seen or head.group("name")) in names
-            public = reach and (bool(head.group("public")) or (is_trait and bool(seen))) or (crate == "hsplan" and head.group("name") == "main")
+            public = (
+                reach
+                and (bool(head.group("public")) or (is_trait and bool(seen)))
+                or (crate == "hsplan" and head.group("name") == "main")
+            )
             text = "\n".join(lines[at : stop + 1])
-            yield Function(head.group("name"), seen, file, (at, end), public, doc_above(lines, at), tuple(clauses_in(text, cited)), "\n".join(lines[stop : end + 1]))
+            yield Function(
+                head.group("name"),
+                seen,
+                file,
+                (at, end),
+                public,
+                doc_above(lines, at),
+                tuple(clauses_in(text, cited)),
+                "\n".join(lines[stop : end + 1]),
+            )
             at = end
         elif item:
             end = next(it for it in range(at, len(lines)) if lines[it].rstrip().endswith(";"))
@@ -158,7 +185,10 @@ def names_it(caller: Function, called: Function) -> bool:
     """Whether a body names another function: by its type, as a member, or by its name."""
     name = re.escape(called.name)
     if not called.owner:
-        return any(not re.search(r"[A-Z]\w*(?:::<[^>]*>)?::$", caller.body[: it.start()]) for it in re.finditer(rf"(?<![\w.]){name}\b(?!::\w)", caller.body))
+        return any(
+            not re.search(r"[A-Z]\w*(?:::<[^>]*>)?::$", caller.body[: it.start()])
+            for it in re.finditer(rf"(?<![\w.]){name}\b(?!::\w)", caller.body)
+        )
     by_type = re.search(rf"\b{re.escape(called.owner)}(?:::<[^>]*>)?::{name}\b", caller.body)
     by_self = caller.owner == called.owner and re.search(rf"\b(?:self\.|Self::){name}\b", caller.body)
     return bool(by_type or by_self or re.search(rf"\.{name}\(", caller.body))
@@ -192,7 +222,11 @@ def turned(functions: list[Function], edit: str) -> list[Function]:
         at = next((number for number, it in enumerate(text) if rest.strip() in it), -1)
         own = [it for it in functions if it.file == os.path.basename(file)]
         brought = re.findall(r"\w+", rest) if rest.startswith("use ") else []
-        inside = [it for it in own if it.lines[0] <= at <= it.lines[1] or any(re.search(rf"\b{word}\b", it.body) for word in brought[-1:])]
+        inside = [
+            it
+            for it in own
+            if it.lines[0] <= at <= it.lines[1] or any(re.search(rf"\b{word}\b", it.body) for word in brought[-1:])
+        ]
         found += [call for it in inside for call in callers(functions, it)]
     return list(dict.fromkeys(found))
 
@@ -203,7 +237,13 @@ def edits_of(crate: str) -> list[str]:
 
 def clause_text(one: Clause) -> str:
     cited = ", ".join(one.cited)
-    return f"`{one.label}`: {cited}" if one.label and cited else f"`{one.label}`" if one.label else cited or "its own words"
+    return (
+        f"`{one.label}`: {cited}"
+        if one.label and cited
+        else f"`{one.label}`"
+        if one.label
+        else cited or "its own words"
+    )
 
 
 def row(one: Function, edits: list[str]) -> str:
@@ -219,7 +259,9 @@ def places(shown: list[Function]) -> Iterator[str]:
         for name, file in zip(clause.cited, clause.files):
             if os.path.exists(os.path.join(TOP, "crates", file)) and name not in files.setdefault(file, []):
                 files[file].append(name)
-    listed = [f"[`{file}`](../../crates/{file}): {', '.join(names)}" for file, names in sorted(files.items()) if names]
+    listed = [
+        f"[`{file}`](../../crates/{file}): {', '.join(names)}" for file, names in sorted(files.items()) if names
+    ]
     if listed:
         yield from (f"Definitions: {'; '.join(listed)}.", "")
 
@@ -236,7 +278,12 @@ def section(crate: str, faults: list[str]) -> Iterator[str]:
             by.setdefault(it, []).append(name)
     shown = [it for it in functions if it.is_public and (it.clauses or it in by or it.doc)]
     if shown:
-        yield from (f"### `{crate}`", "", "| Call | Says of itself | Clauses, and the definitions that they cite | Edits that turn it |", "|---|---|---|---|")
+        yield from (
+            f"### `{crate}`",
+            "",
+            "| Call | Says of itself | Clauses, and the definitions that they cite | Edits that turn it |",
+            "|---|---|---|---|",
+        )
         yield from (row(it, by.get(it, [])) for it in shown)
         yield ""
         yield from places(shown)
@@ -258,24 +305,42 @@ def tables(faults: list[str]) -> str:
 
 
 def wrong_words(prose: str) -> list[str]:
-    """The calls, clauses and definitions that the prose names and that are not there: `crate::call`, `crate::call` `clause`, `Name` in `crate/specs/F.antt`."""
+    """The calls, clauses and definitions that the prose names and that are not there: `crate::call`,
+    `crate::call` `clause`, `Name` in `crate/specs/F.antt`."""
     faults = []
     labels = {f"{crate}::{it.called()}": it for crate in programs.crates_of() for it in crate_functions(crate)}
-    labels.update({f"{crate}::laws::{it.name}": it for crate in programs.crates_of() for it in crate_functions(crate) if it.file == "laws.rt"})
+    labels.update(
+        {
+            f"{crate}::laws::{it.name}": it
+            for crate in programs.crates_of()
+            for it in crate_functions(crate)
+            if it.file == "laws.rt"
+        }
+    )
     for call, clause in re.findall(r"`(hsp\w+::[\w:]+)`(?: \(clauses? ((?:`\w+`(?:, | and )?)+)\))?", prose):
         known = labels.get(call)
         faults += [] if known else [f"PROOF.md names no call: {call}"]
-        faults += [f"PROOF.md: {it} is no clause of {call}" for it in re.findall(r"`(\w+)`", clause) if known and it not in {c.label for c in known.clauses}]
+        faults += [
+            f"PROOF.md: {it} is no clause of {call}"
+            for it in re.findall(r"`(\w+)`", clause)
+            if known and it not in {c.label for c in known.clauses}
+        ]
     for names, path in re.findall(r"((?:`[\w'-]+`(?:, | and ))*`[\w'-]+`) in \[`[\w./]+`\]\(([^)]+)\)", prose):
         file = os.path.normpath(os.path.join(os.path.dirname(PAGE), path))
         text = "\n".join(read(file)) if os.path.exists(file) else ""
-        faults += [f"PROOF.md: {it} is not defined in {path}" for it in re.findall(r"`([\w'-]+)`", names) if not re.search(rf"^(?:\w+ )*{re.escape(it)} ", text, re.M)]
+        faults += [
+            f"PROOF.md: {it} is not defined in {path}"
+            for it in re.findall(r"`([\w'-]+)`", names)
+            if not re.search(rf"^(?:\w+ )*{re.escape(it)} ", text, re.M)
+        ]
     return faults
 
 
 def main() -> int:
     arguments = argparse.ArgumentParser(description=__doc__.split("\n", 1)[0])
-    arguments.add_argument("--check", action="store_true", help="write nothing, and compare the tables that are there")
+    arguments.add_argument(
+        "--check", action="store_true", help="write nothing, and compare the tables that are there"
+    )
     check = arguments.parse_args().check
     faults: list[str] = []
     page = "\n".join(read(PAGE))

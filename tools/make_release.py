@@ -1,13 +1,15 @@
 #!/usr/bin/env python3
 """Writes the folder `release` from the programs that the gate, or `make prove`, has proved and built.
 
-Where the sources are still those of the release that is there, its programs do as well: so a changed guide takes no proof.
+Where the sources are still those of the release that is there, its programs do as well: so a changed guide takes
+no proof.
 
-    release/hsplan-VERSION-x86_64-linux.tar.xz    the programs, their manual pages and completions, and the guide, as below PREFIX
+    release/hsplan-VERSION-x86_64-linux.tar.xz    programs, manual pages, completions and guide, as below PREFIX
     release/SHA256SUMS                            the sum of the archive, for `sha256sum -c`
-    release/MADE                                  the version, the kit's line of `rt version`, and the sum over the sources
+    release/MADE                                  version, the kit's line of `rt version`, the sum over the sources
 
-The same programs and files give the same archive, octet for octet. tools/check_release.py compares it with what is proved and built.
+The same programs and files give the same archive, octet for octet. tools/check_release.py compares it with what
+is proved and built.
 """
 from __future__ import annotations
 
@@ -62,7 +64,9 @@ def proved(folder: str) -> tuple[dict[str, str], str]:
         return found, kit()
     said = programs.made()
     if said.get("sources") != programs.digest():
-        raise programs.Missing("the programs are not built, or older than a source, and the release is of other sources: make prove")
+        raise programs.Missing(
+            "the programs are not built, or older than a source, and the release is of other sources: make prove"
+        )
     room = programs.unpacked(folder, said["version"])
     return {it: os.path.join(room, "bin", it) for it in programs.PROGRAMS}, said["kit"]
 

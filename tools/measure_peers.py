@@ -1,11 +1,13 @@
 #!/usr/bin/env python3
-"""Measures whole runs of `hsplan plan` beside LEMON's network simplex on the same networks, by turns: seconds of the processor.
+"""Measures whole runs of `hsplan plan` beside LEMON's network simplex on the same networks, by turns: seconds of
+the processor.
 
     tools/measure_peers.py [--turns N] [--program FILE] [FACTOR..]
 
-Of hsplan the whole run counts: reading the files, hashing, solving, and printing the certificate. Of LEMON only making its graph and solving count: the
-network is given to it as numbers. Both costs have to be the same. The instances have 8,192 rows of 64 regions, 32 sites of 16 to 47 servers, 2,048 costs up
-to 1,000,000, and capacities that are the factor times the demand. It takes a C++ compiler and LEMON (Debian's liblemon-dev).
+Of hsplan the whole run counts: reading the files, hashing, solving, and printing the certificate. Of LEMON only
+making its graph and solving count: the network is given to it as numbers. Both costs have to be the same. The
+instances have 8,192 rows of 64 regions, 32 sites of 16 to 47 servers, 2,048 costs up to 1,000,000, and capacities
+that are the factor times the demand. It takes a C++ compiler and LEMON (Debian's liblemon-dev).
 """
 from __future__ import annotations
 
@@ -51,12 +53,39 @@ class Instance:
         """Writes the four files, and returns the options that name them."""
         servers = iter(self.capacities)
         tables = {
-            "settings": ("settings.toml", [f'[[site]]\nname = "site-{at}"\nrecord = "{record(many)}"' for at, many in enumerate(self.sites)]),
-            "demand": ("demand.csv", ["region,handle,count"] + [f"region-{self.regions[row]},{self.handle(row)},{self.counts[row]}" for row in range(ROWS)]),
-            "costs": ("costs.csv", ["region,site,cost"] + [f"region-{region},site-{site},{self.costs[region][site]}" for region in range(REGIONS) for site in range(SITES)]),
-            "capacity": ("capacity.csv", ["site,server_id,capacity"] + [f"site-{site},{place},{next(servers)}" for site, many in enumerate(self.sites) for place in range(many)]),
+            "settings": (
+                "settings.toml",
+                [f'[[site]]\nname = "site-{at}"\nrecord = "{record(many)}"' for at, many in enumerate(self.sites)],
+            ),
+            "demand": (
+                "demand.csv",
+                ["region,handle,count"]
+                + [f"region-{self.regions[row]},{self.handle(row)},{self.counts[row]}" for row in range(ROWS)],
+            ),
+            "costs": (
+                "costs.csv",
+                ["region,site,cost"]
+                + [
+                    f"region-{region},site-{site},{self.costs[region][site]}"
+                    for region in range(REGIONS)
+                    for site in range(SITES)
+                ],
+            ),
+            "capacity": (
+                "capacity.csv",
+                ["site,server_id,capacity"]
+                + [
+                    f"site-{site},{place},{next(servers)}"
+                    for site, many in enumerate(self.sites)
+                    for place in range(many)
+                ],
+            ),
         }
-        return [word for option, (name, lines) in tables.items() for word in (f"--{option}", measure_dispatch.write(folder, name, lines))]
+        return [
+            word
+            for option, (name, lines) in tables.items()
+            for word in (f"--{option}", measure_dispatch.write(folder, name, lines))
+        ]
 
     def network(self, program: str) -> str:
         """The network in numbers, with the servers that `hsplan locate` names for each handle."""
@@ -64,18 +93,27 @@ class Instance:
 
         def places(row: int) -> list[int]:
             words = [program, "locate", *self.words[:2], self.handle(row)]
-            return [int(line.split()[1]) for line in subprocess.run(words, stdout=subprocess.PIPE, text=True, check=True).stdout.splitlines()]
+            return [
+                int(line.split()[1])
+                for line in subprocess.run(words, stdout=subprocess.PIPE, text=True, check=True).stdout.splitlines()
+            ]
 
         with concurrent.futures.ThreadPoolExecutor() as pool:
             found = list(pool.map(places, range(ROWS)))
-        arcs = [f"{row} {firsts[site] + found[row][site]} {self.costs[self.regions[row]][site]}" for row in range(ROWS) for site in range(SITES)]
+        arcs = [
+            f"{row} {firsts[site] + found[row][site]} {self.costs[self.regions[row]][site]}"
+            for row in range(ROWS)
+            for site in range(SITES)
+        ]
         head = f"{ROWS} {len(self.capacities)} {len(arcs)}"
         return "\n".join([head, " ".join(map(str, self.counts)), " ".join(map(str, self.capacities)), *arcs]) + "\n"
 
 
 def built_peer(folder: str) -> str:
     peer = os.path.join(folder, "lemon_peer")
-    subprocess.run(["g++", "-O3", "-o", peer, os.path.join(programs.TOP, "tools", "lemon_peer.cpp"), "-llemon"], check=True)
+    subprocess.run(
+        ["g++", "-O3", "-o", peer, os.path.join(programs.TOP, "tools", "lemon_peer.cpp"), "-llemon"], check=True
+    )
     return peer
 
 
@@ -95,7 +133,8 @@ def main() -> int:
     arguments.add_argument("--program", default=programs.built_path("hsplan"))
     arguments.add_argument("factors", type=float, nargs="*", default=FACTORS)
     chosen = arguments.parse_args()
-    print("| Capacity over demand | Cost | hsplan, files to certificate | LEMON, solving only | hsplan over LEMON |\n|---|---|---|---|---|")
+    print("| Capacity over demand | Cost | hsplan, files to certificate | LEMON, solving only | hsplan over LEMON |")
+    print("|---|---|---|---|---|")
     with tempfile.TemporaryDirectory() as folder:
         peer = built_peer(folder)
         for factor in chosen.factors:
@@ -106,7 +145,9 @@ def main() -> int:
             if any(it[2] != it[3] for it in turns):
                 print(f"at factor {factor} the costs differ: {turns}", file=sys.stderr)
                 return 1
-            print(f"| {factor:.2f} | {int(turns[0][2]):,} | {own:.3f} | {other:.3f} | {own / other:.2f} |", flush=True)
+            print(
+                f"| {factor:.2f} | {int(turns[0][2]):,} | {own:.3f} | {other:.3f} | {own / other:.2f} |", flush=True
+            )
     return 0
 
 

@@ -1,7 +1,8 @@
 """The programs of this repository: what they are made of, where a built one stands, and what a release holds.
 
-A script that runs a program asks `chosen` for it: the built one where it is newer than its sources, and otherwise the released one, unpacked into a
-folder of the caller's. Where neither can run here, `Missing` says in one line why.
+A script that runs a program asks `chosen` for it: the built one where it is newer than its sources, and otherwise
+the released one, unpacked into a folder of the caller's. Where neither can run here, `Missing` says in one line
+why.
 """
 from __future__ import annotations
 
@@ -107,7 +108,8 @@ def built(name: str) -> Optional[str]:
 
 
 def stem(of: str = "") -> str:
-    """The name of the only folder of a release of this version, or of VERSION, and of its archive without the ending."""
+    """The name of the only folder of a release of this version, or of VERSION, and of its archive without the
+    ending."""
     return f"hsplan-{of or version()}-x86_64-linux"
 
 
@@ -137,7 +139,8 @@ def unfit() -> Optional[str]:
     library, number = platform.libc_ver()
     parts = tuple(int(it) for it in number.split(".")[:2] if it.isdigit())
     if library != "glibc" or parts < LEAST_GLIBC:
-        return f"the released program needs glibc 2.34 or later, and this is {library or 'another C library'} {number}".rstrip()
+        here = f"{library or 'another C library'} {number}".rstrip()
+        return f"the released program needs glibc 2.34 or later, and this is {here}"
     return None
 
 
@@ -150,17 +153,24 @@ def wrong_sum(path: str) -> Optional[str]:
 
 
 def unpacked(folder: str, of: str = "") -> str:
-    """Unpacks the release of this version, or of VERSION, into a folder, once its sum was compared, and returns where its files stand."""
+    """Unpacks the release of this version, or of VERSION, into a folder, once its sum was compared, and returns
+    where its files stand."""
     path = archive(of)
     try:
         why = wrong_sum(path)
     except OSError as error:
-        raise Missing(f"there is no release of version {of or version()}: {os.path.relpath(error.filename, TOP)} is missing") from error
+        raise Missing(
+            f"there is no release of version {of or version()}: {os.path.relpath(error.filename, TOP)} is missing"
+        ) from error
     if why:
         raise Missing(why)
     with tarfile.open(path) as packed:
         for member in packed.getmembers():
-            if not member.isfile() or os.path.normpath(member.name) != member.name or member.name.split("/")[0] != stem(of):
+            if (
+                not member.isfile()
+                or os.path.normpath(member.name) != member.name
+                or member.name.split("/")[0] != stem(of)
+            ):
                 raise Missing(f"release/{os.path.basename(path)} holds what no release does: {member.name}")
         setattr(packed, "extraction_filter", getattr(tarfile, "data_filter", None))
         packed.extractall(folder)
@@ -178,11 +188,12 @@ def chosen(name: str, folder: str) -> Program:
             return Program(os.path.join(unpacked(folder), "bin", name), f"the released program, version {version()}")
         except Missing as missing:
             why = str(missing)
-    raise Missing(f"{name}: {why}, and none is built here (make prove); README.md has more under \"Try it\"")
+    raise Missing(f'{name}: {why}, and none is built here (make prove); README.md has more under "Try it"')
 
 
 def ended(main: Callable[[], int]) -> NoReturn:
-    """Ends a script by the status of its `main`, and without a traceback where it is interrupted or nobody reads on."""
+    """Ends a script by the status of its `main`, and without a traceback where it is interrupted or nobody reads
+    on."""
     try:
         status = main()
         sys.stdout.flush()

@@ -1,10 +1,12 @@
 #!/usr/bin/env python3
-"""Proves the crates of the programs from nothing, those that do not need each other side by side, and builds the programs.
+"""Proves the crates of the programs from nothing, those that do not need each other side by side, and builds the
+programs.
 
-The kit's prover, `rattle build`, makes a library, or a program, only of a crate that it has proved. Of those with the longest chains of others above them
-one at a time gets several processors; the others get one each, and those with much shorter chains give way. It shows how far it is: crates, minutes gone, and about
-how many are left, by the times of docs/maintain/GATE.md. Nothing that was proved before is taken. This is not the gate: `make test` proves all crates by
-`rt ci`, with their edits and tests.
+The kit's prover, `rattle build`, makes a library, or a program, only of a crate that it has proved. Of those with
+the longest chains of others above them one at a time gets several processors; the others get one each, and those
+with much shorter chains give way. It shows how far it is: crates, minutes gone, and about how many are left, by
+the times of docs/maintain/GATE.md. Nothing that was proved before is taken. This is not the gate: `make test`
+proves all crates by `rt ci`, with their edits and tests.
 """
 from __future__ import annotations
 
@@ -34,7 +36,8 @@ class Kit:
         return os.path.join(self.top, *parts)
 
     def libraries(self, crate: str) -> list[str]:
-        """The kit's libraries that a crate uses: std, and what crates.txt lists beside the crates of this repository."""
+        """The kit's libraries that a crate uses: std, and what crates.txt lists beside the crates of this
+        repository."""
         listed = programs.lines_of([crate])[0].split("#")[0].split(":")[1].split()
         return ["std"] + [it for it in listed if it not in programs.dependencies()]
 
@@ -42,20 +45,49 @@ class Kit:
         """The command that proves a crate, and builds its library or its object file in the folder `room`."""
         below = programs.dependencies()
         is_program = crate in programs.PROGRAMS
-        words = [self.path("bin", "rattle"), "build", "--crate-name", crate, "src/main.rt" if is_program else "src/lib.rt"]
+        words = [
+            self.path("bin", "rattle"),
+            "build",
+            "--crate-name",
+            crate,
+            "src/main.rt" if is_program else "src/lib.rt",
+        ]
         for name in self.libraries(crate):
             words += ["--extern", f"{name}={self.path('rlibs', name + '.rlib')}"]
         words += ["-L", f"dependency={self.path('rlibs')}", "-L", f"dependency={room}"]
         for name in below[crate]:
             words += ["--extern", f"{name}={os.path.join(room, name + '.rlib')}"]
-        words += ["--antt-project", self.path("rattle", "logic", "antt-project.json"), "--logic-built", self.path("logic_built"), "--links", f"{crate}="]
+        words += [
+            "--antt-project",
+            self.path("rattle", "logic", "antt-project.json"),
+            "--logic-built",
+            self.path("logic_built"),
+            "--links",
+            f"{crate}=",
+        ]
         made = ["--toolchain", self.path("toolchain"), "--backend", "llvm", "-o", os.path.join(room, crate + ".o")]
-        return words + ["--jobs", str(jobs)] + (made if is_program else ["--statements", "-o", os.path.join(room, crate + ".rlib")])
+        return (
+            words
+            + ["--jobs", str(jobs)]
+            + (made if is_program else ["--statements", "-o", os.path.join(room, crate + ".rlib")])
+        )
 
     def link(self, program: str, room: str) -> list[str]:
         """The command that links a program's object file with the C library."""
-        words = [self.path("bin", "rattle-link"), "--target", "x86_64-unknown-linux-gnu", "--toolchain", self.path("toolchain")]
-        return words + ["-o", os.path.join(room, program), os.path.join(room, program + ".o"), self.path("c", "libos_c.a"), self.path("c", "liblibc_c.a")]
+        words = [
+            self.path("bin", "rattle-link"),
+            "--target",
+            "x86_64-unknown-linux-gnu",
+            "--toolchain",
+            self.path("toolchain"),
+        ]
+        return words + [
+            "-o",
+            os.path.join(room, program),
+            os.path.join(room, program + ".o"),
+            self.path("c", "libos_c.a"),
+            self.path("c", "liblibc_c.a"),
+        ]
 
 
 def seconds() -> dict[str, float]:
@@ -95,24 +127,33 @@ class Run:
         self.begun = time.monotonic()
 
     def begin(self, crate: str) -> None:
-        """Begins a proof: by the processors that others with long chains leave where its own is long and no other has several, and otherwise by one."""
+        """Begins a proof: by the processors that others with long chains leave where its own is long and no other
+        has several, and otherwise by one."""
         longest = max(self.plan.chains[it] for it in self.whole - self.done)
         part = self.plan.chains[crate] / longest
-        others = [it for it in [*self.running, *self.plan.ready(self.done)] if it != crate and self.plan.chains[it] > 0.85 * longest]
+        others = [
+            it
+            for it in [*self.running, *self.plan.ready(self.done)]
+            if it != crate and self.plan.chains[it] > 0.85 * longest
+        ]
         is_first = part > 0.85 and self.first not in self.running
         self.first = crate if is_first else self.first
         jobs = max(min(lanes.processors(), 4) - len(others), 2) if is_first else 1
         words = ["nice", "-n", str(max(0, round(25 * (0.9 - part))))] + self.kit.build(crate, self.room, jobs)
         with open(os.path.join(self.room, crate + ".log"), "wb") as log:
             folder = os.path.join(programs.TOP, "crates", crate)
-            self.running[crate] = subprocess.Popen(words, cwd=folder, stdin=subprocess.DEVNULL, stdout=log, stderr=subprocess.STDOUT)
+            self.running[crate] = subprocess.Popen(
+                words, cwd=folder, stdin=subprocess.DEVNULL, stdout=log, stderr=subprocess.STDOUT
+            )
         self.plan.left.remove(crate)
 
     def show(self, crate: str) -> None:
         gone = (time.monotonic() - self.begun) / 60
         proved, every = sum(self.plan.weights[it] for it in self.done), sum(self.plan.weights.values())
         rest = f", about {gone * (every - proved) / proved:.0f} left" if every / 20 < proved < every else ""
-        print(f"crate {len(self.done)} of {len(self.whole)}: {crate} proved; {gone:.1f} minutes gone{rest}", flush=True)
+        print(
+            f"crate {len(self.done)} of {len(self.whole)}: {crate} proved; {gone:.1f} minutes gone{rest}", flush=True
+        )
 
     def ended(self) -> Optional[str]:
         """Takes what has ended, and returns the crate that was not proved, if there is one."""
