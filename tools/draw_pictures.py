@@ -24,6 +24,9 @@ FOLDER = os.path.join(TOP, "docs", "pictures")
 EXAMPLE = os.path.join(TOP, "examples", "two-sites")
 SERVER = re.compile(r" *(\d+) +(\d+) +(\d+) +(\d+) +(\d+) (\S+)")
 USE = re.compile(r"use (\d+) (\d+) (\d+)")
+HOST = re.compile(r"host (\d+) (\d+)")
+RECORD_ENTRY = re.compile(r'^record = "([0-9a-f]+)"$', re.M)
+HOST_ENTRY = re.compile(r'^\[\[host\]\]\naddress = "([0-9a-f]+)"\nlimit = (\d+)$', re.M)
 REGION_STYLES = ("blue", "amber", "green")
 
 
@@ -36,6 +39,16 @@ class Server:
     number: int
     load: int
     capacity: int
+    price: int
+
+
+@dataclasses.dataclass
+class Host:
+    """A host of the example: the places of its servers in the load report, and its numbers."""
+
+    servers: list[int]
+    load: int
+    limit: int
     price: int
 
 
@@ -270,7 +283,7 @@ def flows(servers: list[Server]) -> dict[tuple[str, int], int]:
     """How much of each region's demand the plan sends to each server, by the recorded text of the plan."""
     rows, sites = table("demand.csv"), list(dict.fromkeys(it.site for it in servers))
     found: dict[tuple[str, int], int] = {}
-    for it in filter(None, map(USE.fullmatch, printed_by("cat plan.txt"))):
+    for it in filter(None, map(USE.fullmatch, printed_by("cat hosts.txt"))):
         row, site = rows[int(it.group(1))], sites[int(it.group(2))]
         beside = [at for at, server in enumerate(servers) if server.site == site]
         key = (row["region"], beside[place_of(row["handle"], len(beside))])
@@ -281,8 +294,37 @@ def flows(servers: list[Server]) -> dict[tuple[str, int], int]:
     return found
 
 
+def addresses_of(octets: bytes) -> list[str]:
+    """The address of each server of a site record, as the settings spell it."""
+    head = head_fields(octets)
+    start, found = sum(len(it.octets) for line in head for it in line), []
+    for _ in range(int.from_bytes(head[-1][0].octets, "big")):
+        lines = server_fields(octets[start:])
+        found.append(lines[0][1].octets.hex())
+        start += sum(len(it.octets) for line in lines for it in line)
+    return found
+
+
+def hosts_of(servers: list[Server]) -> list[Host]:
+    """The hosts of hosts.toml with the loads of their servers, and their prices by the recorded text of the plan."""
+    with open(os.path.join(EXAMPLE, "hosts.toml"), encoding="utf-8") as file:
+        settings = file.read()
+    addresses = [it for record in RECORD_ENTRY.findall(settings) for it in addresses_of(bytes.fromhex(record))]
+    prices = {int(it.group(1)): int(it.group(2)) for it in filter(None, map(HOST.fullmatch, printed_by("cat hosts.txt")))}
+    found = []
+    for number, (address, limit) in enumerate(HOST_ENTRY.findall(settings)):
+        on = [at for at in range(len(servers)) if addresses[at] == address]
+        host = Host(on, sum(servers[at].load for at in on), int(limit), prices.pop(number))
+        if host.load > host.limit or host.price and host.load < host.limit:
+            raise ValueError(f"the load of host {number} does not agree with its limit and its price")
+        found.append(host)
+    if prices:
+        raise ValueError("the plan has a price for a host that the settings do not have")
+    return found
+
+
 FLOW_SCALE, FLOW_MIDDLE, REGION_GAP, SERVER_GAP = 0.06, 326, 48, 24
-REGIONS_AT, SERVERS_AT, SINK_AT = 150, 440, 826
+REGIONS_AT, SERVERS_AT, HOSTS_AT, SINK_AT = 150, 430, 716, 1010
 
 
 def stacked(sizes: list[int], gap: float) -> list[float]:
@@ -297,13 +339,15 @@ def stacked(sizes: list[int], gap: float) -> list[float]:
 def region_bands(picture: svg.Picture, servers: list[Server], regions: dict[str, int], sent: dict[tuple[str, int], int]) -> None:
     """The flows from regions to servers, each end below those before it."""
     left, right = stacked(list(regions.values()), REGION_GAP), stacked([it.load for it in servers], SERVER_GAP)
+    base = 0.0
     for at, region in enumerate(regions):
         for to in range(len(servers)):
             many = sent.get((region, to), 0)
             wide = many * FLOW_SCALE
             if many:
                 picture.band((REGIONS_AT + 16, left[at] + wide / 2), (SERVERS_AT, right[to] + wide / 2), wide, f"solid-{REGION_STYLES[at]}", 40)
-                picture.text(REGIONS_AT + 22, left[at] + wide / 2 + 4, f"{many:,}", 11)
+                base = max(left[at] + wide / 2 + 4, base + 13)
+                picture.text(REGIONS_AT + 22, base, f"{many:,}", 11)
             left[at] += wide
             right[to] += wide
 
@@ -319,39 +363,80 @@ def region_nodes(picture: svg.Picture, regions: dict[str, int]) -> None:
             picture.text(REGIONS_AT - 12, middle + 19 + 15 * at, words, 11, "faint", "end")
 
 
-def server_nodes(picture: svg.Picture, servers: list[Server]) -> None:
-    """The servers and the sink, with the flows between them."""
-    whole = sum(it.load for it in servers)
-    first = last = stacked([whole], 0)[0]
+def host_top(host: Host, servers: list[Server]) -> float:
+    """The top of a host's box, whose middle is that of its servers."""
+    tops = stacked([it.load for it in servers], SERVER_GAP)
+    first, last = min(host.servers), max(host.servers)
+    return (tops[first] + tops[last] + (servers[last].load - host.load) * FLOW_SCALE) / 2
+
+
+def sink_bands(picture: svg.Picture, servers: list[Server], hosts: list[Host]) -> None:
+    """The flows from servers to their hosts, and from hosts and from servers on no host to the sink."""
+    tops = stacked([it.load for it in servers], SERVER_GAP)
+    housed = {at for host in hosts for at in host.servers}
+    leaving = [(tops[at], SERVERS_AT, it.load) for at, it in enumerate(servers) if at not in housed]
+    for host in hosts:
+        level = host_top(host, servers)
+        leaving.append((level, HOSTS_AT, host.load))
+        for at in host.servers:
+            wide = servers[at].load * FLOW_SCALE
+            picture.band((SERVERS_AT + 16, tops[at] + wide / 2), (HOSTS_AT, level + wide / 2), wide, "solid-grey", 180)
+            level += wide
+    level = stacked([sum(it.load for it in servers)], 0)[0]
+    for top, left, load in sorted(leaving):
+        wide = load * FLOW_SCALE
+        picture.band((left + 16, top + wide / 2), (SINK_AT, level + wide / 2), wide, "solid-grey", HOSTS_AT + 180 - left)
+        level += wide
+
+
+def load_box(picture: svg.Picture, left: float, top: float, name: str, load: int, bound: int, price: int) -> None:
+    """A server or a host, as high as its load, with its numbers on the flow that leaves it."""
+    middle = top + load * FLOW_SCALE / 2
+    picture.rectangle(left, top, 16, load * FLOW_SCALE, "solid-red" if load == bound else "ink")
+    picture.text(left + 26, middle - 3, name, 13, form="bold")
+    picture.text(left + 26, middle + 14, f"{load:,} of {bound:,}, price {price}", 12)
+
+
+def sink_nodes(picture: svg.Picture, servers: list[Server], hosts: list[Host]) -> None:
+    """The servers, the hosts and the sink."""
     for server, top in zip(servers, stacked([it.load for it in servers], SERVER_GAP)):
-        wide = server.load * FLOW_SCALE
-        picture.band((SERVERS_AT + 16, top + wide / 2), (SINK_AT, last + wide / 2), wide, "solid-grey", 190)
-        picture.rectangle(SERVERS_AT, top, 16, wide, "solid-red" if server.load == server.capacity else "ink")
-        picture.text(SERVERS_AT + 26, top + wide / 2 - 3, f"{server.site} {server.number}", 13, form="bold")
-        picture.text(SERVERS_AT + 26, top + wide / 2 + 14, f"{server.load:,} of {server.capacity:,}, price {server.price}", 12)
-        last += wide
-    picture.rectangle(SINK_AT, first, 16, whole * FLOW_SCALE, "ink")
+        load_box(picture, SERVERS_AT, top, f"{server.site} {server.number}", server.load, server.capacity, server.price)
+    for at, host in enumerate(hosts):
+        load_box(picture, HOSTS_AT, host_top(host, servers), f"host {at}", host.load, host.limit, host.price)
+    whole = sum(it.load for it in servers)
+    picture.rectangle(SINK_AT, stacked([whole], 0)[0], 16, whole * FLOW_SCALE, "ink")
     picture.text(SINK_AT + 26, FLOW_MIDDLE, "sink", 14, form="bold")
     picture.text(SINK_AT + 26, FLOW_MIDDLE + 17, f"{whole:,}", 12)
 
 
+def network_words(servers: list[Server], hosts: list[Host], sent: dict[tuple[str, int], int]) -> str:
+    """What the network shows, for those who can't see it."""
+    names = [f"{it.site} {it.number}" for it in servers]
+    said = [f"{region} to {names[to]}: {many:,}" for (region, to), many in sent.items()]
+    said += [f"{name}: load {it.load:,} of {it.capacity:,}, price {it.price}" for name, it in zip(names, servers)]
+    for at, it in enumerate(hosts):
+        said.append(f"host {at} of {' and '.join(names[on] for on in it.servers)}: load {it.load:,} of {it.limit:,}, price {it.price}")
+    return f"How many queries the plan sends from each region to each server, and from there to the hosts and the sink. {'; '.join(said)}."
+
+
 def draw_network() -> svg.Picture:
-    servers = load_report("$inputs --plan plan.txt --kind load")
-    sent, regions = flows(servers), {}
+    servers = load_report("--plan hosts.txt --kind load")
+    hosts, sent, regions = hosts_of(servers), flows(servers), {}
     for row in table("demand.csv"):
         regions[row["region"]] = regions.get(row["region"], 0) + int(row["count"])
-    title = "A cheapest flow of examples/two-sites"
-    said = "; ".join(f"{region} to {servers[to].site} {servers[to].number}: {many:,}" for (region, to), many in sent.items())
-    picture = svg.Picture(920, 602, title, f"How many queries the plan sends from each region to each server. {said}.")
+    title = "A cheapest flow of examples/two-sites with the settings hosts.toml"
+    picture = svg.Picture(1100, 602, title, network_words(servers, hosts, sent))
     picture.text(16, 28, title, 16, form="bold")
-    picture.swatch(720, 28, "solid-red", "server without room")
-    for at, words in ((16, "rows, by region"), (SERVERS_AT, "servers: load of capacity, price"), (SINK_AT, "sink")):
+    picture.swatch(HOSTS_AT, 28, "solid-red", "server or host without room")
+    heads = ("rows, by region", "servers: load of capacity, price", "hosts: load of limit, price", "sink")
+    for at, words in zip((16, SERVERS_AT, HOSTS_AT, SINK_AT), heads):
         picture.text(at, 60, words, 12, "faint")
     region_bands(picture, servers, regions, sent)
+    sink_bands(picture, servers, hosts)
     region_nodes(picture, regions)
-    server_nodes(picture, servers)
+    sink_nodes(picture, servers, hosts)
     words = f"The {len(table('demand.csv'))} rows of the demand are drawn by their regions. A row has one server in each site."
-    picture.text(16, 590, words + " Without hosts each server leads to the sink.", 11, "faint")
+    picture.text(16, 590, words + " A server on no host leads straight to the sink.", 11, "faint")
     return picture
 
 
