@@ -2,11 +2,11 @@
 """Proves the crates of the programs from nothing, those that do not need each other side by side, and builds the
 programs.
 
-The kit's prover, `rattle build`, makes a library, or a program, only of a crate that it has proved. Of those with
-the longest chains of others above them one at a time gets several processors; the others get one each, and those
-with much shorter chains give way. It shows how far it is: crates, minutes gone, and about how many are left, by
-the times of docs/maintain/GATE.md. Nothing that was proved before is taken. This is not the gate: `make test`
-proves all crates by `rt ci`, with their edits and tests.
+The kit's prover, `rattle build`, makes a library, or a program, only of a crate that it has proved. A crate with the
+longest chain of others above it gets several processors. The others get one each, and give way where their chains
+are much shorter. It prints how far it is: crates, minutes gone, and about how many are left, by the times of
+docs/maintain/GATE.md. Nothing that was proved before is taken. This is not the gate: `make test` proves all crates
+by `rt ci`, with their edits and tests.
 """
 from __future__ import annotations
 
@@ -123,23 +123,23 @@ class Run:
         self.whole = set(self.plan.left)
         self.done: set[str] = set()
         self.running: dict[str, subprocess.Popen[bytes]] = {}
-        self.first: Optional[str] = None
+        self.since: dict[str, float] = {}
         self.begun = time.monotonic()
 
+    def left(self, crate: str) -> float:
+        """About how many seconds are left of a crate's proof and of the longest chain above it."""
+        since = self.since.get(crate)
+        return self.plan.chains[crate] - (time.monotonic() - since if since else 0)
+
     def begin(self, crate: str) -> None:
-        """Begins a proof: by the processors that others with long chains leave where its own is long and no other
-        has several, and otherwise by one."""
-        longest = max(self.plan.chains[it] for it in self.whole - self.done)
-        part = self.plan.chains[crate] / longest
-        others = [
-            it
-            for it in [*self.running, *self.plan.ready(self.done)]
-            if it != crate and self.plan.chains[it] > 0.85 * longest
-        ]
-        is_first = part > 0.85 and self.first not in self.running
-        self.first = crate if is_first else self.first
-        jobs = max(min(lanes.processors(), 4) - len(others), 2) if is_first else 1
-        words = ["nice", "-n", str(max(0, round(25 * (0.9 - part))))] + self.kit.build(crate, self.room, jobs)
+        """Begins a proof: by all processors where no other crate has as long a way to go, by two where another has,
+        and by one where its way is much shorter than the longest."""
+        longest = max(map(self.left, self.whole - self.done))
+        part = self.left(crate) / longest
+        beside = [it for it in [*self.running, *self.plan.ready(self.done)] if self.left(it) > 0.85 * longest]
+        jobs = 1 if part <= 0.85 else min(lanes.processors(), 4 if beside == [crate] else 2)
+        words = ["nice", "-n", str(max(0, round(25 * (0.85 - part))))] + self.kit.build(crate, self.room, jobs)
+        self.since[crate] = time.monotonic()
         with open(os.path.join(self.room, crate + ".log"), "wb") as log:
             folder = os.path.join(programs.TOP, "crates", crate)
             self.running[crate] = subprocess.Popen(
