@@ -1,12 +1,13 @@
 #!/usr/bin/env python3
-"""Proves the crates of the programs from nothing, those that do not need each other side by side, and builds the
-programs.
+"""Proves the crates of the programs from nothing, and builds the programs.
 
-The kit's prover, `rattle build`, makes a library, or a program, only of a crate that it has proved. Of those with
-the longest chains of others above them one at a time gets several processors; the others get one each, and those
-with much shorter chains give way. It shows how far it is: crates, minutes gone, and about how many are left, by
-the times of docs/maintain/GATE.md. Nothing that was proved before is taken. This is not the gate: `make test`
-proves all crates by `rt ci`, with their edits and tests.
+Crates that do not need each other are proved side by side. The kit's prover, `rattle build`, makes a library, or a
+program, only of a crate that it has proved. Of the crates with the longest chains of others above them, one at a time
+gets several processors. The other crates get one each, and those with much shorter chains give way.
+
+The script shows how far it is: crates, minutes gone, and about how many are left, by the times of
+docs/maintain/GATE.md. Nothing that was proved before is taken. This is not the gate: `make test` proves all crates by
+`rt ci`, with their edits and tests.
 """
 from __future__ import annotations
 
@@ -91,13 +92,14 @@ class Kit:
 
 
 def seconds() -> dict[str, float]:
-    """How long the proof of each crate takes about, as the gate's page has it."""
+    """About how long the proof of each crate takes, in seconds, by the gate's page."""
     rows = re.findall(r"^\| `(\w+)` \| (\d+) \|", programs.text_of("docs", "maintain", "GATE.md"), re.M)
     return {crate: float(number) for crate, number in rows}
 
 
 class Plan:
-    """The crates that are left, with how long each takes about, alone and with the longest chain above it."""
+    """The crates that are left. `weights` has about how long each takes, and `chains` adds the longest chain above
+    it."""
 
     def __init__(self) -> None:
         self.left = programs.crates_of()
@@ -127,8 +129,8 @@ class Run:
         self.begun = time.monotonic()
 
     def begin(self, crate: str) -> None:
-        """Begins a proof: by the processors that others with long chains leave where its own is long and no other
-        has several, and otherwise by one."""
+        """Begins a proof. Where its chain is long and no other proof has several processors, it gets those that
+        others with long chains leave. Otherwise it gets one."""
         longest = max(self.plan.chains[it] for it in self.whole - self.done)
         part = self.plan.chains[crate] / longest
         others = [
@@ -156,7 +158,7 @@ class Run:
         )
 
     def ended(self) -> Optional[str]:
-        """Takes what has ended, and returns the crate that was not proved, if there is one."""
+        """Records what has ended, and returns the crate that was not proved, if there is one."""
         for crate, process in list(self.running.items()):
             status = process.poll()
             if status is not None:
