@@ -4,8 +4,8 @@
     tools/measure_gate.py [--jobs N] [--log FILE]      N checks side by side, by default as many as in `make test`;
                                                        the log is what rt ci prints
 
-The seconds are those of its proof, of the proof that its must-fail edits begin with, of the edits, and of its tests.
-What rt kept of an earlier run on the machine is not proved again, and has no seconds here.
+The seconds of a crate are those of its proof, of the proof that its must-fail edits begin with, of the edits, and of
+its tests. What rt kept of an earlier run on the machine is not proved again, and has no seconds here.
 
 A check is a process of its own. Once a second each check is asked for the processor time that it took, so up to a
 second of each check is missed.
