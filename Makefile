@@ -1,12 +1,14 @@
-# make demo        plans and checks a service of two sites, by the released program, or by the one built here
+# make demo        plans and checks a service of two sites, by the released program or by the one built here
 # make try ARGS='plan --settings F ..'    runs the program on your own files, without an installation
-# make install     installs the program below $(PREFIX) with its manual page, completions and guide; with PROVED=1 it is proved and built first
+# make install     installs the program below $(PREFIX) with its manual page, completions and guide;
+#                  with PROVED=1 the program is proved and built first
 # make uninstall   removes what make install put there
-# make prove       proves the program's crates from nothing, and builds it
+# make prove       proves the program's crates from nothing, and builds the program
 # make release     writes the folder release from what was proved and built
-# make test        the whole gate: the checks of documents and examples, every proof from nothing, every test, every must-fail edit
-# make mutants     wants each wrong body of mutants/ to be refused by its test or case; outside the gate
-# make fuzz N=..   gives the built program so many inputs that are changed at random; outside the gate
+# make test        runs the whole gate: the checks of documents and examples, every proof from nothing,
+#                  every test and every must-fail edit
+# make mutants     checks that each wrong body of mutants/ is refused by its test or case; outside the gate
+# make fuzz N=..   gives the built program N inputs that are changed at random; outside the gate
 
 MAKEFLAGS += --no-print-directory
 PREFIX ?= /usr/local
@@ -32,7 +34,7 @@ prove:
 release:
 	@tools/make_release.py
 
-# What needs no built program stands before the proofs.
+# The checks that need no built program run before the proofs.
 test:
 	tools/make_examples.py --check
 	tools/draw_pictures.py --check

@@ -1,8 +1,11 @@
 #!/usr/bin/env python3
-"""Tries the files of completions/ in the shells that are installed: types lines, asks the shell for completions, and compares.
+"""Tries the files of completions/ in the shells that are installed.
 
-bash is asked by its completion function, fish by `complete -C`, and zsh at a terminal of its own, where the line is read back after Tab; so
-zsh is asked only where one word is the answer. A shell that is not installed is named as not tried; with --all that is a fault.
+It types lines, asks the shell for completions, and compares these with the wanted ones. bash is asked through its
+completion function, and fish by `complete -C`. zsh is asked at a terminal of its own, and the line is read back after
+Tab. So zsh gets only the lines with at most one completion.
+
+A shell that is not installed is named as not tried. With --all that is a fault.
 """
 import argparse
 import os
@@ -59,7 +62,7 @@ PS1='ready>'
 
 
 def drained(terminal, until, seconds):
-    """What a terminal shows, up to a text or for so many seconds without a further octet."""
+    """What a terminal shows, up to a text or until no octet has come for the given number of seconds."""
     shown = b""
     while until not in shown and select.select([terminal], [], [], seconds)[0]:
         try:
@@ -70,7 +73,7 @@ def drained(terminal, until, seconds):
 
 
 def ask_zsh(line, folder):
-    """The last word of the line after Tab, where it changed."""
+    """The last word of the line after Tab, as a list. The list is empty where the line did not change."""
     with tempfile.TemporaryDirectory() as home:
         told = os.path.join(home, "told")
         with open(os.path.join(home, ".zshrc"), "w") as file:
@@ -89,7 +92,7 @@ def ask_zsh(line, folder):
 
 
 def tried(shell, ask):
-    """The lines that a shell completes otherwise, and how many it was asked."""
+    """The faults of the lines that a shell completes differently, and how many lines it was asked."""
     cases = [it for it in CASES if shell != "zsh" or len(it[1]) < 2]
     with tempfile.TemporaryDirectory() as folder:
         for name in ("demand.csv", "settings.toml"):
@@ -100,7 +103,7 @@ def tried(shell, ask):
 
 def main():
     arguments = argparse.ArgumentParser(description="Tries the completions in the shells that are installed.")
-    arguments.add_argument("--all", action="store_true", help="take a shell that is not installed as a fault")
+    arguments.add_argument("--all", action="store_true", help="treat a shell that is not installed as a fault")
     wants_all = arguments.parse_args().all
     shells = {"bash": ask_bash, "zsh": ask_zsh, "fish": ask_fish}
     absent = [it for it in shells if not shutil.which(it)]

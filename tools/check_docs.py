@@ -1,20 +1,23 @@
 #!/usr/bin/env python3
-"""Follows the names in the documents: each crate in the README and the map, each link, each `make` target and
-each script; and compares the counts of docs/maintain/GATE.md with what is there, and the logic of the kit in the
-README with that of this machine. Then it runs each command of the documents with the built program, and compares
-what they print.
+"""Checks the names and counts in the documents, runs each command of the documents with the built program, and
+compares what the commands print with what the documents show.
 
-The commands are those of the blocks marked `console`, the lines of which are a transcript as tools/transcripts.py
-has it; those of one document run in turn in one shell. In docs/use/hsplan.1 they are the examples between `.EX`
-and `.EE`.
+The commands are those of the blocks marked `console`. The lines of such a block are a transcript, as
+tools/transcripts.py describes it. The commands of one document run in turn in one shell. In docs/use/hsplan.1 the
+commands are the examples between `.EX` and `.EE`.
 
-Fails where a crate of crates.txt is not named in the README or in docs/understand/ARCHITECTURE.md, and where
-docs/maintain/GATE.md counts other edits, tests, wrong bodies, crates or cases of the program than there are. It
-fails where a word of a fault has no row in docs/use/FAULTS.md or no paragraph in docs/use/hsplan.1, where a
-command stands in a block that isn't marked, where one prints something else, and where a file still has the marks
-of a merge.
+It fails where
 
-    tools/check_docs.py --names               follows the names alone, without the program
+- the README or docs/understand/ARCHITECTURE.md does not name a crate of crates.txt;
+- docs/maintain/GATE.md states another number of edits, tests, wrong bodies, crates or cases of the program than there
+  is;
+- a document names a link, a `make` target or a script that is not there;
+- a word of a fault has no row in docs/use/FAULTS.md or no paragraph in docs/use/hsplan.1;
+- the README states another logic of the kit than this machine's kit has;
+- a command stands in a block that is not marked, or prints something else;
+- a file still has the marks of a merge.
+
+    tools/check_docs.py --names               checks the names and counts only, without the program
     tools/check_docs.py [--program FILE]      does all
 """
 import argparse
@@ -36,7 +39,7 @@ def text_of(path):
 
 
 def rows(text):
-    """The cells of each row of a table, but for heads and rules."""
+    """The cells of each row of a table, without heads and rules."""
     lines = [it for it in text.splitlines() if it.startswith("|")]
     cells = [[cell.strip() for cell in it.strip("|").split("|")] for it in lines]
     return [it for at, it in enumerate(cells) if not is_rule(lines[at]) and not (at + 1 < len(lines) and is_rule(lines[at + 1]))]
@@ -55,34 +58,34 @@ def crates_of():
 
 
 def missing_crates():
-    """The crates that a document doesn't name."""
+    """The crates that a document does not name, and how many crates there are."""
     crates = crates_of()
     faults = [f"{path} does not name the crate {it}" for path in ("README.md", "docs/understand/ARCHITECTURE.md") for it in crates if f"`{it}`" not in text_of(path)]
     return faults, len(crates)
 
 
 def tests_of(crate):
-    """How many tests the sources of a crate have."""
+    """The number of tests in the sources of a crate."""
     paths = glob.glob(f"{TOP}/crates/{crate}/src/**/*.rt", recursive=True)
     return sum(len(re.findall(r"^\s*#\[test\]$", text_of(os.path.relpath(it, TOP)), re.M)) for it in paths)
 
 
 def there_of(crate):
-    """What docs/maintain/GATE.md counts of a crate, as it is there: must-fail edits, tests, wrong bodies."""
+    """The numbers of must-fail edits, tests and wrong bodies of a crate, which docs/maintain/GATE.md has to state."""
     edits = glob.glob(f"{TOP}/crates/{crate}/must-fail/*.edit")
     bodies = glob.glob(f"{TOP}/mutants/{crate}/*.edit")
     return [len(edits), tests_of(crate), len(bodies)]
 
 
 def wrong_counts():
-    """The counts of docs/maintain/GATE.md that are others than those of what is there, and how many it has."""
+    """The counts of docs/maintain/GATE.md that differ from what is there, and how many crates it counts."""
     there = {it: there_of(it) for it in crates_of()}
     told = {named(it[0])[0]: it[4:] for it in rows(text_of("docs/maintain/GATE.md")) if len(it) == 7 and named(it[0])}
-    faults = [f"docs/maintain/GATE.md counts a crate that is none: {it}" for it in told if it not in there]
+    faults = [f"docs/maintain/GATE.md counts a crate that is not in crates.txt: {it}" for it in told if it not in there]
     for crate, counts in there.items():
         wanted = [str(it) for it in counts]
         if told.get(crate) != wanted:
-            faults.append(f"docs/maintain/GATE.md: edits, tests and wrong bodies of {crate} are {told.get(crate)}, there are {wanted}")
+            faults.append(f"docs/maintain/GATE.md: edits, tests and wrong bodies of {crate}: stated {told.get(crate)}, there are {wanted}")
     sums = [len(there)] + [sum(it[at] for it in there.values()) for at in range(3)] + [len(os.listdir(f"{TOP}/checks/program"))]
     sentence = "{} crates, {} must-fail edits, {} tests, {} wrong bodies and {} cases of the program".format(*sums)
     if sentence not in " ".join(text_of("docs/maintain/GATE.md").split()):
@@ -91,20 +94,20 @@ def wrong_counts():
 
 
 def documents():
-    """The documents that are written in Markdown, by their paths."""
+    """The paths of the documents in Markdown."""
     paths = glob.glob(f"{TOP}/*.md") + glob.glob(f"{TOP}/docs/**/*.md", recursive=True) + glob.glob(f"{TOP}/examples/*.md")
     return sorted(os.path.relpath(it, TOP) for it in paths)
 
 
 def blocks(text):
-    """The blocks of a document, each as its mark and its lines; what stands between them has the mark None."""
+    """The blocks of a document, each as its mark and its lines. The text between blocks has the mark None."""
     parts = re.split(r"^```(.*)\n", text, flags=re.M)
     marks = [None] + parts[1::2]
     return [(mark if at % 2 else None, part.splitlines()) for at, (mark, part) in enumerate(zip(marks, parts[0::2]))]
 
 
 def missing_links():
-    """The files and headings that a document links to and that are not there, and how many links there are."""
+    """The links of documents to files and headings that are not there, and how many links there are."""
     inline, named = r"\]\(([^)#:]*(?:#[^)]*)?)\)", r"^\[\w+\]: ([^#:\s]*(?:#\S*)?)$"
     links = [(path, it) for path in documents() for kind in (inline, named) for it in re.findall(kind, text_of(path), re.M)]
     return [f"{path} links to nothing: {it}" for path, it in links if not leads_somewhere(path, it)], len(links)
@@ -120,33 +123,33 @@ def leads_somewhere(path, target):
 
 
 def missing_targets():
-    """The targets of make and the scripts that a document names and that are not there, and how many it names."""
+    """The `make` targets and scripts that documents name and that are not there, and how many they name."""
     targets = set(re.findall(r"^([a-z]+):", text_of("Makefile"), re.M))
     faults, count = [], 0
     for path in documents():
         makes = re.findall(r"(?:`|^    )make ([a-z]+)", text_of(path), re.M)
         scripts = re.findall(r"\btools/[a-z_]+\.(?:py|c)\b", text_of(path))
         count += len(makes) + len(scripts)
-        faults += [f"{path} names no target of the Makefile: {it}" for it in makes if it not in targets]
-        faults += [f"{path} names no file: {it}" for it in scripts if not os.path.exists(os.path.join(TOP, it))]
+        faults += [f"{path} names a target that the Makefile does not have: {it}" for it in makes if it not in targets]
+        faults += [f"{path} names a file that is not there: {it}" for it in scripts if not os.path.exists(os.path.join(TOP, it))]
     return faults, count
 
 
 def unmarked():
-    """The commands that stand outside of a block marked `console`, and how many lines the documents have there."""
+    """The commands that stand outside of the blocks marked `console`, and how many lines stand there."""
     lines = [(path, it) for path in documents() for mark, block in blocks(text_of(path)) if mark != "console" for it in block]
-    return [f"{path} has a command in no block marked console: {it}" for path, it in lines if re.match(r" *\$ \w", it)], len(lines)
+    return [f"{path} has a command outside of the blocks marked console: {it}" for path, it in lines if re.match(r" *\$ \w", it)], len(lines)
 
 
 def fault_words():
-    """The words that a line of a fault may have, as the sources have them."""
+    """The words that the line of a fault may have, from the sources."""
     sources = ["fault_text.rt", "fault_words.rt", "verdict_text.rt"]
     found = [word for it in sources for word in re.findall(r'b"(?:\d+ )?([A-Z][A-Za-z0-9]+)', text_of(f"crates/hsp_lines/src/{it}"))]
     return sorted(set(found) | {"Usage", "read failed", "write failed"})
 
 
 def missing_words():
-    """The words of faults without a row in docs/use/FAULTS.md or a paragraph in the manual page, and how many
+    """The words of faults without a row in docs/use/FAULTS.md or a paragraph in the manual page, and how many words
     there are."""
     listed = {cell.split()[-1] if cell[:1].isdigit() else cell for cell in (it[0] for it in rows(text_of("docs/use/FAULTS.md")))}
     manual = set(re.findall(r"^\.B (.*)$", text_of("docs/use/hsplan.1"), re.M))
@@ -163,14 +166,14 @@ def manual_steps():
 
 
 def files():
-    """The files of the repository, but for what git keeps and what the crates' folders `out` hold."""
+    """The files of the repository, without what git keeps, compiled Python and what the folders `out` hold."""
     for at, folders, names in os.walk(TOP):
         folders[:] = sorted(it for it in folders if it not in (".git", "out", "__pycache__"))
         yield from (os.path.join(at, it) for it in names)
 
 
 def merge_marks():
-    """The lines that a merge left to be chosen from, and how many files there are."""
+    """The marks of a merge that were left in files, and how many files there are."""
     faults, count = [], 0
     for path in files():
         count += 1
@@ -181,8 +184,8 @@ def merge_marks():
 
 
 def wrong_kit():
-    """What the README says of the kit where this machine's proves by another logic: it names the sum of the
-    logic, and any kit 13 that has it will do."""
+    """The fault where the README does not name the kit of this machine. The README states the sum of the kit's logic,
+    and any kit 13 with this logic will do."""
     if not shutil.which("rt"):
         print("note: no rt in PATH, so the kit that README.md names was not compared")
         return [], 1
@@ -193,7 +196,7 @@ def wrong_kit():
 
 
 def wrong_commands(program):
-    """The commands of the documents that print something else than they show, and how many there are."""
+    """The commands of the documents that print something other than the documents show, and how many there are."""
     found = {path: [step for mark, lines in blocks(text_of(path)) if mark == "console" for step in transcripts.steps_of(lines)] for path in documents()}
     found["docs/use/hsplan.1"] = manual_steps()
     faults = [fault for path, steps in found.items() if steps for fault in transcripts.faults_of(path, steps, program)]
@@ -213,12 +216,12 @@ KINDS = {
 
 
 def main():
-    arguments = argparse.ArgumentParser(description="Follows the names in the documents, and runs their commands.")
+    arguments = argparse.ArgumentParser(description="Checks the names in the documents, and runs their commands.")
     arguments.add_argument("--names", action="store_true", help="run no command")
     arguments.add_argument("--program", default=transcripts.PROGRAM, help="the program that is run, if not the built one")
     chosen = arguments.parse_args()
     if not chosen.names and not os.access(chosen.program, os.X_OK):
-        print(f"no program {chosen.program}: run rt ci, or make install, first")
+        print(f"no program {chosen.program}: run rt ci or make prove first")
         return 1
     found = {kind: check() for kind, check in KINDS.items()}
     if not chosen.names:

@@ -2,7 +2,8 @@
 """Runs the commands of each examples/NAME/transcript.txt with the built program, and compares what they print.
 
     tools/check_examples.py [--program FILE] [NAME..]    compares, and fails where a command prints something else
-    tools/check_examples.py --record [NAME..]            writes into the transcripts what the commands print, to be read before it is kept
+    tools/check_examples.py --record [NAME..]            writes what the commands print into the transcripts;
+                                                         read it before you keep it
 """
 import argparse
 import glob
@@ -26,14 +27,14 @@ def read_steps(path):
 
 
 def paths_of(names):
-    """The transcripts of the examples of these names or, without any, of all."""
+    """The transcripts of the examples with these names, or of all examples where there is no name."""
     if names:
         return [os.path.join(TOP, "examples", it, "transcript.txt") for it in names]
     return sorted(glob.glob(os.path.join(TOP, "examples", "*", "transcript.txt")))
 
 
 def record(path, steps, program):
-    """Writes the transcript with what its commands print."""
+    """Writes what the commands of a transcript print into it."""
     for step, got in zip(steps, transcripts.printed_by(steps, program, prepare)):
         step.wanted = ["not run"] if got is None else got
     with open(path, "w", encoding="utf-8") as file:
@@ -47,7 +48,7 @@ def main():
     arguments.add_argument("names", nargs="*", help="the examples, if not all")
     chosen = arguments.parse_args()
     if not os.access(chosen.program, os.X_OK):
-        print(f"no program {chosen.program}: run rt ci, or make install, first")
+        print(f"no program {chosen.program}: run rt ci or make prove first")
         return 1
     examples = [(path, read_steps(path)) for path in paths_of(chosen.names)]
     if chosen.record:

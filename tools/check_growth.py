@@ -1,15 +1,24 @@
 #!/usr/bin/env python3
-"""Refuses each allocation of each test in turn: a test then has to end well, since it takes want of memory as an answer.
+"""Refuses each allocation of each test in turn. Each test has to end well even then: it accepts out of memory as an
+answer.
 
     tools/check_growth.py [--jobs N] [--most N | --all | --count] [CRATE]..
 
-It runs the test programs that `rt ci` leaves in crates/NAME/out/NAME_tests, side by side on the processors. Each allocation of a test
-is refused, but for a test with more than MOST of them: of that the first half of MOST, and as many spread evenly over the others; a
-fifth as many where there are more than MANY. With `--most N` so many are refused of each test that has more, with `--all` each one of
-all tests, and with `--count` none: then it tells how many allocations there are, and how long it would take to refuse each of them.
-Each test of which some are left out is named with both numbers.
-Fails where a test program is missing, where a test of a program has no count, where a test fails, and where no test of a program
-took memory.
+It runs the test programs that `rt ci` leaves in crates/NAME/out/NAME_tests, side by side on the processors. How many
+allocations of a test are refused:
+
+  all              where the test has at most MOST
+  MOST             where it has more: the first half of MOST, and as many spread evenly over the others
+  a fifth of MOST  where it has more than MANY, chosen in the same way
+
+  --most N         N allocations of each test that has more
+  --all            each allocation of all tests
+  --count          none: prints how many allocations there are, and how long it would take to refuse each of them
+
+If some allocations of a test are left out, the test is named with both numbers.
+
+It fails where a test program is missing, where a test has no count, where a test fails, and where no test of a
+program took memory.
 """
 import argparse
 import concurrent.futures
@@ -21,7 +30,8 @@ import tempfile
 
 TOP = os.path.dirname(os.path.dirname(os.path.abspath(__file__)))
 
-# A test or a case with more allocations than MOST has all but MOST of them left out, and one with more than MANY, which takes longer, all but a fifth of MOST.
+# Of a test or case with more than MOST allocations, MOST are refused. With more than MANY, a run takes longer: then a
+# fifth of MOST are refused.
 MOST = 2000
 MANY = 20_000
 
@@ -43,7 +53,8 @@ def sources(crate):
 
 
 def run(program, test, preloaded, number):
-    """The status, the number of allocations and the output of one run, with the allocation of this number refused (0: none)."""
+    """Runs a test with the allocation of this number refused (0: none). Returns the status, the number of allocations
+    and the output."""
     with tempfile.TemporaryDirectory() as room:
         count_file = os.path.join(room, "count")
         means = dict(os.environ, LD_PRELOAD=preloaded, REFUSE_GROWTH=str(number), COUNT_GROWTH=count_file)
@@ -52,7 +63,7 @@ def run(program, test, preloaded, number):
 
 
 def count_in(count_file):
-    """The number of allocations that a run wrote, and None where it wrote none."""
+    """The number of allocations that a run wrote, or None where it wrote none."""
     try:
         with open(count_file) as file:
             return int(file.read())
@@ -61,7 +72,7 @@ def count_in(count_file):
 
 
 def numbers(count, most=None):
-    """The allocations of so many that are refused."""
+    """The numbers of the allocations that are refused, out of this many."""
     limit = MOST if most is None else most
     if count <= limit:
         return range(1, count + 1)
@@ -72,7 +83,7 @@ def numbers(count, most=None):
 
 
 def spent_below():
-    """The seconds of the processor that ended processes took."""
+    """The processor seconds that ended processes took."""
     spent = resource.getrusage(resource.RUSAGE_CHILDREN)
     return spent.ru_utime + spent.ru_stime
 
@@ -83,7 +94,8 @@ def tests_of(program):
 
 
 def check_test(pool, program, test, preloaded, most):
-    """The faults of a test, how many of its allocations were refused, how many there are, the seconds of so many runs, and its name."""
+    """The faults of a test, how many of its allocations were refused, how many it has, the seconds to refuse each of
+    them, and its name."""
     before = spent_below()
     status, count, said = run(program, test, preloaded, 0)
     spent = spent_below() - before
@@ -112,8 +124,8 @@ def check(pool, crate, preloaded, most):
     if not tests:
         faults.append(f"{crate}: the test program lists no test")
     if not (refused or (most == 0 and count)):
-        faults.append(f"{crate}: no test of it took memory")
-    print(f"{crate}: {len(tests)} tests, {refused} of {count} allocations refused, {len(faults)} faults, all would take {seconds / 60:.1f} "
+        faults.append(f"{crate}: none of its tests took memory")
+    print(f"{crate}: {len(tests)} tests, {refused} of {count} allocations refused, {len(faults)} faults, refusing all would take {seconds / 60:.1f} "
           "minutes of the processor", flush=True)
     for _, refused, count, _, test in found:
         if refused < count:
@@ -122,16 +134,16 @@ def check(pool, crate, preloaded, most):
 
 
 def jobs_of(words):
-    """The argument that says how many runs stand side by side."""
-    words.add_argument("--jobs", type=int, default=os.cpu_count() or 1, help="so many runs side by side (one for each processor)")
+    """Adds the argument for the number of runs side by side."""
+    words.add_argument("--jobs", type=int, default=os.cpu_count() or 1, help="number of runs side by side (one for each processor)")
 
 
 def main():
     words = argparse.ArgumentParser(description="Refuses the allocations of the tests in turn.")
     jobs_of(words)
-    words.add_argument("--most", type=int, metavar="N", help="refuse so many allocations of a test that has more")
+    words.add_argument("--most", type=int, metavar="N", help="refuse N allocations of each test that has more")
     words.add_argument("--all", dest="most", action="store_const", const=sys.maxsize, help="refuse each allocation of each test")
-    words.add_argument("--count", dest="most", action="store_const", const=0, help="refuse none, and tell how many there are")
+    words.add_argument("--count", dest="most", action="store_const", const=0, help="refuse none, and print how many there are")
     words.add_argument("names", nargs="*", metavar="CRATE")
     given = words.parse_args()
     with tempfile.TemporaryDirectory() as folder, concurrent.futures.ThreadPoolExecutor(given.jobs) as pool:

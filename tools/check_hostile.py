@@ -3,8 +3,9 @@
 
     tools/check_hostile.py [--program FILE]
 
-Each case has the files that differ from the example files, the words, and what the program has to print on both streams and to end with. Behind them stand
-the five records and lists whose counts are forged: the program may use no more than 1 MB beyond what it uses on a record of 48 octets.
+A case has the files that differ from the example files, the words, the wanted texts on both streams, and the wanted
+status. After the cases, the five records and lists with forged counts are measured: on each the program may use at
+most 1 MB more memory than on a record of 48 octets.
 """
 import argparse
 import collections
@@ -29,7 +30,7 @@ REPORT = b"report " + INPUTS + b" --plan plan.txt --kind load"
 SITE = b"site site"
 VALUE = b"site --index 1 values"
 
-# What the files differ in, the words, and what has to come on standard output, on standard error, and as status.
+# The files that differ from the example files, the words, and the wanted standard output, standard error and status.
 Case = collections.namedtuple("Case", "name files words printed told status")
 
 ONE_SERVER = bytes.fromhex("0001 0200 0001 00 01 00000000 00000000 00000001 00000007 00000000000000000000000000000001 00000000 00000000")
@@ -63,7 +64,7 @@ def settings_of(*sites):
 # Records and value lists.
 
 def cut_sites():
-    """The first n octets of a record of two servers are cut at the last field that begins within them."""
+    """The first n octets of a record of two servers. The fault names the last field that begins at n or before."""
     fields = [0, 2, 4, 6, 7, 8, 12, 16, 20, 24, 40, 44, 48, 52, 68, 72]
     whole = example("two_servers.site")
     return [refused(f"site of {n} octets", {"site": whole[:n]}, SITE, f"site: Truncated at {max(at for at in fields if at <= n)}") for n in range(76)]
@@ -180,7 +181,7 @@ def tables():
 
 
 def read_tables():
-    """A mark of the order of octets is passed over once; a last row needs no end."""
+    """One byte order mark is skipped. The last row needs no end of line."""
     mark = b"\xef\xbb\xbf"
     demand = example("demand.csv")
     cut = {"demand.csv": b"region,handle,count\nr1,10/1,5", "plan.txt": b"HSPLAN 1\nPLAN\ncost 5\nuse 0 0 5\nrow 0 1\n" + IDLE_SERVERS + b"END\n"}
@@ -231,7 +232,7 @@ def bodies():
 
 
 def long_logs():
-    """As many rows as a log may have, and one more."""
+    """A log of as many rows as a log may have, and a log of one row more."""
     most = 10_000_000
     header, row = b"region,handle\n", b"a,b/\n"
     told = b"assigned 0 spent 0 unknown 10000000\n"
@@ -259,7 +260,7 @@ def greatest():
 # Sizes of files.
 
 def large_files():
-    """A file of the limit is read, and none of an octet more."""
+    """A file of the greatest size is read. A file of one octet more is not."""
     limit = 67_108_864
     failed = (b"", b"hsplan: read failed\n", 5)
     names = [("site", SITE), ("values", VALUE), ("settings.toml", PLAN), ("demand.csv", PLAN), ("costs.csv", PLAN), ("capacity.csv", PLAN), ("plan.txt", CHECK)]
@@ -269,7 +270,7 @@ def large_files():
 
 
 def first_lines():
-    """The words on standard input are at most 65,536 octets."""
+    """The words on standard input have at most 65,536 octets."""
     place = b"locate --option local --servers 2 10/3"
     usage = (b"", b"hsplan: Usage\n", 2)
     return [
@@ -283,7 +284,7 @@ GROUPS = [cut_sites, forged_sites, lists, cut_plans, changed_plans, changed_shor
 
 
 def write(folder, name, text):
-    """Writes a file of these octets, or of so many octets 0."""
+    """Writes a file with these octets or, for a number, with that many zero octets."""
     with open(os.path.join(folder, name), "wb") as file:
         if isinstance(text, int):
             file.truncate(text)
@@ -312,12 +313,12 @@ def fault_of(program, room, case):
 
 
 def memory_on(program, room, preloaded, words, files):
-    """How many kilobytes the program uses at most."""
+    """The most memory that the program uses, in kilobytes."""
     return measure_large.measured(program, words.decode(), folder_with(room, files), preloaded)[1]
 
 
 def check_memory(program, room):
-    """The faults of the forged counts: each takes no memory for what it tells."""
+    """The faults of the forged counts. The program may take no memory for what a forged count states."""
     preloaded = measure_large.build(room)
     plain = memory_on(program, room, preloaded, SITE, {"site": ONE_SERVER})
     cases = [(name, SITE, {"site": octets}) for name, octets, _ in FORGED_SITES] + [("values", VALUE, {"values": FORGED})]

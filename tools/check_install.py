@@ -1,6 +1,8 @@
 #!/usr/bin/env python3
-"""Installs the program that is built here into an empty folder by `make install` with DESTDIR and PREFIX, wants it to be that program and to run
-from another folder, wants the manual page, the completions and the guide to be there, and wants `make uninstall` to leave no file.
+"""Installs the program built here into an empty folder, by `make install` with DESTDIR and PREFIX.
+
+The installed program has to be the one built here, and to run from another folder. The manual page, the completions
+and the guide have to be there. `make uninstall` has to leave no file.
 
 The program has to be built already, by `rt ci` or `make prove`, and no source may be newer.
 """
@@ -30,14 +32,14 @@ def files_below(folder):
 
 
 def wrong_answer(program, room):
-    """A fault where the program doesn't answer from an empty folder with nothing in its environment."""
+    """A fault where the program does not answer from an empty folder with an empty environment."""
     words = ["locate", "--option", "local", "--servers", "2", "10/3"]
     said = subprocess.run([program] + words, cwd=room, env={}, stdout=subprocess.PIPE, stderr=subprocess.STDOUT, text=True).stdout
     return [] if said == "1\n" else [f"the installed program printed {said!r}"]
 
 
 def wanted_files():
-    """The files that are installed, each with where it is installed."""
+    """The files that are installed, each with its installed path."""
     built = {os.path.relpath(programs.built_path(it), TOP): os.path.join("bin", it) for it in programs.PROGRAMS}
     return {**built, **programs.FILES}
 
@@ -47,7 +49,7 @@ def faults_in(room):
     if installed.returncode:
         return [f"make install: {installed.stdout}"]
     other = [it for it, path in wanted_files().items() if octets_of(os.path.join(room, "usr", path)) != octets_of(os.path.join(TOP, it))]
-    found = [f"{it} is not installed as it is" for it in other] + wrong_answer(os.path.join(room, "usr", "bin", "hsplan"), room)
+    found = [f"{it} is not installed, or not unchanged" for it in other] + wrong_answer(os.path.join(room, "usr", "bin", "hsplan"), room)
     removed = make("uninstall", room)
     return found + [f"make uninstall left {it}" for it in files_below(room)] + ([] if removed.returncode == 0 else [removed.stdout])
 

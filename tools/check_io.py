@@ -1,26 +1,34 @@
 #!/usr/bin/env python3
-"""Makes each call of `open`, `read`, `write` and `close` of the built program fail in turn, over the cases in checks/program.
+"""Makes each call of `open`, `read`, `write` and `close` of the built program fail in turn, over the cases in
+checks/program.
 
     tools/check_io.py [--jobs N] [CASE]..
 
-Each case is run as tools/check_program.py runs it, with its words as arguments and on standard input. A run of each tells its calls; then each call is
-made to fail in a run of its own, in each of these ways, and what the program prints and ends with has to be this:
+Each case is run as tools/check_program.py runs it, with its words as arguments and on standard input. A first run
+records its calls. Then each call is made to fail in a run of its own, in each of the ways below. The table states
+what the program has to print, and its status:
 
-  open     an error                 nothing printed, `hsplan: read failed`, status 5
-  read     an error                 of a file the same; of a log `hsplan: log: ReadFailed`, status 5, behind the answers to the lines that were read whole;
-                                    of standard input `hsplan: Usage`, status 2
-           0 octets                 the answer to a file, a log or words that end there
-  write    an error, or 0 octets    what was written before it, and no more; `hsplan: write failed`, of a log `hsplan: log: WriteFailed`; status 5.
-                                    On standard error: nothing more, status 5
-           an error of all writes   the same, and nothing on standard error
-  all      1 octet                  the answer as ever
-  close    an error                 the answer as ever
+  open     an error         nothing; `hsplan: read failed`; status 5
+  read     an error         of a file: the same
+                            of a log: the answers to the lines that were read whole; `hsplan: log: ReadFailed`;
+                            status 5
+                            of standard input: `hsplan: Usage`; status 2
+           0 octets         the answer to a file, a log or words that end there
+           1 octet          the ordinary answer
+  write    an error, or     on standard output: what was written before, and no more; `hsplan: write failed`, for a
+           0 octets         log `hsplan: log: WriteFailed`; status 5
+                            on standard error: nothing more; status 5
+           an error of this the same, and nothing on standard error
+           and later writes
+           1 octet          the ordinary answer
+  close    an error         the ordinary answer
 
-A call that a signal interrupts (EINTR) has failed, as by any error; but an interrupted `open` is made again, and so is an interrupted write on
-standard output of less than 65,536 octets.
+A call that a signal interrupts (EINTR) has failed, as by any other error. There are two exceptions: an interrupted
+`open` is made again, and so is an interrupted write of less than 65,536 octets on standard output.
 
-Then the program runs on streams and files that are no cases: a closed descriptor, a full disk, a limit on a file, a pipe that nobody reads, inputs that
-come through pipes a few octets at a time, and files that shrink while they are read.
+Then the program runs on streams and files that are not in a case: a closed descriptor, a full disk, a limit on a
+file, a pipe that nobody reads, inputs that come through pipes a few octets at a time, and files that shrink while
+they are read.
 """
 import argparse
 import collections
@@ -48,7 +56,8 @@ ERRORS = {
     "close": [errno.EIO, errno.EINTR],
 }
 
-# A case, run one way; and a call of it: which of its name, on which descriptor and file, what it gave, and how many octets that file gave or took before.
+# Run: a case, run one way. Call: a call of such a run, with its number among the calls of its name, its descriptor,
+# its result, its file, and how many octets that file gave or took before.
 Run = collections.namedtuple("Run", "case words given folder")
 Call = collections.namedtuple("Call", "name number descriptor result path before")
 Tools = collections.namedtuple("Tools", "program preloaded answers")
@@ -71,7 +80,7 @@ def log_of(run):
 
 
 def calls_of(lines):
-    """The calls that a run told."""
+    """The calls that a run recorded."""
     numbers, octets, calls = collections.Counter(), collections.Counter(), []
     for line in lines:
         name, descriptor, result, path = line.rstrip("\n").split(" ", 3)
@@ -83,7 +92,7 @@ def calls_of(lines):
 
 
 def telling(tools, run):
-    """What a run does as ever, and its calls."""
+    """What a run does where no call fails, and its calls."""
     with tempfile.TemporaryDirectory() as room:
         told = os.path.join(room, "told")
         got = check_program.run(tools.program, run.words, run.given, run.folder, LD_PRELOAD=tools.preloaded, TELL_IO=told)
@@ -97,7 +106,7 @@ def failing(tools, run, call, kind):
 
 
 def answer_to(tools, run):
-    """What the program does as ever; kept, since many words that are cut short are equal."""
+    """What the program does where no call fails. It is kept, since many words that are cut short are equal."""
     key = (tuple(run.words), run.given, run.folder)
     if key not in tools.answers:
         tools.answers[key] = check_program.run(tools.program, run.words, run.given, run.folder)
@@ -116,7 +125,7 @@ def cut_answer(tools, run, call, at):
 
 
 def cut_file(path, at):
-    """Puts a file of the first octets in place of a file, and an empty one in place of a folder."""
+    """Replaces a file by its first octets, and a folder by an empty file."""
     text = b""
     if os.path.isdir(path):
         shutil.rmtree(path)
@@ -129,7 +138,7 @@ def cut_file(path, at):
 
 
 def whole_lines(run, call):
-    """How many octets of the log the lines have that were read whole."""
+    """The number of octets in those lines of the log that were read whole."""
     with open(os.path.join(run.folder, call.path), "rb") as file:
         return file.read(call.before).rfind(b"\n") + 1
 
@@ -145,7 +154,7 @@ def after_read(tools, run, call):
 
 
 def after_write(run, call, ordinary, goes_on):
-    """What a run has to do where this write fails, or this and all later ones."""
+    """What a run has to do where this write fails, or where this write and all later ones fail."""
     if call.descriptor == 2:
         return ordinary[0], ordinary[1][: call.before], 5
     line = b"hsplan: log: WriteFailed\n" if is_of_log(run) else b"hsplan: write failed\n"
@@ -153,7 +162,8 @@ def after_write(run, call, ordinary, goes_on):
 
 
 def is_made_again(call):
-    """Whether the call is made again where a signal interrupts it: a text as long as the buffer goes past it, in a write that is made once."""
+    """Whether the call is made again where a signal interrupts it. A text as long as the buffer goes past the buffer,
+    in a write that is made only once."""
     return call.name == "open" or call.name == "write" and call.descriptor == 1 and call.result < BUFFER
 
 
@@ -178,7 +188,8 @@ def fault_of(tools, run, call, kind, ordinary):
 
 
 def has_stand_in(call, kind, calls):
-    """Whether a file that ends at the call can stand in place of the one that it reads: not of the case's own folder, and not of a file read twice."""
+    """Whether a file that ends at the call can replace the one that the call reads. It cannot for the case's own
+    folder, nor for a file that is read twice."""
     opened = sum(other.name == "open" and other.path == call.path for other in calls)
     return kind != "none" or os.path.normpath(call.path) != "." and opened < 2
 
@@ -216,7 +227,7 @@ ABSENT = b"site absent".split()
 
 
 def ended(tools, words, folder, **more):
-    """A run on streams of one's own: what it printed where that was caught, and its status."""
+    """Runs the program on given streams. Returns what it printed, where that was captured, and its status."""
     streams = dict(stdin=subprocess.DEVNULL, stdout=subprocess.PIPE, stderr=subprocess.PIPE)
     done = subprocess.run([tools.program.encode()] + words, cwd=folder, **{**streams, **more})
     return done.stdout, done.stderr, done.returncode
@@ -249,7 +260,7 @@ def on_a_pipe_that_nobody_reads(tools, words, folder):
 
 
 def limited():
-    """A file may have 7 octets; a write past that fails."""
+    """Limits a file to 7 octets: a write past that fails."""
     resource.setrlimit(resource.RLIMIT_FSIZE, (7, 7))
 
 
@@ -266,7 +277,7 @@ def on_a_closed_input(tools, words, folder):
 
 
 def with_a_closed_standard_error(tools, words, folder):
-    """Where nothing has to be told there, its being closed is no failure."""
+    """A closed standard error is a failure only where something has to be printed there."""
     out, told, status = ended(tools, words, folder)
     return ended(tools, words, folder, preexec_fn=closed(2)) == (out, b"", 5 if told else status)
 
@@ -278,7 +289,7 @@ def feed(path, text):
 
 
 def through_pipes(tools, words, folder):
-    """Each file that is named is a pipe, which gives a few octets at a time."""
+    """Each file that is named is a pipe that gives a few octets at a time."""
     with tempfile.TemporaryDirectory() as room:
         feeders = []
         for name in sorted({word.decode() for word in words} & set(os.listdir(folder))):
@@ -298,7 +309,7 @@ STREAMS = [on_a_full_disk, on_a_closed_output, on_a_pipe_that_nobody_reads, on_a
 
 
 def check_streams(tools, folder):
-    """The faults of runs on such streams, and how many runs there are."""
+    """The faults of the runs on STREAMS, and how many runs there are."""
     tried = [(stream, words) for stream in STREAMS for words in (PLACE, PLAN, ENTRIES, EVENTS)] + [(with_a_closed_standard_error, ABSENT)]
     faults = [f"{words}: {stream.__name__}" for stream, words in tried if not stream(tools, words, folder)]
     if ended(tools, [], folder, stdin=None, preexec_fn=closed(0)) != USAGE:
@@ -325,7 +336,7 @@ def grown(tools, folder, room):
 
 
 def shrunk(tools, run, call):
-    """The faults of a run whose file is cut, while it is read, where this read begins."""
+    """The faults of a run whose file is cut, while it is read, at the octet where this read begins."""
     with tempfile.TemporaryDirectory() as room:
         folder = os.path.join(room, "shrunk")
         shutil.copytree(run.folder, folder)

@@ -1,7 +1,8 @@
 #!/usr/bin/env python3
-"""Wants docs/use/hsplan.1 formatted without a warning by each tool for manual pages that is installed, and its version to be that of VERSION.
+"""Checks that each installed tool for manual pages formats docs/use/hsplan.1 without a warning.
 
-A tool that is not installed is named as not tried. Where none is, that is a fault.
+The version of the page has to be that of VERSION. A tool that is not installed is named as not tried. If no tool is
+installed, that is a fault.
 """
 import os
 import re
@@ -19,7 +20,7 @@ TOOLS = {
 
 
 def warnings(tool):
-    """What a tool says of the page beside the page itself."""
+    """The warnings that a tool prints about the page."""
     ended = subprocess.run(TOOLS[tool], stdout=subprocess.PIPE, stderr=subprocess.PIPE, text=True)
     said = ended.stderr + (ended.stdout if tool == "mandoc" else "")
     left = [] if ended.returncode == 0 or said.strip() else [f"{tool}: ended with status {ended.returncode}"]

@@ -1,22 +1,25 @@
 #!/usr/bin/env python3
-"""Drives the built program over the cases in checks/program, each a folder with these files:
+"""Runs the built program over the cases in checks/program. A case is a folder with these files:
 
-  words    the words of the command, on one line, as they may stand on standard input too
-  args     in place of words: one argument a line, given as arguments alone
-  stdin    in place of words: standard input, without arguments; beside args it is there, and need not be read
-  stdout   what it has to print (no file: nothing)
-  begins   in place of stdout: how that has to begin, where several texts are right
-  ends     with begins: how it has to end
-  judged   with begins: what `check` has to print of the text that was printed, over the same inputs
-  files    a folder with files that stand in place of the example files
-  repeated lines that other files have behind their own: FILE FIRST LAST TEXT is a line of TEXT for each number from FIRST to LAST, in which {} is the
-           number, put as Python's format puts it ({:5}, {{ for a brace); FILE is `stdout`, or that of a case with a folder `files`: `files/log.csv`
-  stderr   what it has to print on standard error (no file: nothing)
-  status   with which status it has to end (no file: 0)
+  words    the words of the command on one line, as they may also stand on standard input
+  args     in place of words: one argument a line, given only as arguments
+  stdin    in place of words: standard input, without arguments
+           beside args: standard input that need not be read
+  stdout   the wanted standard output (no file: nothing)
+  begins   in place of stdout, where several texts are right: how the output has to begin
+  ends     with begins: how the output has to end
+  judged   with begins: what `check` has to print for the printed text, over the same inputs
+  files    a folder with files that replace example files
+  repeated lines to add at the end of other files. A line FILE FIRST LAST TEXT adds TEXT once for each number from
+           FIRST to LAST. In TEXT, {} is the number, as Python's format writes it ({:5}; {{ for a brace). FILE is
+           `stdout` or, in a case with a folder `files`, a file of it: `files/log.csv`.
+  stderr   the wanted standard error (no file: nothing)
+  status   the wanted status (no file: 0)
 
-It runs in a folder that holds a copy of the files of examples/base, and of the case's own. Each case with words is run twice: with them as arguments, and
-with them on standard input. Then every allocation of each case is refused in turn: the program has to say so, or to end as ever. `dispatch` may
-have printed its first lines by then. Of a case with more allocations than check_growth.MOST some are left out, as there.
+The program runs in a folder with a copy of the files of examples/base and of the case's own files. Each case with
+words is run twice: with the words as arguments, and with the words on standard input. Then every allocation of each
+case is refused in turn. The program has to report that, or to end as without a refusal. `dispatch` may have printed
+its first lines by then. If a case has more than check_growth.MOST allocations, some are left out, as there.
 
     tools/check_program.py [--jobs N]
 """
@@ -36,7 +39,7 @@ MEMORY = (b"hsplan: OutOfMemory\n", 4)
 
 
 def repeated(folder):
-    """The lines that `repeated` gives the files of a case in this folder, by their paths there."""
+    """The lines that `repeated` adds to the files of the case in this folder, by the paths of these files."""
     texts = {}
     path = os.path.join(folder, "repeated")
     if os.path.exists(path):
@@ -49,7 +52,7 @@ def repeated(folder):
 
 
 def put_repeated(folder, texts):
-    """Puts such lines behind those that the files below a folder have already."""
+    """Adds such lines at the end of the files below a folder."""
     for name, text in texts.items():
         with open(os.path.join(folder, name), "ab") as file:
             file.write(text)
@@ -70,7 +73,7 @@ def run(program, words, given, folder, **more):
 
 
 def ways(case):
-    """The arguments and standard inputs with which a case is run."""
+    """The ways in which a case is run: its arguments and its standard input."""
     words = octets(case, "words", None)
     if words is not None:
         return [(words.split(), b""), ([], words)]
@@ -81,7 +84,8 @@ def ways(case):
 
 
 def wanted_of(case, got):
-    """What a case has to print on both streams, and its status; what it printed, where that begins and ends as it has to."""
+    """What a case has to print on both streams, and its status. With `begins`, that is what it printed, where this
+    begins and ends as it has to."""
     begins = octets(case, "begins", None)
     printed = octets(case, "stdout")
     if begins is not None:
@@ -91,7 +95,7 @@ def wanted_of(case, got):
 
 
 def judged(program, case, words, folder, text):
-    """What `check` says of a text that was printed, where the case says what it has to say: the fault, if it says something else."""
+    """The fault of a case with `judged` where `check` prints something else for the text that the case printed."""
     verdict = octets(case, "judged", None)
     if verdict is None:
         return []
@@ -102,7 +106,7 @@ def judged(program, case, words, folder, text):
 
 
 def folder_of(case, room, data):
-    """The folder in which a case is run: the example files, and its own in their place."""
+    """The folder in which a case is run: the example files, with the case's own in their place."""
     own = os.path.join(CASES, case)
     if not os.path.isdir(os.path.join(own, "files")):
         return data
@@ -114,7 +118,8 @@ def folder_of(case, room, data):
 
 
 def is_cut_short(words, got, wanted):
-    """Whether a run ended for want of memory: with nothing printed or, by the command that prints as it goes, with some of the lines."""
+    """Whether a run ended because memory ran out. Then it printed nothing or, by the command that prints as it goes,
+    some of the lines."""
     goes_on = words[:1] == [b"dispatch"]
     is_begun = goes_on and got[0].endswith(b"\n") and wanted[0].startswith(got[0])
     return got[1:] == MEMORY and (not got[0] or is_begun)
@@ -129,7 +134,7 @@ def refusing(program, words, given, folder, preloaded, number):
 
 
 def check_way(pool, program, case, folder, preloaded, way):
-    """The faults of a case, run one way, how many of its allocations were refused, and how many there are."""
+    """The faults of a case, run one way, how many of its allocations were refused, and how many it has."""
     words, given = way
     got = run(program, words, given, folder)
     wanted = wanted_of(case, got)
@@ -147,7 +152,7 @@ def check_way(pool, program, case, folder, preloaded, way):
 
 
 def wrong_cases(program):
-    """The faults of all cases by another program, of which no allocation is refused."""
+    """The faults of all cases with another program. No allocation is refused."""
     faults = []
     with tempfile.TemporaryDirectory() as room:
         data = os.path.join(room, "data")
@@ -163,7 +168,7 @@ def wrong_cases(program):
 
 
 def main():
-    arguments = argparse.ArgumentParser(description="Drives the built program over the cases in checks/program.")
+    arguments = argparse.ArgumentParser(description="Runs the built program over the cases in checks/program.")
     check_growth.jobs_of(arguments)
     jobs = arguments.parse_args().jobs
     program = os.path.join(TOP, "crates", "hsplan", "out", "hsplan")

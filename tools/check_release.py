@@ -1,16 +1,18 @@
 #!/usr/bin/env python3
-"""Compares the folder `release` with this tree and with what the gate has proved and built, and tries it as
-someone without the kit would.
+"""Compares the folder `release` with this tree and with what the gate proved and built, and tries it without the kit.
 
-Fails where the version, the sources or a sum are others than those that release/MADE and release/SHA256SUMS name,
-where the archive holds another file than this tree or lacks one, and where a program in it is not octet for octet
-the one in crates/NAME/out. Where the kit is another one than in MADE, two builds may differ: then the programs
-are NOT COMPARED, which is printed with the lines of both kits, and the cases of checks/program are run with the
-released one.
+It fails where
 
-Then a copy of the tree in an empty folder, without anything built, is tried with a PATH that has no `rt`, and as
-another user than root: `make demo`, `make try`, `make install`, the installed program; and what is printed on
-another machine, without a release, and with a forged one.
+- the version, the sources or a sum differ from what release/MADE and release/SHA256SUMS state;
+- the archive lacks a file of this tree, or holds another one;
+- a program in it is not octet for octet the one in crates/NAME/out.
+
+With another kit than that of MADE, two builds may differ. Then the programs are reported as NOT COMPARED, with the
+lines of both kits, and the cases of checks/program are run with the released program.
+
+Then a copy of the tree in an empty folder, without anything built, is tried with a PATH that has no `rt`, and as a
+user other than root. Tried are `make demo`, `make try`, `make install` and the installed program, and what is printed
+on another machine, without a release, and with a forged one.
 """
 from __future__ import annotations
 
@@ -34,7 +36,7 @@ LEFT_OUT = shutil.ignore_patterns("out", ".git", "__pycache__", "must-fail", "pr
 
 
 def wrong_names() -> list[str]:
-    """What MADE and the archive say otherwise than this tree."""
+    """The faults where MADE does not state the version and the sources of this tree."""
     made, faults = programs.made(), []
     if made.get("version") != programs.version():
         faults.append(f"release/MADE is of version {made.get('version')}, and VERSION says {programs.version()}")
@@ -44,7 +46,7 @@ def wrong_names() -> list[str]:
 
 
 def wrong_files(room: str) -> list[str]:
-    """The files of the unpacked release that are others than those of this tree, beside the programs."""
+    """The files of the unpacked release that differ from those of this tree, apart from the programs."""
     there = {os.path.relpath(os.path.join(at, it), room) for at, _, names in os.walk(room) for it in names}
     wanted = {target: source for source, target in programs.FILES.items()}
     faults = [
@@ -68,8 +70,8 @@ def wrong_files(room: str) -> list[str]:
 
 
 def wrong_programs(room: str, kit: str) -> list[str]:
-    """The released programs that are others than the built ones, by the same kit; by another one, what the cases
-    of the program say."""
+    """The released programs that differ from the built ones, where the kit is the same. Where it is another one, the
+    faults of the program's cases."""
     made = programs.made().get("kit", "")
     faults = []
     for name in programs.PROGRAMS:
@@ -88,8 +90,8 @@ def wrong_programs(room: str, kit: str) -> list[str]:
 
 
 class Visitor:
-    """Someone who cloned the repository: a copy of it, a home, a PATH without `rt`, and a user other than root
-    where this one is root."""
+    """Someone who cloned the repository: a copy of it, a home and a PATH without `rt`. Where this script runs as
+    root, it is another user."""
 
     def __init__(self, room: str) -> None:
         self.top, self.home = os.path.join(room, "hsplan"), os.path.join(room, "home")
@@ -103,7 +105,8 @@ class Visitor:
                     shutil.chown(it, self.user)
 
     def run(self, words: str, within: str = "", before: str = "") -> tuple[str, int]:
-        """What a line of the shell prints, run in the top of the copy or in a folder of the home, and its status."""
+        """Runs a line of the shell in the top of the copy, or in a folder of the home. Returns what it prints, and
+        its status."""
         line = f"{before} {words}".strip()
         environment = {"PATH": PATH, "HOME": self.home, "LC_ALL": "C.UTF-8"}
         more = {"user": self.user, "group": "nogroup", "extra_groups": []} if self.user else {}
@@ -121,7 +124,7 @@ class Visitor:
 
 
 def expected(visitor: Visitor, words: str, status: int, parts: list[str], **how: str) -> list[str]:
-    """The fault of a command that ends otherwise, prints another text, or prints a traceback."""
+    """The fault of a command that has another status, lacks a wanted text, or prints a traceback."""
     printed, got = visitor.run(words, **how)
     fine = (
         got == status and all(it in printed for it in parts) and "Traceback" not in printed and "***" not in printed
@@ -130,7 +133,7 @@ def expected(visitor: Visitor, words: str, status: int, parts: list[str], **how:
 
 
 def visit(visitor: Visitor) -> list[str]:
-    """What goes wrong for someone who plans with the released program."""
+    """The faults that someone meets who plans with the released program."""
     example = "examples/two-sites"
     installed = f"{visitor.home}/.local/bin/hsplan"
     short = PLAN.format(example, "premiere.csv")
@@ -159,7 +162,7 @@ def visit(visitor: Visitor) -> list[str]:
 
 
 def nothing_fits(visitor: Visitor, before: str, why: str) -> list[str]:
-    """What is printed otherwise than in one line where no program can be run."""
+    """The faults of scripts that do not print the reason in one line where no program can be run."""
     faults = []
     for words in (
         "tools/demo.py",
@@ -173,7 +176,7 @@ def nothing_fits(visitor: Visitor, before: str, why: str) -> list[str]:
 
 
 def strangers(visitor: Visitor) -> list[str]:
-    """The same on another machine, without the kit, with a forged release, and without one."""
+    """The faults on another machine, without the kit, with a forged release, and without a release."""
     archive = os.path.join(visitor.top, "release", os.path.basename(programs.archive()))
     faults = nothing_fits(visitor, "setarch i686", "needs Linux on x86_64")
     faults += expected(visitor, "tools/prove.py", 1, ["no rt in PATH", README])

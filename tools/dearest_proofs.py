@@ -1,12 +1,15 @@
 #!/usr/bin/env python3
-"""Lists what the last check of a crate from nothing took longest to prove, by the times at which the files that it kept were written:
-the seconds between each and the one before it.
+"""Lists what took longest to prove in the last check of a crate from nothing.
 
-    tools/dearest_proofs.py CRATE [N]        the N dearest modules, 30 if left out
+    tools/dearest_proofs.py CRATE [N]        the N most expensive modules, 30 if N is left out
 
-A module `F.Proof` is the search for the goals of a function F, `F.Lts` how long its values live; what is named for a derive, as
-`FaultDebug.fmt.Lts`, is that of what the derive wrote, and other names are files of proofs/ and specs/. What a check took from an earlier one
-has the times of that one. Checks side by side take longer, so compare what was measured at one load.
+The check keeps a file for each module. The seconds of a module are the time from the writing of the file before it to
+the writing of its own.
+
+A module `F.Proof` is the search for the goals of a function F, and `F.Lts` is how long its values live. A module with
+the name of a derive, as `FaultDebug.fmt.Lts`, is that of what the derive wrote. Other names are files of proofs/ and
+specs/. What a check took from an earlier one has the times of the earlier one. Checks side by side take longer, so
+compare only what was measured at one load.
 """
 import argparse
 import os
@@ -14,12 +17,12 @@ import re
 
 TOP = os.path.dirname(os.path.dirname(os.path.abspath(__file__)))
 
-# Between two checks lies more time than any module takes.
+# A longer time than this, in seconds, lies between two checks: no module takes so long.
 BETWEEN_CHECKS = 300
 
 
 def files_of(crate):
-    """The files that checks of the crate kept, each with the time at which it was written, in that order."""
+    """The files that checks of the crate kept, each with its time of writing, in the order of these times."""
     kept = os.path.join(TOP, "crates", crate, "out", "incremental")
     found = [os.path.join(at, name) for at, _, names in os.walk(kept) for name in names if name.endswith(".oantt")]
     return sorted((os.stat(it).st_mtime, it) for it in found)
@@ -32,7 +35,7 @@ def module_of(crate, path):
 
 
 def main():
-    arguments = argparse.ArgumentParser(description="the dearest proofs of a crate")
+    arguments = argparse.ArgumentParser(description="Lists the most expensive proofs of a crate.")
     arguments.add_argument("crate")
     arguments.add_argument("most", nargs="?", type=int, default=30)
     given = arguments.parse_args()

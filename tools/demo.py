@@ -1,5 +1,5 @@
 #!/usr/bin/env python3
-"""Plans the service of examples/two-sites, has the very plan that it printed judged, and shows what follows from it.
+"""Plans the service of examples/two-sites, has the printed plan judged, and shows what follows from it.
 
 It runs the program built here where that is newer than its sources, and otherwise the released one.
 """
@@ -23,9 +23,9 @@ STEPS = [
     ("what the record of a site holds", "site paris.site", None),
     ("a plan as if no server had a limit: all go to the nearest site", f"plan {FREE}", "nearest.txt"),
     ("a cheapest plan within the capacities", f"plan {OWN}", "plan.txt"),
-    ("what the nearest sites would have to bear", f"report {FREE} --plan nearest.txt --kind load", None),
+    ("the loads that the nearest sites would have", f"report {FREE} --plan nearest.txt --kind load", None),
     ("the plan that was printed, judged by the checker", f"check {OWN} --plan plan.txt", None),
-    ("the loads, and what one query more of room saves at most", f"report {OWN} --plan plan.txt --kind load", None),
+    ("the loads, and the most that room for one more query saves", f"report {OWN} --plan plan.txt --kind load", None),
     ("demand and cost of each region", f"report {OWN} --plan plan.txt --kind region", None),
 ]
 END = """
@@ -42,7 +42,7 @@ def shown(text: str) -> str:
 
 
 def ran(program: str, folder: str) -> bool:
-    """Runs each step over the files of the folder, and shows it. Returns whether all of them ended well, and the
+    """Runs each step over the files of the folder, and shows it. Returns whether all of them ended well and the
     checker said yes."""
     said = {}
     for meaning, words, kept in STEPS:

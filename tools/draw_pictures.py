@@ -1,8 +1,11 @@
 #!/usr/bin/env python3
 """Draws the pictures of docs/pictures/ from files of the repository.
 
-loads.svg and network.svg show numbers of the transcript of examples/two-sites, which tools/check_examples.py compares with the program;
-record.svg shows the octets of examples/two-sites/paris.site; floors.svg shows crates.txt; flow.svg shows the commands.
+    loads.svg, network.svg    numbers of the transcript of examples/two-sites, which tools/check_examples.py compares
+                              with the program
+    record.svg                the octets of examples/two-sites/paris.site
+    floors.svg                crates.txt
+    flow.svg                  the commands
 
     tools/draw_pictures.py            writes the pictures
     tools/draw_pictures.py --check    writes nothing, and compares the pictures that are there
@@ -77,7 +80,7 @@ LOADS_LEFT, LOADS_SCALE, LOADS_STEP = 100, 0.27, 58
 
 
 def load_bar(picture: svg.Picture, top: float, server: Server, capacity: int, style: str) -> None:
-    """A bar of a load, with its number; what is above the capacity has another colour."""
+    """Draws the bar of a load, with its number. The part above the capacity has another colour."""
     within = min(server.load, capacity)
     picture.rectangle(LOADS_LEFT, top, within * LOADS_SCALE, 16, style)
     if server.load > capacity:
@@ -132,7 +135,7 @@ def flow_box(picture: svg.Picture, place: tuple[float, float, float, float], sty
 
 
 def flow_inputs(picture: svg.Picture) -> None:
-    """The four files, and the instance that they define."""
+    """Draws the four files, and the instance that they define."""
     for at, (name, said) in enumerate(FILES):
         top = 80 + 66 * at
         flow_box(picture, (16, top, 196, 50), "grey", [name, said])
@@ -141,7 +144,7 @@ def flow_inputs(picture: svg.Picture) -> None:
 
 
 def flow_readers(picture: svg.Picture) -> None:
-    """The commands that take a certificate, and what each prints."""
+    """Draws the commands that take a certificate, and what each prints."""
     picture.rectangle(636, 78, 122, 280, "frame", 5)
     for name, answer, top, high in READERS:
         middle = top + high / 2
@@ -178,7 +181,8 @@ def draw_flow() -> svg.Picture:
 # A site record as a ruler of octets.
 @dataclasses.dataclass
 class Field:
-    """A field of a record: its name, its octets, what they spell, how many fields the name stands over, and how many octets are drawn."""
+    """A field of a record: its name, its octets, what they spell, how many fields the name stands over, and how many
+    octets are drawn."""
 
     name: str
     octets: bytes
@@ -191,7 +195,7 @@ CELL, RULER_LEFT, RULER_STEP = 40, 62, 80
 
 
 def head_fields(octets: bytes) -> list[list[Field]]:
-    """The fields up to the first server, in two lines and the number of servers."""
+    """The fields up to the first server: two lines, and a line with the number of servers."""
     names = ["version", "protocol", "", "serial number", "mask", "option", "hash filter: length", "attributes: number"]
     at, line = 0, []
     for name, wide in zip(names, (2, 1, 1, 2, 1, 1, 4, 4)):
@@ -223,7 +227,7 @@ def server_fields(octets: bytes) -> list[list[Field]]:
 
 
 def ruler_cells(field: Field) -> list[str]:
-    """The octets of a field as they are drawn, those in the middle left out where there are too many."""
+    """The octets of a field as they are drawn. Where there are too many, those in the middle are left out."""
     cells = [f"{it:02x}" for it in field.octets]
     if not field.drawn:
         return cells
@@ -232,7 +236,7 @@ def ruler_cells(field: Field) -> list[str]:
 
 
 def ruler_line(picture: svg.Picture, top: float, start: int, fields: list[Field]) -> int:
-    """A line of fields; gives the offset behind it."""
+    """Draws a line of fields, and returns the offset behind it."""
     picture.text(RULER_LEFT - 12, top + 34, str(start), 12, "faint", "end")
     left, styles = RULER_LEFT, ("blue", "grey")
     for at, field in enumerate(fields):
@@ -328,7 +332,7 @@ REGIONS_AT, SERVERS_AT, HOSTS_AT, SINK_AT = 150, 430, 716, 1010
 
 
 def stacked(sizes: list[int], gap: float) -> list[float]:
-    """The tops of boxes for these flows, one below the other around the middle."""
+    """The tops of boxes for these flows. The boxes stand one below the other, around the middle."""
     tops, at = [], FLOW_MIDDLE - (sum(sizes) * FLOW_SCALE + gap * (len(sizes) - 1)) / 2
     for size in sizes:
         tops.append(at)
@@ -337,7 +341,7 @@ def stacked(sizes: list[int], gap: float) -> list[float]:
 
 
 def region_bands(picture: svg.Picture, servers: list[Server], regions: dict[str, int], sent: dict[tuple[str, int], int]) -> None:
-    """The flows from regions to servers, each end below those before it."""
+    """Draws the flows from regions to servers, each end below those before it."""
     left, right = stacked(list(regions.values()), REGION_GAP), stacked([it.load for it in servers], SERVER_GAP)
     base = 0.0
     for at, region in enumerate(regions):
@@ -371,7 +375,7 @@ def host_top(host: Host, servers: list[Server]) -> float:
 
 
 def sink_bands(picture: svg.Picture, servers: list[Server], hosts: list[Host]) -> None:
-    """The flows from servers to their hosts, and from hosts and from servers on no host to the sink."""
+    """Draws the flows from servers to their hosts, and to the sink from hosts and from servers on no host."""
     tops = stacked([it.load for it in servers], SERVER_GAP)
     housed = {at for host in hosts for at in host.servers}
     leaving = [(tops[at], SERVERS_AT, it.load) for at, it in enumerate(servers) if at not in housed]
@@ -390,7 +394,7 @@ def sink_bands(picture: svg.Picture, servers: list[Server], hosts: list[Host]) -
 
 
 def load_box(picture: svg.Picture, left: float, top: float, name: str, load: int, bound: int, price: int) -> None:
-    """A server or a host, as high as its load, with its numbers on the flow that leaves it."""
+    """Draws a server or a host, as high as its load, with its numbers on the flow that leaves it."""
     middle = top + load * FLOW_SCALE / 2
     picture.rectangle(left, top, 16, load * FLOW_SCALE, "solid-red" if load == bound else "ink")
     picture.text(left + 26, middle - 3, name, 13, form="bold")
@@ -398,7 +402,7 @@ def load_box(picture: svg.Picture, left: float, top: float, name: str, load: int
 
 
 def sink_nodes(picture: svg.Picture, servers: list[Server], hosts: list[Host]) -> None:
-    """The servers, the hosts and the sink."""
+    """Draws the servers, the hosts and the sink."""
     for server, top in zip(servers, stacked([it.load for it in servers], SERVER_GAP)):
         load_box(picture, SERVERS_AT, top, f"{server.site} {server.number}", server.load, server.capacity, server.price)
     for at, host in enumerate(hosts):
@@ -410,7 +414,7 @@ def sink_nodes(picture: svg.Picture, servers: list[Server], hosts: list[Host]) -
 
 
 def network_words(servers: list[Server], hosts: list[Host], sent: dict[tuple[str, int], int]) -> str:
-    """What the network shows, for those who can't see it."""
+    """What the network shows, for those who cannot see it."""
     names = [f"{it.site} {it.number}" for it in servers]
     said = [f"{region} to {names[to]}: {many:,}" for (region, to), many in sent.items()]
     said += [f"{name}: load {it.load:,} of {it.capacity:,}, price {it.price}" for name, it in zip(names, servers)]
@@ -449,12 +453,12 @@ def crates() -> dict[str, list[str]]:
 
 
 def floor_of(name: str, under: dict[str, list[str]]) -> int:
-    """The longest way down from a crate over crates of the repository."""
+    """The length of the longest chain of crates of the repository below a crate."""
     return max((floor_of(it, under) + 1 for it in under[name] if it in under), default=0)
 
 
 def is_beside(name: str) -> bool:
-    """Whether a crate is no part of the program: tests, worked cases and the bench."""
+    """Whether a crate is not a part of the program: tests, worked cases and the bench."""
     return name.endswith("_tests") or name in ("hsp_bench", "hsp_worked")
 
 

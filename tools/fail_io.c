@@ -1,9 +1,14 @@
-/* Preloaded before a program: makes one call of `open`, `read`, `write` or `close` fail, and tells every such call.
+/* Preloaded before a program: makes one call of `open`, `read`, `write` or `close` fail, and records every such call.
  *
- *   FAIL_IO   CALL NUMBER KIND [on]: the call with this number, counted from 1 among the calls of its name. KIND is a number of errno, or
- *             `none` (it takes 0 octets, or what is read ends there), `short` (it gives or takes 1), or `shrink` (the file that is read is cut where the
- *             reading stands). With `on` each later call of that name fails so too.
- *   TELL_IO   a file that gets a line for each call: CALL DESCRIPTOR RESULT PATH, where the path is that of the opened file, else `-`.
+ *   FAIL_IO   CALL NUMBER KIND [on]: the call with this number, counted from 1 among the calls of its name, fails.
+ *             KIND is
+ *               a number of errno    the call fails with this error
+ *               none                 the call takes 0 octets, or what is read ends there
+ *               short                the call gives or takes 1 octet
+ *               shrink               the file that is read is cut where the reading stands
+ *             With `on` each later call of that name fails in the same way.
+ *   TELL_IO   a file that gets a line for each call: CALL DESCRIPTOR RESULT PATH. PATH is that of the opened file,
+ *             or `-`.
  */
 #define _GNU_SOURCE
 #include <errno.h>

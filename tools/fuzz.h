@@ -1,9 +1,9 @@
-/* What the parts of the fuzz share. It is preloaded before the program, draws changed and written inputs, runs the program on them again and again in one
- * process, and judges what it answers. */
+/* What the parts of the fuzz share. The fuzz is preloaded before the program. It draws changed and written inputs,
+ * runs the program on them again and again in one process, and judges its answers. */
 #include <stddef.h>
 #include <stdint.h>
 
-/* Octets that stay as they are until the next case is drawn. */
+/* Octets that do not change until the next case is drawn. */
 struct text {
     const char *octets;
     size_t length;
@@ -19,7 +19,8 @@ struct files {
     int count;
 };
 
-/* What a run printed on both streams, its status, the most octets of memory that it held at once and those that it held at its end, and its nanoseconds. */
+/* What a run printed on both streams, its status, the most octets of memory that it held at once, those that it held
+ * at its end, and its nanoseconds. */
 struct answer {
     struct text printed, told;
     int status;
@@ -38,7 +39,7 @@ uint32_t below(uint32_t bound);
 uint32_t drawn_number(void);
 struct text drawn_octets(uint32_t longest);
 
-/* Room for so many octets, until the next case. */
+/* Room for this many octets, until the next case. */
 char *room(size_t length);
 struct text glued(struct text first, struct text second, struct text third);
 struct text front(struct text text, size_t length);
@@ -65,7 +66,7 @@ struct text reordered(struct text table);
 
 enum { MOST_FIELDS = 1 << 15 };
 
-/* A text that is written field by field, and where each field begins that has octets. */
+/* A text that is written field by field, and where each field with octets begins. */
 struct spelling {
     char *octets;
     size_t length, begins[MOST_FIELDS];
@@ -77,10 +78,10 @@ void put_number(struct spelling *spelling, uint64_t number, int width);
 void put_run(struct spelling *spelling, struct text octets);
 struct text spelled(const struct spelling *spelling);
 
-/* Where the field begins that has the octet at this place. */
+/* Where the field with the octet at this place begins. */
 size_t field_at(const struct spelling *spelling, size_t place);
 
-/* Writes a drawn record, and gives the lines that tell of it. */
+/* Writes a drawn record, and returns the lines that `site` has to print for it. */
 struct text put_record(struct spelling *spelling);
 
 /* Writes a value of this index, type and data. */
@@ -95,10 +96,11 @@ struct text in_digits(struct text octets);
 /* The line on standard error without its end. */
 struct text line_of(const struct answer *answer);
 
-/* Whether the status is one for what was told and printed. */
+/* Whether the status suits what was printed on both streams. */
 int is_suiting(struct text words, const struct answer *answer);
 
-/* Where octets end or should have ended, by a line of this part's fault: 'c' for Truncated, 't' for Trailing, or 0. */
+/* Takes the place where octets end, or should have ended, from the line of a fault of this part. Returns 'c' for
+ * Truncated, 't' for Trailing, or 0. */
 int place_in(struct text line, struct text part, uint64_t *place);
 
 /* ---- fuzz_judges.c */

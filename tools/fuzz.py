@@ -1,35 +1,45 @@
 #!/usr/bin/env python3
-"""Gives the built program inputs that are changed at random, and judges what it answers without a second implementation.
+"""Gives the built program inputs that are changed at random, and judges its answers without a second implementation.
 
-    tools/fuzz.py [--cases N] [--first N] [--jobs N] [--seconds N] [--seed S] [--kinds KIND,..] [--only NUMBER] [--program FILE]
+    tools/fuzz.py [--cases N] [--first N] [--jobs N] [--seconds N] [--seed S] [--kinds KIND,..] [--only NUMBER]
+                  [--program FILE]
 
-A case is one input of one kind, changed at random or written of fields that are drawn. It is drawn from the seed, the kind and its number alone, and a fault
-names all three; `--only` judges the case of one number. With `--seconds` it stops then, and tells how many cases were judged. tools/fuzz_*.c are preloaded
-before the program, and run it in one process again and again on files in memory: so nothing is spent on processes, and little on drawing. Of each case:
+A case is one input of one kind. It is changed at random, or written from fields that are drawn. Only the seed, the
+kind and the number of the case decide it, and a fault names all three. `--only` judges the case of one number. With
+`--seconds N` the fuzz stops after N seconds, and prints how many cases were judged.
 
-  always          the program ends with a line on standard error that is one of its own, and with a status that suits it; it gives back all its memory, and
-                  never tells want of it; time and memory are within a bound that is linear in the input's octets
+tools/fuzz_*.c are preloaded before the program. They run it repeatedly in one process on files in memory. So no time
+is spent on processes, and little on drawing.
+
+It judges of each case:
+
+  always          the line on standard error, if there is one, is one of the program's own, and the status suits it
+                  the program gives back all its memory, and never reports out of memory
+                  time and memory are within a bound that is linear in the octets of the input
   settings,       `check` says yes to what `plan` printed
   tables
   log, events     the sums are those of the lines; no more queries are assigned than the plan has
   body            the row of a body is answered as that of its handle
-  written_record, `site` tells the fields that were written, of the record or of the value with the index that is sought, or that there is none
-  written_values
+  written_record, `site` prints the written fields, of the record or of the value with the sought index, or reports
+  written_values  that there is none
   written_log     rows are answered alike as handles, as bodies, and as events at the only front
 
-and of one case in eight besides:
+It judges of one case in eight also:
 
   always          two runs agree
-  settings,       reports of the plan have status 0; with costs and capacities in another order the cost is the same; a comment behind settings that are TOML,
-  tables          and rows behind a row with a fault, change nothing
-  record, values  a beginning of an accepted text is Truncated where it ends, or before; a beginning, and a continuation, of another has the fault that the
-                  text has, as far as that is in it
-  plan            a beginning of an accepted text is Ended; a continuation behind a bad line changes nothing; `dispatch` refuses what `check` refuses, for the
-                  same reason
+  settings,       reports that suit the plan have status 0
+  tables          with costs and capacities in another order the cost is the same
+                  a comment behind settings that are TOML changes nothing
+                  rows behind a row with a fault change nothing
+  record, values  a beginning of an accepted text is Truncated where it ends, or before
+                  a beginning or a continuation of another text has the fault of that text, as far as that is in it
+  plan            a beginning of an accepted text is Ended
+                  a continuation behind a bad line changes nothing
+                  `dispatch` refuses what `check` refuses, for the same reason
   log, events     a continuation changes no line that was answered
-  body            a beginning of a body is none
-  written_record, a beginning is Truncated at the very field that it lacks octets of, and a continuation is Trailing at the end
-  written_values
+  body            a beginning of a body is not a body
+  written_record, a beginning is Truncated at the field of which it lacks octets
+  written_values  a continuation is Trailing at the end
 """
 import argparse
 import glob
@@ -52,7 +62,7 @@ MORE = {"settings": ["by_index.toml"], "values": ["other_type.values"], "record"
         "plan": ["shortage.txt", "idle_price.txt"]}
 HANDLES = [b"10/3", b"10/1", b"10.1/a/b", b"10/"]
 
-# A case that takes longer has no end.
+# A case that takes longer, in seconds, counts as one without an end.
 SECONDS = 60
 
 
@@ -74,14 +84,14 @@ def example_files():
 
 
 def texts_in_cases(*name):
-    """What the cases of the program have of this name."""
+    """The files of this name in the cases of the program."""
     top = os.path.join(TOP, "checks", "program")
     found = [os.path.join(top, case, *name) for case in sorted(os.listdir(top))]
     return [read(path) for path in found if os.path.exists(path)]
 
 
 def seeds_of(kind, files):
-    """The texts that are changed."""
+    """The texts of a kind that are changed."""
     if kind == "words":
         return texts_in_cases("words")
     if kind == "body":
@@ -91,7 +101,8 @@ def seeds_of(kind, files):
 
 
 def write_seeds(path):
-    """Writes the files that the program may open, and the texts of each kind: three parts each, of a length and so many octets."""
+    """Writes the files that the program may open, and the texts of each kind. Each has three parts, and a part is a
+    length and that many octets."""
     files = example_files()
     parts = [("file", name, text) for name, text in files.items()]
     parts += [(kind, "", text) for kind in list(NAMED) + ["words", "body"] for text in seeds_of(kind, files)]
@@ -102,7 +113,7 @@ def write_seeds(path):
 
 
 class Job:
-    """A process that judges each so many-th case from its own on, begun anew behind a case at which it died."""
+    """A process that judges every `step`-th case from `first` on. If it dies at a case, it begins anew behind it."""
 
     def __init__(self, given, folder, first, step):
         self.given, self.folder, self.first, self.step = given, folder, first, step
@@ -121,11 +132,12 @@ class Job:
             self.process = subprocess.Popen([os.path.abspath(self.given.program)], env=means, stdin=subprocess.DEVNULL, stdout=said, stderr=said)
 
     def at(self):
-        """The number of the case that is judged, and how many cases, runs, and runs without a fault to tell there were."""
+        """The number of the current case, and how many cases, runs, and runs in which the program reported no fault
+        there were."""
         return struct.unpack("<QQQQ", read(self.progress))
 
     def is_ended(self):
-        """Whether all is judged. Tells of a death and of a case without an end, and goes on behind it."""
+        """Whether all is judged. Reports a death or a case without an end, and goes on behind that case."""
         status = self.process.poll()
         if status is None and self.at() != self.seen:
             self.seen, self.since = self.at(), time.monotonic()
@@ -145,7 +157,7 @@ class Job:
 
 
 def judge(given, folder):
-    """The faults, and how many cases, runs, and runs without a fault to tell there were."""
+    """The faults, and how many cases, runs, and runs in which the program reported no fault there were."""
     jobs = 1 if given.only is not None else given.jobs
     first = given.first if given.only is None else given.only
     working = [Job(given, folder, first + at, jobs) for at in range(jobs)]
@@ -166,14 +178,14 @@ def main():
     words.add_argument("--cases", type=int, default=100_000)
     words.add_argument("--first", type=int, default=0, metavar="N", help="the number of the first case (0)")
     words.add_argument("--jobs", type=int, default=os.cpu_count() or 1)
-    words.add_argument("--seconds", type=int, default=1 << 40, metavar="N", help="stop after so many seconds")
+    words.add_argument("--seconds", type=int, default=1 << 40, metavar="N", help="stop after N seconds")
     words.add_argument("--seed", type=int, default=1)
     words.add_argument("--kinds", default=KINDS)
-    words.add_argument("--only", type=int, metavar="NUMBER", help="judge the case of this number alone")
+    words.add_argument("--only", type=int, metavar="NUMBER", help="judge only the case of this number")
     words.add_argument("--program", default=os.path.join(TOP, "crates", "hsplan", "out", "hsplan"))
     given = words.parse_args()
     if not os.access(given.program, os.X_OK):
-        print(f"no program {given.program}: run make install first")
+        print(f"no program {given.program}: run rt ci or make prove first")
         return 1
     with tempfile.TemporaryDirectory() as folder:
         build(folder)
@@ -183,7 +195,7 @@ def main():
         spent, spent_by_jobs = time.monotonic() - begun, check_growth.spent_below() - below
     for fault in faults:
         print(fault[:2000])
-    print(f"fuzz: {cases} cases from seed {given.seed}, {runs} runs, {plain} of them without a fault to tell, in {spent:.0f} seconds "
+    print(f"fuzz: {cases} cases from seed {given.seed}, {runs} runs, {plain} of them with no fault reported by the program, in {spent:.0f} seconds "
           f"and {spent_by_jobs:.1f} of the processor, {len(faults)} faults")
     return 1 if faults or not cases else 0
 

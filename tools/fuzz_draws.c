@@ -1,4 +1,4 @@
-/* Draws texts: from a seed, a kind and a number alone. */
+/* Draws texts. Only a seed, a kind and a number decide them. */
 #define _GNU_SOURCE
 #include "fuzz.h"
 
@@ -11,7 +11,7 @@ enum { LONGEST = 100000 };
 
 static const size_t ROOM = 1ul << 31;
 
-/* A sum that goes on by a fixed odd number, with its bits mixed (SplitMix64). */
+/* A sum to which a fixed odd number is added for each draw; a draw is the sum with its bits mixed (SplitMix64). */
 static uint64_t sum;
 
 static uint64_t mixed(uint64_t bits)
@@ -163,7 +163,7 @@ static struct text four_octets(uint32_t number)
     return (struct text){octets, 4};
 }
 
-/* Something else in place of the octets between the two places. */
+/* The text with something else in place of the octets between the two places. */
 static struct text replaced(struct text text, size_t at, size_t end)
 {
     static const uint32_t times[] = {0, 2, 2, 3, 50};
@@ -196,7 +196,7 @@ static uint64_t another_number(struct text digits)
     }
 }
 
-/* The text with the run of digits behind a drawn place changed, so that much of what comes out is still read. */
+/* The text with the run of digits behind a drawn place changed, so that many of the results can still be read. */
 static struct text with_another_number(struct text text)
 {
     size_t at = below(text.length + 1), end;

@@ -1,4 +1,4 @@
-/* Judges what the program answers, without a second implementation. */
+/* Judges the program's answers, without a second implementation. */
 #define _GNU_SOURCE
 #include "fuzz.h"
 
@@ -10,10 +10,10 @@
 #include <sys/stat.h>
 #include <unistd.h>
 
-/* Within these a run has to stay: so much at once, and so much more for each octet of its files. */
+/* The bounds of a run's memory and time: a least bound, and what is added to it for each octet of the input. */
 static const uint64_t LEAST_OCTETS = 1 << 19, OCTETS_EACH = 200, LEAST_NANOSECONDS = 100000000, NANOSECONDS_EACH = 20000;
 
-/* One of so many cases is judged by all that is known, at more runs. */
+/* One case in DEEP is judged by all that is known, with more runs. */
 enum { DEEP = 8, MOST_SEEDS = 512, MOST_FAULTS = 20, LONG_SEED = 20000, SHOWN = 200 };
 
 #define INPUTS "--settings settings.toml --demand demand.csv --costs costs.csv --capacity capacity.csv"
@@ -26,7 +26,8 @@ static struct files base;
 static struct text seed_kinds[MOST_SEEDS], seeds[MOST_SEEDS];
 static int seed_count;
 
-/* The case that is judged, and how many cases and runs there were, and runs that had no fault to tell. */
+/* The number of the current case, and how many cases, runs, and runs in which the program reported no fault there
+ * were. */
 struct progress {
     uint64_t number, cases, runs, plain_runs;
 };
@@ -65,7 +66,7 @@ static int is_same(const struct answer *one, const struct answer *other)
     return one->status == other->status && is_equal(one->printed, other->printed) && is_equal(one->told, other->told);
 }
 
-/* Whether the program printed and told so, and ended with this status. */
+/* Whether the program printed these texts on its two streams, and ended with this status. */
 static int is_answer(const struct answer *answer, struct text printed, struct text told, int status)
 {
     return answer->status == status && is_equal(answer->printed, printed) && is_equal(answer->told, told);
@@ -84,7 +85,7 @@ static struct answer run_counted(struct text words, const struct files *files)
     return answer;
 }
 
-/* The answer to these words with these files, as it has to be of every input. */
+/* The answer to these words with these files, after the checks that hold for every input. */
 static struct answer answered(struct text words, const struct files *files)
 {
     struct answer first = run_counted(words, files);
@@ -97,7 +98,7 @@ static struct answer answered(struct text words, const struct files *files)
         first.spent = second.spent < first.spent ? second.spent : first.spent;
     }
     uint64_t bound = LEAST_NANOSECONDS + NANOSECONDS_EACH * size;
-    /* The machine may have stood still meanwhile: what took long is run again. */
+    /* The machine may have stood still meanwhile, so what took too long is run again. */
     if (first.spent > bound)
         first.spent = run_counted(words, files).spent;
     struct text sums = numbered("status %lu, at most %lu octets, %lu nanoseconds", first.status, first.most, first.spent);
@@ -130,7 +131,7 @@ static struct answer answered_with(struct text words, struct text name, struct t
     return answered(words, &files);
 }
 
-/* A table without quotes, whose last line has an end, so that what comes behind it are further rows. */
+/* Whether a table has no quotes and its last line has an end, so that what comes behind it are further rows. */
 static int ends_plainly(struct text text)
 {
     size_t blank = 0;
@@ -171,7 +172,7 @@ static void judge_reports(const struct files *made, int is_short)
     }
 }
 
-/* Plans, and has the text of the plan judged and reported; gives the answer. */
+/* Plans, has the text of the plan judged and reported, and returns the answer. */
 static struct answer judge_plan(const struct files *files)
 {
     struct answer plan = answered(PLAN, files);
@@ -219,7 +220,7 @@ static int is_of_octets(struct text line, struct text part)
     return begins(line, glued(TEXT("hsplan: "), part, TEXT(": ")));
 }
 
-/* Whether the line on the first `end` octets of a text of so many suits the line on the whole text. */
+/* Whether the line on the first `end` octets of a text of `size` octets suits the line on the whole text. */
 static int begins_well(struct text part, struct text whole, struct text begun, size_t end, size_t size)
 {
     uint64_t at = 0, begun_at = 0;
@@ -232,7 +233,7 @@ static int begins_well(struct text part, struct text whole, struct text begun, s
     return is_cut || (is_whole_bad && !fault && is_equal(begun, whole));
 }
 
-/* A beginning of the text, and what goes on behind it, have the fault that stands. */
+/* Judges the faults of a beginning and of a continuation of the text by the fault of the text. */
 static void judge_beginning(struct text words, struct text name, struct text part, struct text text)
 {
     uint64_t at;
@@ -264,7 +265,7 @@ static void judge_values(struct text text)
     }
 }
 
-/* What a beginning of a written text, the text itself, and a continuation are told of. */
+/* Judges the faults of a beginning and of a continuation of a written text. */
 static void judge_spelling(struct text words, struct text name, const char *part, const struct spelling *spelling)
 {
     struct text whole = spelled(spelling), beginning = front(whole, below(whole.length)), more = drawn_octets(3);
@@ -294,7 +295,7 @@ static void judge_written_record(struct text text)
         judge_spelling(words, name, "site", &spelling);
 }
 
-/* What is told of the value of an index in a list: the lines of its record, or its fault; then where the list is written wrongly, that. */
+/* What has to be printed for the value of an index in a list: the lines of its record, or its fault. */
 struct wanted {
     struct text printed, told;
 };
@@ -331,7 +332,7 @@ static void judge_written_values(struct text text)
 
 /* ---- certificates */
 
-/* A dispatcher takes a text just where `check` says yes to it, or refuses it for the same reason. */
+/* A dispatcher takes a text exactly where `check` says yes to it, and otherwise refuses it for the same reason. */
 static void judge_verdict(const struct files *files, const struct answer *verdict)
 {
     struct answer dispatched = answered(DISPATCH, files);
@@ -369,7 +370,7 @@ static void judge_certificate(struct text text)
 
 /* ---- logs */
 
-/* How many lines of an answer begin so. */
+/* How many lines of an answer have this beginning. */
 static uint64_t lines_of(struct text answers, struct text beginning)
 {
     uint64_t count = 0;
@@ -378,7 +379,8 @@ static uint64_t lines_of(struct text answers, struct text beginning)
     return count;
 }
 
-/* An answer's lines are of their forms, and its sums are those of its lines; no more queries are assigned than the plan has. */
+/* The lines of an answer have their forms, and its sums are those of its lines. No more queries are assigned than the
+ * plan has. */
 static void judge_lines(struct text log, const struct answer *answer, int is_of_fronts)
 {
     uint64_t assigned = lines_of(answer->printed, TEXT("assigned ")), spent = lines_of(answer->printed, TEXT("spent\n"));
@@ -424,7 +426,7 @@ static struct answer of_log(struct text header, struct text rows)
     return answered_with(DISPATCH, TEXT("log.csv"), glued(header, TEXT("\n"), rows));
 }
 
-/* The field that holds these octets, each quote of which stands twice (RFC 4180, section 2). */
+/* The field that holds these octets, with each quote written twice (RFC 4180, section 2). */
 static struct text in_quotes(struct text text)
 {
     char *octets = room(2 * text.length + 2), *to = octets;
@@ -438,7 +440,7 @@ static struct text in_quotes(struct text text)
     return (struct text){octets, to - octets};
 }
 
-/* The row of a body is answered as that of its handle, and a beginning of a body is none. */
+/* The row of a body is answered as that of its handle, and a beginning of a body is not a body. */
 static void judge_body(struct text text)
 {
     static const struct text regions[] = {TEXT("r1,"), TEXT("r2,"), TEXT("r9,")}, of_bodies = TEXT("region,body"), of_handles = TEXT("region,handle");
@@ -480,7 +482,7 @@ static void judge_words(struct text text)
 
 /* ---- all cases */
 
-/* The kinds in turn, each so many times: those oftener whose runs take least. */
+/* The kinds in turn, each `times` times. The kinds whose runs take least come more often. */
 static const struct {
     const char *kind;
     void (*judge)(struct text);
@@ -502,7 +504,7 @@ static int judge_of(unsigned long of)
     return at;
 }
 
-/* A seed of the kind, one of the long ones seldom. */
+/* A seed of the kind. The long ones are drawn rarely. */
 static struct text drawn_seed(void)
 {
     struct text name = {kind, strlen(kind)}, found[MOST_SEEDS], drawn;
@@ -535,7 +537,8 @@ static struct text taken(struct text *rest)
     return part;
 }
 
-/* Takes what the file holds: of each kind `file` a file that the program may open, of each other kind a text to be changed. */
+/* Takes what the file holds: for the kind `file`, files that the program may open; for each other kind, texts to be
+ * changed. */
 static void take_seeds(const char *path)
 {
     struct stat status;

@@ -1,10 +1,10 @@
-/* The lines that the program tells on standard error. */
+/* The lines that the program prints on standard error. */
 #define _GNU_SOURCE
 #include "fuzz.h"
 
 #include <string.h>
 
-/* A line, where '#' stands for the digits of a number, and its status. */
+/* A line, in which '#' stands for the digits of a number, and its status. */
 struct form {
     struct text line;
     int status;
@@ -66,7 +66,7 @@ static int is_of_part(struct text line, const struct text *parts, int count, con
     return 0;
 }
 
-/* The status of a fault, by what stands behind `hsplan: `, or -1 where no fault is told so. */
+/* The status of a fault, by the text behind `hsplan: `, or -1 where no fault has this text. */
 static int status_of(struct text fault)
 {
     for (int at = 0; at < COUNT(FORMS); at++)

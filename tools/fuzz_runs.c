@@ -1,4 +1,5 @@
-/* Runs the program again and again in one process, each time on files and a standard input that are held in memory. The program gets no arguments. */
+/* Runs the program again and again in one process, each time on files and a standard input that are held in memory.
+ * The program gets no arguments. */
 #define _GNU_SOURCE
 #include "fuzz.h"
 

@@ -1,4 +1,5 @@
-/* Writes records, value lists and request bodies of drawn fields, as RFC 3651, section 3, and RFC 3652, section 3, lay them out. */
+/* Writes records, value lists and request bodies of drawn fields, as RFC 3651, section 3, and RFC 3652, section 3,
+ * lay them out. */
 #include "fuzz.h"
 
 #include <stdlib.h>
@@ -58,7 +59,7 @@ struct text in_digits(struct text octets)
     return (struct text){digits, 2 * octets.length};
 }
 
-/* Writes a server, and gives its line. */
+/* Writes a server, and returns its line. */
 static struct text put_server(struct spelling *spelling, uint32_t place)
 {
     uint32_t id = drawn_number(), interfaces = below(4);
@@ -75,7 +76,7 @@ static struct text put_server(struct spelling *spelling, uint32_t place)
     return glued(numbered("server %lu %lu ", place, id, 0), in_digits(address), numbered(" %lu %lu\n", key.length, interfaces, 0));
 }
 
-/* Writes what stands before the servers, and gives its lines. */
+/* Writes what stands before the servers, and returns its lines. */
 static struct text put_head(struct spelling *spelling)
 {
     uint64_t version = below(65536), major = below(256), minor = below(256), serial = below(65536), mask = below(256), option = below(256);

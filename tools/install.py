@@ -1,11 +1,10 @@
 #!/usr/bin/env python3
-"""Installs hsplan with its manual page, its completions and its guide, or takes them away again.
+"""Installs hsplan with its manual page, its completions and its guide, or removes them.
 
     tools/install.py --prefix /usr/local [--destdir D] [--uninstall]
 
-It installs the program built here where that is newer than its sources, and otherwise the released one.
-The released program is compared with release/SHA256SUMS first. What is installed runs once before the script
-ends.
+It installs the program built here where that is newer than its sources, and otherwise the released one. The released
+program is compared with release/SHA256SUMS first. What is installed runs once before the script ends.
 """
 from __future__ import annotations
 
@@ -20,7 +19,7 @@ import programs
 
 
 def put(source: str, target: str, mode: int) -> None:
-    """Copies a file to its place, whole or not at all: another process may run the older one meanwhile."""
+    """Copies a file to its place, whole or not at all, since another process may run the older one meanwhile."""
     os.makedirs(os.path.dirname(target), exist_ok=True)
     new = f"{target}.new"
     shutil.copyfile(source, new)
@@ -62,7 +61,7 @@ def uninstall(root: str) -> int:
 
 
 def main() -> int:
-    arguments = argparse.ArgumentParser(description="Installs hsplan, or takes it away again.")
+    arguments = argparse.ArgumentParser(description="Installs hsplan, or removes it.")
     arguments.add_argument("--prefix", default="/usr/local")
     arguments.add_argument("--destdir", default="")
     arguments.add_argument("--uninstall", action="store_true")

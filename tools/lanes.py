@@ -1,9 +1,9 @@
 #!/usr/bin/env python3
-"""Prints how many checks `rt ci` runs side by side in `make test`: one a processor, as long as each has 4 GB of
-the memory that is free.
+"""Prints how many checks `rt ci` runs side by side in `make test`.
 
-`rt ci` would choose by an estimate that leaves a processor or two idle in its second half; no check of this
-repository was seen to take more than 3.9 GB. RT_JOBS=N make test takes N.
+That is one check for each processor, as long as each has 4 GB of the memory that is free. `rt ci` would choose by an
+estimate that leaves a processor or two idle in its second half. No check of this repository was seen to take more
+than 3.9 GB. `RT_JOBS=N make test` runs N checks side by side.
 """
 import os
 

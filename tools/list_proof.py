@@ -1,10 +1,9 @@
 #!/usr/bin/env python3
-"""Writes into docs/understand/PROOF.md, for each crate, a table of its public calls from the sources: what a call
-says of itself, the clauses of its contract with the definitions that they cite, and the must-fail edits that turn
-it.
+"""Writes tables of the public calls of each crate into docs/understand/PROOF.md, from the sources.
 
-An edit turns the function whose text it changes. Where that function is private, it turns the public calls that
-come to it through private functions.
+A row has what a call says of itself, the clauses of its contract with the definitions that they cite, and the
+must-fail edits that turn it. An edit turns the function whose text it changes. Where that function is private, it
+turns the public calls that come to it through private functions.
 
     tools/list_proof.py            writes the tables
     tools/list_proof.py --check    writes nothing, and fails where the page has other tables, where an edit turns no
@@ -32,8 +31,8 @@ USE = re.compile(r"^\s*ghost use Rattle\.(?P<crate>hsp\w+|hsplan)\.specs\.(?P<mo
 
 
 class Clause(NamedTuple):
-    """An `ensures`: its label, '' where it has none, and the definitions of this repository that it cites, each
-    with its file below crates."""
+    """An `ensures` clause: its label ('' where it has none), and the definitions of this repository that it cites,
+    each with its file below crates."""
 
     label: str
     cited: tuple[str, ...]
@@ -62,7 +61,7 @@ def read(path: str) -> list[str]:
 
 
 def exported(crate: str) -> tuple[set[str], set[str]]:
-    """The names that a crate's root passes on, and its public modules."""
+    """The names that a crate's root re-exports, and its public modules."""
     root = os.path.join(TOP, "crates", crate, "src", "lib.rt")
     text = "\n".join(read(root)) if os.path.exists(root) else ""
     names = {
@@ -76,7 +75,7 @@ def exported(crate: str) -> tuple[set[str], set[str]]:
 
 
 def owner_of(line: str) -> tuple[str, bool]:
-    """The type or trait whose members a line opens, and whether they are those of a trait."""
+    """The type or trait whose members begin at a line, and whether they are members of a trait."""
     found = HOLDS.match(line)
     if not found:
         return "", False
@@ -88,7 +87,7 @@ def owner_of(line: str) -> tuple[str, bool]:
 
 
 def end_of(lines: list[str], at: int, indent: str) -> tuple[int, int]:
-    """Where the head of a function ends, and where the function does."""
+    """The line where the head of a function ends, and the line where the function ends."""
     depth, has_clauses = 0, False
     for head in range(at, len(lines)):
         line = lines[head].rstrip()
@@ -290,7 +289,7 @@ def section(crate: str, faults: list[str]) -> Iterator[str]:
 
 
 def layered() -> list[str]:
-    """The crates that the program is made of, each behind those that it stands on."""
+    """The crates that the program is made of, each after those that it stands on."""
     below, ordered = programs.dependencies(), []
     left = programs.crates_of()
     while left:
@@ -319,9 +318,9 @@ def wrong_words(prose: str) -> list[str]:
     )
     for call, clause in re.findall(r"`(hsp\w+::[\w:]+)`(?: \(clauses? ((?:`\w+`(?:, | and )?)+)\))?", prose):
         known = labels.get(call)
-        faults += [] if known else [f"PROOF.md names no call: {call}"]
+        faults += [] if known else [f"PROOF.md names a call that is not there: {call}"]
         faults += [
-            f"PROOF.md: {it} is no clause of {call}"
+            f"PROOF.md: {it} is not a clause of {call}"
             for it in re.findall(r"`(\w+)`", clause)
             if known and it not in {c.label for c in known.clauses}
         ]

@@ -1,13 +1,19 @@
 #!/usr/bin/env python3
-"""Writes into docs/understand/READING.md what it takes to read the proof of the headline, and every definition that is read, with file and line.
+"""Writes into docs/understand/READING.md what one reads to understand the proof of the headline.
 
-Three parts of the page are written: how long the page and the calls take; the questions of an auditor, each with the line that answers it;
-and the list. The list begins at the clauses of the calls that plan, check and answer logs, and at the laws beside them, and goes down to
-all definitions that they mention, to types and limits of the sources too. It goes from below: nothing is used before it was read, within a
-file by its lines, among files by what they mention. The script fails where that can't be.
+Three parts of the page are written:
 
-Words are names and words of comments, those above a definition with it; signs and lines of `use` are not counted. Lines are those of the
-definitions, without comments.
+- how long it takes to read the page and the calls;
+- the questions of an auditor, each with the line that answers it;
+- the list of every definition that is read, with file and line.
+
+The list begins at the clauses of the calls that plan, check and answer logs, and at the laws beside them. It goes
+down to all definitions that they mention, and to types and limits of the sources. In its order nothing is used before
+it was read. Within a file the order is that of the lines, and among files that of what they mention. The script fails
+where there is no such order.
+
+The words counted are names and the words of comments, also of the comment above a definition. Signs and `use` lines
+are not counted. The lines counted are those of the definitions, without comments.
 
     tools/list_reading.py            writes the parts into the page
     tools/list_reading.py --check    writes nothing, and compares the parts that are there
@@ -26,7 +32,8 @@ RUNS = os.path.join(TOP, "crates", "hsp_runs")
 RATE = 130
 HEADLINE, SHOWN, LOGS, LAWS = (f"Rattle.hsp_runs.specs.{it}" for it in ("Headline", "Shown", "Logs", "Laws"))
 CALLS = (("plan.rt", "plan_run"), ("checking.rt", "check_run"), ("dispatch.rt", "dispatch_run"), ("fronts.rt", "fronts_run"))
-# The parts in reading order: a title and the definitions at which each begins; one without any begins at the clauses of the calls.
+# The parts in reading order: a title, and the definitions at which the part begins. A part without definitions begins
+# at the clauses of the calls.
 PARTS = (
     ("Which inputs define which instance", ((HEADLINE, "Defines"),)),
     ("What a certificate shows of it", ((HEADLINE, "ShowsOf"),)),
@@ -43,7 +50,7 @@ FILES = (
     ("Logs.antt", "what logs show"),
     ("Told.antt", "how documents and tables state their rows"),
 )
-# What an auditor asks, and the file of hsp_runs/specs and the words in it that answer it.
+# What an auditor asks, the file of hsp_runs/specs that answers it, and the words of the answer in that file.
 QUESTIONS = (
     ("May two sites have one name?", "Headline.antt", "pub names : IsDistinct"),
     ("May a table have two rows of one key?", "Told.antt", "pub apart : IsDistinct same_key rows"),
@@ -67,7 +74,8 @@ def words_in(lines):
 
 
 class Module:
-    """A file of definitions: each by its name with its line, its text and its words, and what its `use` lines bring in."""
+    """A file of definitions: each by its name with its line, its text and its number of words, and what its `use`
+    lines bring in."""
 
     def __init__(self, path):
         self.path, self.definitions, self.words, self.brought, self.aliases = path, {}, {}, {}, {}
@@ -137,7 +145,8 @@ def modules():
 
 
 def settle(known, module, name):
-    """The definition that a name of a module is: its own, one that it passes on, or the type of which it is a constructor."""
+    """The definition that a name in a module stands for: the module's own, one that it passes on, or the type of
+    which the name is a constructor."""
     while module in known and name not in known[module].definitions and name in known[module].brought:
         module, name = known[module].brought[name]
     module, name = declared(known, module, name)
@@ -152,7 +161,8 @@ def settle(known, module, name):
 
 
 def declared(known, module, name):
-    """A type, a variant or a limit of the sources, as the type or the limit and its file; anything else as it is."""
+    """The file and the type or limit for a type, a variant or a limit of the sources. Any other name stays as it
+    is."""
     parts = module.split(".")
     if "declared" not in parts:
         return module, name
@@ -180,7 +190,7 @@ def is_own(known, one):
 
 
 def mentioned(known, one):
-    """What a definition mentions; a type of the sources mentions the types and limits of its crate by their names."""
+    """What a definition mentions. A type of the sources mentions the types and limits of its crate by their names."""
     text = "\n".join(known[one[0]].definitions[one[1]][1])
     if isinstance(known[one[0]], Source):
         crate = one[0].split(".")[1]
@@ -194,7 +204,7 @@ def mentioned(known, one):
 
 
 def reach(known, starts, seen):
-    """What the starts reach and was not seen before."""
+    """What the starts reach, without what was seen before."""
     found, waiting = [], list(starts)
     while waiting:
         one = waiting.pop(0)
@@ -222,7 +232,7 @@ def head_of(file, call):
 
 
 def by_need(items, needs):
-    """The items, each behind those that it needs, else in their order."""
+    """The items, each after those that it needs, and otherwise in their order."""
     ordered, left = [], list(items)
     while left:
         free = [it for it in left if not needs[it] - set(ordered)]
@@ -234,7 +244,8 @@ def by_need(items, needs):
 
 
 def in_order(known, found):
-    """The own definitions of a part: by files, each behind those that it mentions, and so in each, else by lines."""
+    """The own definitions of a part. A file comes after those that it mentions, and so does a definition within a
+    file; otherwise they go by lines."""
     own = sorted((it for it in found if is_own(known, it)), key=lambda one: known[one[0]].definitions[one[1]][0])
     below = {it: {other for other in mentioned(known, it) if other in own and other != it} for it in own}
     files = list(dict.fromkeys(it[0] for it in reversed(found) if it in below))
@@ -272,7 +283,7 @@ def measures(known, own):
 
 
 def outside(found):
-    """The names of ported crates, and how many of std, among what is reached."""
+    """The sentence that names the ported crates, and the number of words of std, among what is reached."""
     ported = sorted({f"`{it[0].split('.')[1]}`" for it in found if it[0].startswith("Rattle.") and not it[0].startswith(("Rattle.hsp", "Rattle.std"))})
     std = {it for it in found if it[0].startswith("Rattle.std")}
     return f"Beside these they name {len(std)} words of std, and readings of {', '.join(ported)}."
@@ -299,7 +310,7 @@ def shows_of(file, call):
 
 
 def figures():
-    """How many words the page and the clauses of the calls have, and how long they are read."""
+    """How many words the page and the clauses of the calls have, and how long it takes to read them."""
     lines, total = [f"At {RATE} words a minute:", "", "| Read | Lines | Words | Minutes |", "|---|---|---|---|"], 0
     for name, what in FILES:
         with open(os.path.join(RUNS, "specs", name), encoding="utf-8") as file:

@@ -1,8 +1,9 @@
 #!/usr/bin/env python3
-"""Writes the inputs of the examples: those of examples/two-sites, which are kept with the sources, and those of examples/twelve-sites,
-which are large and go into its folder out/.
+"""Writes the inputs of the examples.
 
-Every number that isn't written here is drawn by a digest of a word and of what it is for, so that each run writes the same octets.
+Those of examples/two-sites are kept with the sources. Those of examples/twelve-sites are large, and go into its
+folder out/. A number that is not written here is drawn from a digest of a word and of what the number is for. So each
+run writes the same octets.
 
     tools/make_examples.py            writes both
     tools/make_examples.py --check    writes nothing, and compares examples/two-sites with what it would write there
@@ -19,7 +20,7 @@ INTERFACES = [(3, 0, 2641), (3, 1, 2641), (3, 2, 8000)]
 
 
 def drawn(limit, *words):
-    """A number below the limit that the words alone decide."""
+    """A number below the limit that only the words decide."""
     digest = hashlib.sha256("/".join(str(it) for it in words).encode()).digest()
     return int.from_bytes(digest[:8], "big") % limit
 
@@ -29,12 +30,12 @@ def whole(number, octets):
 
 
 def counted(octets):
-    """Octets after their number."""
+    """The number of the octets, then the octets."""
     return whole(len(octets), 4) + octets
 
 
 def address_of(text):
-    """The 16 octets of an IPv4 address: 12 times 0, then its 4."""
+    """The 16 octets of an IPv4 address: 12 zero octets, then its own 4."""
     return bytes(12) + bytes(int(it) for it in text.split("."))
 
 
@@ -89,7 +90,7 @@ def two_handles():
 
 
 def two_demand():
-    """Queries in the busiest hour: the first handles are asked for most, and each region asks for each."""
+    """Queries in the busiest hour. The first handles are asked for most, and each region asks for each handle."""
     rows = [(region, place, handle) for region in TWO_WEIGHTS for place, handle in enumerate(two_handles())]
     return [(region, handle, TWO_WEIGHTS[region] * 3 // (place + 2) + drawn(97, "count", region, handle)) for region, place, handle in rows]
 
@@ -99,18 +100,18 @@ def two_capacity(capacities):
 
 
 def wanted_more(rows, name, times):
-    """The rows with so many times the demand for one handle."""
+    """The rows, with the demand for one handle multiplied by `times`."""
     return [(region, handle, count * times if handle.endswith(name) else count) for region, handle, count in rows]
 
 
 def log_rows(demand, number, word):
-    """So many queries, each drawn by the counts of the demand."""
+    """This number of queries, each drawn by the counts of the demand."""
     tickets = [at for at, row in enumerate(demand) for _ in range(row[2])]
     return [demand[tickets[drawn(len(tickets), word, at)]][:2] for at in range(number)]
 
 
 def two_pings():
-    """Five measured times for each region and site, whose middle one is the cost."""
+    """Five measured times for each region and site. The middle one is the cost."""
     spread = [-3, -1, 0, 2, 40]
     return [(region, site, f"{cost + it}.{drawn(5, region, site, it)}") for region, site, cost in TWO_COSTS for it in spread]
 
@@ -153,7 +154,7 @@ def twelve_addresses():
 
 
 def twelve_count(place, region):
-    """How many queries of a busy hour a region has for a handle; of most pairs none."""
+    """How many queries of a busy hour a region has for a handle. Most pairs have none."""
     asks = drawn(10, "asks", region, place) < 3
     return (42000 // (place + 20) + drawn(40, "count", region, place)) if asks else 0
 
@@ -165,7 +166,8 @@ def twelve_demand():
 
 
 def way(place, other):
-    """About how many milliseconds a query takes between two places: more the farther they are, measured on a flat map."""
+    """About how many milliseconds a query takes between two places: the more, the farther apart they are on a flat
+    map."""
     north = abs(place[0] - other[0])
     degrees = abs(place[1] - other[1])
     east = min(degrees, 360 - degrees) * 0.7

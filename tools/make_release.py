@@ -1,15 +1,15 @@
 #!/usr/bin/env python3
 """Writes the folder `release` from the programs that the gate, or `make prove`, has proved and built.
 
-Where the sources are still those of the release that is there, its programs do as well: so a changed guide takes
-no proof.
+Where the sources are still those of the release that is there, the programs of that release are taken. So a changed
+guide needs no proof.
 
     release/hsplan-VERSION-x86_64-linux.tar.xz    programs, manual pages, completions and guide, as below PREFIX
     release/SHA256SUMS                            the sum of the archive, for `sha256sum -c`
     release/MADE                                  version, the kit's line of `rt version`, the sum over the sources
 
-The same programs and files give the same archive, octet for octet. tools/check_release.py compares it with what
-is proved and built.
+The same programs and files give the same archive, octet for octet. tools/check_release.py compares it with what is
+proved and built.
 """
 from __future__ import annotations
 
@@ -34,7 +34,7 @@ def contents(made: dict[str, str]) -> dict[str, tuple[str, int]]:
 
 
 def packed(held: dict[str, tuple[str, int]]) -> bytes:
-    """The archive of these files, which knows no time and no owner."""
+    """The archive of these files, without times and owners."""
     room = io.BytesIO()
     with tarfile.open(fileobj=room, mode="w", format=tarfile.USTAR_FORMAT) as archive:
         for path, (source, mode) in sorted(held.items()):

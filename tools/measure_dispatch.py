@@ -1,12 +1,17 @@
 #!/usr/bin/env python3
-"""Measures how many rows of a log the built program answers a second, without fronts and with 64 by turns, over an instance at the limits.
+"""Measures how many rows of a log the built program answers in a second, over an instance at the limits.
 
     tools/measure_dispatch.py [--rows N] [--turns N] [--times N] [--program FILE]
 
-The log has 10,000,000 rows and there are 7 turns, if not said otherwise. The instance has 8,192 rows, 64 regions, 32 sites of 32 servers and 2,048 costs, and counts of
-1 to 3,000, or N times as many (`--times`); a log draws its rows at random by their counts, and with fronts a front for each, so that most of it is assigned. Seconds are
-those of the processor, memory its peak; a run of a log of its header alone tells what is spent before the first row. All runs are on one processor, where the machine
-lets one be chosen.
+It measures without fronts and with 64 fronts, by turns. By default the log has 10,000,000 rows, and there are 7
+turns.
+
+The instance has 8,192 rows, 64 regions, 32 sites of 32 servers, 2,048 costs, and counts of 1 to 3,000, or N times as
+many (`--times N`). A log draws its rows at random by their counts, and with fronts also a front for each row. So most
+of it is assigned.
+
+Seconds are processor seconds, and memory is its peak. A run on a log of only a header measures what is spent before
+the first row. All runs are on one processor, where the machine lets one be chosen.
 """
 import argparse
 import os
@@ -26,7 +31,8 @@ def address(number):
 
 
 def record(site, hosts):
-    """A site record of servers that have no key and no interface, hashing the whole handle; all of them stand on so many machines."""
+    """A site record that hashes the whole handle. Its servers have no key and no interface; the servers of all sites
+    stand on as many machines as `hosts` says."""
     head = bytes.fromhex("0001" "0201" "0001" "00" "02") + bytes(4) + bytes(4) + SERVERS.to_bytes(4, "big")
     numbers = range(site * SERVERS, (site + 1) * SERVERS)
     return (head + b"".join(it.to_bytes(4, "big") + address(it % max(hosts, 1)) + bytes(8) for it in numbers)).hex()
@@ -40,8 +46,8 @@ def write(folder, name, lines):
 
 
 def inputs(folder, draw, factor=1.5, hosts=0, times=1):
-    """The rows, their counts, and the options with the files of an instance: its capacity is the factor times its demand, and that of its hosts
-    together three fifths of that."""
+    """The rows, their counts, and the options with the files of an instance. Its capacity is the factor times its
+    demand. The limits of its hosts together are three fifths of its capacity."""
     counts = [times * draw.randint(1, 3000) for _ in range(ROWS)]
     rows = [f"region-{draw.randrange(REGIONS)},20.500.12345/object-{row:06}" for row in range(ROWS)]
     capacity = int(factor * sum(counts)) // (SITES * SERVERS)
@@ -56,7 +62,7 @@ def inputs(folder, draw, factor=1.5, hosts=0, times=1):
 
 
 def log(folder, name, header, lines, weights, many, draw):
-    """A log of so many rows; a block of a million is drawn and written again and again in other orders."""
+    """A log of this many rows. A block of a million rows is drawn, and written again and again in other orders."""
     path = os.path.join(folder, name)
     with open(path, "w") as file:
         file.write(header + "\n")
@@ -68,7 +74,7 @@ def log(folder, name, header, lines, weights, many, draw):
     return path
 
 
-# A small process begins each run, since the peak of a run counts what its parent held when it began.
+# A small process starts each run, since the peak of a run counts what its parent held when the run began.
 BEGIN = """
 import os, sys
 run = os.posix_spawn(sys.argv[1], sys.argv[1:], os.environ)
@@ -78,7 +84,8 @@ os.write(3, f"{os.waitstatus_to_exitcode(status)} {used.ru_utime + used.ru_stime
 
 
 def spent_by(words, out, told):
-    """The status of a run, its seconds of the processor and its peak memory in megabytes; what it prints goes to the files `out` and `told`."""
+    """The status of a run, its processor seconds and its peak memory in megabytes. What it prints goes to the files
+    `out` and `told`."""
     reading, writing = os.pipe()
     begun = [sys.executable, "-S", "-E", "-c", BEGIN] + words
     actions = [(os.POSIX_SPAWN_DUP2, out.fileno(), 1), (os.POSIX_SPAWN_DUP2, told.fileno(), 2), (os.POSIX_SPAWN_DUP2, writing, 3)]
@@ -91,7 +98,7 @@ def spent_by(words, out, told):
 
 
 def timed(words):
-    """Seconds of the processor, peak memory in megabytes, and what was told on standard error."""
+    """Processor seconds, peak memory in megabytes, and what was printed on standard error."""
     with open(os.devnull, "w") as sink, tempfile.TemporaryFile("w+") as told:
         status, seconds, memory = spent_by(words, sink, told)
         told.seek(0)
@@ -101,7 +108,7 @@ def timed(words):
 
 
 def measure(kinds, many, turns):
-    """Runs each kind by turns: its name, words, empty log and log."""
+    """Runs the kinds by turns. A kind is a name, words, an empty log and a log."""
     before = {name: min(timed(words + ["--log", empty])[0] for _ in range(3)) for name, words, empty, _ in kinds}
     spent = {name: [] for name, *_ in kinds}
     for _ in range(turns):
@@ -123,7 +130,7 @@ def main():
     chosen = arguments.parse_args()
     program, many, times = chosen.program, chosen.rows, chosen.times
     if not os.access(program, os.X_OK):
-        print(f"no program {program}: run make install first")
+        print(f"no program {program}: run rt ci or make prove first")
         return 1
     if hasattr(os, "sched_setaffinity"):
         os.sched_setaffinity(0, {max(os.sched_getaffinity(0))})

@@ -1,10 +1,14 @@
 #!/usr/bin/env python3
-"""Runs `rt ci`, and tells the seconds of a processor that each crate took: its proof, the proof that its must-fail edits begin with, the
-edits, and its tests. What rt kept of an earlier run on the machine is not proved again, and has no seconds here.
+"""Runs `rt ci`, and prints the processor seconds that each crate took.
 
-A check is a process of its own. Once a second each is asked for the processor's time that it took, so that up to a second of each is missed.
+    tools/measure_gate.py [--jobs N] [--log FILE]      N checks side by side, by default as many as in `make test`;
+                                                       the log is what rt ci prints
 
-    tools/measure_gate.py [--jobs N] [--log FILE]      checks side by side as in `make test`, or N; the log is what rt ci prints
+The seconds of a crate are those of its proof, of the proof that its must-fail edits begin with, of the edits, and of
+its tests. What rt kept of an earlier run on the machine is not proved again, and has no seconds here.
+
+A check is a process of its own. Once a second each check is asked for the processor time that it took, so up to a
+second of each check is missed.
 """
 import argparse
 import collections
@@ -30,7 +34,8 @@ def kind_of(words):
 
 
 def checks_of(parent):
-    """The checks that run below a process: for each, by its number and its start, the crate, the kind and the seconds so far."""
+    """The checks that run below a process. Each is known by its process number and its start, and has its crate, its
+    kind and its seconds so far."""
     for number in filter(str.isdigit, os.listdir("/proc")):
         try:
             with open(f"/proc/{number}/stat") as file:
@@ -47,7 +52,7 @@ def checks_of(parent):
 
 
 def measured(jobs, log):
-    """Runs rt ci to its end: its status, the seconds by the clock, and what checks took by crate and kind."""
+    """Runs rt ci to its end. Returns its status, the seconds by the clock, and what checks took by crate and kind."""
     began, seen = time.monotonic(), {}
     run = subprocess.Popen(["rt", "ci"], cwd=TOP, env={**os.environ, "RT_JOBS": str(jobs)}, stdout=log, stderr=subprocess.STDOUT)
     while run.poll() is None:
@@ -60,7 +65,7 @@ def measured(jobs, log):
 
 
 def main():
-    arguments = argparse.ArgumentParser(description="the seconds of a processor that rt ci takes, by crates")
+    arguments = argparse.ArgumentParser(description="Prints the processor seconds that rt ci takes, by crate.")
     arguments.add_argument("--jobs", type=int, default=lanes.lanes())
     arguments.add_argument("--log", default="/tmp/rt-ci.log")
     given = arguments.parse_args()

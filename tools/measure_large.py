@@ -1,10 +1,11 @@
 #!/usr/bin/env python3
-"""Measures what the built program does with files of 67,108,864 octets, the most that it reads whole: seconds, memory, and what it says.
+"""Measures what the built program does with files of 67,108,864 octets, the most that it reads whole.
 
     tools/measure_large.py [--program FILE] [--files "NAME;.."] [--fillers "NAME;.."]
 
-Each file that it reads is made in turn of a beginning that it accepts and of one thing again and again: brackets, dots, quotes, commas, empty lines, keys,
-tables, digits, or one handle. It prints a table in Markdown.
+Each file that the program reads is made in turn of a beginning that the program accepts and of one thing again and
+again: brackets, dots, quotes, commas, empty lines, keys, tables, digits, zero octets, or one handle. The script
+prints a table in Markdown with the seconds, the memory, the status and what the program prints on standard error.
 """
 import argparse
 import itertools
@@ -62,7 +63,7 @@ FILLERS = {
 
 
 def fill(path, begins, pieces):
-    """Writes a file of the size that begins so and goes on with the pieces."""
+    """Writes a file of SIZE octets: the beginning, and then the pieces."""
     left = SIZE - len(begins)
     with open(path, "wb") as file:
         file.write(begins)
@@ -80,7 +81,8 @@ def build(folder):
 
 
 def measured(program, words, folder, preloaded):
-    """Seconds, kilobytes of memory at most (None where the program was ended), status, and what was told on standard error."""
+    """The seconds, the most kilobytes of memory (None where the program was ended), the status, and what was printed
+    on standard error."""
     told = os.path.join(folder, "memory")
     means = dict(os.environ, LD_PRELOAD=preloaded, TELL_MEMORY=told)
     begun = time.perf_counter()

@@ -1,13 +1,14 @@
 #!/usr/bin/env python3
-"""Measures whole runs of `hsplan plan` beside LEMON's network simplex on the same networks, by turns: seconds of
-the processor.
+"""Measures whole runs of `hsplan plan` beside LEMON's network simplex on the same networks, by turns.
 
     tools/measure_peers.py [--turns N] [--program FILE] [FACTOR..]
 
-Of hsplan the whole run counts: reading the files, hashing, solving, and printing the certificate. Of LEMON only
-making its graph and solving count: the network is given to it as numbers. Both costs have to be the same. The
-instances have 8,192 rows of 64 regions, 32 sites of 16 to 47 servers, 2,048 costs up to 1,000,000, and capacities
-that are the factor times the demand. It takes a C++ compiler and LEMON (Debian's liblemon-dev).
+It measures processor seconds. Of hsplan the whole run counts: reading the files, hashing, solving, and printing the
+certificate. Of LEMON only making its graph and solving count: the network is given to it as numbers. Both costs have
+to be the same.
+
+The instances have 8,192 rows of 64 regions, 32 sites of 16 to 47 servers, 2,048 costs up to 1,000,000, and capacities
+that are the factor times the demand. The script needs a C++ compiler and LEMON (Debian's liblemon-dev).
 """
 from __future__ import annotations
 
@@ -28,7 +29,7 @@ FACTORS = [2.0, 1.2, 1.05, 1.01]
 
 
 def record(servers: int) -> str:
-    """A site record of so many servers without keys and interfaces, which hashes the whole handle."""
+    """A site record of this many servers without keys and interfaces. It hashes the whole handle."""
     head = bytes.fromhex("0001" "0201" "0001" "00" "02") + bytes(8) + servers.to_bytes(4, "big")
     return (head + b"".join(it.to_bytes(4, "big") + bytes(24) for it in range(servers))).hex()
 
@@ -118,7 +119,7 @@ def built_peer(folder: str) -> str:
 
 
 def turn(program: str, peer: str, words: list[str], network: str) -> tuple[float, float, str, str]:
-    """Seconds of hsplan and of LEMON, and what each says the least cost is."""
+    """The seconds of hsplan and of LEMON, and the least cost that each states."""
     with tempfile.TemporaryFile("w+") as out, open(os.devnull, "w", encoding="utf-8") as told:
         _, seconds, _ = measure_dispatch.spent_by([program, "plan", *words], out, told)
         out.seek(0)

@@ -3,9 +3,10 @@
 
     tools/measure_program.py [--runs N] [--hosts N] [--program FILE] [FACTOR..]
 
-For each factor, which is the capacity of all servers over the demand of all rows, it makes the inputs, plans them, has the answer judged, and
-reports the loads of a plan. Then it locates a handle over the largest settings. Of N runs (5, if not said otherwise) it prints the least, the middle and
-the greatest. With hosts, the servers stand on so many machines, whose limits together are three fifths of the capacity.
+A factor is the capacity of all servers over the demand of all rows. For each factor the script makes the inputs,
+plans them, has the answer judged, and reports the loads of a plan. Then it locates a handle over the largest
+settings. Of N runs (by default 5) it prints the least, the middle and the greatest. With `--hosts N` the servers
+stand on N machines, whose limits together are three fifths of the capacity.
 """
 import argparse
 import os
@@ -21,13 +22,14 @@ STATUSES = {0: "plan", 3: "shortage"}
 
 
 def spent_by(words, out):
-    """The status of a run, its seconds of the processor and its peak memory in megabytes; what it prints goes to the file `out`."""
+    """The status of a run, its processor seconds and its peak memory in megabytes. What it prints goes to the file
+    `out`."""
     with open(out, "w") as file, open(os.devnull, "w") as told:
         return measure_dispatch.spent_by(words, file, told)
 
 
 def row(name, words, out, runs):
-    """Runs a command so often, and prints a row of the table. The status of the last run."""
+    """Runs a command `runs` times, and prints a row of the table. Returns the status of the last run."""
     took = [spent_by(words, out) for _ in range(runs)]
     seconds = [it[1] for it in took]
     print(f"| {name} | {min(seconds):.3f}, {statistics.median(seconds):.3f}, {max(seconds):.3f} | {max(it[2] for it in took):.1f} MB | {took[-1][0]} |", flush=True)
@@ -53,7 +55,7 @@ def main():
     arguments.add_argument("factors", type=float, nargs="*", default=FACTORS)
     chosen = arguments.parse_args()
     if not os.access(chosen.program, os.X_OK):
-        print(f"no program {chosen.program}: run make install first")
+        print(f"no program {chosen.program}: run rt ci or make prove first")
         return 1
     print("| Run | Seconds | Peak | Status |\n|---|---|---|---|")
     with tempfile.TemporaryDirectory() as folder:

@@ -1,22 +1,23 @@
 #!/usr/bin/env python3
-"""Puts each wrong body of mutants/ into a copy of the sources, and wants the test or the program's case that it names to refuse it.
+"""Puts each wrong body of mutants/ into a copy of the sources, and checks that its test or case refuses it.
 
     tools/mutants.py [--jobs N] [--seconds N] [CRATE | CRATE/NAME]..
 
-The prover lets these bodies pass, since a contract allows want of memory at any time and is silent on speed, streams and the texts
-of faults: so a test has to tell them. An edit mutants/CRATE/NAME.edit has lines like those of a must-fail edit, and one that says who
-has to refuse it:
+The prover lets these bodies pass: a contract allows out of memory at any time, and is silent on speed, streams and
+the texts of faults. So a test has to find them. An edit mutants/CRATE/NAME.edit has lines like those of a must-fail
+edit, and one that names the test or the case that has to refuse it:
 
   file: src/FILE.rt     the file of crates/CRATE that is changed
   test: CRATE NAME      a test, by its own name, of this crate or of one above it
   case: NAME            or a case of checks/program, run on the unproved program
-  refused: N            if there is such a line, the allocation of the test, counted from 1, that is refused while it runs
+  refused: N            optional: the allocation of the test, counted from 1, that is refused while it runs
   old: TEXT             a text that stands in the file once
   new: TEXT             what stands in its place
 
-Nothing is proved: `rt try` runs the tests and the program with checks. First each test and each case that an edit names has to pass
-on the sources as they stand. An edit is refused where its test fails or its case has another output or another end; sources that do not
-compile, and a run without an end, refuse nothing. Crates or edits that are named are tried alone.
+Nothing is proved: `rt try` runs the tests and the program with checks. First each test and each case that an edit
+names has to pass on the sources as they stand. An edit is refused where its test fails, or where its case has another
+output or another end. Sources that do not compile, and a run without an end, refuse nothing. If crates or edits are
+named, only these are tried.
 """
 import argparse
 import collections
@@ -38,10 +39,12 @@ FOLDER = os.path.join(TOP, "mutants")
 CASES = os.path.join("checks", "program")
 BASE = os.path.join("examples", "base")
 
-# So many named tests are run one by one on the sources as they stand; of more, the whole crate's tests are run at once.
+# Up to this many named tests of a crate are run one by one on the sources as they stand. If there are more, all tests
+# of the crate are run at once.
 FEW = 3
 
-# A wrong body: the file that is changed, the pairs of texts, the crate and test, or the case, that has to refuse it, and the allocation that is refused.
+# A wrong body: its crate, its name, the file that is changed, the pairs of texts, the crate and test, or the case,
+# that has to refuse it, and the allocation that is refused.
 Mutant = collections.namedtuple("Mutant", "crate name file pairs test case refused")
 
 
@@ -59,14 +62,14 @@ def read_mutant(path):
             elif key in ("file", "test", "case", "refused") and key not in found:
                 found[key] = text.strip()
             else:
-                raise ValueError(f"{path}: a line that is none: {line}")
+                raise ValueError(f"{path}: this is not a line of an edit: {line}")
     if "file" not in found or ("test" in found) == ("case" in found) or not pairs or pairs[-1][1] is None:
-        raise ValueError(f"{path}: it lacks a line, or has one too many")
+        raise ValueError(f"{path}: a line is missing, or there is one too many")
     test = tuple(found["test"].split()) if "test" in found else None
     if test and len(test) != 2:
         raise ValueError(f"{path}: a test has a crate and a name")
     if "refused" in found and not test:
-        raise ValueError(f"{path}: an allocation is refused to a test alone")
+        raise ValueError(f"{path}: only a test can have an allocation refused")
     return Mutant(crate, name, found["file"], pairs, test, found.get("case"), found.get("refused"))
 
 
@@ -81,7 +84,7 @@ def is_source(folder, names):
 
 
 def copy_to(folder):
-    """A copy of what the unproved tests and the program are built from."""
+    """Copies what the unproved tests and the program are built from into a folder."""
     for name in ("crates.txt", "HANDLES"):
         shutil.copy(os.path.join(TOP, name), folder)
     for name in (BASE, CASES):
@@ -96,7 +99,7 @@ def changed(mutant, text):
     """The text of the file with the wrong body in it."""
     for old, new in mutant.pairs:
         if text.count(old) != 1:
-            raise ValueError(f"mutants/{mutant.crate}/{mutant.name}.edit: it stands {text.count(old)} times in {mutant.file}: {old}")
+            raise ValueError(f"mutants/{mutant.crate}/{mutant.name}.edit: the old text stands {text.count(old)} times in {mutant.file}: {old}")
         text = text.replace(old, new)
     return text
 
@@ -107,7 +110,7 @@ def run(words, folder):
 
 
 def outcomes(said):
-    """What each test said, by its own name: 'ok', 'FAILED' or, without an end, 'no answer'."""
+    """The outcome of each test, by its own name: 'ok', 'FAILED' or, without an end, 'no answer'."""
     found = {}
     parts = re.split(r"^test (\S+) \.\.\. (\w+)$", said, flags=re.M)
     for path, outcome, after in zip(parts[1::3], parts[2::3], parts[3::3]):
@@ -130,12 +133,13 @@ def octets(folder, name, absent=""):
 
 
 def is_text(words):
-    """Whether words can be the arguments of a run: `rt try` takes no others than text."""
+    """Whether words can be the arguments of a run: `rt try` takes only text."""
     return not any("\ud800" <= it <= "\udfff" for it in words)
 
 
 def put_case(case, room, name):
-    """The runs of a case: its standard input, or its arguments, or its words both ways where they are text. Gives the names of the runs."""
+    """Writes the runs of a case: its standard input, or its arguments, or its words both ways where they are text.
+    Returns the names of the runs."""
     words, args = octets(case, "words", None), octets(case, "args", None)
     put_run(room, name, words if words is not None else octets(case, "stdin"), args)
     if words is None or not is_text(words):
@@ -152,7 +156,8 @@ def put_run(room, name, given, args):
 
 
 def run_cases(folder, names, own, seconds):
-    """What each of these cases did, which share their own files: 'ok', 'FAILED', or 'not run' where the program did not run."""
+    """The outcome of each of these cases, which share their own files: 'ok', 'FAILED', 'no answer', or 'not run'
+    where the program did not run. The second result is what was printed."""
     cases = os.path.join(folder, CASES)
     files = {it: os.path.join(folder, BASE, it) for it in os.listdir(os.path.join(folder, BASE))}
     if own:
@@ -167,12 +172,12 @@ def run_cases(folder, names, own, seconds):
 
 
 def worst(outcomes):
-    """What the runs of a case say together."""
+    """The worst outcome of the runs of a case."""
     return min(outcomes, key=["not run", "no answer", "FAILED", "ok"].index)
 
 
 def judged(case, name, said):
-    """Whether the case's output, both streams in one, and its status are the right ones."""
+    """The outcome of a run of a case, by its output, both streams in one, and by its status."""
     name = re.escape(name)
     found = re.search(rf"^== {name}\n(.*?)^case={name} run=(\S+)(?: status=(\d+))?", said, re.M | re.S)
     if not found:
@@ -199,7 +204,7 @@ def own_files(case):
 
 
 class Copies:
-    """Copies of the sources, one for each that works."""
+    """Copies of the sources, one for each job."""
 
     def __init__(self, room, many):
         self.free = queue.Queue()
@@ -218,7 +223,8 @@ class Copies:
 
 
 def unchanged(mutants):
-    """The runs over the sources as they stand: for each crate and refused allocation its named tests, and for each set of files the named cases."""
+    """The runs over the sources as they stand: the named tests of each crate and refused allocation, and the named
+    cases of each set of files."""
     tests, cases = collections.defaultdict(set), collections.defaultdict(set)
     for it in mutants:
         if it.test:
@@ -229,7 +235,8 @@ def unchanged(mutants):
 
 
 def faults_of_unchanged(folder, tested, own, names, seconds):
-    """The named tests of a crate and a refused allocation, or else the cases, that don't pass on the sources as they stand."""
+    """The named tests of a crate and a refused allocation, or the named cases, that do not pass on the sources as
+    they stand."""
     crate, refused = tested or (None, None)
     if crate and (len(names) <= FEW or refused):
         runs = [run_tests(folder, crate, seconds, name, refused) for name in sorted(names)]
@@ -243,7 +250,8 @@ def faults_of_unchanged(folder, tested, own, names, seconds):
 
 
 def outcome_of(folder, mutant, seconds):
-    """What the test or the case of a wrong body said: 'FAILED' where it refuses it."""
+    """The outcome of the test or the case of a wrong body: 'FAILED' where it refuses the body. The second
+    result is what was printed."""
     path = os.path.join(folder, "crates", mutant.crate, mutant.file)
     with open(path, encoding="utf-8") as file:
         text = file.read()
@@ -263,7 +271,7 @@ def outcome_of(folder, mutant, seconds):
 
 
 def tried(folder, mutant, seconds):
-    """The line of a wrong body, and whether it is refused."""
+    """Whether a wrong body is refused, and the line that reports it."""
     begun = time.monotonic()
     outcome, said = outcome_of(folder, mutant, seconds)
     by = f"test {mutant.test[0]} {mutant.test[1]}" if mutant.test else f"case {mutant.case}"
@@ -275,7 +283,7 @@ def tried(folder, mutant, seconds):
 
 
 def check_forms(mutants):
-    """Each text stands once, and each case is there: before an hour goes into runs."""
+    """Checks that each old text stands once and each case is there, before an hour goes into runs."""
     for it in mutants:
         with open(os.path.join(TOP, "crates", it.crate, it.file), encoding="utf-8") as file:
             changed(it, file.read())
@@ -284,7 +292,7 @@ def check_forms(mutants):
 
 
 def told_each(pool, calls):
-    """Prints the line of each call as it ends, and gives the answers."""
+    """Prints the line of each call as it ends, and returns the answers."""
     answers = []
     for done in concurrent.futures.as_completed([pool.submit(it) for it in calls]):
         is_right, line = done.result()
@@ -299,8 +307,8 @@ def try_unchanged(copies, tested, own, names, seconds):
 
 
 def main():
-    words = argparse.ArgumentParser(description="Wants each wrong body of mutants/ to be refused by its test or case.")
-    words.add_argument("--jobs", type=int, default=max(1, (os.cpu_count() or 1) // 2), help="so many runs side by side (half of the processors)")
+    words = argparse.ArgumentParser(description="Checks that each wrong body of mutants/ is refused by its test or case.")
+    words.add_argument("--jobs", type=int, default=max(1, (os.cpu_count() or 1) // 2), help="number of runs side by side (half of the processors)")
     words.add_argument("--seconds", type=int, default=300, help="how long a test or a case may take (300)")
     words.add_argument("names", nargs="*", metavar="CRATE | CRATE/NAME")
     given = words.parse_args()

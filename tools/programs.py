@@ -1,8 +1,8 @@
 """The programs of this repository: what they are made of, where a built one stands, and what a release holds.
 
-A script that runs a program asks `chosen` for it: the built one where it is newer than its sources, and otherwise
-the released one, unpacked into a folder of the caller's. Where neither can run here, `Missing` says in one line
-why.
+A script that runs a program asks `chosen` for it. `chosen` gives the built one where it is newer than its sources,
+and otherwise the released one, unpacked into a folder of the caller's. Where neither can run here, `Missing` says why
+in one line.
 """
 from __future__ import annotations
 
@@ -16,7 +16,7 @@ from typing import Callable, Dict, Iterator, List, NamedTuple, NoReturn, Optiona
 TOP = os.path.dirname(os.path.dirname(os.path.abspath(__file__)))
 PROGRAMS = ("hsplan",)
 RELEASE = os.path.join(TOP, "release")
-# What a release holds beside the programs, and below which folder of PREFIX it is installed.
+# What a release holds beside the programs, each file with its path below PREFIX.
 FILES = {
     "docs/use/hsplan.1": "share/man/man1/hsplan.1",
     "completions/hsplan.bash": "share/bash-completion/completions/hsplan",
@@ -98,7 +98,7 @@ def built_path(name: str) -> str:
 
 
 def built(name: str) -> Optional[str]:
-    """The built program, where it can be run and no source of it is newer."""
+    """The built program, or None where it cannot be run or a source of it is newer."""
     path = built_path(name)
     if not os.access(path, os.X_OK):
         return None
@@ -108,8 +108,8 @@ def built(name: str) -> Optional[str]:
 
 
 def stem(of: str = "") -> str:
-    """The name of the only folder of a release of this version, or of VERSION, and of its archive without the
-    ending."""
+    """The name of the only folder in a release of the version `of` (if empty, that of VERSION). It is also the name
+    of the archive without the ending."""
     return f"hsplan-{of or version()}-x86_64-linux"
 
 
@@ -132,7 +132,7 @@ def sum_of(path: str) -> str:
 
 
 def unfit() -> Optional[str]:
-    """Why the released programs cannot run on this machine, where that is so."""
+    """Why the released programs cannot run on this machine, or None where they can."""
     system, machine = platform.system(), platform.machine()
     if (system, machine) != ("Linux", "x86_64"):
         return f"the released program needs Linux on x86_64, and this is {system} on {machine}"
@@ -145,7 +145,7 @@ def unfit() -> Optional[str]:
 
 
 def wrong_sum(path: str) -> Optional[str]:
-    """Why an archive is not the one that SHA256SUMS names, where that is so."""
+    """Why an archive is not the one that SHA256SUMS names, or None where it is."""
     name = os.path.basename(path)
     if f"{sum_of(path)}  {name}" not in text_of("release", "SHA256SUMS").splitlines():
         return f"release/{name} does not have the sum that release/SHA256SUMS names"
@@ -153,8 +153,8 @@ def wrong_sum(path: str) -> Optional[str]:
 
 
 def unpacked(folder: str, of: str = "") -> str:
-    """Unpacks the release of this version, or of VERSION, into a folder, once its sum was compared, and returns
-    where its files stand."""
+    """Unpacks the release of the version `of` (if empty, that of VERSION) into a folder, once its sum was compared.
+    Returns where its files stand."""
     path = archive(of)
     try:
         why = wrong_sum(path)
@@ -192,8 +192,8 @@ def chosen(name: str, folder: str) -> Program:
 
 
 def ended(main: Callable[[], int]) -> NoReturn:
-    """Ends a script by the status of its `main`, and without a traceback where it is interrupted or nobody reads
-    on."""
+    """Ends a script with the status of its `main`, and without a traceback where it is interrupted or nobody reads
+    its output further."""
     try:
         status = main()
         sys.stdout.flush()

@@ -1,5 +1,5 @@
-/* Preloaded before a program: refuses the allocation whose number, counted from 1, the variable REFUSE_GROWTH holds, and writes how
- * many allocations there were into the file that COUNT_GROWTH names. */
+/* Preloaded before a program: refuses the allocation whose number, counted from 1, the variable REFUSE_GROWTH holds.
+ * At the end it writes how many allocations there were into the file that COUNT_GROWTH names. */
 #define _GNU_SOURCE
 #include <dlfcn.h>
 #include <errno.h>

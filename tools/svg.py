@@ -1,7 +1,8 @@
 """Pictures in SVG: rectangles, texts, lines with arrow heads, bands and legends, in a light and a dark palette.
 
-A shape names a style, and each style is a CSS class with the colours of both palettes; the page is painted, so that a picture can be read
-on any background. The width of a text is that of DejaVu Sans, and a text that would not fit into its picture is refused.
+A shape names a style, and each style is a CSS class with the colours of both palettes. The page is painted, so that a
+picture can be read on any background. The width of a text is that of DejaVu Sans. A text that would not fit into its
+picture is refused.
 """
 import html
 import math
@@ -62,7 +63,7 @@ def rules(first: int) -> str:
 
 
 class Picture:
-    """A picture of a size, with a title and a description for those who can't see it."""
+    """A picture with a size, a title, and a description for those who cannot see it."""
 
     def __init__(self, width: int, height: int, title: str, description: str) -> None:
         self.width, self.height, self.title, self.description = width, height, title, description
@@ -91,7 +92,7 @@ class Picture:
             self.text(middle, base + 17 + 15 * at, words, size - 2, "faint", "middle")
 
     def line(self, points: list[tuple[float, float]], style: str = "line", width: float = 1.5, arrow: bool = False) -> None:
-        """A line from point to point, with an arrow head at its end or without."""
+        """A line from point to point, with or without an arrow head at its end."""
         path = " ".join(f"{number(x)},{number(y)}" for x, y in (self.shortened(points) if arrow else points))
         self.shapes.append(f'<polyline class="{style}" fill="none" points="{path}" stroke-width="{number(width)}"/>')
         if arrow:
@@ -111,7 +112,8 @@ class Picture:
         self.shapes.append(f'<polygon class="head" points="{path}"/>')
 
     def band(self, start: tuple[float, float], end: tuple[float, float], width: float, style: str, level: float = 0) -> None:
-        """A band of a width between the middles of its ends, both level; the first part of it, of this length, is straight."""
+        """A band of a width between the middles of its ends, which are both level. The first part of it, of the
+        length `level`, is straight."""
         (x, y), (to_x, to_y), half = start, end, width / 2
         turns, bend = x + level, (x + level + to_x) / 2
 
@@ -124,7 +126,7 @@ class Picture:
         self.shapes.append(f'<path class="{style}" opacity="0.55" d="{upper} {lower}"/>')
 
     def swatch(self, left: float, base: float, style: str, words: str) -> float:
-        """An entry of a legend; gives where the next one may begin."""
+        """An entry of a legend. Returns where the next one may begin."""
         if style == "mark":
             self.line([(left + 7, base - 13), (left + 7, base + 3)], "mark", 2.5)
         else:

@@ -1,4 +1,5 @@
-/* Preloaded before a program: at its end writes into the file that TELL_MEMORY names how many kilobytes of memory it had in use at most. */
+/* Preloaded before a program: at its end, writes the most kilobytes of memory that it had in use into the file that
+ * TELL_MEMORY names. */
 #include <stdio.h>
 #include <stdlib.h>
 #include <string.h>

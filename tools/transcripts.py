@@ -1,8 +1,10 @@
-"""Transcripts: lines that begin with `$ ` are commands for bash, and what they print stands below them, up to the next command.
+"""Transcripts: lines that begin with `$ ` are commands for bash. What they print stands below them, up to the next
+command.
 
-A command goes on in the lines below that begin with `> `. A line `...` stands for any number of printed lines. Standard output and standard
-error stand together, as at a terminal. The commands of a transcript are run in turn in one shell, so that what one sets or
-writes is there for the next; `cd examples/two-sites` as the first leads from the top of the repository to an example.
+A command goes on in the lines below that begin with `> `. A line `...` stands for any number of printed lines.
+Standard output and standard error stand together, as at a terminal. The commands of a transcript are run in turn in
+one shell, so that what one sets or writes is there for the next. With `cd examples/two-sites` as the first command, a
+transcript goes from the top of the repository to an example.
 """
 import os
 import re
@@ -27,7 +29,7 @@ class Step:
 
 
 def steps_of(lines):
-    """The steps of a transcript; a line before the first command is none of it."""
+    """The steps of a transcript. Lines before the first command do not belong to it."""
     steps = []
     for line in lines:
         if line.startswith("$ "):
@@ -44,7 +46,8 @@ def text_of(steps):
 
 
 def room_for(folder, program):
-    """Makes in an empty folder what a transcript may read and run: the examples, and the program as `hsplan`. Gives its environment."""
+    """Makes in an empty folder what a transcript may read and run: the examples, and the program as `hsplan`. Returns
+    its environment."""
     shutil.copytree(os.path.join(TOP, "examples"), os.path.join(folder, "examples"), ignore=shutil.ignore_patterns("out"))
     os.mkdir(os.path.join(folder, "bin"))
     os.symlink(program, os.path.join(folder, "bin", "hsplan"))
@@ -52,7 +55,7 @@ def room_for(folder, program):
 
 
 def printed_by(steps, program, prepare=None):
-    """What each step prints, as lines; None of those that were not reached."""
+    """What each step prints, as lines. None stands for a step that was not reached."""
     script = "exec 2>&1\n" + "".join(f"{it.command()}\nprintf '{MARK}'\n" for it in steps)
     with tempfile.TemporaryDirectory() as folder:
         environment = room_for(folder, program)
@@ -64,7 +67,7 @@ def printed_by(steps, program, prepare=None):
 
 
 def fits(wanted, got):
-    """Whether the printed lines are the wanted ones, of which `...` stands for any."""
+    """Whether the printed lines are the wanted ones. A wanted line `...` stands for any number of lines."""
     if got is None:
         return False
     pattern = "".join("(?:.*\n)*" if it == "..." else re.escape(it) + "\n" for it in wanted)
@@ -72,7 +75,7 @@ def fits(wanted, got):
 
 
 def faults_of(name, steps, program, prepare=None):
-    """The steps that print something else than they have to, each as a text."""
+    """The steps that print something other than they have to, each as a text."""
     found = []
     for step, got in zip(steps, printed_by(steps, program, prepare)):
         if not fits(step.wanted, got):

@@ -2,12 +2,12 @@
 """Runs hsplan without an installation: the program built here where it is newer than its sources, and otherwise
 the released one.
 
-    tools/try.py plan --settings my/settings.toml --demand my/demand.csv --costs my/costs.csv --capacity my/capacity.csv
+    tools/try.py plan --settings F --demand F --costs F --capacity F
     make try ARGS='locate --option handle --servers 3 20.500.1234/film-5'
 
-Files are named from the folder in which it is called, and standard input is the program's. The status is the
-program's. make cannot pass a status on, so under `make try` a status other than 0 is printed on standard error,
-and make ends without an error of its own.
+Files are named from the folder in which it is called. Standard input and the status are the program's. make cannot
+pass a status on, so under `make try` a status other than 0 is printed on standard error, and make ends without an
+error of its own.
 """
 from __future__ import annotations
 
@@ -19,7 +19,7 @@ import programs
 
 
 def run(words: list[str]) -> int:
-    """The status of the program, or 127 where there is none to run."""
+    """The status of the program, or 127 where no program can be run."""
     with tempfile.TemporaryDirectory() as folder:
         try:
             program = programs.chosen("hsplan", folder)
