@@ -2,11 +2,10 @@
 """Proves the crates of the programs from nothing, those that do not need each other side by side, and builds the
 programs.
 
-The kit's prover, `rattle build`, makes a library, or a program, only of a crate that it has proved. A crate with the
-longest chain of others above it gets several processors. The others get one each, and give way where their chains
-are much shorter. It prints how far it is: crates, minutes gone, and about how many are left, by the times of
-docs/maintain/GATE.md. Nothing that was proved before is taken. This is not the gate: `make test` proves all crates
-by `rt ci`, with their edits and tests.
+The kit's prover, `rattle build`, makes a library, or a program, only of a crate that it has proved. The crate with the
+longest chain of others above it gets several processors, the others get one each. It prints how far it is: crates,
+minutes gone, and about how many are left, by the times of docs/maintain/GATE.md. Nothing that was proved before is
+taken. This is not the gate: `make test` proves all crates by `rt ci`, with their edits and tests.
 """
 from __future__ import annotations
 
@@ -132,13 +131,13 @@ class Run:
         return self.plan.chains[crate] - (time.monotonic() - since if since else 0)
 
     def begin(self, crate: str) -> None:
-        """Begins a proof: by all processors where no other crate has as long a way to go, by two where another has,
-        and by one where its way is much shorter than the longest."""
+        """Begins a proof: by the processors that others leave where no other crate has a longer way to go, and
+        otherwise by one; one with less than half of the longest way gives way to the others."""
         longest = max(map(self.left, self.whole - self.done))
         part = self.left(crate) / longest
-        beside = [it for it in [*self.running, *self.plan.ready(self.done)] if self.left(it) > 0.85 * longest]
-        jobs = 1 if part <= 0.85 else min(lanes.processors(), 4 if beside == [crate] else 2)
-        words = ["nice", "-n", str(max(0, round(25 * (0.85 - part))))] + self.kit.build(crate, self.room, jobs)
+        others = [it for it in [*self.running, *self.plan.ready(self.done)] if self.left(it) > longest / 2]
+        jobs = min(lanes.processors(), max(2, 4 - len(set(others) - {crate}))) if part > 0.95 else 1
+        words = (["nice", "-n", "10"] if part < 0.5 else []) + self.kit.build(crate, self.room, jobs)
         self.since[crate] = time.monotonic()
         with open(os.path.join(self.room, crate + ".log"), "wb") as log:
             folder = os.path.join(programs.TOP, "crates", crate)
