@@ -4,7 +4,8 @@ compares what the commands print with what the documents show.
 
 The commands are those of the blocks marked `console`. The lines of such a block are a transcript, as
 tools/transcripts.py describes it. The commands of one document run in turn in one shell. In docs/use/hsplan.1 the
-commands are the examples between `.EX` and `.EE`.
+commands are the examples between `.EX` and `.EE`. They run in bash; those of the README and of docs/use run in dash
+and zsh as well, where these are installed.
 
 It fails where
 
@@ -200,7 +201,17 @@ def wrong_commands(program):
     found = {path: [step for mark, lines in blocks(text_of(path)) if mark == "console" for step in transcripts.steps_of(lines)] for path in documents()}
     found["docs/use/hsplan.1"] = manual_steps()
     faults = [fault for path, steps in found.items() if steps for fault in transcripts.faults_of(path, steps, program)]
+    for shell in ("dash", "zsh"):
+        faults += wrong_in(shell, {path: steps for path, steps in found.items() if path == "README.md" or path.startswith("docs/use/")}, program)
     return faults, sum(len(it) for it in found.values())
+
+
+def wrong_in(shell, found, program):
+    """The commands of operators' pages that print something else in another shell than bash, where that is installed."""
+    if not shutil.which(shell):
+        print(f"{shell} IS NOT INSTALLED HERE: the commands of operators' pages were not tried with it")
+        return []
+    return [fault for path, steps in found.items() if steps for fault in transcripts.faults_of(f"{path}, by {shell}", steps, program, None, shell)]
 
 
 KINDS = {

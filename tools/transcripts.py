@@ -54,14 +54,14 @@ def room_for(folder, program):
     return dict(os.environ, PATH=os.path.join(folder, "bin") + os.pathsep + os.environ["PATH"], LC_ALL="C")
 
 
-def printed_by(steps, program, prepare=None):
+def printed_by(steps, program, prepare=None, shell="bash"):
     """What each step prints, as lines. None stands for a step that was not reached."""
     script = "exec 2>&1\n" + "".join(f"{it.command()}\nprintf '{MARK}'\n" for it in steps)
     with tempfile.TemporaryDirectory() as folder:
         environment = room_for(folder, program)
         if prepare:
             prepare(folder)
-        ended = subprocess.run(["bash"], input=script, cwd=folder, env=environment, stdout=subprocess.PIPE, text=True, timeout=600)
+        ended = subprocess.run([shell], input=script, cwd=folder, env=environment, stdout=subprocess.PIPE, text=True, timeout=600)
     texts = ended.stdout.split(MARK)[:-1]
     return [it.splitlines() for it in texts] + [None] * (len(steps) - len(texts))
 
@@ -74,10 +74,10 @@ def fits(wanted, got):
     return re.fullmatch(pattern, "".join(it + "\n" for it in got)) is not None
 
 
-def faults_of(name, steps, program, prepare=None):
+def faults_of(name, steps, program, prepare=None, shell="bash"):
     """The steps that print something other than they have to, each as a text."""
     found = []
-    for step, got in zip(steps, printed_by(steps, program, prepare)):
+    for step, got in zip(steps, printed_by(steps, program, prepare, shell)):
         if not fits(step.wanted, got):
             shown = ["not run"] if got is None else got[:40]
             found.append("\n  ".join([f"{name}: $ {step.command()}", "wanted:"] + step.wanted[:40] + ["printed:"] + shown))
