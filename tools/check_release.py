@@ -32,7 +32,7 @@ LIMIT = 10
 PATH = "/usr/bin:/bin"
 README = "README.md has more"
 PLAN = "plan --settings {0}/settings.toml --demand {0}/{1} --costs {0}/costs.csv --capacity {0}/capacity.csv"
-LEFT_OUT = shutil.ignore_patterns("out", ".git", "__pycache__", "must-fail", "proofs", "mutants")
+LEFT_OUT = shutil.ignore_patterns("out", ".git", "__pycache__", "must-fail", "mutants")
 
 
 def wrong_names() -> list[str]:
@@ -134,16 +134,12 @@ def expected(visitor: Visitor, words: str, status: int, parts: list[str], **how:
 
 def visit(visitor: Visitor) -> list[str]:
     """The faults that someone meets who plans with the released program."""
-    example = "examples/two-sites"
+    example, released = "examples/two-sites", f"the released program, version {programs.version()}"
     installed = f"{visitor.home}/.local/bin/hsplan"
     short = PLAN.format(example, "premiere.csv")
     begun = time.monotonic()
-    faults = expected(
-        visitor, "make demo", 0, ["By the released program", "\nyes\n", "bound 523976 - 216760 = 307216"]
-    )
-    faults += expected(
-        visitor, "make install PREFIX=$HOME/.local", 0, ["is installed, and runs: the released program"]
-    )
+    faults = expected(visitor, "make demo", 0, [released + ".\n", "\nyes\n", "bound 523976 - 216760 = 307216"])
+    faults += expected(visitor, "make install PREFIX=$HOME/.local", 0, [released + "\n"])
     faults += expected(
         visitor,
         f"{installed} {PLAN.format(visitor.top + '/' + example, 'demand.csv')}",

@@ -36,10 +36,11 @@ class Missing(Exception):
 
 
 class Program(NamedTuple):
-    """A program that can be run: its path, and what it is."""
+    """A program that can be run: its path, what it is, and whether it was made of other sources than these."""
 
     path: str
     kind: str
+    is_other: bool
 
 
 def text_of(*path: str) -> str:
@@ -181,11 +182,14 @@ def chosen(name: str, folder: str) -> Program:
     """The program to run: the built one, or the released one, unpacked into the empty folder."""
     path = built(name)
     if path:
-        return Program(path, "the program built here")
+        return Program(path, "the program built here", False)
     why = unfit()
     if why is None:
         try:
-            return Program(os.path.join(unpacked(folder), "bin", name), f"the released program, version {version()}")
+            path = os.path.join(unpacked(folder), "bin", name)
+            is_other = made().get("sources") != digest()
+            more = ", made of other sources than these" if is_other else ""
+            return Program(path, f"the released program, version {version()}{more}", is_other)
         except Missing as missing:
             why = str(missing)
     raise Missing(f'{name}: {why}, and none is built here (make prove); README.md has more under "Try it"')

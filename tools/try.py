@@ -26,6 +26,8 @@ def run(words: list[str]) -> int:
         except programs.Missing as missing:
             print(missing, file=sys.stderr)
             return 127
+        if program.is_other:
+            print(f"note: this is {program.kind}", file=sys.stderr)
         return subprocess.run([program.path, *words]).returncode
 
 
