@@ -17,6 +17,7 @@ import glob
 import os
 import re
 import sys
+import textwrap
 from typing import Iterator, NamedTuple, Optional
 
 import programs
@@ -234,35 +235,55 @@ def edits_of(crate: str) -> list[str]:
     return sorted(glob.glob(os.path.join(TOP, "crates", crate, "must-fail", "*.edit")))
 
 
-def clause_text(one: Clause) -> str:
-    cited = ", ".join(one.cited)
-    return (
-        f"`{one.label}`: {cited}"
-        if one.label and cited
-        else f"`{one.label}`"
-        if one.label
-        else cited or "its own words"
-    )
+def wrapped(call: str, what: str, parts: list[str]) -> Iterator[str]:
+    """The rows of a table for what is said of a call, whose last cell holds as many of the parts as a line has room
+    for."""
+    lines = [""]
+    for part in parts:
+        if lines[-1] and len(lines[-1]) + len(part) > 100:
+            lines.append("")
+        lines[-1] += (" " if lines[-1] else "") + part
+    for at, line in enumerate(lines):
+        first = f"| {call} | {what} |" if call else f"| | {what} |"
+        yield f"{first if at == 0 else '| | |'} {line} |"
 
 
-def row(one: Function, edits: list[str]) -> str:
-    said = one.doc.replace("|", "\\|")
-    clauses = "; ".join(clause_text(it) for it in one.clauses) or "–"
-    return f"| `{one.called()}` | {said} | {clauses} | {', '.join(f'`{it}`' for it in edits) or '–'} |"
+def listed(names: list[str]) -> list[str]:
+    """The names with a comma behind each but the last."""
+    return [f"{it}," for it in names[:-1]] + names[-1:]
+
+
+def rows(one: Function, edits: list[str]) -> Iterator[str]:
+    """What a call says of itself, its clauses with what they cite, and the edits that turn it."""
+    yield from wrapped(f"`{one.called()}`", "says", one.doc.replace("|", "\\|").split(" "))
+    plain = [f"`{it.label}`" if it.label else "its clause" for it in one.clauses if not it.cited]
+    for clause in one.clauses:
+        if clause.cited:
+            yield from wrapped(
+                "", f"`{clause.label}`" if clause.label else "clause", listed([f"`{it}`" for it in clause.cited])
+            )
+    if plain:
+        yield from wrapped("", "in own words", listed(plain))
+    if edits:
+        yield from wrapped("", "edits", listed([f"`{it}`" for it in edits]))
 
 
 def places(shown: list[Function]) -> Iterator[str]:
-    """A line on where the cited definitions stand."""
+    """Where the cited definitions stand."""
     files: dict[str, list[str]] = {}
     for clause in (it for one in shown for it in one.clauses):
         for name, file in zip(clause.cited, clause.files):
             if os.path.exists(os.path.join(TOP, "crates", file)) and name not in files.setdefault(file, []):
                 files[file].append(name)
-    listed = [
-        f"[`{file}`](../../crates/{file}): {', '.join(names)}" for file, names in sorted(files.items()) if names
-    ]
-    if listed:
-        yield from (f"Definitions: {'; '.join(listed)}.", "")
+    found = [(file, names) for file, names in sorted(files.items()) if names]
+    if found:
+        yield from ("Its definitions:", "")
+        for file, names in found:
+            text = f"- [`{file}`](../../crates/{file}): {', '.join(names)}"
+            yield from textwrap.wrap(
+                text, 150, subsequent_indent="  ", break_long_words=False, break_on_hyphens=False
+            )
+        yield ""
 
 
 def section(crate: str, faults: list[str]) -> Iterator[str]:
@@ -277,13 +298,8 @@ def section(crate: str, faults: list[str]) -> Iterator[str]:
             by.setdefault(it, []).append(name)
     shown = [it for it in functions if it.is_public and (it.clauses or it in by or it.doc)]
     if shown:
-        yield from (
-            f"### `{crate}`",
-            "",
-            "| Call | Says of itself | Clauses, and the definitions that they cite | Edits that turn it |",
-            "|---|---|---|---|",
-        )
-        yield from (row(it, by.get(it, [])) for it in shown)
+        yield from (f"### `{crate}`", "", "| Call | Part | Text |", "|---|---|---|")
+        yield from (line for it in shown for line in rows(it, by.get(it, [])))
         yield ""
         yield from places(shown)
 
