@@ -3,9 +3,10 @@
 programs.
 
 The kit's prover, `rattle build`, makes a library, or a program, only of a crate that it has proved. The crate with the
-longest chain of others above it gets several processors, the others get one each. It prints how far it is: crates,
-minutes gone, and about how many are left, by the times of docs/maintain/GATE.md. Nothing that was proved before is
-taken. This is not the gate: `make test` proves all crates by `rt ci`, with their edits and tests.
+longest chain of others above it gets all processors, up to four; the others get one each, and give way to it. It
+prints how far it is: crates, minutes gone, and about how many are left, by the times of docs/maintain/GATE.md. Nothing
+that was proved before is taken. This is not the gate: `make test` proves all crates by `rt ci`, with their edits and
+tests.
 """
 from __future__ import annotations
 
@@ -131,13 +132,11 @@ class Run:
         return self.plan.chains[crate] - (time.monotonic() - since if since else 0)
 
     def begin(self, crate: str) -> None:
-        """Begins a proof: by the processors that others leave where no other crate has a longer way to go, and
-        otherwise by one; one with less than half of the longest way gives way to the others."""
-        longest = max(map(self.left, self.whole - self.done))
-        part = self.left(crate) / longest
-        others = [it for it in [*self.running, *self.plan.ready(self.done)] if self.left(it) > longest / 2]
-        jobs = min(lanes.processors(), max(2, 4 - len(set(others) - {crate}))) if part > 0.95 else 1
-        words = (["nice", "-n", "10"] if part < 0.5 else []) + self.kit.build(crate, self.room, jobs)
+        """Begins a proof: by all processors, up to four, where no other crate has a much longer way to go, and
+        otherwise by one, which gives way the more, the shorter its way is."""
+        part = self.left(crate) / max(map(self.left, self.whole - self.done))
+        jobs = min(lanes.processors(), 4) if part > 0.95 else 1
+        words = ["nice", "-n", str(round(19 * (1 - part)))] + self.kit.build(crate, self.room, jobs)
         self.since[crate] = time.monotonic()
         with open(os.path.join(self.room, crate + ".log"), "wb") as log:
             folder = os.path.join(programs.TOP, "crates", crate)
