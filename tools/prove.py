@@ -202,12 +202,15 @@ def main() -> int:
     if not shutil.which("rt"):
         print(NEED_KIT, file=sys.stderr)
         return 1
-    kit = Kit()
+    kit, before = Kit(), programs.digest()
     with tempfile.TemporaryDirectory() as room:
         failed = Run(kit, room).prove()
         if failed:
             with open(os.path.join(room, failed + ".log"), encoding="utf-8", errors="replace") as log:
                 print(f"{log.read()}\n{failed} is NOT PROVED")
+            return 1
+        if programs.digest() != before:
+            print("a source was changed while the crates were proved: nothing is built", file=sys.stderr)
             return 1
         return 0 if take(kit, room) else 1
 
