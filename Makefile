@@ -51,6 +51,7 @@ test:
 	tools/check_growth.py
 	tools/check_program.py
 	tools/check_hostile.py
+	tools/check_limits.py
 	tools/check_io.py
 
 mutants:
