@@ -214,22 +214,15 @@ class Case:
     end: bytes = b""
 
 
-def log_cases(folder: str) -> Iterator[Case]:
-    """A log to its end, and the same with a bad row behind it, by a dispatcher and by fronts."""
-    for log, header, bad, more, word in [
-        (entries(), "region,handle", "r,10", [], "dispatch"),
-        (events(), "front,region,handle", "0,r,10", ["--fronts", str(FRONTS)], "fronts"),
-    ]:
-        counts = [sum(1 for it in log.answers if it.startswith(kind)) for kind in ("assigned", "spent", "unknown")]
-        sums = "" if more else "assigned {} spent {} unknown {}\n".format(*counts)
-        printed = lines(log.answers)
-        for name, rows, told, status in [
-            (word + ".csv", log.rows, sums, 0),
-            (word + "_bad.csv", log.rows + [bad], f"hsplan: log: BadHandle row {len(log.rows)}\n", 1),
-        ]:
-            with open(os.path.join(folder, name), "wb") as file:
-                file.write(lines([header, *rows]))
-            yield Case(LOG + [name] + more, printed, told, status)
+def log_cases(folder: str, log: Log, header: str, bad: str, more: list[str]) -> Iterator[Case]:
+    """A log to its end, and the same with a bad row behind it. Only a dispatcher's sums are printed, and no fronts'."""
+    counts = [sum(1 for it in log.answers if it.startswith(kind)) for kind in ("assigned", "spent", "unknown")]
+    sums = "" if more else "assigned {} spent {} unknown {}\n".format(*counts)
+    printed, fault = lines(log.answers), f"hsplan: log: BadHandle row {len(log.rows)}\n"
+    for name, rows, told, status in [("good.csv", log.rows, sums, 0), ("bad.csv", log.rows + [bad], fault, 1)]:
+        with open(os.path.join(folder, name), "wb") as file:
+            file.write(lines([header, *rows]))
+        yield Case(LOG + [name] + more, printed, told, status)
 
 
 def cases(folder: str) -> Iterator[Case]:
@@ -246,7 +239,8 @@ def cases(folder: str) -> Iterator[Case]:
     places = [f"{name_of('s', site)} {place_of(site % 3, handle)}" for site in range(SITES)]
     located = [f"{it} {identifier(site, int(it.split()[1]))}" for site, it in enumerate(places)]
     yield Case(["locate", "--settings", "settings.toml", handle], lines(located))
-    yield from log_cases(folder)
+    yield from log_cases(folder, entries(), "region,handle", "r,10", [])
+    yield from log_cases(folder, events(), "front,region,handle", "0,r,10", ["--fronts", str(FRONTS)])
 
 
 def run(program: str, words: list[str], folder: str) -> tuple[bytes, str, int]:
