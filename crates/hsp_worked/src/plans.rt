@@ -288,6 +288,18 @@ fn kinds_of_rows_are_searched_from(rt: HostRuntime) {
     takes_searches(&rt, rt.alloc(), TWO_KINDS, 3);
 }
 
+// The two rows of a kind ask for more than 16 bits hold, and are searched from together all the same.
+#[test]
+fn large_kinds_of_rows_are_searched_from(rt: HostRuntime) {
+    let texts = Texts {
+        demand: b"region,handle,count\nr1,10/1,65536\nr1,10/2,65536\nr2,10/3,3\n",
+        capacity: b"site,server_id,capacity\nX,7,65542\nY,7,65533\n",
+        ..TWO_KINDS
+    };
+    plans_over::<ScanFrontier>(&rt, rt.alloc(), texts, 196_605, None);
+    takes_searches(&rt, rt.alloc(), texts, 3);
+}
+
 // With 5 at Y the second kind gets 2, and its last search finds no way.
 #[test]
 fn kinds_of_rows_fall_short(rt: HostRuntime) {
