@@ -1,0 +1,108 @@
+-- A plan of rows, pooled by their kinds.
+use Rattle.std.proofs.Common.{◌≡◌, ℕ, ◌*◌, ◌<◌, ◌==◌, inl, inr, Bool, true, false, cond, List, length, sum_by, slice_index, if◌then◌else◌, ap, ap₂, sym, ◌∙◌, subst, arith, one-mul, zero-mul}
+use Rattle.std.specs.List.{list_any}
+use Rattle.std.proofs.lemmas.Bool.{cases_eq}
+use Rattle.hsp_instance.specs.declared.arc.Arc.{Arc}
+use Rattle.hsp_sums.specs.Sums.{sum_below}
+use Rattle.hsp_sums.proofs.Summing.{sum_below_same, sum_below_zero}
+use Rattle.hsp_check.specs.Network.{Network, IsNetwork, is_allowed}
+use Rattle.hsp_check.specs.Plan.{Plan, planned, served, load, Feasible, is_on}
+use Rattle.hsp_kinds.specs.Kinds.{without_row, arcs_of, together, AreKinds, pooled, AreAlikeIn}
+use Rattle.hsp_kinds.specs.Keeping.{KindsPoolPlans}
+use Rattle.hsp_kinds.proofs.Rowwise.{when, when_zero, when_there, by_rows, by_row, allowed_by, by_kinds, turned, sum_by_when, sum_below_times, times_when, same_by}
+
+-- what a plan sends over arcs, each with a weight
+abbrev pub weighed : Network → (Arc → ℕ) → Plan → ℕ
+weighed n c x = sum_by (λ a. c (without_row a) * planned x a) n.arcs
+
+-- the loads and the cost are such sums
+abbrev pub at_server : ℕ → Arc → ℕ
+at_server j a = cond (a.server == j) 1 0
+
+once : (t : Bool) (v : ℕ) → when t v ≡ cond t 1 0 * v
+once true v = sym (one-mul v)
+once false v = sym (zero-mul v)
+
+pub load_is : (n : Network) (x : Plan) (j : ℕ) → load n x j ≡ weighed n (at_server j) x
+load_is n x j = same_by _ _ n.arcs (λ a. once (a.server == j) (planned x a))
+
+-- two plans that give the same weighed sums are alike
+pub alike_by : (n m : Network) (x y : Plan) → n.capacities ≡ m.capacities → ((j : ℕ) → n.home j ≡ m.home j) → ((c : Arc → ℕ) → weighed n c x ≡ weighed m c y) → AreAlikeIn n m x y
+alike_by n m x y caps home same =
+    let loads : (j : ℕ) → load n x j ≡ load m y j = λ j. load_is n x j ∙ same (at_server j) ∙ sym (load_is m y j) in
+    record {
+      total = same (λ a. a.cost);
+      load = loads;
+      host_load = λ h.
+          sum_below_same (length n.capacities) _ _ (λ j l. ap₂ (λ o v. if is_on o h then v else 0) (home j) (loads j))
+          ∙ ap (λ caps. sum_below (length caps) (λ j. if is_on (m.home j) h then load m y j else 0)) caps;
+    }
+
+module _ (n m : Network) (kind : ℕ → ℕ) (n-is : IsNetwork n) (m-is : IsNetwork m) (are : AreKinds n m kind) where
+  -- what a row sends over its kind's arcs, and what the kind sends
+  pub kind_sends : (c : Arc → ℕ) (x : Plan) (arcs : List Arc) (k : ℕ) →
+      sum_by (λ a. c a * pooled n kind x k a.site) arcs ≡ together n kind (λ i. sum_by (λ a. c a * x i a.site) arcs) k
+  kind_sends c x arcs k =
+      same_by _ _ arcs (λ a. sum_below_times (length n.demands) (c a) (λ i. when (kind i == k) (x i a.site)) ∙ sum_below_same (length n.demands) _ _ (λ i l. times_when (c a) (x i a.site) (kind i == k)))
+      ∙ turned (λ i a. when (kind i == k) (c a * x i a.site)) arcs (length n.demands)
+      ∙ sum_below_same (length n.demands) _ _ (λ i l. sum_by_when (kind i == k) (λ a. c a * x i a.site) arcs)
+
+  -- a weighed sum over the rows' arcs is that over their kinds'
+  pub carried_over : (c : Arc → ℕ) (x : Plan) → weighed n c x ≡ weighed m c (pooled n kind x)
+  carried_over c x =
+      by_rows (length n.demands) n.arcs n-is.rows (λ i a. c a * x i a.site)
+      ∙ sum_below_same (length n.demands) _ _ (λ i l. ap (λ arcs. sum_by (λ a. c a * x i a.site) arcs) (are.arcs i l))
+      ∙ by_kinds (length m.demands) kind (λ k i. sum_by (λ a. c a * x i a.site) (arcs_of m k)) (length n.demands) are.inside
+      ∙ sum_below_same (length m.demands) _ _ (λ k l. sym (kind_sends c x (arcs_of m k) k))
+      ∙ sym (by_rows (length m.demands) m.arcs m-is.rows (λ k a. c a * pooled n kind x k a.site))
+
+  pub pooled_alike : (x : Plan) → AreAlikeIn n m x (pooled n kind x)
+  pooled_alike x = alike_by n m x (pooled n kind x) are.capacities are.home (λ c. carried_over c x)
+
+  -- what a row gets, over its own arcs
+  pub served_is : (w : Network) (x : Plan) (i : ℕ) → served w x i ≡ sum_by (λ a. 1 * x i a.site) (arcs_of w i)
+  served_is w x i = by_row w.arcs i (λ r a. x r a.site) ∙ same_by _ _ (arcs_of w i) (λ a. sym (one-mul (x i a.site)))
+
+  -- a term of a kind's rows, by what is known of them
+  pub term : (f g : ℕ → ℕ) (k i : ℕ) → (kind i ≡ k → f i ≡ g i) → when (kind i == k) (f i) ≡ when (kind i == k) (g i)
+  term f g k i same = elim (cases_eq (kind i) k) [
+    | inl e ↦ ap (λ v. when (kind i == k) v) (same e)
+    | inr ne ↦ when_there (kind i) k (f i) ne ∙ sym (when_there (kind i) k (g i) ne)
+  ]
+
+  -- a kind gets what its rows get
+  pub kind_gets : (x : Plan) (k : ℕ) → served m (pooled n kind x) k ≡ together n kind (λ i. served n x i) k
+  kind_gets x k =
+      served_is m (pooled n kind x) k
+      ∙ kind_sends (λ a. 1) x (arcs_of m k) k
+      ∙ sum_below_same (length n.demands) _ _ (λ i l.
+      term (λ i. sum_by (λ a. 1 * x i a.site) (arcs_of m k)) (λ i. served n x i) k i
+      (λ e. sym (served_is n x i ∙ ap (λ arcs. sum_by (λ a. 1 * x i a.site) arcs) (are.arcs i l ∙ ap (arcs_of m) e))))
+
+  -- a row may go where its kind may go
+  pub allowed_alike : (i s : ℕ) → i < length n.demands → is_allowed n i s ≡ is_allowed m (kind i) s
+  allowed_alike i s l = allowed_by n.arcs i s ∙ ap (λ arcs. list_any (λ a. a.site == s) arcs) (are.arcs i l) ∙ sym (allowed_by m.arcs (kind i) s)
+
+  pub pool_feasible : (x : Plan) → Feasible n x → Feasible m (pooled n kind x)
+  pool_feasible x feasible =
+      let alike = pooled_alike x in
+      record {
+        allowed = λ k s no. sum_below_zero (length n.demands) _ (λ i l.
+            term (λ i. x i s) (λ i. 0) k i (λ e. feasible.allowed i s (allowed_alike i s l ∙ ap (λ k. is_allowed m k s) e ∙ no)) ∙ when_zero (kind i == k));
+        met = λ k l. kind_gets x k ∙ sum_below_same (length n.demands) _ _ (λ i m. ap (λ v. when (kind i == k) v) (feasible.met i m)) ∙ sym (are.demands k l);
+        within = λ j l.
+            let l' : j < length n.capacities = subst (λ caps. j < length caps) (sym are.capacities) l in
+            let w = feasible.within j l' in
+            let e = alike.load j in
+            let c : slice_index n.capacities j ≡ slice_index m.capacities j = ap (λ caps. slice_index caps j) are.capacities in
+            omega arith;
+        hosted = λ h l.
+            let l' : h < length n.limits = subst (λ caps. h < length caps) (sym are.limits) l in
+            let w = feasible.hosted h l' in
+            let e = alike.host_load h in
+            let c : slice_index n.limits h ≡ slice_index m.limits h = ap (λ caps. slice_index caps h) are.limits in
+            omega arith;
+      }
+
+pub kinds_pool_plans : KindsPoolPlans
+kinds_pool_plans n m kind n-is m-is are x feasible = (pool_feasible n m kind n-is m-is are x feasible, pooled_alike n m kind n-is m-is are x)

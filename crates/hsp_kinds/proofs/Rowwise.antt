@@ -1,0 +1,109 @@
+-- Sums over arcs, row by row, and sums over rows, kind by kind.
+use Rattle.std.proofs.Common.{◌≡◌, ℕ, zero, suc, ◌+◌, ◌*◌, ◌<◌, ◌==◌, ◌&&◌, ◌||◌, Bool, true, false, cond, inl, inr, ◌⊎◌, List, [], ◌∷◌, map, filter, sum_by, All, if◌then◌else◌, refl, ap, ap₂, sym, ◌∙◌, arith, mul-zero, mul-add, eq-eqb, ne_eqb}
+use Rattle.std.specs.List.{list_any}
+use Rattle.std.proofs.lemmas.List.Sums.{sum_by-cons}
+use Rattle.std.proofs.lemmas.List.Elements.{All-head, All-tail}
+use Rattle.std.proofs.lemmas.Bool.{cases_eq}
+use Rattle.hsp_instance.specs.declared.arc.Arc.{Arc}
+use Rattle.hsp_check.specs.declared.arc.NetworkArc.{NetworkArc}
+use Rattle.hsp_sums.specs.Sums.{sum_below}
+use Rattle.hsp_sums.proofs.Summing.{sum_below_same, sum_below_zero, sum_below_add, sum_below_one, sum_by_same_all}
+use Rattle.hsp_kinds.specs.Kinds.{without_row, arcs_in}
+
+-- a number where a test holds
+abbrev pub when : Bool → ℕ → ℕ
+when t v = if t then v else 0
+
+pub when_here : (i : ℕ) (v : ℕ) → when (i == i) v ≡ v
+when_here i v = rw (eq-eqb i i refl)
+
+pub when_there : (i k v : ℕ) → (i ≡ k → ⊥) → when (i == k) v ≡ 0
+when_there i k v ne = rw (ne_eqb i k ne)
+
+pub when_zero : (t : Bool) → when t 0 ≡ 0
+when_zero true = refl
+when_zero false = refl
+
+-- one row's arcs, one arc more
+more_arcs : (a : NetworkArc) (rest : List NetworkArc) (i : ℕ) (g : Arc → ℕ) →
+    sum_by g (arcs_in (a ∷ rest) i) ≡ when (a.row == i) (g (without_row a)) + sum_by g (arcs_in rest i)
+more_arcs a rest i g = by_test (a.row == i)
+  where
+    by_test : (t : Bool) → sum_by g (map without_row (cond t (a ∷ filter (λ b. b.row == i) rest) (filter (λ b. b.row == i) rest))) ≡ when t (g (without_row a)) + sum_by g (arcs_in rest i)
+    by_test true = sum_by-cons g (without_row a) (arcs_in rest i)
+    by_test false = omega arith
+
+-- a sum over all arcs is the sum over the rows of the sums over their arcs
+pub by_rows : (rows : ℕ) (arcs : List NetworkArc) → All (λ a. a.row < rows) arcs → (g : ℕ → Arc → ℕ) →
+    sum_by (λ a. g a.row (without_row a)) arcs ≡ sum_below rows (λ i. sum_by (g i) (arcs_in arcs i))
+by_rows rows [] inside g = sym (sum_below_zero rows (λ i. 0) (λ i l. refl))
+by_rows rows (a ∷ rest) inside g =
+    let l : a.row < rows = All-head (λ b. b.row < rows) a rest inside in
+    let one : sum_below rows (λ i. when (a.row == i) (g i (without_row a))) ≡ when (a.row == a.row) (g a.row (without_row a)) =
+    sum_below_one rows (λ i. when (a.row == i) (g i (without_row a))) a.row l (λ k m ne. when_there a.row k (g k (without_row a)) (λ q. ne (sym q))) in
+    let here : when (a.row == a.row) (g a.row (without_row a)) ≡ g a.row (without_row a) = when_here a.row (g a.row (without_row a)) in
+    sum_by-cons (λ b. g b.row (without_row b)) a rest
+    ∙ ap₂ (λ v w. v + w) (sym (one ∙ here)) (by_rows rows rest (All-tail (λ b. b.row < rows) a rest inside) g)
+    ∙ sym (sum_below_add rows (λ i. when (a.row == i) (g i (without_row a))) (λ i. sum_by (g i) (arcs_in rest i)))
+    ∙ sum_below_same rows _ _ (λ i m. sym (more_arcs a rest i (g i)))
+
+-- the same of one row
+pub by_row : (arcs : List NetworkArc) (i : ℕ) (g : ℕ → Arc → ℕ) → sum_by (λ a. when (a.row == i) (g a.row (without_row a))) arcs ≡ sum_by (g i) (arcs_in arcs i)
+by_row [] i g = refl
+by_row (a ∷ rest) i g =
+    sum_by-cons (λ b. when (b.row == i) (g b.row (without_row b))) a rest
+    ∙ ap₂ (λ v w. v + w) (own (cases_eq a.row i)) (by_row rest i g)
+    ∙ sym (more_arcs a rest i (g i))
+  where
+    own : (a.row ≡ i) ⊎ (a.row ≡ i → ⊥) → when (a.row == i) (g a.row (without_row a)) ≡ when (a.row == i) (g i (without_row a))
+    own (inl e) = ap (λ r. when (a.row == i) (g r (without_row a))) e
+    own (inr ne) = when_there a.row i (g a.row (without_row a)) ne ∙ sym (when_there a.row i (g i (without_row a)) ne)
+
+-- whether a row may use a site, by its arcs
+pub allowed_by : (arcs : List NetworkArc) (i s : ℕ) → list_any (λ a. a.row == i && a.site == s) arcs ≡ list_any (λ a. a.site == s) (arcs_in arcs i)
+allowed_by [] i s = refl
+allowed_by (a ∷ rest) i s = by_test (allowed_by rest i s) (a.row == i)
+  where
+    by_test : list_any (λ b. b.row == i && b.site == s) rest ≡ list_any (λ b. b.site == s) (arcs_in rest i) → (t : Bool) → ((t && a.site == s) || list_any (λ b. b.row == i && b.site == s) rest)
+        ≡ list_any (λ b. b.site == s) (map without_row (cond t (a ∷ filter (λ b. b.row == i) rest) (filter (λ b. b.row == i) rest)))
+    by_test same true = ap (λ v. (a.site == s) || v) same
+    by_test same false = same
+
+-- a sum over rows is the sum over the kinds of the sums over their rows
+pub by_kinds : (kinds : ℕ) (kind : ℕ → ℕ) (h : ℕ → ℕ → ℕ) (rows : ℕ) → ((i : ℕ) → i < rows → kind i < kinds) →
+    sum_below rows (λ i. h (kind i) i) ≡ sum_below kinds (λ k. sum_below rows (λ i. when (kind i == k) (h k i)))
+by_kinds kinds kind h zero inside = sym (sum_below_zero kinds (λ k. 0) (λ k l. refl))
+by_kinds kinds kind h (suc rows) inside =
+    let one : sum_below kinds (λ k. when (kind rows == k) (h k rows)) ≡ when (kind rows == kind rows) (h (kind rows) rows) =
+    sum_below_one kinds (λ k. when (kind rows == k) (h k rows)) (kind rows) (inside rows (omega arith)) (λ k m ne. when_there (kind rows) k (h k rows) (λ q. ne (sym q))) in
+    ap₂ (λ v w. v + w) (by_kinds kinds kind h rows (λ i l. inside i (omega arith))) (sym (one ∙ when_here (kind rows) (h (kind rows) rows)))
+    ∙ sym (sum_below_add kinds (λ k. sum_below rows (λ i. when (kind i == k) (h k i))) (λ k. when (kind rows == k) (h k rows)))
+
+-- the two orders of adding up
+pub turned : {A : Type 0} (f : ℕ → A → ℕ) (xs : List A) (rows : ℕ) → sum_by (λ a. sum_below rows (λ i. f i a)) xs ≡ sum_below rows (λ i. sum_by (f i) xs)
+turned f [] rows = sym (sum_below_zero rows (λ i. 0) (λ i l. refl))
+turned f (x ∷ xs) rows =
+    sum_by-cons (λ a. sum_below rows (λ i. f i a)) x xs
+    ∙ ap (λ v. sum_below rows (λ i. f i x) + v) (turned f xs rows)
+    ∙ sym (sum_below_add rows (λ i. f i x) (λ i. sum_by (f i) xs))
+    ∙ sum_below_same rows _ _ (λ i l. sym (sum_by-cons (f i) x xs))
+
+pub sum_by_none : {A : Type 0} (xs : List A) → sum_by (λ (a : A). 0) xs ≡ 0
+sum_by_none [] = refl
+sum_by_none (x ∷ xs) = omega (arith, sum_by-cons (λ a. 0) x xs, sum_by_none xs)
+
+pub sum_by_when : {A : Type 0} (t : Bool) (f : A → ℕ) (xs : List A) → sum_by (λ a. when t (f a)) xs ≡ when t (sum_by f xs)
+sum_by_when true f xs = refl
+sum_by_when false f xs = sum_by_none xs
+
+pub sum_below_times : (n c : ℕ) (f : ℕ → ℕ) → c * sum_below n f ≡ sum_below n (λ i. c * f i)
+sum_below_times zero c f = mul-zero c
+sum_below_times (suc n) c f = mul-add c (sum_below n f) (f n) ∙ ap (λ v. v + c * f n) (sum_below_times n c f)
+
+pub times_when : (c v : ℕ) (t : Bool) → c * when t v ≡ when t (c * v)
+times_when c v true = refl
+times_when c v false = mul-zero c
+
+-- sums of equal terms of each element
+pub same_by : {A : Type 0} (f g : A → ℕ) (xs : List A) → ((a : A) → f a ≡ g a) → sum_by f xs ≡ sum_by g xs
+same_by f g xs each = sum_by_same_all f g xs (λ k d l. each _)

@@ -1,0 +1,273 @@
+-- The table of rows has their kinds.
+use Rattle.std.proofs.Common.{◌≡◌, ℕ, zero, suc, ◌+◌, ◌<◌, ◌≤◌, ◌==◌, inl, inr, Bool, true, false, cond, Option, Some, None, List, [], ◌∷◌, ◌++◌, length, map, filter, sum_by, slice_index, slice_index_or, All, refl, ap, ap₂, sym, ◌∙◌, subst, arith, eq-eqb, ne_eqb, append-nil}
+use Rattle.std.specs.Prelude.{is_some}
+use Rattle.std.specs.Str.{bytes_eq}
+use Rattle.std.proofs.lemmas.Slice.Eq.{bytes_eq-Decides}
+use Rattle.std.proofs.lemmas.List.{length-map, get_or-map}
+use Rattle.std.proofs.lemmas.List.Elements.{All-append, All-nil, All-cons}
+use Rattle.std.proofs.lemmas.List.Sums.{sum_by-cons}
+use Rattle.std.proofs.lemmas.Bool.{cases_eq, and_parts, and_from}
+use Rattle.hsp_hash.specs.Place.{server_place}
+use Rattle.hsp_tables.specs.Costs.{CostEntry}
+use Rattle.hsp_instance.specs.declared.arc.Arc.{Arc}
+use Rattle.hsp_instance.specs.Building.{arc_to, arcs_from, cost_of}
+use Rattle.hsp_instance.specs.Instance.{Row, Site}
+use Rattle.hsp_check.specs.declared.arc.NetworkArc.{NetworkArc}
+use Rattle.hsp_check.specs.Instance.{arc_of, arcs_from as arcs_of_rows}
+use Rattle.hsp_check.specs.Network.{IsNetwork}
+use Rattle.hsp_sums.specs.Sums.{sum_below}
+use Rattle.hsp_sums.proofs.Summing.{by_place, sum_below_same}
+use Rattle.hsp_kinds.specs.Kinds.{AreKinds, HasOneArcASite, without_row, arcs_in, arcs_of, arcs_to}
+use Rattle.hsp_kinds.specs.Tables.{IsKinding}
+use Rattle.hsp_kinds.specs.Rows.{KindsAreClasses, KindsHaveArcs, Service, TablesAreOfKinds, by_kind, is_same_kind, kinds_of, network_for, places_at, sites_for, with_count_of}
+use Rattle.hsp_kinds.proofs.Rowwise.{when, when_here, when_there}
+use Rattle.hsp_kinds.proofs.KindPrices.{of_row, of_all}
+use Rattle.hsp_kinds.proofs.Placing.{place_in, place_within, placed_same, all_more, all_there, all_seen}
+
+-- ---- kinds are classes
+
+same_region : (costs : List CostEntry) (sites : List Site) (a b : Row) → is_same_kind costs sites a b ≡ true → a.region ≡ b.region
+same_region costs sites a b e =
+    (bytes_eq-Decides a.region b.region).0 (and_parts (bytes_eq a.region b.region) (bytes_eq (places_at (sites_for costs sites a.region) a.handle) (places_at (sites_for costs sites a.region) b.handle)) e).0
+
+same_places : (costs : List CostEntry) (sites : List Site) (a b : Row) → is_same_kind costs sites a b ≡ true →
+    places_at (sites_for costs sites a.region) a.handle ≡ places_at (sites_for costs sites a.region) b.handle
+same_places costs sites a b e =
+    (bytes_eq-Decides (places_at (sites_for costs sites a.region) a.handle) (places_at (sites_for costs sites a.region) b.handle)).0
+    (and_parts (bytes_eq a.region b.region) (bytes_eq (places_at (sites_for costs sites a.region) a.handle) (places_at (sites_for costs sites a.region) b.handle)) e).1
+
+same_from : (costs : List CostEntry) (sites : List Site) (a b : Row) → a.region ≡ b.region →
+    places_at (sites_for costs sites a.region) a.handle ≡ places_at (sites_for costs sites a.region) b.handle → is_same_kind costs sites a b ≡ true
+same_from costs sites a b r p =
+    and_from (bytes_eq a.region b.region) (bytes_eq (places_at (sites_for costs sites a.region) a.handle) (places_at (sites_for costs sites a.region) b.handle))
+    ((bytes_eq-Decides a.region b.region).1 r) ((bytes_eq-Decides (places_at (sites_for costs sites a.region) a.handle) (places_at (sites_for costs sites a.region) b.handle)).1 p)
+
+pub kinds_are_classes : KindsAreClasses
+kinds_are_classes costs sites = record {
+  reflexive = λ a. same_from costs sites a a refl refl;
+  symmetric = λ a b e.
+      let r = same_region costs sites a b e in
+      same_from costs sites b a (sym r) (sym (subst (λ region. places_at (sites_for costs sites region) a.handle ≡ places_at (sites_for costs sites region) b.handle) r (same_places costs sites a b e)));
+  transitive = λ a b c e f.
+      let r = same_region costs sites a b e in
+      same_from costs sites a c (r ∙ same_region costs sites b c f)
+      (same_places costs sites a b e ∙ subst (λ region. places_at (sites_for costs sites region) b.handle ≡ places_at (sites_for costs sites region) c.handle) (sym r) (same_places costs sites b c f));
+  kept = λ a b. same_from costs sites a (with_count_of a b) refl refl;
+  grouped = λ a b c. ap (counts a) (omega arith);
+  swapped = λ a b c. ap (counts a) (omega arith);
+}
+  where
+    counts : Row → ℕ → Row
+    counts a n = record { region = a.region; handle = a.handle; count = n }
+
+-- ---- rows of a kind have the same arcs
+
+same_arcs : (costs : List CostEntry) (a b : Row) (n first : ℕ) (sites : List Site) → a.region ≡ b.region →
+    places_at (sites_for costs sites a.region) a.handle ≡ places_at (sites_for costs sites a.region) b.handle → arcs_from costs a n first sites ≡ arcs_from costs b n first sites
+same_arcs costs a b n first [] r p = refl
+same_arcs costs a b n first (site ∷ more) r p =
+    by_cost (cost_of costs a.region site.name) p (same_arcs costs a b (n + 1) (first + length site.servers) more r)
+    ∙ ap (λ region. arc_to b.handle n first site (cost_of costs region site.name) ++ arcs_from costs b (n + 1) (first + length site.servers) more) r
+  where
+    others : List Site
+    others = filter (λ (s : Site). is_some (cost_of costs a.region s.name)) more
+
+    place : List ℕ → ℕ
+    place handle = server_place site.option handle (length site.servers)
+
+    by_cost : (o : Option ℕ) →
+        places_at (cond (is_some o) (site ∷ filter (λ (s : Site). is_some (cost_of costs a.region s.name)) more) (filter (λ (s : Site). is_some (cost_of costs a.region s.name)) more)) a.handle
+        ≡ places_at (cond (is_some o) (site ∷ filter (λ (s : Site). is_some (cost_of costs a.region s.name)) more) (filter (λ (s : Site). is_some (cost_of costs a.region s.name)) more)) b.handle →
+        (places_at (sites_for costs more a.region) a.handle ≡ places_at (sites_for costs more a.region) b.handle →
+        arcs_from costs a (n + 1) (first + length site.servers) more ≡ arcs_from costs b (n + 1) (first + length site.servers) more) →
+        arc_to a.handle n first site o ++ arcs_from costs a (n + 1) (first + length site.servers) more
+        ≡ arc_to b.handle n first site o ++ arcs_from costs b (n + 1) (first + length site.servers) more
+    by_cost None q rest = rest q
+    by_cost (Some cost) q rest =
+        ap₂ (λ (v : ℕ) (arcs : List Arc). record { site = n; server = first + v; cost = cost } ∷ arcs) (head_same q) (rest (tail_same q))
+      where
+        head_same : server_place site.option a.handle (length site.servers) ∷ places_at (filter (λ (s : Site). is_some (cost_of costs a.region s.name)) more) a.handle
+            ≡ server_place site.option b.handle (length site.servers) ∷ places_at (filter (λ (s : Site). is_some (cost_of costs a.region s.name)) more) b.handle
+            → server_place site.option a.handle (length site.servers) ≡ server_place site.option b.handle (length site.servers)
+        head_same e = ap (λ (xs : List ℕ). slice_index xs 0) e
+
+        tail_same : server_place site.option a.handle (length site.servers) ∷ places_at (filter (λ (s : Site). is_some (cost_of costs a.region s.name)) more) a.handle
+            ≡ server_place site.option b.handle (length site.servers) ∷ places_at (filter (λ (s : Site). is_some (cost_of costs a.region s.name)) more) b.handle
+            → places_at (filter (λ (s : Site). is_some (cost_of costs a.region s.name)) more) a.handle ≡ places_at (filter (λ (s : Site). is_some (cost_of costs a.region s.name)) more) b.handle
+        tail_same e = ap rest_of e
+          where
+            rest_of : List ℕ → List ℕ
+            rest_of [] = []
+            rest_of (x ∷ xs) = xs
+
+-- ---- the arcs of a row of a network of lists
+
+arcs_append : (xs ys : List NetworkArc) (i : ℕ) → arcs_in (xs ++ ys) i ≡ arcs_in xs i ++ arcs_in ys i
+arcs_append [] ys i = refl
+arcs_append (x ∷ xs) ys i = by_test (x.row == i) (arcs_append xs ys i)
+  where
+    by_test : (t : Bool) → arcs_in (xs ++ ys) i ≡ arcs_in xs i ++ arcs_in ys i →
+        map without_row (cond t (x ∷ filter (λ b. b.row == i) (xs ++ ys)) (filter (λ b. b.row == i) (xs ++ ys)))
+        ≡ map without_row (cond t (x ∷ filter (λ b. b.row == i) xs) (filter (λ b. b.row == i) xs)) ++ arcs_in ys i
+    by_test true e = ap (λ arcs. without_row x ∷ arcs) e
+    by_test false e = e
+
+own_arcs : (arcs : List Arc) (j : ℕ) → arcs_in (map (arc_of j) arcs) j ≡ arcs
+own_arcs [] j = refl
+own_arcs (a ∷ arcs) j =
+    let t : (j == j) ≡ true = eq-eqb j j refl in
+    ap (λ t. map without_row (cond t (arc_of j a ∷ filter (λ b. b.row == j) (map (arc_of j) arcs)) (filter (λ b. b.row == j) (map (arc_of j) arcs)))) t
+    ∙ ap (λ rest. a ∷ rest) (own_arcs arcs j)
+
+no_arcs : (arcs : List Arc) (j i : ℕ) → (j ≡ i → ⊥) → arcs_in (map (arc_of j) arcs) i ≡ []
+no_arcs [] j i ne = refl
+no_arcs (a ∷ arcs) j i ne =
+    let t : (j == i) ≡ false = ne_eqb j i ne in
+    ap (λ t. map without_row (cond t (arc_of j a ∷ filter (λ b. b.row == i) (map (arc_of j) arcs)) (filter (λ b. b.row == i) (map (arc_of j) arcs)))) t
+    ∙ no_arcs arcs j i ne
+
+before_arcs : (lists : List (List Arc)) (j i : ℕ) → i < j → arcs_in (arcs_of_rows j lists) i ≡ []
+before_arcs [] j i l = refl
+before_arcs (arcs ∷ lists) j i l =
+    arcs_append (map (arc_of j) arcs) (arcs_of_rows (j + 1) lists) i
+    ∙ ap₂ (λ x y. x ++ y) (no_arcs arcs j i (λ e. omega arith)) (before_arcs lists (j + 1) i (omega arith))
+
+listed_arcs : (lists : List (List Arc)) (j i : ℕ) → arcs_in (arcs_of_rows j lists) (j + i) ≡ slice_index_or lists i []
+listed_arcs [] j i = refl
+listed_arcs (arcs ∷ lists) j zero =
+    let e : j + 0 ≡ j = omega arith in
+    ap (arcs_in (arcs_of_rows j (arcs ∷ lists))) e
+    ∙ arcs_append (map (arc_of j) arcs) (arcs_of_rows (j + 1) lists) j
+    ∙ ap₂ (λ x y. x ++ y) (own_arcs arcs j) (before_arcs lists (j + 1) j (omega arith)) ∙ append-nil arcs
+listed_arcs (arcs ∷ lists) j (suc i) =
+    let e : (j + 1) + i ≡ j + suc i = omega arith in
+    arcs_append (map (arc_of j) arcs) (arcs_of_rows (j + 1) lists) (j + suc i)
+    ∙ ap₂ (λ x y. x ++ y) (no_arcs arcs j (j + suc i) (λ q. omega arith)) (ap (arcs_in (arcs_of_rows (j + 1) lists)) (sym e) ∙ listed_arcs lists (j + 1) i)
+
+rows_below : (lists : List (List Arc)) (j most : ℕ) → j + length lists ≤ most → All (λ (a : NetworkArc). a.row < most) (arcs_of_rows j lists)
+rows_below [] j most l = All-nil (λ (a : NetworkArc). a.row < most)
+rows_below (arcs ∷ lists) j most l =
+    All-append (λ (a : NetworkArc). a.row < most) (map (arc_of j) arcs) (arcs_of_rows (j + 1) lists) (own arcs) (rows_below lists (j + 1) most (omega arith))
+  where
+    own : (arcs : List Arc) → All (λ (a : NetworkArc). a.row < most) (map (arc_of j) arcs)
+    own [] = All-nil (λ (a : NetworkArc). a.row < most)
+    own (a ∷ rest) = All-cons (λ (b : NetworkArc). b.row < most) (arc_of j a) (map (arc_of j) rest) (omega arith) (own rest)
+
+-- ---- one arc a site
+
+none_before : (costs : List CostEntry) (row : Row) (n first : ℕ) (sites : List Site) (s : ℕ) → s < n → arcs_to (arcs_from costs row n first sites) s ≡ 0
+none_before costs row n first [] s l = refl
+none_before costs row n first (site ∷ more) s l = by_cost (cost_of costs row.region site.name) (none_before costs row (n + 1) (first + length site.servers) more s (omega arith))
+  where
+    by_cost : (o : Option ℕ) → arcs_to (arcs_from costs row (n + 1) (first + length site.servers) more) s ≡ 0 → arcs_to (arc_to row.handle n first site o ++ arcs_from costs row (n + 1) (first + length site.servers) more) s ≡ 0
+    by_cost None e = e
+    by_cost (Some cost) e =
+        let a : Arc = record { site = n; server = first + server_place site.option row.handle (length site.servers); cost = cost } in
+        let z : when (n == s) 1 ≡ 0 = when_there n s 1 (λ q. omega arith) in
+        sum_by-cons (λ b. when (b.site == s) 1) a (arcs_from costs row (n + 1) (first + length site.servers) more) ∙ omega (arith, z, e)
+
+one_a_site : (costs : List CostEntry) (row : Row) (n first : ℕ) (sites : List Site) (s : ℕ) → arcs_to (arcs_from costs row n first sites) s ≤ 1
+one_a_site costs row n first [] s = omega arith
+one_a_site costs row n first (site ∷ more) s =
+    by_cost (cost_of costs row.region site.name) (one_a_site costs row (n + 1) (first + length site.servers) more s) (λ l. none_before costs row (n + 1) (first + length site.servers) more s l)
+  where
+    by_cost : (o : Option ℕ) → arcs_to (arcs_from costs row (n + 1) (first + length site.servers) more) s ≤ 1 → (s < n + 1 → arcs_to (arcs_from costs row (n + 1) (first + length site.servers) more) s ≡ 0)
+        → arcs_to (arc_to row.handle n first site o ++ arcs_from costs row (n + 1) (first + length site.servers) more) s ≤ 1
+    by_cost None one none = one
+    by_cost (Some cost) one none =
+        let a : Arc = record { site = n; server = first + server_place site.option row.handle (length site.servers); cost = cost } in
+        let all = sum_by-cons (λ b. when (b.site == s) 1) a (arcs_from costs row (n + 1) (first + length site.servers) more) in
+        elim (cases_eq n s) [
+          | inl e ↦ let z = none (omega arith) in let h : when (n == s) 1 ≡ 1 = subst (λ s. when (n == s) 1 ≡ 1) e (when_here n 1) in omega (arith, all, z, h)
+          | inr ne ↦ let z : when (n == s) 1 ≡ 0 = when_there n s 1 ne in omega (arith, all, z, one)
+        ]
+
+-- ---- the two networks
+
+abbrev no_row : Row
+no_row = record { region = []; handle = []; count = 0 }
+
+abbrev row_at : List Row → ℕ → Row
+row_at rows i = slice_index_or rows i no_row
+
+module _ (at : Service) (rows : List Row) where
+  abbrev table : List Row
+  table = kinds_of at.costs at.sites rows
+
+  abbrev classes : IsKinding (by_kind at.costs at.sites)
+  classes = kinds_are_classes at.costs at.sites
+
+  abbrev count : Row → ℕ
+  count row = row.count
+
+  abbrev kind : ℕ → ℕ
+  kind i = place_in (by_kind at.costs at.sites) classes count (λ a b. refl) table (row_at rows i)
+
+  -- the arcs of a row
+  arcs_are : (list : List Row) (i : ℕ) → i < length list → arcs_of (network_for at list) i ≡ arcs_from at.costs (row_at list i) 0 0 at.sites
+  arcs_are list i l =
+      let e : 0 + i ≡ i = omega arith in
+      let lists = map (λ row. arcs_from at.costs row 0 0 at.sites) list in
+      ap (arcs_in (arcs_of_rows 0 lists)) (sym e) ∙ listed_arcs lists 0 i ∙ get_or-map (λ row. arcs_from at.costs row 0 0 at.sites) list i no_row [] l
+
+  there : (i : ℕ) → i < length rows → kind i < length table
+  there i l = place_within (by_kind at.costs at.sites) classes count (λ a b. refl) table (row_at rows i) (all_there (by_kind at.costs at.sites) classes count (λ a b. refl) rows [] i no_row l)
+
+  alike : (i : ℕ) → i < length rows → arcs_of (network_for at rows) i ≡ arcs_of (network_for at table) (kind i)
+  alike i l =
+      let same = placed_same (by_kind at.costs at.sites) classes count (λ a b. refl) table (row_at rows i) no_row (all_there (by_kind at.costs at.sites) classes count (λ a b. refl) rows [] i no_row l) in
+      arcs_are rows i l
+      ∙ sym (same_arcs at.costs (row_at table (kind i)) (row_at rows i) 0 0 at.sites (same_region at.costs at.sites (row_at table (kind i)) (row_at rows i) same) (same_places at.costs at.sites (row_at table (kind i)) (row_at rows i) same))
+      ∙ sym (arcs_are table (kind i) (there i l))
+
+  in_rows : (i : ℕ) → i < length (map count rows) → i < length rows
+  in_rows i l = omega (arith, l, length-map rows count)
+
+  in_table : (k : ℕ) → k < length (map count table) → k < length table
+  in_table k l = omega (arith, l, length-map table count)
+
+  pub table_kinds : AreKinds (network_for at rows) (network_for at table) kind
+  table_kinds = record {
+    inside = λ i l. omega (arith, there i (in_rows i l), length-map table count);
+    seen = λ k l. elim (all_seen (by_kind at.costs at.sites) classes count (λ a b. refl) rows [] no_row k (in_table k l)) [
+      | inl early ↦ absurd (omega (arith, early))
+      | inr row ↦ (row.0, omega (arith, row.1, length-map rows count), row.2)
+    ];
+    arcs = λ i l. alike i (in_rows i l);
+    demands = λ k l.
+        let all = all_more (by_kind at.costs at.sites) classes count (λ a b. refl) rows [] k in
+        let place : Row → ℕ = λ row. place_in (by_kind at.costs at.sites) classes count (λ a b. refl) table row in
+        let each : sum_by (λ row. when (place row == k) (count row)) rows ≡ sum_below (length rows) (λ i. when (kind i == k) (count (row_at rows i))) =
+        by_place (λ row. when (place row == k) (count row)) no_row rows in
+        let listed : sum_below (length rows) (λ i. when (kind i == k) (count (row_at rows i))) ≡ sum_below (length rows) (λ i. when (kind i == k) (slice_index (map count rows) i)) =
+        sum_below_same (length rows) _ _ (λ i m. ap (λ v. when (kind i == k) v) (sym (get_or-map count rows i no_row 0 m))) in
+        let many : sum_below (length rows) (λ i. when (kind i == k) (slice_index (map count rows) i)) ≡ sum_below (length (map count rows)) (λ i. when (kind i == k) (slice_index (map count rows) i)) =
+        ap (λ n. sum_below n (λ i. when (kind i == k) (slice_index (map count rows) i))) (sym (length-map rows count)) in
+        omega (arith, all, each, listed, many);
+    capacities = refl;
+    limits = refl;
+    home = λ j. refl;
+  }
+
+  pub rows_are : IsNetwork (network_for at table) → IsNetwork (network_for at rows)
+  rows_are is = record {
+    rows = below;
+    servers = of_all (λ i a. a.server < length (map (λ s. s.capacity) at.servers)) (length (map count rows)) (network_for at rows).arcs below
+        (λ i l. subst (All (λ (a : Arc). a.server < length (map (λ s. s.capacity) at.servers))) (sym (alike i (in_rows i l)))
+        (of_row (λ i a. a.server < length (map (λ s. s.capacity) at.servers)) (network_for at table).arcs is.servers (kind i)));
+    homes = is.homes;
+  }
+    where
+      below : All (λ (a : NetworkArc). a.row < length (map count rows)) (network_for at rows).arcs
+      below =
+          rows_below (map (λ row. arcs_from at.costs row 0 0 at.sites) rows) 0 (length (map count rows))
+          (omega (arith, length-map rows count, length-map rows (λ row. arcs_from at.costs row 0 0 at.sites)))
+
+  pub one_site : HasOneArcASite (network_for at rows)
+  one_site i s l = subst (λ arcs. arcs_to arcs s ≤ 1) (sym (arcs_are rows i (in_rows i l))) (one_a_site at.costs (row_at rows i) 0 0 at.sites s)
+
+pub tables_are_of_kinds : TablesAreOfKinds
+tables_are_of_kinds at rows = ((kind at rows, table_kinds at rows), rows_are at rows, one_site at rows)
+
+pub kinds_have_arcs : KindsHaveArcs
+kinds_have_arcs costs sites a b e = same_arcs costs a b 0 0 sites (same_region costs sites a b e) (same_places costs sites a b e)
