@@ -304,10 +304,17 @@ def section(crate: str, faults: list[str]) -> Iterator[str]:
         yield from places(shown)
 
 
+def proved_crates() -> list[str]:
+    """The crates that the program is made of, and those that have definitions: all but tests and measurements."""
+    of_programs = programs.crates_of()
+    others = [it for it in programs.dependencies() if it not in of_programs]
+    return of_programs + [it for it in others if os.path.isdir(os.path.join(TOP, "crates", it, "specs"))]
+
+
 def layered() -> list[str]:
-    """The crates that the program is made of, each after those that it stands on."""
+    """These crates, each after those that it stands on."""
     below, ordered = programs.dependencies(), []
-    left = programs.crates_of()
+    left = proved_crates()
     while left:
         free = [it for it in left if not set(below[it]) & set(left)]
         ordered += free
@@ -323,11 +330,11 @@ def wrong_words(prose: str) -> list[str]:
     """The calls, clauses and definitions that the prose names and that are not there: `crate::call`,
     `crate::call` `clause`, `Name` in `crate/specs/F.antt`."""
     faults = []
-    labels = {f"{crate}::{it.called()}": it for crate in programs.crates_of() for it in crate_functions(crate)}
+    labels = {f"{crate}::{it.called()}": it for crate in proved_crates() for it in crate_functions(crate)}
     labels.update(
         {
             f"{crate}::laws::{it.name}": it
-            for crate in programs.crates_of()
+            for crate in proved_crates()
             for it in crate_functions(crate)
             if it.file == "laws.rt"
         }

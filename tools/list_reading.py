@@ -31,7 +31,13 @@ RUNS = os.path.join(TOP, "crates", "hsp_runs")
 # How many words of definitions and clauses are read in a minute.
 RATE = 130
 HEADLINE, SHOWN, LOGS, LAWS = (f"Rattle.hsp_runs.specs.{it}" for it in ("Headline", "Shown", "Logs", "Laws"))
-CALLS = (("plan.rt", "plan_run"), ("checking.rt", "check_run"), ("dispatch.rt", "dispatch_run"), ("fronts.rt", "fronts_run"))
+# The calls of the headline, and their clauses that are of the page: without the order of faults.
+CALLS = (
+    ("plan.rt", "plan_run", ("shows", "always")),
+    ("checking.rt", "check_run", ("shows", "exactly")),
+    ("dispatch.rt", "dispatch_run", ("shows", "always")),
+    ("fronts.rt", "fronts_run", ("shows", "always")),
+)
 # The parts in reading order: a title, and the definitions at which the part begins. A part without definitions begins
 # at the clauses of the calls.
 PARTS = (
@@ -219,7 +225,7 @@ def reach(known, starts, seen):
 def clauses(known):
     """The definitions that the clauses of the calls name."""
     starts = []
-    for file, call in CALLS:
+    for file, call, _ in CALLS:
         module = Module(os.path.join(RUNS, "src", file))
         starts += [settle(known, *it) for it in names_in(module, "\n".join(re.findall(r"ensures.*", head_of(file, call), re.S))) if it[0]]
     return starts
@@ -268,7 +274,7 @@ def paragraph(known, found):
     for module, names in files.items():
         path = os.path.relpath(known[module].path, os.path.join(TOP, "crates"))
         words = f"- `{path}`: " + ", ".join(f"`{name}` {line}" for name, line in names)
-        lines += textwrap.wrap(words, 150, subsequent_indent="  ", break_long_words=False, break_on_hyphens=False)
+        lines += wrapped(words)
     return lines
 
 
@@ -282,11 +288,19 @@ def measures(known, own):
     return f"{len(own)} definitions in {len({it[0] for it in own})} files, {lines} lines, {words} words: {minutes(words)}."
 
 
+def wrapped(words):
+    return textwrap.wrap(words, 150, subsequent_indent="  ", break_long_words=False, break_on_hyphens=False)
+
+
 def outside(found):
-    """The sentence that names the ported crates, and the number of words of std, among what is reached."""
+    """The ported crates and the words of std that are named among what is reached."""
     ported = sorted({f"`{it[0].split('.')[1]}`" for it in found if it[0].startswith("Rattle.") and not it[0].startswith(("Rattle.hsp", "Rattle.std"))})
-    std = {it for it in found if it[0].startswith("Rattle.std")}
-    return f"Beside these they name {len(std)} words of std, and readings of {', '.join(ported)}."
+    modules = {}
+    for module, word in sorted({it for it in found if it[0].startswith("Rattle.std")}):
+        modules.setdefault(module, []).append(f"`{word}`")
+    number = sum(map(len, modules.values()))
+    lines = [f"Beside these they name readings of {', '.join(ported)}, and {number} words of std. `rt lemma Contains` shows such a word:", ""]
+    return lines + [line for module, words in modules.items() for line in wrapped(f"- `{module}`: " + ", ".join(words))]
 
 
 def listed():
@@ -299,14 +313,20 @@ def listed():
     early = unread(known, read)
     if early:
         sys.exit("reading: mentioned before it is read: " + ", ".join(f"{it[1]} by {one[1]}" for one, it in early))
-    return lines + ["### All", "", measures(known, read), ""] + textwrap.wrap(outside(whole), 150) + [""]
+    return lines + ["### All", "", measures(known, read), ""] + outside(whole) + [""]
 
 
-def shows_of(file, call):
-    """The clause `shows` of a call with its comment, and the comment of the call."""
+def promised(file, call, names):
+    """The comment of a call, and its clauses of these names with their comments."""
     lines = head_of(file, call).split("\n")
-    at = next(it for it, line in enumerate(lines) if line.strip().startswith("ensures shows"))
-    return [it for it in lines if it.startswith("///")] + lines[at - 1 :]
+    found = [it for it in lines if it.startswith("///")]
+    begins = [at for at, line in enumerate(lines) if line.strip().startswith("ensures ")]
+    for name in names:
+        at = next(it for it in begins if lines[it].strip().startswith(f"ensures {name} "))
+        end = next((it for it in begins if it > at), len(lines))
+        above = at - 1 if lines[at - 1].strip().startswith("//") else at
+        found += [it for it in lines[above:end] if not (it.strip().startswith("//") and lines.index(it) > at)]
+    return found
 
 
 def figures():
@@ -319,10 +339,10 @@ def figures():
         lines.append(f"| `{name}`, {what} | {len(text)} | {words} | {words / RATE:.1f} |")
         total += words
         if name == FILES[0][0]:
-            heads = [it for call in CALLS[:3] for it in shows_of(*call)]
+            heads = [it for call in CALLS for it in promised(*call)]
             words = words_in(heads)
             total += words
-            lines.append(f"| what `plan_run`, `check_run` and `dispatch_run` say of themselves, and their clauses `shows` | {len(heads)} | {words} | {words / RATE:.1f} |")
+            lines.append(f"| what `plan_run`, `check_run`, `dispatch_run` and `fronts_run` say of themselves, and their clauses of the page | {len(heads)} | {words} | {words / RATE:.1f} |")
             lines.append(f"| **these together** | | **{total}** | **{total / RATE:.1f}** |")
     return lines + [f"| all | | {total} | {total / RATE:.1f} |", ""]
 

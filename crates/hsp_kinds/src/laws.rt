@@ -17,8 +17,8 @@ pub fn kinds_spread_plans()
     ensures { KindsSpreadPlans }
 {}
 
-/// Let each row have the price of its kind. Then prices show that a plan of the rows is best exactly where they show it
-/// of the plan of the kinds.
+/// Prices show that a plan of the rows is best exactly where they show it of the plan of the kinds, if each row has the
+/// price of its kind.
 pub fn prices_of_kinds()
     ensures { PricesOfKinds }
 {}
@@ -38,13 +38,13 @@ pub fn kinds_are_classes()
     ensures { KindsAreClasses }
 {}
 
-/// The rows of the table are the kinds of the rows, as networks. Where the network of the table is one, that of the rows
-/// is one. No row has two arcs to one site.
+/// The rows of the table are the kinds of its rows, and the arcs of a row are those of its kind. Where the network of the
+/// table is one, that of the rows is one. No row has two arcs to one site.
 pub fn tables_are_of_kinds()
     ensures { TablesAreOfKinds }
 {}
 
-/// Rows of any number have the plans of the table of their kinds. For each best plan of the one there is a best plan of
+/// Rows of any number have the plans of the table of their kinds: for each best plan of the one there is a best plan of
 /// the other, with the same cost, server loads and host loads. The one has a short set exactly where the other has one.
 pub fn plan_is_the_same()
     ensures { PlanIsTheSame }
@@ -56,8 +56,8 @@ pub fn kinds_have_arcs()
     ensures { KindsHaveArcs }
 {}
 
-/// Let demands be rounded up to units, and capacities and limits be rounded down. Then a feasible plan of the units
-/// meets every demand, within every capacity and limit.
+/// A feasible plan in units meets every demand, within every capacity and limit, if demands are rounded up to units and
+/// capacities and limits are rounded down.
 pub fn units_serve_all()
     ensures { UnitsServeAll }
 {}
