@@ -1,11 +1,10 @@
 -- No two answers are true of one text.
-use Rattle.std.proofs.Common.{◌≡◌, ◌+◌, ℕ, List, [], ◌∷◌, ◌++◌, length, map, Option, Some, None, refl, sym, ap, subst, ◌∙◌, arith, inl, inr, append_assoc, length-append, Result, Ok, Err}
+use Rattle.std.proofs.Common.{◌≡◌, ◌+◌, ℕ, List, [], ◌∷◌, ◌++◌, length, map, Option, Some, None, refl, sym, ap, subst, ◌∙◌, arith, inl, inr, append_assoc, length-append, Ok, Err}
 use Rattle.std.specs.List.{AllByRecursion}
 use Rattle.std.proofs.lemmas.List.{append-nil}
 use Rattle.hsp_cert.specs.declared.item.Word.TheVariants as word
 use Rattle.hsp_cert.specs.declared.item.Item.{Item}
 use Rattle.hsp_cert.specs.declared.item.Item.TheVariants as item
-use Rattle.hsp_cert.specs.declared.fault.CertFault.{CertFault}
 use Rattle.hsp_cert.specs.declared.fault.CertFault.TheVariants as fault
 use Rattle.hsp_cert.specs.Certificate.{Claim, IsCertificate}
 use Rattle.hsp_cert.specs.Certificate.Claim.{best, short}
@@ -13,7 +12,7 @@ use Rattle.hsp_cert.specs.Text.{line_of, lines_of, items_of, body_items, row_ite
 use Rattle.hsp_cert.specs.Lexing.{item_in}
 use Rattle.hsp_cert.specs.Drafts.{Drafted}
 use Rattle.hsp_cert.specs.Steps.{step, start, claimed}
-use Rattle.hsp_cert.specs.Reading.{LinesStand, HasNoEnd, IsBadLine, IsEnded, IsAfterEnd, Means, Agrees, HasOneSpelling}
+use Rattle.hsp_cert.specs.Reading.{LinesStand, HasNoEnd, IsBadLine, IsEnded, IsAfterEnd, HasOneAnswer, HasOneSpelling}
 use Rattle.hsp_cert.proofs.LineCuts.{Unbroken, by_recursion, same_line, no_line, first_line, GoesOn, fronts}
 use Rattle.hsp_cert.proofs.WholeRuns.{run, run-append, run-none, run_whole, some_is, ended}
 use Rattle.hsp_cert.proofs.LinesRead.{ReadsBack, item_is, claim_back, claim_unbroken, up_to}
@@ -173,7 +172,7 @@ after_and_after text n m p q =
     let w = whole_and_whole p.0 q.0 p.2 q.2 p.1 q.1 (sym p.4 ∙ q.4) in
     p.5 ∙ ap (λ (c : Claim). length (lines_of c) + 1) w.0 ∙ sym q.5
 
-pub one_answer : (text : List ℕ) (r other : Result Claim CertFault) → Means text r → Means text other → Agrees r other
+pub one_answer : HasOneAnswer
 one_answer text (Err fault.OutOfMemory) other m k = tt
 one_answer text (Ok c) (Err fault.OutOfMemory) m k = tt
 one_answer text (Err (fault.BadLine n)) (Err fault.OutOfMemory) m k = tt

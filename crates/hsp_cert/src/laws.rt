@@ -1,8 +1,13 @@
 // What holds of all texts of certificates.
 
-ghost use Rattle.hsp_cert.specs.Reading.{HasOneSpelling};
+ghost use Rattle.hsp_cert.specs.Reading.{HasOneAnswer, HasOneSpelling};
 
 /// No two certificates have the same text.
 pub fn one_spelling()
     ensures { HasOneSpelling }
+{}
+
+/// A text spells at most one certificate, and one that spells none has one fault: no two answers are true of it.
+pub fn one_answer()
+    ensures { HasOneAnswer }
 {}
