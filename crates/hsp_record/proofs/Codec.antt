@@ -13,6 +13,11 @@ IsOctets-end : (f rest : List ℕ) → IsOctets (f ++ rest) → IsOctets rest
 IsOctets-end [] rest h = h
 IsOctets-end (x ∷ f) rest h = IsOctets-end f rest (λ i. h (suc i))
 
+pub IsOctets-front : (f rest : List ℕ) → IsOctets (f ++ rest) → IsOctets f
+IsOctets-front [] rest h i = omega arith
+IsOctets-front (x ∷ f) rest h zero = h zero
+IsOctets-front (x ∷ f) rest h (suc i) = IsOctets-front f rest (λ k. h (suc k)) i
+
 pub IsOctets-rest : (bytes f rest : List ℕ) → IsOctets bytes → bytes ≡ f ++ rest → IsOctets rest
 IsOctets-rest bytes f rest h e = IsOctets-end f rest (subst IsOctets e h)
 
@@ -20,6 +25,10 @@ pub IsOctets-append : (a b : List ℕ) → IsOctets a → IsOctets b → IsOctet
 IsOctets-append [] b ha hb i = hb i
 IsOctets-append (x ∷ a) b ha hb zero = ha zero
 IsOctets-append (x ∷ a) b ha hb (suc i) = IsOctets-append a b (λ k. ha (suc k)) hb i
+
+-- a field alone
+pub IsOctets-field : (f : List ℕ) → IsOctets f → IsOctets (joined (f ∷ []))
+IsOctets-field f h = IsOctets-append f [] h (λ i. omega arith)
 
 pub IsOctets-take : (n : ℕ) (bytes : List ℕ) → IsOctets bytes → IsOctets (take n bytes)
 IsOctets-take n bytes h i =
@@ -87,6 +96,8 @@ pub record Codec (A : Type 0) (read : Reader A) (Fits : A → Type 0) (fields : 
   -- where they end inside some value's fields, reading stops there
   pub cut : (x : A) (bytes : List ℕ) (left : ℕ) → Fits x → Cuts (fields x) bytes left → read bytes ≡ Err (Short left)
   pub some : (x : A) × Fits x
+  -- what is spelled are octets
+  pub octets : (x : A) → Fits x → IsOctets (joined (fields x))
 
 -- ---- one after the other
 
@@ -128,6 +139,8 @@ then_codec {A} {B} {a} {b} {FA} {FB} {fa} {fb} ca cb =
             | inr r ↦ ap (then_at a b) r.1 ∙ ap (λ (q : Result (A × List ℕ) Stop). q >>= second) (ca.again p.0 r.0 h.0) ∙ ap (λ (q : Result (B × List ℕ) Stop). q >>= third p.0) ((cb p.0 h.0).cut p.1 r.0 left h.1 r.2)
           ];
       some = let x = ca.some in let y = (cb x.0 x.1).some in ((x.0, y.0), (x.1, y.1));
+      octets = λ p h.
+          subst IsOctets (sym (joined-append (fa p.0) (fb p.1))) (IsOctets-append (joined (fa p.0)) (joined (fb p.1)) (ca.octets p.0 h.0) ((cb p.0 h.0).octets p.1 h.1));
     }
 
 pub both_codec : {A B : Type 0} {a : Reader A} {b : Reader B} {FA : A → Type 0} {FB : B → Type 0} {fa : A → List (List ℕ)} {fb : B → List (List ℕ)}
@@ -160,4 +173,5 @@ as_codec {A} {B} {a} {FA} {fa} b FB fb f g ca same back forth to from fields =
       cut = λ y bytes left h c.
           same bytes ∙ ap (λ (r : Result (A × List ℕ) Stop). r >>= view) (ca.cut (g y) bytes left (from y h) (subst (λ (l : List (List ℕ)). Cuts l bytes left) (fields y h) c));
       some = let x = ca.some in (f x.0, to x.0 x.1);
+      octets = λ y h. subst (λ (l : List (List ℕ)). IsOctets (joined l)) (sym (fields y h)) (ca.octets (g y) (from y h));
     }

@@ -1,5 +1,5 @@
 -- A reader that keeps to a limit, beside one that reads any value: what it answers is the one thing that is true of the octets.
-use Rattle.std.proofs.Common.{◌≡◌, ℕ, ◌-◌, ◌<◌, ◌≤◌, List, [], ◌∷◌, ◌++◌, length, Result, Ok, Err, refl, sym, ap, subst, ◌∙◌, arith, inl, inr, ◌⊎◌, length-append}
+use Rattle.std.proofs.Common.{◌≡◌, ◌≢◌, ℕ, ◌-◌, ◌<◌, ◌≤◌, List, [], ◌∷◌, ◌++◌, length, Result, Ok, Err, refl, sym, ap, subst, ◌∙◌, arith, inl, inr, ◌⊎◌, length-append}
 use Rattle.std.proofs.lemmas.List.{append-nil}
 use Rattle.hsp_record.specs.declared.fault.Stop.{Stop}
 use Rattle.hsp_record.specs.declared.fault.Stop.TheVariants.{Short, TooMany, Twice}
@@ -7,11 +7,11 @@ use Rattle.hsp_record.specs.declared.fault.ReadError.{ReadError}
 use Rattle.hsp_record.specs.declared.fault.ReadError.TheVariants.{Memory, Stopped}
 use Rattle.hsp_record.specs.declared.fault.RecordFault.{RecordFault}
 use Rattle.hsp_record.specs.declared.fault.RecordFault.TheVariants.{Truncated, Trailing, TooManyServers, IndexTwice, OutOfMemory}
-use Rattle.hsp_record.specs.Fields.{IsOctets, Format, spelling, Means, Agrees, HasOneSpelling, HasNothingAfter}
+use Rattle.hsp_record.specs.Fields.{IsOctets, Format, spelling, Means, Agrees, HasOneAnswer, HasOneSpelling, HasNothingAfter}
 use Rattle.hsp_record.specs.Reading.{Read, Reader, FailsAs, LeavesWithin, answer_of}
 use Rattle.hsp_text.specs.Answers.{GivesUnless}
 use Rattle.hsp_record.proofs.Cuts.{Cuts, cuts_within, ends_from_cuts, cuts_from_ends}
-use Rattle.hsp_record.proofs.Codec.{Codec, ok_is, not_both}
+use Rattle.hsp_record.proofs.Codec.{Codec, IsOctets-front, ok_is, not_both}
 
 -- the limit that a stop tells of is passed in the octets
 abbrev pub Passes : {A : Type 0} → Format A → List ℕ → Stop → Type 0
@@ -42,6 +42,20 @@ not_short stop left e = (λ h. cc, λ index h. cc)
 pub agrees_with_none : {A : Type 0} (r : Result A RecordFault) → Agrees r (Err OutOfMemory)
 agrees_with_none (Err OutOfMemory) = tt
 agrees_with_none r = tt
+
+-- answers that agree are the same, where memory ran out at neither
+agreed : {A : Type 0} (r other : Result A RecordFault) → r ≢ Err OutOfMemory → other ≢ Err OutOfMemory → Agrees r other → r ≡ other
+agreed (Err OutOfMemory) other had has h = absurd (had refl)
+agreed r (Err OutOfMemory) had has h = absurd (has refl)
+agreed r other had has h = h
+
+-- reading takes no memory
+not_memory : {A : Type 0} (octets : List ℕ) (r : Read A) → answer_of octets r ≢ Err OutOfMemory
+not_memory octets (Ok (x, [])) e = cc (e)
+not_memory octets (Ok (x, y ∷ rest)) e = cc (e)
+not_memory octets (Err (Short left)) e = cc (e)
+not_memory octets (Err TooMany) e = cc (e)
+not_memory octets (Err (Twice index)) e = cc (e)
 
 module _ {A : Type 0} {read wide : Reader A} {format : Format A} (limited : Limited A read wide format) where
   pub takes : (octets : List ℕ) (x : A) (rest : List ℕ) → IsOctets octets → read octets ≡ Ok (x, rest) → format.Fits x × (octets ≡ spelling format x ++ rest)
@@ -123,26 +137,27 @@ module _ {A : Type 0} {read wide : Reader A} {format : Format A} (limited : Limi
   none_passed octets few once (Twice index) p = once index p
 
   -- what is true of the octets is the answer
-  pub means_answer : (octets : List ℕ) (other : Result A RecordFault) → IsOctets octets → Means format octets other → Agrees (answer_of octets (read octets)) other
-  means_answer octets (Ok x) fits m =
+  pub means_answer : (octets : List ℕ) (other : Result A RecordFault) → Means format octets other → Agrees (answer_of octets (read octets)) other
+  means_answer octets (Ok x) m =
       let e : answer_of octets (read octets) ≡ Ok x = ap (answer_of octets) (ap read (m.1 ∙ sym (append-nil (spelling format x))) ∙ limited.again x [] m.0) in
       rw e refl
-  means_answer octets (Err (Truncated at)) fits m =
+  means_answer octets (Err (Truncated at)) m =
       let x = m.2 in
+      let fits : IsOctets octets = IsOctets-front octets x.2.more (subst IsOctets x.2.prefix (limited.codec.octets x.0 x.1)) in
       let back : length octets - (length octets - at) ≡ at = omega (arith, x.2.there) in
       let e : answer_of octets (read octets) ≡ Err (Truncated at) = ap (answer_of octets) (short_again octets (length octets - at) x.0 fits x.1 (cuts_from_ends (format.fields x.0) octets at x.2) (none_passed octets m.0 m.1)) ∙ ap (λ (k : ℕ). Err (Truncated k)) back in
       rw e refl
-  means_answer octets (Err (Trailing at)) fits m =
+  means_answer octets (Err (Trailing at)) m =
       let back : length octets - length m.2 ≡ at = omega (arith, ap length m.4, length-append (spelling format m.0) m.2, m.5) in
       let e : answer_of octets (read octets) ≡ Err (Trailing at) = ap (answer_of octets) (ap read m.4 ∙ limited.again m.0 m.2 m.1) ∙ trailing_answer octets m.0 m.2 m.3 ∙ ap (λ (k : ℕ). Err (Trailing k)) back in
       rw e refl
-  means_answer octets (Err TooManyServers) fits m =
+  means_answer octets (Err TooManyServers) m =
       let e : answer_of octets (read octets) ≡ Err TooManyServers = ap (answer_of octets) (limited.stops octets TooMany m) in
       rw e refl
-  means_answer octets (Err (IndexTwice index)) fits m =
+  means_answer octets (Err (IndexTwice index)) m =
       let e : answer_of octets (read octets) ≡ Err (IndexTwice index) = ap (answer_of octets) (limited.stops octets (Twice index) m) in
       rw e refl
-  means_answer octets (Err OutOfMemory) fits m = agrees_with_none (answer_of octets (read octets))
+  means_answer octets (Err OutOfMemory) m = agrees_with_none (answer_of octets (read octets))
 
   -- ---- from what a call answered
 
@@ -156,8 +171,8 @@ module _ {A : Type 0} {read wide : Reader A} {format : Format A} (limited : Limi
   agrees (Err e) answer other (inl ran_out) h = rw ran_out tt
   agrees (Err e) answer other (inr a) h = subst (λ (q : Result A RecordFault). Agrees q other) a h
 
-  pub only : (octets : List ℕ) (r other : Result A RecordFault) → IsOctets octets → GivesUnless OutOfMemory (λ x. x) r (answer_of octets (read octets)) → Means format octets other → Agrees r other
-  only octets r other fits a m = agrees r (answer_of octets (read octets)) other a (means_answer octets other fits m)
+  pub only : (octets : List ℕ) (r other : Result A RecordFault) → GivesUnless OutOfMemory (λ x. x) r (answer_of octets (read octets)) → Means format octets other → Agrees r other
+  only octets r other a m = agrees r (answer_of octets (read octets)) other a (means_answer octets other m)
 
   -- ---- laws
 
@@ -170,3 +185,8 @@ module _ {A : Type 0} {read wide : Reader A} {format : Format A} (limited : Limi
 
   pub one_spelling : HasOneSpelling format
   one_spelling x y hx hy e = (nothing_after x y [] [] hx hy (ap (λ (o : List ℕ). o ++ []) e)).0
+
+  pub one_answer : HasOneAnswer format
+  one_answer octets a b had has m k =
+      let never = not_memory octets (read octets) in
+      sym (agreed (answer_of octets (read octets)) a never had (means_answer octets a m)) ∙ agreed (answer_of octets (read octets)) b never has (means_answer octets b k)

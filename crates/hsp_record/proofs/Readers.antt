@@ -1,7 +1,7 @@
 -- Numbers, runs of octets and lists, each with what is read of it.
-use Rattle.std.proofs.Common.{◌≡◌, ℕ, zero, suc, ◌-◌, ◌%◌, ◌^◌, ◌<◌, ◌≤◌, true, false, cond, ltb, List, [], ◌∷◌, ◌++◌, length, take, drop, Result, Ok, Err, refl, sym, ap, subst, ◌∙◌, arith, inl, inr}
+use Rattle.std.proofs.Common.{◌≡◌, ℕ, zero, suc, ◌-◌, ◌/◌, ◌%◌, ◌^◌, ◌<◌, ◌≤◌, true, false, cond, ltb, List, [], ◌∷◌, ◌++◌, length, take, drop, Result, Ok, Err, refl, sym, ap, subst, ◌∙◌, arith, inl, inr}
 use Rattle.std.specs.List.{AllByRecursion}
-use Rattle.std.specs.Int.{Width, w8, w16, w32, w64, byte_len, from_be_bytes, to_be_bytes}
+use Rattle.std.specs.Int.{Width, w8, w16, w32, w64, byte_at, byte_len, bytes_high_first, from_be_bytes, to_be_bytes}
 use Rattle.std.proofs.lemmas.Bool.{ltb-false, ltb-true, le-ltb, lt-ltb}
 use Rattle.std.proofs.lemmas.List.{append-nil, take_at, drop_at, take-append-drop, length-append, length-take}
 use Rattle.std.proofs.lemmas.Nat.{be_bytes_2, be_bytes_4, be_bytes_8, from_be_bytes-to_be_bytes_2, from_be_bytes-to_be_bytes_4, from_be_bytes-to_be_bytes_8}
@@ -11,7 +11,7 @@ use Rattle.hsp_record.specs.Fields.{IsOctets, joined, run_fields, IsRun, all_fie
 use Rattle.hsp_text.specs.Answers.{◌>>=◌}
 use Rattle.hsp_record.specs.Reading.{Reader, number_at, octets_at, run_at, times_at, list_at}
 use Rattle.hsp_record.proofs.Cuts.{Cuts, InField}
-use Rattle.hsp_record.proofs.Codec.{IsOctets-append, IsOctets-take, zeros, length-zeros, IsOctets-zeros, bind_ok, bind_err, guard_ok, guard_err, done, gave, ok_is, not_both, Codec, then_codec, both_codec, as_codec}
+use Rattle.hsp_record.proofs.Codec.{IsOctets-append, IsOctets-field, IsOctets-take, zeros, length-zeros, IsOctets-zeros, bind_ok, bind_err, guard_ok, guard_err, done, gave, ok_is, not_both, Codec, then_codec, both_codec, as_codec}
 
 -- ---- a run whose length is known
 
@@ -65,6 +65,7 @@ octets_codec n = record {
       (length bytes, s.0, padded n bytes, (length-padded n bytes s.1, IsOctets-padded n bytes fits), inl (in_padded n bytes s.1));
   cut = λ x bytes left h c. elim c [ inl here ↦ cut_run n x bytes left h.0 here | inr later ↦ absurd later.2 ];
   some = (zeros n, (length-zeros n, IsOctets-zeros n));
+  octets = λ x h. IsOctets-field x h.1;
 }
 
 -- ---- a number
@@ -117,6 +118,18 @@ width64 = record {
   some = omega arith;
 }
 
+below_256 : (n : ℕ) → n % 256 < 256
+below_256 n = omega arith
+
+byte_octet : (i n : ℕ) → byte_at i n < 256
+byte_octet zero n = below_256 n
+byte_octet (suc i) n = below_256 (n / 256 ^ suc i)
+
+high_octets : (k n : ℕ) → IsOctets (bytes_high_first k n)
+high_octets zero n i = omega arith
+high_octets (suc k) n zero = byte_octet k n
+high_octets (suc k) n (suc i) = high_octets k n i
+
 -- A number is a run of octets, seen as a number.
 number_is : (w : Width) (bytes : List ℕ) → number_at w bytes ≡ (octets_at (byte_len w) bytes >>= λ x. gave (from_be_bytes w x.0) x.1)
 number_is w bytes =
@@ -153,6 +166,7 @@ number_codec w limit wide =
             | inr later ↦ absurd later.2
           ];
       some = (0, wide.some);
+      octets = λ n h. IsOctets-field (to_be_bytes w n) (high_octets (byte_len w) n);
     }
 
 -- ---- a length and that many octets
@@ -192,6 +206,10 @@ none_cut : {A C : Type 0} (fields : A → List (List ℕ)) (xs : List A) (bytes 
 none_cut fields [] bytes left h c = absurd c
 none_cut fields (x ∷ xs) bytes left h c = absurd (omega arith)
 
+none_octets : {A : Type 0} (fields : A → List (List ℕ)) (xs : List A) → length xs ≡ 0 → IsOctets (joined (all_fields fields xs))
+none_octets fields [] h i = omega arith
+none_octets fields (x ∷ xs) h i = absurd (omega arith)
+
 none_codec : {A : Type 0} (read : List ℕ → Result (A × List ℕ) Stop) (Fits : A → Type 0) (fields : A → List (List ℕ)) → Codec (List A) (times_at read 0) (λ xs. (length xs ≡ 0) × AllByRecursion Fits xs) (all_fields fields)
 unfolding times_at
 none_codec {A} read Fits fields = record {
@@ -202,6 +220,7 @@ none_codec {A} read Fits fields = record {
   fails = λ bytes e fits h. let made : List A × List ℕ = ([], bytes) in not_both made e h;
   cut = λ xs bytes left h c. none_cut fields xs bytes left h.0 c;
   some = ([], (refl, tt));
+  octets = λ xs h. none_octets fields xs h.0;
 }
 
 front_of : {A : Type 0} → A → List A → A × List A

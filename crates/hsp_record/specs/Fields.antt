@@ -1,5 +1,5 @@
 -- What the formats have in common: a spelling as its fields from left to right, and what other octets can be.
-use Rattle.std.specs.Prelude.{◌≡◌, ℕ, ◌+◌, ◌<◌, ◌≤◌, ◌^◌, List, [], ◌∷◌, ◌++◌, length, Result, Ok, Err}
+use Rattle.std.specs.Prelude.{◌≡◌, ◌≢◌, ℕ, ◌+◌, ◌<◌, ◌≤◌, ◌^◌, List, [], ◌∷◌, ◌++◌, length, Result, Ok, Err}
 use Rattle.std.specs.List.{AllByRecursion, slice_index}
 use Rattle.std.specs.Int.{w32, to_be_bytes}
 use Rattle.hsp_record.specs.declared.fault.RecordFault.{RecordFault}
@@ -91,3 +91,9 @@ HasOneSpelling {A} format = (x y : A) → format.Fits x → format.Fits y → sp
 -- What follows a spelling changes nothing of what is read, so no spelling is a proper prefix of another.
 abbrev pub HasNothingAfter : {A : Type 0} → Format A → Type 0
 HasNothingAfter {A} format = (x y : A) (after other : List ℕ) → format.Fits x → format.Fits y → spelling format x ++ after ≡ spelling format y ++ other → (x ≡ y) × (after ≡ other)
+
+-- No two answers are true of the same octets, where memory ran out at neither: they spell at most one value, or have one fault.
+abbrev pub HasOneAnswer : {A : Type 0} → Format A → Type 0
+HasOneAnswer {A} format =
+    (octets : List ℕ) (a b : Result A RecordFault) → a ≢ Err OutOfMemory → b ≢ Err OutOfMemory
+    → Means format octets a → Means format octets b → a ≡ b

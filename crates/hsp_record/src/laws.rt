@@ -1,6 +1,6 @@
 // What holds of all spellings.
 
-ghost use Rattle.hsp_record.specs.Fields.{HasOneSpelling, HasNothingAfter};
+ghost use Rattle.hsp_record.specs.Fields.{HasNothingAfter, HasOneAnswer, HasOneSpelling};
 ghost use Rattle.hsp_record.specs.Site.{site_format};
 ghost use Rattle.hsp_record.specs.Values.{values_format};
 ghost use Rattle.hsp_record.specs.Request.{request_format};
@@ -17,4 +17,12 @@ pub fn nothing_after()
     ensures sites { HasNothingAfter site_format }
     ensures value_lists { HasNothingAfter values_format }
     ensures requests { HasNothingAfter request_format }
+{}
+
+/// No two answers are true of the same octets: they spell at most one value, and where they spell none they have one
+/// fault.
+pub fn one_answer()
+    ensures sites { HasOneAnswer site_format }
+    ensures value_lists { HasOneAnswer values_format }
+    ensures requests { HasOneAnswer request_format }
 {}

@@ -20,4 +20,4 @@ returns-clause-means c = (answer_of c.args.octets.now (request_at c.args.octets.
 pub returns-clause-only : goal.returns-clause-only
 returns-clause-only c = λ other m.
     let answer = answer_of c.args.octets.now (request_at c.args.octets.now) in
-    subst (λ (r : Result (List ℕ) RecordFault). Agrees r (handle_of other)) (sym c.request_answer.ensures) (handles_agree answer other (means_answer request_limited c.args.octets.now other (λ i. omega (arith, c.type_inv.octets i)) m))
+    subst (λ (r : Result (List ℕ) RecordFault). Agrees r (handle_of other)) (sym c.request_answer.ensures) (handles_agree answer other (means_answer request_limited c.args.octets.now other m))

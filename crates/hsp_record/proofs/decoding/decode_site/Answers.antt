@@ -7,4 +7,4 @@ pub returns-clause-means : goal.returns-clause-means
 returns-clause-means c = means site_limited c.args.octets.now c.site_answer.result (λ i. omega (arith, c.type_inv.octets i)) c.site_answer.ensures
 
 pub returns-clause-only : goal.returns-clause-only
-returns-clause-only c = λ other m. only site_limited c.args.octets.now c.site_answer.result other (λ i. omega (arith, c.type_inv.octets i)) c.site_answer.ensures m
+returns-clause-only c = λ other m. only site_limited c.args.octets.now c.site_answer.result other c.site_answer.ensures m
