@@ -14,3 +14,4 @@ pub mod NextServers
 pub mod Reading
 pub mod BuiltParts
 pub mod Parting
+pub mod OneAnswer

@@ -204,3 +204,7 @@ instance_with inputs sites =
 -- the instance of the inputs, or the first fault
 abbrev pub IsBuilt : Inputs → Result Instance BuildFault → Type 0
 IsBuilt inputs answer = (sites : Result (List Site) BuildFault) × AreSitesOf inputs.settings inputs.values sites × (answer ≡ (sites >>= instance_with inputs))
+
+-- inputs have one answer: the instance, or one first fault
+abbrev pub HasOneAnswer : Type 0
+HasOneAnswer = (inputs : Inputs) (a b : Result Instance BuildFault) → IsBuilt inputs a → IsBuilt inputs b → a ≡ b

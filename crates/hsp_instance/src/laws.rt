@@ -1,6 +1,9 @@
 // What holds of all instances of inputs.
 
+ghost use Rattle.hsp_instance.specs.Building.{HasOneAnswer};
 ghost use Rattle.hsp_instance.specs.Parts.{BuiltHasItsParts};
+
+use hsp_record::laws::one_answer;
 
 /// The instance of five inputs, part by part:
 /// - Its rows are those of the demand.
@@ -11,3 +14,10 @@ ghost use Rattle.hsp_instance.specs.Parts.{BuiltHasItsParts};
 pub fn built_has_its_parts()
     ensures { BuiltHasItsParts }
 {}
+
+/// Five inputs define one instance, or they have one first fault.
+pub fn built_once()
+    ensures { HasOneAnswer }
+{
+    one_answer();
+}
