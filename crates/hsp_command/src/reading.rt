@@ -1,9 +1,10 @@
 // The order that words give.
 
-ghost use Rattle.std.specs.Prelude.{◌≡◌, ◌↔◌, [], true, false, IfNone, IfOk, IfSome, OnOk, Err, Some, None, codes, map, string_bytes};
+ghost use Rattle.std.specs.Prelude.{◌≡◌, ◌↔◌, [], true, false, IfNone, IfOk, IfSome, OnOk, Err, None, codes, map, option_map, string_bytes};
 ghost use Rattle.clap.specs.Words.{fault_of, found_of, kind_of, rows_of, first_of, subcommand_of};
 ghost use Rattle.clap.specs.declared.error.kind.ErrorKind.TheVariants as kind;
 ghost use Rattle.hsp_options.specs.Commands.{hsplan_app};
+ghost use Rattle.hsp_command.specs.Forms.{files_in, order_in};
 ghost use Rattle.hsp_command.specs.Orders.{HasInputs, HasNoPlace, IsOrderIn, IsOrderOf, IsUsage, kind_word};
 ghost use Rattle.hsp_command.specs.declared.fault.CommandFault.TheVariants as fault;
 ghost use Rattle.hsp_command.specs.declared.order.InputFiles.{InputFiles};
@@ -11,51 +12,33 @@ ghost use Rattle.hsp_command.specs.declared.order.Kind.{Kind};
 ghost use Rattle.hsp_command.specs.declared.order.Order.{Order};
 
 use crate::fault::CommandFault;
-use crate::order::{InputFiles, Kind, Order, Word};
+use crate::form::{Form, InputTexts, copied};
+use crate::order::{Kind, Order};
 use clap::error::ErrorKind;
 use clap::{ArgMatches, Error};
 use hsp_options::hsplan_command;
-use std::alloc::{AllocError, Global};
+use std::alloc::Global;
 
 // The value of this name, where it was given.
-fn word_of(alloc: Global, matches: &ArgMatches<'_>, name: &str) -> Result<Option<Word>, AllocError>
-    ensures { IfOk result (λ word. word ≡ first_of name.now (rows_of (found_of matches.now))) }
+fn text_of<'a>(matches: &ArgMatches<'a>, name: &str) -> Option<&'a str>
+    ensures { first_of name.now (rows_of (found_of matches.now))
+        ≡ option_map (λ text. text.now) result }
 {
-    match matches.get_str(name) {
-        Some(text) => Ok(Some(Word::new(String::from_str(alloc, text)?))),
-        None => Ok(None),
-    }
+    matches.get_str(name)
 }
 
-// A value that has to be there.
-fn needed_of(alloc: Global, matches: &ArgMatches<'_>, name: &str) -> Result<Word, CommandFault>
-    ensures given { IfOk result
-        (λ word. first_of name.now (rows_of (found_of matches.now)) ≡ Some word) }
-    ensures absent { result ≡ Err fault.Usage
-        → first_of name.now (rows_of (found_of matches.now)) ≡ None }
+fn inputs_of<'a>(matches: &ArgMatches<'a>) -> Option<InputTexts<'a>>
+    ensures given { IfSome result
+        (λ texts. HasInputs (rows_of (found_of matches.now)) (files_in texts)) }
+    ensures absent { IfNone result ((inputs : InputFiles)
+        → HasInputs (rows_of (found_of matches.now)) inputs → ⊥) }
 {
-    match word_of(alloc, matches, name)? {
-        Some(word) => Ok(word),
-        None => Err(CommandFault::Usage),
-    }
-}
-
-fn inputs_of(alloc: Global, matches: &ArgMatches<'_>) -> Result<InputFiles, CommandFault>
-    ensures given { IfOk result (λ inputs. HasInputs (rows_of (found_of matches.now)) inputs) }
-    ensures absent { result ≡ Err fault.Usage → (inputs : InputFiles)
-        → HasInputs (rows_of (found_of matches.now)) inputs → ⊥ }
-{
-    let settings = needed_of(alloc, matches, "settings")?;
-    let values = word_of(alloc, matches, "values")?;
-    let demand = needed_of(alloc, matches, "demand")?;
-    let costs = needed_of(alloc, matches, "costs")?;
-    let capacity = needed_of(alloc, matches, "capacity")?;
-    Ok(InputFiles {
-        settings,
-        values,
-        demand,
-        costs,
-        capacity,
+    Some(InputTexts {
+        settings: text_of(matches, "settings")?,
+        values: text_of(matches, "values"),
+        demand: text_of(matches, "demand")?,
+        costs: text_of(matches, "costs")?,
+        capacity: text_of(matches, "capacity")?,
     })
 }
 
@@ -66,122 +49,115 @@ fn is_given(matches: &ArgMatches<'_>, name: &str) -> bool
     ensures absent { result ≡ false
         → first_of name.now (rows_of (found_of matches.now)) ≡ None }
 {
-    match matches.get_str(name) {
+    match text_of(matches, name) {
         Some(_text) => true,
         None => false,
     }
 }
 
 // The form of `locate` that asks for a place.
-fn place_of(alloc: Global, matches: &ArgMatches<'_>) -> Result<Order, CommandFault>
+fn place_of<'a>(matches: &ArgMatches<'a>) -> Option<Form<'a>>
     requires settings { first_of (codes "settings") (rows_of (found_of matches.now)) ≡ None }
     requires values { first_of (codes "values") (rows_of (found_of matches.now)) ≡ None }
-    ensures order { IfOk result
-        (λ order. IsOrderIn order (codes "locate") (rows_of (found_of matches.now))) }
-    ensures usage { result ≡ Err fault.Usage → (order : Order)
+    ensures order { IfSome result (λ form.
+        IsOrderIn (order_in form) (codes "locate") (rows_of (found_of matches.now))) }
+    ensures none { IfNone result ((order : Order)
         → IsOrderIn order (codes "locate") (rows_of (found_of matches.now))
-        → HasNoPlace (rows_of (found_of matches.now)) }
+        → HasNoPlace (rows_of (found_of matches.now))) }
 {
-    let option = needed_of(alloc, matches, "option")?;
-    let servers = needed_of(alloc, matches, "servers")?;
-    let handle = needed_of(alloc, matches, "handle")?;
-    Ok(Order::LocatePlace {
-        option,
-        servers,
-        handle,
+    Some(Form::LocatePlace {
+        option: text_of(matches, "option")?,
+        servers: text_of(matches, "servers")?,
+        handle: text_of(matches, "handle")?,
     })
 }
 
 // The form of `locate` that asks for sites.
-fn sites_of(alloc: Global, matches: &ArgMatches<'_>) -> Result<Order, CommandFault>
+fn sites_of<'a>(matches: &ArgMatches<'a>) -> Option<Form<'a>>
     requires { HasNoPlace (rows_of (found_of matches.now)) }
-    ensures order { IfOk result
-        (λ order. IsOrderIn order (codes "locate") (rows_of (found_of matches.now))) }
-    ensures usage { result ≡ Err fault.Usage → (order : Order)
-        → IsOrderIn order (codes "locate") (rows_of (found_of matches.now)) → ⊥ }
+    ensures order { IfSome result (λ form.
+        IsOrderIn (order_in form) (codes "locate") (rows_of (found_of matches.now))) }
+    ensures none { IfNone result ((order : Order)
+        → IsOrderIn order (codes "locate") (rows_of (found_of matches.now)) → ⊥) }
 {
-    let settings = needed_of(alloc, matches, "settings")?;
-    let values = word_of(alloc, matches, "values")?;
-    let handle = needed_of(alloc, matches, "handle")?;
-    Ok(Order::LocateSites {
-        settings,
-        values,
-        handle,
+    Some(Form::LocateSites {
+        settings: text_of(matches, "settings")?,
+        values: text_of(matches, "values"),
+        handle: text_of(matches, "handle")?,
     })
 }
 
 // One of the two forms of `locate`, and neither a mixture nor a part.
-fn locate_of(alloc: Global, matches: &ArgMatches<'_>) -> Result<Order, CommandFault>
-    ensures order { IfOk result
-        (λ order. IsOrderIn order (codes "locate") (rows_of (found_of matches.now))) }
-    ensures usage { result ≡ Err fault.Usage → (order : Order)
-        → IsOrderIn order (codes "locate") (rows_of (found_of matches.now)) → ⊥ }
+fn locate_of<'a>(matches: &ArgMatches<'a>) -> Option<Form<'a>>
+    ensures order { IfSome result (λ form.
+        IsOrderIn (order_in form) (codes "locate") (rows_of (found_of matches.now))) }
+    ensures none { IfNone result ((order : Order)
+        → IsOrderIn order (codes "locate") (rows_of (found_of matches.now)) → ⊥) }
 {
     if !is_given(matches, "option") && !is_given(matches, "servers") {
-        return sites_of(alloc, matches);
+        return sites_of(matches);
     }
     if is_given(matches, "settings") || is_given(matches, "values") {
-        return Err(CommandFault::Usage);
+        return None;
     }
-    place_of(alloc, matches)
+    place_of(matches)
 }
 
-fn site_of(alloc: Global, matches: &ArgMatches<'_>) -> Result<Order, CommandFault>
-    ensures order { IfOk result
-        (λ order. IsOrderIn order (codes "site") (rows_of (found_of matches.now))) }
-    ensures usage { result ≡ Err fault.Usage → (order : Order)
-        → IsOrderIn order (codes "site") (rows_of (found_of matches.now)) → ⊥ }
+fn site_of<'a>(matches: &ArgMatches<'a>) -> Option<Form<'a>>
+    ensures order { IfSome result (λ form.
+        IsOrderIn (order_in form) (codes "site") (rows_of (found_of matches.now))) }
+    ensures none { IfNone result ((order : Order)
+        → IsOrderIn order (codes "site") (rows_of (found_of matches.now)) → ⊥) }
 {
-    let index = word_of(alloc, matches, "index")?;
-    let file = needed_of(alloc, matches, "file")?;
-    Ok(Order::Site { index, file })
+    Some(Form::Site {
+        index: text_of(matches, "index"),
+        file: text_of(matches, "file")?,
+    })
 }
 
-fn plan_of(alloc: Global, matches: &ArgMatches<'_>) -> Result<Order, CommandFault>
-    ensures order { IfOk result
-        (λ order. IsOrderIn order (codes "plan") (rows_of (found_of matches.now))) }
-    ensures usage { result ≡ Err fault.Usage → (order : Order)
-        → IsOrderIn order (codes "plan") (rows_of (found_of matches.now)) → ⊥ }
+fn plan_of<'a>(matches: &ArgMatches<'a>) -> Option<Form<'a>>
+    ensures order { IfSome result (λ form.
+        IsOrderIn (order_in form) (codes "plan") (rows_of (found_of matches.now))) }
+    ensures none { IfNone result ((order : Order)
+        → IsOrderIn order (codes "plan") (rows_of (found_of matches.now)) → ⊥) }
 {
-    let inputs = inputs_of(alloc, matches)?;
-    Ok(Order::Plan { inputs })
+    Some(Form::Plan {
+        inputs: inputs_of(matches)?,
+    })
 }
 
-fn check_of(alloc: Global, matches: &ArgMatches<'_>) -> Result<Order, CommandFault>
-    ensures order { IfOk result
-        (λ order. IsOrderIn order (codes "check") (rows_of (found_of matches.now))) }
-    ensures usage { result ≡ Err fault.Usage → (order : Order)
-        → IsOrderIn order (codes "check") (rows_of (found_of matches.now)) → ⊥ }
+fn check_of<'a>(matches: &ArgMatches<'a>) -> Option<Form<'a>>
+    ensures order { IfSome result (λ form.
+        IsOrderIn (order_in form) (codes "check") (rows_of (found_of matches.now))) }
+    ensures none { IfNone result ((order : Order)
+        → IsOrderIn order (codes "check") (rows_of (found_of matches.now)) → ⊥) }
 {
-    let plan = needed_of(alloc, matches, "plan")?;
-    let inputs = inputs_of(alloc, matches)?;
-    Ok(Order::Check { inputs, plan })
+    Some(Form::Check {
+        inputs: inputs_of(matches)?,
+        plan: text_of(matches, "plan")?,
+    })
 }
 
-fn dispatch_of(alloc: Global, matches: &ArgMatches<'_>) -> Result<Order, CommandFault>
-    ensures order { IfOk result
-        (λ order. IsOrderIn order (codes "dispatch") (rows_of (found_of matches.now))) }
-    ensures usage { result ≡ Err fault.Usage → (order : Order)
-        → IsOrderIn order (codes "dispatch") (rows_of (found_of matches.now)) → ⊥ }
+fn dispatch_of<'a>(matches: &ArgMatches<'a>) -> Option<Form<'a>>
+    ensures order { IfSome result (λ form.
+        IsOrderIn (order_in form) (codes "dispatch") (rows_of (found_of matches.now))) }
+    ensures none { IfNone result ((order : Order)
+        → IsOrderIn order (codes "dispatch") (rows_of (found_of matches.now)) → ⊥) }
 {
-    let plan = needed_of(alloc, matches, "plan")?;
-    let log = needed_of(alloc, matches, "log")?;
-    let fronts = word_of(alloc, matches, "fronts")?;
-    let inputs = inputs_of(alloc, matches)?;
-    Ok(Order::Dispatch {
-        inputs,
-        plan,
-        log,
-        fronts,
+    Some(Form::Dispatch {
+        inputs: inputs_of(matches)?,
+        plan: text_of(matches, "plan")?,
+        log: text_of(matches, "log")?,
+        fronts: text_of(matches, "fronts"),
     })
 }
 
 // The kind of report that has the word.
-fn kind_of(word: &Word) -> Option<Kind>
+fn kind_of(word: &str) -> Option<Kind>
     ensures kind { IfSome result (λ kind. word.now ≡ kind_word kind) }
     ensures none { IfNone result ((kind : Kind) → word.now ≡ kind_word kind → ⊥) }
 {
-    match word.as_str() {
+    match word {
         "load" => Some(Kind::Load),
         "region" => Some(Kind::Region),
         "shortage" => Some(Kind::Shortage),
@@ -189,47 +165,49 @@ fn kind_of(word: &Word) -> Option<Kind>
     }
 }
 
-// The kind of report that is asked for.
-fn needed_kind_of(alloc: Global, matches: &ArgMatches<'_>) -> Result<Kind, CommandFault>
-    ensures given { IfOk result
-        (λ kind. first_of (codes "kind") (rows_of (found_of matches.now)) ≡ Some (kind_word kind)) }
-    ensures absent { result ≡ Err fault.Usage → (kind : Kind)
-        → first_of (codes "kind") (rows_of (found_of matches.now)) ≡ Some (kind_word kind) → ⊥ }
+fn report_of<'a>(matches: &ArgMatches<'a>) -> Option<Form<'a>>
+    ensures order { IfSome result (λ form.
+        IsOrderIn (order_in form) (codes "report") (rows_of (found_of matches.now))) }
+    ensures none { IfNone result ((order : Order)
+        → IsOrderIn order (codes "report") (rows_of (found_of matches.now)) → ⊥) }
 {
-    let word = needed_of(alloc, matches, "kind")?;
-    match kind_of(&word) {
-        Some(kind) => Ok(kind),
-        None => Err(CommandFault::Usage),
+    Some(Form::Report {
+        inputs: inputs_of(matches)?,
+        plan: text_of(matches, "plan")?,
+        kind: kind_of(text_of(matches, "kind")?)?,
+    })
+}
+
+// The form of a subcommand with its values. It is decided before anything is copied, so memory can't run out meanwhile.
+fn form_of<'a>(name: &str, matches: &ArgMatches<'a>) -> Option<Form<'a>>
+    ensures order { IfSome result (λ form.
+        IsOrderIn (order_in form) name.now (rows_of (found_of matches.now))) }
+    ensures none { IfNone result ((order : Order)
+        → IsOrderIn order name.now (rows_of (found_of matches.now)) → ⊥) }
+{
+    match name {
+        "locate" => locate_of(matches),
+        "site" => site_of(matches),
+        "plan" => plan_of(matches),
+        "check" => check_of(matches),
+        "dispatch" => dispatch_of(matches),
+        "report" => report_of(matches),
+        _ => None,
     }
 }
 
-fn report_of(alloc: Global, matches: &ArgMatches<'_>) -> Result<Order, CommandFault>
-    ensures order { IfOk result
-        (λ order. IsOrderIn order (codes "report") (rows_of (found_of matches.now))) }
-    ensures usage { result ≡ Err fault.Usage → (order : Order)
-        → IsOrderIn order (codes "report") (rows_of (found_of matches.now)) → ⊥ }
-{
-    let kind = needed_kind_of(alloc, matches)?;
-    let plan = needed_of(alloc, matches, "plan")?;
-    let inputs = inputs_of(alloc, matches)?;
-    Ok(Order::Report { inputs, plan, kind })
-}
-
-// The order of a subcommand with its values.
+// The order of a subcommand with its values. Memory can run out only where they give one.
 fn order_of(alloc: Global, name: &str, matches: &ArgMatches<'_>) -> Result<Order, CommandFault>
     ensures order { IfOk result
         (λ order. IsOrderIn order name.now (rows_of (found_of matches.now))) }
     ensures usage { result ≡ Err fault.Usage → (order : Order)
         → IsOrderIn order name.now (rows_of (found_of matches.now)) → ⊥ }
+    ensures memory { result ≡ Err fault.OutOfMemory
+        → (order : Order) × IsOrderIn order name.now (rows_of (found_of matches.now)) }
 {
-    match name {
-        "locate" => locate_of(alloc, matches),
-        "site" => site_of(alloc, matches),
-        "plan" => plan_of(alloc, matches),
-        "check" => check_of(alloc, matches),
-        "dispatch" => dispatch_of(alloc, matches),
-        "report" => report_of(alloc, matches),
-        _ => Err(CommandFault::Usage),
+    match form_of(name, matches) {
+        Some(form) => Ok(copied(alloc, &form)?),
+        None => Err(CommandFault::Usage),
     }
 }
 
