@@ -13,5 +13,4 @@ pub mod NewRows
 pub mod NextServers
 pub mod Reading
 pub mod BuiltParts
-pub mod Parting
 pub mod OneAnswer

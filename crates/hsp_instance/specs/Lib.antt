@@ -5,4 +5,3 @@ pub mod Building
 pub mod Parts
 pub mod RegionCosts
 pub mod Groups
-pub mod Runs
