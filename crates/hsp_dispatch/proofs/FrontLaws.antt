@@ -1,39 +1,24 @@
 -- What holds of fronts.
-use Rattle.std.proofs.Common.{◌≡◌, ◌≢◌, ◌<◌, ◌≤◌, ◌+◌, ◌∙◌, ◌++◌, ℕ, List, [], ◌∷◌, length, take, drop, if◌then◌else◌, arith, refl, sym, ap, ap₂, eq-eqb}
+use Rattle.std.proofs.Common.{◌≡◌, ◌<◌, ◌≤◌, ◌+◌, ◌-◌, ◌∙◌, ◌++◌, ℕ, List, [], ◌∷◌, length, take, drop, if◌then◌else◌, arith, refl, sym, ap, ap₂, eq-eqb, subst}
 use Rattle.std.proofs.Common.{inl, inr}
 use Rattle.std.specs.Prelude.{nat_lt}
 use Rattle.std.proofs.lemmas.Bool.{cases_eq, cases_lt, le-ltb, lt-ltb, ne_eqb}
-use Rattle.std.proofs.lemmas.List.{append-nil}
 use Rattle.hsp_instance.specs.Instance.{Instance}
 use Rattle.hsp_check.specs.Plan.{Plan}
 use Rattle.hsp_sums.specs.Sums.{sum_below}
 use Rattle.hsp_sums.proofs.Summing.{sum_below_le, sum_below_same}
 use Rattle.hsp_dispatch.specs.Dispatch.{Entry, IsSame, answer_to, assigned_in, count_for, rest, spread}
-use Rattle.hsp_dispatch.specs.FrontLaws.{AnswersByShares, BeginsWithShares, EndsInTheSame, GoesByItsEntries, IsSpentTogether, NeverExceedsTogether, WasSpentAt}
-use Rattle.hsp_dispatch.specs.Fronts.{Event, IsTakenAt, Tables, answer_among, answers_at, assigned_at, entries_at, event_answer, event_answers_after, fronts_of, left_at_front, share, share_of, shares_of}
+use Rattle.hsp_dispatch.specs.FrontLaws.{AnswersByShares, AreFrontsAfter, BeginsWithShares, EndsInTheSame, GoesByItsEntries, IsSpentTogether, NeverExceedsTogether, WasSpentAt}
+use Rattle.hsp_dispatch.specs.Fronts.{Event, IsTakenAt, Tables, answer_among, answers_at, assigned_at, count_in_fronts, entries_at, event_answer, event_answers_after, front_answers, fronts_of, left_at_front, share, share_of, shares_of}
 use Rattle.hsp_dispatch.specs.declared.answer.Answer.{Answer}
 use Rattle.hsp_dispatch.specs.declared.answer.Answer.TheVariants.{Spent}
 use Rattle.hsp_dispatch.specs.declared.answer.FrontAnswer.{FrontAnswer}
 use Rattle.hsp_dispatch.specs.declared.answer.FrontAnswer.TheVariants.{Answered, NoFront}
 use Rattle.hsp_dispatch.proofs.Dispatching.{is_spent_after_all, never_exceeds}
+use Rattle.hsp_dispatch.proofs.FrontCounts.{assigned_at_is, assigned_together, entries_append, more_elsewhere, more_here, rest_at_is}
 use Rattle.hsp_dispatch.proofs.FrontShares.{shares_add_up}
 use Rattle.hsp_dispatch.proofs.Resting.{answer_after, assigned_is, count_append, rest_more, rest_none, take_over}
 use Rattle.hsp_dispatch.proofs.Spreads.{times, times_append}
-
--- ---- the entries at a front
-
-entries_append : (front : ℕ) (a b : List Event) → entries_at front (a ++ b) ≡ entries_at front a ++ entries_at front b
-entries_append front [] b = refl
-entries_append front (event ∷ a) b = elim (cases_eq event.front front) [
-  | inl here ↦ rw (eq-eqb event.front front here) (ap (λ (more : List Entry). event.entry ∷ more) (entries_append front a b))
-  | inr other ↦ rw (ne_eqb event.front front other) (entries_append front a b)
-]
-
-more_here : (front : ℕ) (events : List Event) (event : Event) → event.front ≡ front → entries_at front (events ++ event ∷ []) ≡ entries_at front events ++ event.entry ∷ []
-more_here front events event here = entries_append front events (event ∷ []) ∙ rw (eq-eqb event.front front here) refl
-
-more_elsewhere : (front : ℕ) (events : List Event) (event : Event) → event.front ≢ front → entries_at front (events ++ event ∷ []) ≡ entries_at front events
-more_elsewhere front events event other = entries_append front events (event ∷ []) ∙ rw (ne_eqb event.front front other) (append-nil (entries_at front events))
 
 -- ---- fronts that answer one event after the other
 
@@ -76,15 +61,27 @@ left_on it fronts tables events event old new same many left taken front inside 
       ∙ ap (λ (entries : List Entry). rest it (tables front) entries row site) (sym (more_elsewhere front events event other))
 ]
 
+-- what fronts hold, by their own entries
+pub hold_rests : (it : Instance) (x : Plan) (fronts : ℕ) (events : List Event) (tables : Tables) → AreFrontsAfter it x fronts events tables
+    → (front : ℕ) → front < fronts → IsSame (left_at_front tables front) (rest it (share_of fronts front x) (entries_at front events))
+hold_rests it x fronts events tables are front inside row site = are.each front inside row site ∙ rest_at_is it fronts x front events inside row site
+
+pub are_after : (it : Instance) (x : Plan) (fronts : ℕ) (events : List Event) (tables : Tables) → tables.instance ≡ it → fronts_of tables ≡ fronts
+    → ((front : ℕ) → front < fronts → IsSame (left_at_front tables front) (rest it (share_of fronts front x) (entries_at front events)))
+    → AreFrontsAfter it x fronts events tables
+are_after it x fronts events tables instance many left = record {
+  instance = instance;
+  many = many;
+  each = λ front inside row site. left front inside row site ∙ sym (rest_at_is it fronts x front events inside row site);
+}
+
 pub answers_by_shares : AnswersByShares
-answers_by_shares it x fronts events event old new are taken = (
-  answered_by it fronts (shares_of fronts x) events event old are.instance are.many are.each,
-  record {
-    instance = taken.instance ∙ are.instance;
-    many = taken.many ∙ are.many;
-    each = left_on it fronts (shares_of fronts x) events event old new are.instance are.many are.each taken;
-  },
-)
+answers_by_shares it x fronts events event old new are taken =
+    let left = hold_rests it x fronts events old are in (
+      answered_by it fronts (shares_of fronts x) events event old are.instance are.many left,
+      are_after it x fronts (events ++ event ∷ []) new (taken.instance ∙ are.instance) (taken.many ∙ are.many)
+          (left_on it fronts (shares_of fronts x) events event old new are.instance are.many left taken),
+    )
 
 -- ---- each front apart
 
@@ -111,22 +108,32 @@ at_front it fronts x front before (event ∷ events) =
     ]
 
 pub by_its_entries : GoesByItsEntries
-by_its_entries it fronts x front a b same = (
-  at_front it fronts x front [] a ∙ ap (λ (entries : List Entry). own_answers it fronts x front [] entries) same ∙ sym (at_front it fronts x front [] b),
-  λ row site. ap (λ (entries : List Entry). rest it (share_of fronts front x) entries row site) same,
-)
+by_its_entries it fronts x front a b same =
+    let given : answers_at front a (front_answers it fronts x a) ≡ answers_at front b (front_answers it fronts x b) =
+    at_front it fronts x front [] a ∙ ap (λ (entries : List Entry). own_answers it fronts x front [] entries) same ∙ sym (at_front it fronts x front [] b) in (
+      given,
+      λ row site.
+          ap₂ (λ (entries : List Entry) (answers : List FrontAnswer). share_of fronts front x row site - count_in_fronts it row site entries answers) same given,
+    )
 
 pub in_the_same : EndsInTheSame
-in_the_same it fronts x a b same front row site = ap (λ (entries : List Entry). rest it (share_of fronts front x) entries row site) (same front)
+in_the_same it fronts x a b same front = (by_its_entries it fronts x front a b (same front)).1
 
 -- ---- all fronts together
+
+-- no front has more than its share assigned
+most_at : (it : Instance) (fronts : ℕ) (x : Plan) (events : List Event) (row site front : ℕ) → front < fronts
+    → assigned_at it fronts x front events row site ≤ share fronts front (x row site)
+most_at it fronts x events row site front inside =
+    subst (λ (n : ℕ). n ≤ share fronts front (x row site)) (sym (assigned_at_is it fronts x front events row site inside))
+    (never_exceeds it (share_of fronts front x) (entries_at front events) row site)
 
 pub never_exceeds_together : NeverExceedsTogether
 never_exceeds_together it fronts x events row site some =
     let each : sum_below fronts (λ front. assigned_at it fronts x front events row site) ≤ sum_below fronts (λ front. share fronts front (x row site)) =
     sum_below_le fronts (λ front. assigned_at it fronts x front events row site) (λ front. share fronts front (x row site))
-    (λ front l. never_exceeds it (share_of fronts front x) (entries_at front events) row site) in
-    omega (arith, each, shares_add_up fronts (x row site) some)
+    (λ front inside. most_at it fronts x events row site front inside) in
+    omega (arith, assigned_together it fronts x events row site, each, shares_add_up fronts (x row site) some)
 
 -- more entries have no less assigned
 grows : (it : Instance) (x : Plan) (a b : List Entry) (row site : ℕ) → assigned_in it x a row site ≤ assigned_in it x (a ++ b) row site
@@ -156,13 +163,14 @@ spent_at it fronts x events row site front there was inside =
     ap (λ (es : List Event). entries_at front es) was.parts ∙ entries_append front was.earlier (was.event ∷ was.later) in
     let same : assigned_at it fronts x front events row site
     ≡ assigned_in it (share_of fronts front x) (entries_at front was.earlier ++ entries_at front (was.event ∷ was.later)) row site =
-    ap (λ (es : List Entry). assigned_in it (share_of fronts front x) es row site) entries in
+    assigned_at_is it fronts x front events row site there ∙ ap (λ (es : List Entry). assigned_in it (share_of fronts front x) es row site) entries in
     let least = grows it (share_of fronts front x) (entries_at front was.earlier) (entries_at front (was.event ∷ was.later)) row site in
-    let most : assigned_at it fronts x front events row site ≤ share fronts front (x row site) = never_exceeds it (share_of fronts front x) (entries_at front events) row site in
+    let most = most_at it fronts x events row site front there in
     omega (arith, all, same, least, most)
 
 pub is_spent_together : IsSpentTogether
 is_spent_together it fronts x events row site some was inside =
-    sum_below_same fronts (λ front. assigned_at it fronts x front events row site) (λ front. share fronts front (x row site))
+    assigned_together it fronts x events row site
+    ∙ sum_below_same fronts (λ front. assigned_at it fronts x front events row site) (λ front. share fronts front (x row site))
     (λ front l. spent_at it fronts x events row site front l (was front l) inside)
     ∙ shares_add_up fronts (x row site) some

@@ -14,4 +14,7 @@ pub mod ByHash
 pub mod FrontShares
 pub mod Standings
 pub mod FrontsHeld
+pub mod FrontCounts
 pub mod FrontLaws
+pub mod WholeRows
+pub mod OverCalls

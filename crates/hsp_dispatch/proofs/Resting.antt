@@ -113,7 +113,7 @@ take_over k m xs =
 
 -- ---- answers by what is left
 
-answer_same : (it : Instance) (x y : Plan) (earlier : List Entry) (entry : Entry) → IsSame x y → answer_to it x earlier entry ≡ answer_to it y earlier entry
+pub answer_same : (it : Instance) (x y : Plan) (earlier : List Entry) (entry : Entry) → IsSame x y → answer_to it x earlier entry ≡ answer_to it y earlier entry
 answer_same it x y earlier entry same = by_row (row_of it entry)
   where
     by_row : (found : Option ℕ) → answer_in it x earlier found ≡ answer_in it y earlier found
@@ -141,7 +141,7 @@ answer_after it x y before entry same =
 pub rest_none : (it : Instance) (x : Plan) → IsSame x (rest it x [])
 rest_none it x row site = omega arith
 
-rest_same : (it : Instance) (x y : Plan) (entries : List Entry) → IsSame x y → IsSame (rest it x entries) (rest it y entries)
+pub rest_same : (it : Instance) (x y : Plan) (entries : List Entry) → IsSame x y → IsSame (rest it x entries) (rest it y entries)
 rest_same it x y entries same row site =
     rest_is it x entries row site
     ∙ ap (λ (own : List ℕ). x row site - times site (take (count_for it row entries) own)) (spread_same it x y row same)

@@ -1,10 +1,13 @@
 -- What holds of fronts, for every instance, every plan and every list of events.
-use Rattle.std.specs.Prelude.{◌≡◌, ◌≤◌, ◌<◌, ℕ, List, [], ◌∷◌, ◌++◌, length, Some}
-use Rattle.hsp_instance.specs.Instance.{Instance}
-use Rattle.hsp_check.specs.Plan.{Plan}
+use Rattle.std.specs.Prelude.{◌≡◌, ◌≤◌, ◌<◌, ℕ, List, [], ◌∷◌, ◌++◌, length, map, Some}
+use Rattle.std.specs.List.{slice_get}
+use Rattle.hsp_instance.specs.Instance.{Instance, IsInstance, Row}
+use Rattle.hsp_check.specs.Instance.{network_of}
+use Rattle.hsp_check.specs.Plan.{Feasible, Plan}
 use Rattle.hsp_sums.specs.Sums.{sum_below}
-use Rattle.hsp_dispatch.specs.Dispatch.{IsSame, row_of}
-use Rattle.hsp_dispatch.specs.Fronts.{AreFrontsOf, Event, IsTakenAt, Tables, answer_among, answers_at, assigned_by_all, entries_at, front_answer, front_answers, fronts_of, left_at_front, rest_at, shares_of}
+use Rattle.hsp_dispatch.specs.Desks.{IsLeftBy, answers_by}
+use Rattle.hsp_dispatch.specs.Dispatch.{IsSame, answers, row_of}
+use Rattle.hsp_dispatch.specs.Fronts.{AreFrontsOf, Event, IsTakenAt, Tables, answer_among, answers_at, assigned_by_all, entries_at, front_answer, front_answers, fronts_of, left_at_front, rest_at, share_of, shares_of}
 use Rattle.hsp_dispatch.specs.declared.answer.Answer.TheVariants.{Spent}
 use Rattle.hsp_dispatch.specs.declared.answer.FrontAnswer.TheVariants.{Answered}
 
@@ -27,6 +30,19 @@ AnswersByShares =
     (it : Instance) (x : Plan) (fronts : ℕ) (events : List Event) (event : Event) (old new : Tables) → AreFrontsAfter it x fronts events old
     → IsTakenAt event.front event.entry old new
     → (answer_among old event.front event.entry ≡ front_answer it fronts x events event) × AreFrontsAfter it x fronts (events ++ event ∷ []) new
+
+-- the answers at a front are those of a dispatcher that has the front's share, to the front's own entries
+abbrev pub AnswersAsDispatchers : Type 0
+AnswersAsDispatchers =
+    (it : Instance) (fronts : ℕ) (x : Plan) (front : ℕ) (events : List Event) → front < fronts
+    → answers_at front events (front_answers it fronts x events) ≡ map Answered (answers it (share_of fronts front x) (entries_at front events))
+
+-- fronts that hold what events leave of their shares answer more events as they stand in one list, and hold then what that list leaves
+abbrev pub FrontsGoOn : Type 0
+FrontsGoOn =
+    (it : Instance) (x : Plan) (fronts : ℕ) (events more : List Event) (old new : Tables) → AreFrontsAfter it x fronts events old → IsLeftBy old more new
+    → (front_answers it fronts x (events ++ more) ≡ front_answers it fronts x events ++ answers_by old more)
+    × AreFrontsAfter it x fronts (events ++ more) new
 
 -- lists of events with the same entries at a front have the same answers there, and leave the same of its share
 abbrev pub GoesByItsEntries : Type 0
@@ -62,3 +78,10 @@ IsSpentTogether =
     (it : Instance) (fronts : ℕ) (x : Plan) (events : List Event) (row site : ℕ) → 0 < fronts
     → ((front : ℕ) → front < fronts → WasSpentAt it fronts x row front events) → site < length it.sites
     → assigned_by_all it fronts x events row site ≡ x row site
+
+-- and where the plan is feasible, that is the whole number of the row
+abbrev pub IsServedTogether : Type 0
+IsServedTogether =
+    (it : Instance) (fronts : ℕ) (x : Plan) (events : List Event) (row : ℕ) (own : Row) → IsInstance it → Feasible (network_of it) x → 0 < fronts
+    → slice_get it.rows row ≡ Some own → ((front : ℕ) → front < fronts → WasSpentAt it fronts x row front events)
+    → sum_below (length it.sites) (λ site. assigned_by_all it fronts x events row site) ≡ own.count

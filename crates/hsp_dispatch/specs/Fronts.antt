@@ -1,10 +1,9 @@
 -- Fronts: dispatchers that share one plan, each with a fixed share of it.
-use Rattle.std.specs.Prelude.{◌≡◌, ◌≢◌, ◌<◌, ◌+◌, ◌/◌, ◌%◌, ◌==◌, nat_lt, Bool, true, false, ℕ, List, [], ◌∷◌, ◌++◌, count_by, length, map, Some, if◌then◌else◌}
+use Rattle.std.specs.Prelude.{◌≡◌, ◌≢◌, ◌<◌, ◌+◌, ◌-◌, ◌/◌, ◌%◌, ◌==◌, nat_lt, Bool, true, false, ℕ, List, [], ◌∷◌, ◌++◌, count_by, length, map, Some, if◌then◌else◌}
 use Rattle.std.specs.List.{AllByRecursion, slice_get}
 use Rattle.hsp_instance.specs.Instance.{Instance, IsInstance}
 use Rattle.hsp_check.specs.Plan.{Plan}
-use Rattle.hsp_sums.specs.Sums.{sum_below}
-use Rattle.hsp_dispatch.specs.Dispatch.{Entry, IsSame, answer_to, assigned_in, is_assigned, is_spent, is_unknown, rest, row_of}
+use Rattle.hsp_dispatch.specs.Dispatch.{Entry, IsSame, answer_to, is_assigned, is_in, is_spent, is_unknown, rest, row_of}
 use Rattle.hsp_dispatch.specs.Shares.{Held, IsHeld, cells_in, left_of}
 use Rattle.hsp_dispatch.specs.declared.answer.Answer.{Answer}
 use Rattle.hsp_dispatch.specs.declared.answer.FrontAnswer.{FrontAnswer}
@@ -64,16 +63,37 @@ answers_at front [] given = []
 answers_at front (event ∷ events) [] = []
 answers_at front (event ∷ events) (answer ∷ given) = if event.front == front then answer ∷ answers_at front events given else answers_at front events given
 
--- what events leave of the share of a front
-abbrev pub rest_at : Instance → ℕ → Plan → ℕ → List Event → Plan
-rest_at it fronts x front events = rest it (share_of fronts front x) (entries_at front events)
+-- ---- what is left
 
--- how many entries of a row are assigned to a site, at a front and at all fronts
+-- the entry is for the row, and it is assigned to the site
+abbrev pub is_in_fronts : Instance → ℕ → ℕ → Entry → FrontAnswer → Bool
+is_in_fronts it row site entry (Answered answer) = is_in it row site entry answer
+is_in_fronts it row site entry NoFront = false
+
+-- how many entries of a row are assigned to a site, by their answers
+abbrev pub count_in_fronts : Instance → ℕ → ℕ → List Entry → List FrontAnswer → ℕ
+count_in_fronts it row site [] given = 0
+count_in_fronts it row site (entry ∷ more) [] = 0
+count_in_fronts it row site (entry ∷ more) (answer ∷ given) =
+    (if is_in_fronts it row site entry answer then 1 else 0) + count_in_fronts it row site more given
+
+-- the entries of events
+abbrev pub entries_of : List Event → List Entry
+entries_of events = map (λ (event : Event). event.entry) events
+
+-- how many entries of a row are assigned to a site, by the answers to all events: at a front, and at all fronts
 abbrev pub assigned_at : Instance → ℕ → Plan → ℕ → List Event → Plan
-assigned_at it fronts x front events = assigned_in it (share_of fronts front x) (entries_at front events)
+assigned_at it fronts x front events row site =
+    count_in_fronts it row site (entries_at front events) (answers_at front events (front_answers it fronts x events))
 
 abbrev pub assigned_by_all : Instance → ℕ → Plan → List Event → Plan
-assigned_by_all it fronts x events row site = sum_below fronts (λ front. assigned_at it fronts x front events row site)
+assigned_by_all it fronts x events row site = count_in_fronts it row site (entries_of events) (front_answers it fronts x events)
+
+-- what events leave of the share of a front
+abbrev pub rest_at : Instance → ℕ → Plan → ℕ → List Event → Plan
+rest_at it fronts x front events row site = share_of fronts front x row site - assigned_at it fronts x front events row site
+
+-- ---- sums
 
 -- how many answers there are of each kind
 abbrev pub is_kind : (Answer → Bool) → FrontAnswer → Bool

@@ -1,3 +1,4 @@
+use Rattle.hsp_dispatch.proofs.FrontCounts.{as_dispatchers}
 use Rattle.hsp_dispatch.proofs.FrontLaws as lemmas
 use Rattle.hsp_dispatch.proofs.FrontShares.{shares_add_up}
 use Rattle.hsp_dispatch.proofs.laws.fronts_by_shares.Goals as goal
@@ -10,3 +11,6 @@ returns-clause-begin c = lemmas.begins
 
 pub returns-clause-answers : goal.returns-clause-answers
 returns-clause-answers c = lemmas.answers_by_shares
+
+pub returns-clause-each : goal.returns-clause-each
+returns-clause-each c = as_dispatchers
