@@ -10,8 +10,8 @@ use Rattle.hsp_dispatch.specs.declared.answer.Answer.{Answer}
 use Rattle.hsp_dispatch.specs.declared.answer.FrontAnswer.{FrontAnswer}
 use Rattle.hsp_dispatch.specs.declared.answer.FrontAnswer.TheVariants.{Answered}
 use Rattle.hsp_dispatch.specs.declared.answer.FrontSums.{FrontSums}
-use Rattle.hsp_dispatch.specs.declared.answering.Given.{Given}
-use Rattle.hsp_dispatch.specs.declared.answering.Given.TheVariants.{NoFront as IsNoFront, Server as ByServer, Spent as IsSpent, Unknown as IsUnknown}
+use Rattle.hsp_dispatch.specs.declared.answer.Given.{Given}
+use Rattle.hsp_dispatch.specs.declared.answer.Given.TheVariants.{NoFront as IsNoFront, Server as ByServer, Spent as IsSpent, Unknown as IsUnknown}
 
 one_more : (kind : FrontAnswer → Bool) (given : List FrontAnswer) (answer : FrontAnswer) → count_by kind (given ++ answer ∷ []) ≡ count_by kind given + cond (kind answer) 1 0
 one_more kind given answer = sum_by_push (λ (a : FrontAnswer). cond (kind a) 1 0) given answer

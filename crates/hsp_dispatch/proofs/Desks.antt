@@ -18,8 +18,8 @@ use Rattle.hsp_dispatch.specs.declared.answer.Answer.{Answer}
 use Rattle.hsp_dispatch.specs.declared.answer.FrontAnswer.{FrontAnswer}
 use Rattle.hsp_dispatch.specs.declared.answer.FrontAnswer.TheVariants.{Answered}
 use Rattle.hsp_dispatch.specs.declared.answer.FrontSums.{FrontSums}
-use Rattle.hsp_dispatch.specs.declared.answering.Given.{Given}
-use Rattle.hsp_dispatch.specs.declared.answering.Given.TheVariants as given
+use Rattle.hsp_dispatch.specs.declared.answer.Given.{Given}
+use Rattle.hsp_dispatch.specs.declared.answer.Given.TheVariants as given
 use Rattle.hsp_dispatch.specs.declared.form.Form.{Form}
 use Rattle.hsp_dispatch.proofs.Counting.{counted_answer, counted_more, is_there}
 use Rattle.hsp_dispatch.proofs.FrontLaws.{answered_by, left_on}

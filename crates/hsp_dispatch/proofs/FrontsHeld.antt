@@ -18,7 +18,7 @@ use Rattle.hsp_dispatch.specs.Fronts.{AreFrontsOf, AreHeld, IsTakenAt, IsTakenOf
 use Rattle.hsp_dispatch.specs.Standings.{all_sums, left_among, lefts_from, lefts_of, shares_in}
 use Rattle.hsp_dispatch.specs.Steps.{TakesAt}
 use Rattle.hsp_dispatch.specs.declared.answer.FrontAnswer.TheVariants.{Answered}
-use Rattle.hsp_dispatch.specs.declared.answering.Given.{Given}
+use Rattle.hsp_dispatch.specs.declared.answer.Given.{Given}
 use Rattle.hsp_dispatch.specs.declared.share.Cell.{Cell}
 use Rattle.hsp_dispatch.proofs.FrontShares.{share_none}
 use Rattle.hsp_dispatch.proofs.Resting.{rest_unknown}

@@ -15,8 +15,8 @@ use Rattle.hsp_dispatch.specs.Log.{fault_of}
 use Rattle.hsp_dispatch.specs.Runs.{Answered, AreWithinLimit, Begins, Desk, EndsWhole, Stops, StopsAtRow, Streams, desk_of}
 use Rattle.hsp_dispatch.specs.Steps.{FailsHeader, GoesOn, IsRead, IsRefused, RowAnswers, log_left, none_counted}
 use Rattle.hsp_dispatch.specs.declared.answer.FrontSums.{FrontSums}
-use Rattle.hsp_dispatch.specs.declared.answering.Given.{Given}
-use Rattle.hsp_dispatch.specs.declared.answering.Given.TheVariants as given
+use Rattle.hsp_dispatch.specs.declared.answer.Given.{Given}
+use Rattle.hsp_dispatch.specs.declared.answer.Given.TheVariants as given
 use Rattle.hsp_dispatch.specs.declared.fault.LogFault.{LogFault}
 use Rattle.hsp_dispatch.specs.declared.fault.LogFault.TheVariants as fault
 use Rattle.hsp_dispatch.specs.declared.form.Form.{Form}

@@ -13,11 +13,11 @@ use Rattle.hsp_dispatch.specs.Runs.{Begins, IsUnheaded}
 use Rattle.hsp_dispatch.specs.Shares.{Held, IsLeftBy, answer_by}
 use Rattle.hsp_dispatch.specs.declared.answer.FrontAnswer.TheVariants.{Answered}
 use Rattle.hsp_dispatch.specs.declared.answer.FrontSums.{FrontSums}
-use Rattle.hsp_dispatch.specs.declared.answering.Given.{Given}
+use Rattle.hsp_dispatch.specs.declared.answer.Given.{Given}
 use Rattle.hsp_dispatch.specs.declared.fault.LogFault.{LogFault}
 use Rattle.hsp_dispatch.specs.declared.fault.LogFault.TheVariants as fault
 use Rattle.hsp_dispatch.specs.declared.form.Form.{Form}
-use Rattle.hsp_dispatch.specs.declared.reading.LentEntry.{LentEntry}
+use Rattle.hsp_dispatch.specs.declared.answering.LentEntry.{LentEntry}
 
 -- ---- entries
 

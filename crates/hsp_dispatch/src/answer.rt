@@ -6,8 +6,6 @@ ghost use Rattle.hsp_dispatch.specs.Dispatch.{all_of};
 ghost use Rattle.hsp_dispatch.specs.Lines.{count_all, counted};
 ghost use Rattle.hsp_dispatch.specs.Steps.{none_counted};
 
-use crate::answering::Given;
-
 /// The answer to an entry.
 #[derive(Clone, Copy, Debug, PartialEq, Eq)]
 pub enum Answer {
@@ -29,6 +27,19 @@ pub enum Answer {
 pub enum FrontAnswer {
     /// The answer by the front's share of the plan.
     Answered(Answer),
+    /// There is no front with the number.
+    NoFront,
+}
+
+/// How an entry is answered.
+#[derive(Clone, Copy)]
+pub(crate) enum Given {
+    /// By the server with this number among all servers.
+    Server(u32),
+    /// All of the row's number was assigned before.
+    Spent,
+    /// There is no row with the region and the handle.
+    Unknown,
     /// There is no front with the number.
     NoFront,
 }

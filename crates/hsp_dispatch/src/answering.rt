@@ -6,28 +6,20 @@ ghost use Rattle.hsp_instance.specs.Instance.{IsInstance};
 ghost use Rattle.hsp_dispatch.specs.Dispatch.{row_of};
 ghost use Rattle.hsp_dispatch.specs.Lines.{IsAmong, given_of, line_by};
 ghost use Rattle.hsp_dispatch.specs.Shares.{taken_answer};
-ghost use Rattle.hsp_dispatch.specs.Steps.{Takes, entry_of};
+ghost use Rattle.hsp_dispatch.specs.Steps.{entry_of};
 ghost use Rattle.hsp_dispatch.specs.declared.fault.LogFault.TheVariants.{BadHandle};
 
-use crate::answer::Answer;
-use crate::dispatcher::Dispatcher;
+use crate::answer::{Answer, Given};
 use crate::fault::LogFault;
 use crate::lines::ServerLines;
-use crate::reading::LentEntry;
 use hsp_instance::Instance;
 use hsp_names::HandleRef;
 
-/// How an entry is answered.
+/// An entry whose parts are lent.
 #[derive(Clone, Copy)]
-pub(crate) enum Given {
-    /// By the server with this number among all servers.
-    Server(u32),
-    /// All of the row's number was assigned before.
-    Spent,
-    /// There is no row with the region and the handle.
-    Unknown,
-    /// There is no front with the number.
-    NoFront,
+pub(crate) struct LentEntry<'a> {
+    pub(crate) region: &'a [u8],
+    pub(crate) handle: &'a [u8],
 }
 
 /// The demand row for this entry, if any. A row's handle is known to be valid, so the handle is parsed only when no row
@@ -78,25 +70,6 @@ pub(crate) fn served(instance: &Instance, taken: Option<u32>) -> Answer
         place,
         server_id,
     }
-}
-
-/// Answers the entry in the row with this number, and takes what it is answered by from the plan.
-pub(crate) fn choose(
-    dispatcher: &mut Dispatcher<'_>,
-    lent: LentEntry<'_>,
-    number: u32,
-) -> Result<Given, LogFault>
-    ensures instance { dispatcher.new.instance ≡ dispatcher.old.instance }
-    ensures among { IfOk result (IsAmong (length dispatcher.old.instance.servers)) }
-    ensures takes { IfOk result (Takes dispatcher.old (entry_of lent.entry) dispatcher.new) }
-    ensures fault { IfErr result (λ e. e ≡ BadHandle number) }
-    ensures bad { OnErr result (handle_in lent.entry.handle.now ≢ Ok lent.entry.handle.now) }
-    ensures stays { OnErr result (dispatcher.new ≡ dispatcher.old) }
-{
-    let Some(row) = row_in(dispatcher.instance(), lent, number)? else {
-        return Ok(Given::Unknown);
-    };
-    Ok(given_by(dispatcher.take(row)))
 }
 
 /// The line of an answer.

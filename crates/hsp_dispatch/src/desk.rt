@@ -8,7 +8,7 @@ ghost use Rattle.hsp_dispatch.specs.Steps.{BeginsWithNone, GoesOn, IsRefused, Ro
 ghost use Rattle.hsp_dispatch.specs.declared.fault.LogFault.{LogFault};
 ghost use Rattle.hsp_dispatch.specs.declared.form.Form.{Form};
 
-use crate::answering::Given;
+use crate::answer::Given;
 use crate::fault::LogFault;
 use crate::form::Form;
 use csv::ByteRecord;

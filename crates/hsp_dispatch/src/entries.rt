@@ -1,22 +1,46 @@
 // A dispatcher answers logs whose rows are entries.
 
-ghost use Rattle.std.specs.Prelude.{◌≡◌, ◌≢◌, IfNone, IfSome};
+ghost use Rattle.std.specs.Prelude.{◌≡◌, ◌≢◌, IfErr, IfNone, IfOk, IfSome, Ok, OnErr, length};
 ghost use Rattle.csv.specs.Records.{fields_of};
+ghost use Rattle.hsp_names.specs.Handle.{handle_in};
 ghost use Rattle.hsp_dispatch.specs.Desks.{AnswersEntries, RefusesEntry};
+ghost use Rattle.hsp_dispatch.specs.Lines.{IsAmong};
 ghost use Rattle.hsp_dispatch.specs.Log.{header_of};
 ghost use Rattle.hsp_dispatch.specs.Shares.{left_of};
+ghost use Rattle.hsp_dispatch.specs.Steps.{Takes, entry_of};
+ghost use Rattle.hsp_dispatch.specs.declared.fault.LogFault.TheVariants.{BadHandle};
 ghost use Rattle.hsp_dispatch.specs.declared.form.Form.{Form};
 
-use crate::answering::{Given, choose};
+use crate::answer::Given;
+use crate::answering::{LentEntry, given_by, row_in};
 use crate::body::{octets_in, request_in};
 use crate::desk::{Desk, Place};
 use crate::dispatcher::Dispatcher;
 use crate::fault::LogFault;
 use crate::form::{Form, form_of};
-use crate::reading::{LentEntry, two_fields};
+use crate::reading::two_fields;
 use csv::ByteRecord;
 use hsp_instance::Instance;
 use std::alloc::Global;
+
+// Answers the entry in the row with this number, and takes what it is answered by from the plan.
+fn choose(
+    dispatcher: &mut Dispatcher<'_>,
+    lent: LentEntry<'_>,
+    number: u32,
+) -> Result<Given, LogFault>
+    ensures instance { dispatcher.new.instance ≡ dispatcher.old.instance }
+    ensures among { IfOk result (IsAmong (length dispatcher.old.instance.servers)) }
+    ensures takes { IfOk result (Takes dispatcher.old (entry_of lent.entry) dispatcher.new) }
+    ensures fault { IfErr result (λ e. e ≡ BadHandle number) }
+    ensures bad { OnErr result (handle_in lent.entry.handle.now ≢ Ok lent.entry.handle.now) }
+    ensures stays { OnErr result (dispatcher.new ≡ dispatcher.old) }
+{
+    let Some(row) = row_in(dispatcher.instance(), lent, number)? else {
+        return Ok(Given::Unknown);
+    };
+    Ok(given_by(dispatcher.take(row)))
+}
 
 impl<'a> Desk for Dispatcher<'a> {
     ghost instance = { λ held. held.instance };

@@ -6,12 +6,13 @@ ghost use Rattle.hsp_dispatch.specs.Desks.{AnswersEvents, RefusesEvent};
 ghost use Rattle.hsp_dispatch.specs.Log.{front_header};
 ghost use Rattle.hsp_dispatch.specs.declared.form.Form.{Form};
 
-use crate::answering::Given;
+use crate::answer::Given;
+use crate::answering::LentEntry;
 use crate::desk::{Desk, Place};
 use crate::fault::LogFault;
 use crate::form::{Form, event_form_of};
 use crate::fronts::Fronts;
-use crate::reading::{LentEntry, three_fields};
+use crate::reading::three_fields;
 use csv::ByteRecord;
 use hsp_instance::Instance;
 use hsp_text::read_whole;

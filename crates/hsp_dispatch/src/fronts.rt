@@ -12,13 +12,12 @@ ghost use Rattle.hsp_dispatch.specs.Standings.{all_sums, sums_of};
 ghost use Rattle.hsp_dispatch.specs.Steps.{TakesAt, entry_of};
 ghost use Rattle.hsp_dispatch.specs.declared.fault.LogFault.TheVariants.{BadHandle};
 
-use crate::answer::{Answer, FrontAnswer};
-use crate::answering::{Given, given_by, row_in, served};
+use crate::answer::{Answer, FrontAnswer, Given};
+use crate::answering::{LentEntry, given_by, row_in, served};
 use crate::counts::Counts;
 use crate::fault::LogFault;
 use crate::front_share::Front;
 use crate::plan_cells::PlanCells;
-use crate::reading::LentEntry;
 use crate::row_cells::RowCells;
 use crate::sharing::share_out;
 use hsp_cert::{Certificate, UseLine};

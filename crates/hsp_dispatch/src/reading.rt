@@ -1,4 +1,4 @@
-// The rows of a log, and the entries that they spell.
+// The header of a log, and the fields of its rows.
 
 ghost use Rattle.std.specs.Prelude.{◌≡◌, ◌≢◌, IfErr, IfNone, IfOk, IfSome, OnOk, length, [], ◌∷◌};
 ghost use Rattle.csv.specs.Records.{fields_of};
@@ -11,13 +11,6 @@ use crate::form::Form;
 use csv::{ByteRecord, Reader};
 use hsp_csv::take_record;
 use std::io::Read;
-
-/// An entry whose parts are lent.
-#[derive(Clone, Copy)]
-pub(crate) struct LentEntry<'a> {
-    pub(crate) region: &'a [u8],
-    pub(crate) handle: &'a [u8],
-}
 
 /// Takes the header, and returns the form of the log.
 pub(crate) fn take_form<D: Desk, R: Read>(
