@@ -7,3 +7,4 @@ pub mod Limits
 pub mod Ordering
 pub mod Ranges
 pub mod ShortRows
+pub mod Showing

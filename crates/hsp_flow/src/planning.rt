@@ -4,6 +4,7 @@ ghost use Rattle.std.specs.Prelude.{◌≡◌, IfOk, IfSome, length};
 ghost use Rattle.hsp_instance.specs.Groups.{AreGroups};
 ghost use Rattle.hsp_instance.specs.Instance.{IsInstance};
 ghost use Rattle.hsp_check.specs.Instance.{network_of};
+ghost use Rattle.hsp_check.specs.Shown.{HasBestPlan, HasEqualSums, HasNoPlan};
 ghost use Rattle.hsp_check.specs.Valid.{IsValid};
 ghost use Rattle.hsp_network.specs.Answer.{Answers, IsShortSet};
 ghost use Rattle.hsp_network.specs.Problem.{problem_of};
@@ -240,6 +241,9 @@ fn certify(
     requires answers { Answers (transport_of instance.now) outcome }
     ensures valid { IfOk result (IsValid (network_of instance.now)) }
     ensures low { IfOk result (HasLimitedPrices (network_of instance.now)) }
+    ensures best { IfOk result (HasBestPlan (network_of instance.now)) }
+    ensures prices { IfOk result (HasEqualSums (network_of instance.now)) }
+    ensures none { IfOk result (HasNoPlan (network_of instance.now)) }
 {
     match outcome {
         Outcome::Met(plan) => plan_certificate(alloc, instance, &rows.arcs.costs, plan),
@@ -256,6 +260,9 @@ pub fn solve_counted<F: Frontier>(
     requires nodes { MayHaveNodesOf F.may_have instance.now }
     ensures valid { IfOk result (IsValid (network_of instance.now)) }
     ensures low { IfOk result (HasLimitedPrices (network_of instance.now)) }
+    ensures best { IfOk result (HasBestPlan (network_of instance.now)) }
+    ensures prices { IfOk result (HasEqualSums (network_of instance.now)) }
+    ensures none { IfOk result (HasNoPlan (network_of instance.now)) }
 {
     let rows = lists_of(alloc, instance)?;
     let outcome = solve_by_searches::<F>(alloc, instance, &rows, &mut effort.searching)?;
@@ -275,6 +282,9 @@ pub fn solve_with<F: Frontier>(
     requires nodes { MayHaveNodesOf F.may_have instance.now }
     ensures valid { IfOk result (IsValid (network_of instance.now)) }
     ensures low { IfOk result (HasLimitedPrices (network_of instance.now)) }
+    ensures best { IfOk result (HasBestPlan (network_of instance.now)) }
+    ensures prices { IfOk result (HasEqualSums (network_of instance.now)) }
+    ensures none { IfOk result (HasNoPlan (network_of instance.now)) }
 {
     let mut effort = Effort::default();
     solve_counted::<F>(alloc, instance, &mut effort)
@@ -288,6 +298,9 @@ pub fn solve_proposed(
 ) -> Result<Certificate, AllocError>
     ensures valid { IfOk result (IsValid (network_of instance.now)) }
     ensures low { IfOk result (HasLimitedPrices (network_of instance.now)) }
+    ensures best { IfOk result (HasBestPlan (network_of instance.now)) }
+    ensures prices { IfOk result (HasEqualSums (network_of instance.now)) }
+    ensures none { IfOk result (HasNoPlan (network_of instance.now)) }
 {
     let rows = lists_of(alloc, instance)?;
     let outcome = solve_proposed_rows(alloc, instance, &rows, effort)?;
@@ -299,6 +312,15 @@ pub fn solve_proposed(
 pub fn solve(alloc: Global, instance: &Instance) -> Result<Certificate, AllocError>
     ensures valid { IfOk result (IsValid (network_of instance.now)) }
     ensures low { IfOk result (HasLimitedPrices (network_of instance.now)) }
+
+    // The plan of the uses is best: no feasible plan costs less.
+    ensures best { IfOk result (HasBestPlan (network_of instance.now)) }
+
+    // What the rows pay is the cost and what servers and hosts take.
+    ensures prices { IfOk result (HasEqualSums (network_of instance.now)) }
+
+    // Where the certificate is of a short set no plan is feasible.
+    ensures none { IfOk result (HasNoPlan (network_of instance.now)) }
 {
     let mut effort = Effort::default();
     solve_proposed(alloc, instance, &mut effort)
