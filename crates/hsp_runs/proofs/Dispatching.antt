@@ -1,6 +1,6 @@
--- Runs over logs that stop.
-use Rattle.std.proofs.Common.{◌≡◌, ℕ, Result, Ok, Err, ap, sym}
-use Rattle.std.specs.Prelude.{IsErrAnd}
+-- Runs over logs that end, or stop.
+use Rattle.std.proofs.Common.{◌≡◌, ℕ, Result, Ok, Err, IfOk, ap, sym}
+use Rattle.std.specs.Prelude.{IfErr, IsErrAnd, MatchResult}
 use Rattle.hsp_instance.specs.Instance.{Instance}
 use Rattle.hsp_cert.specs.Certificate.{Best, Claim}
 use Rattle.hsp_cert.specs.Certificate.Claim.{best, short}
@@ -15,46 +15,56 @@ use Rattle.hsp_dispatch.specs.declared.answer.LogSums.{LogSums}
 use Rattle.hsp_dispatch.specs.declared.fault.LogFault.{LogFault}
 use Rattle.hsp_dispatch.specs.declared.fault.LogFault.TheVariants as log_fault
 use Rattle.hsp_runs.specs.Accepted.{plan_in}
-use Rattle.hsp_runs.specs.Dispatch.{AnswersAs, EndsLog, a_dispatcher, so_many}
+use Rattle.hsp_runs.specs.Dispatch.{AnswersAs, EndsLog, IsBeforeLog, a_dispatcher, so_many}
 use Rattle.hsp_lines.specs.FaultText.{log_told}
 use Rattle.hsp_lines.specs.declared.fault.Fault.{Fault}
-
--- a run that stops is told by its fault
-stops_told : {S : Type 0} (all : S → FrontSums) (desk : Desk) (run : Streams) (fault : LogFault) → Stops desk run fault
-    → EndsLog all run (Err (log_told fault)) desk
-stops_told all desk run log_fault.ReadFailed s = s
-stops_told all desk run log_fault.WriteFailed s = s
-stops_told all desk run log_fault.Header s = s
-stops_told all desk run (log_fault.Fields row) s = s
-stops_told all desk run (log_fault.BadHandle row) s = s
-stops_told all desk run log_fault.LogTooLong s = s
-stops_told all desk run log_fault.OutOfMemory s = s
-stops_told all desk run (log_fault.BadBody row) s = s
-stops_told all desk run (log_fault.BadFront row) s = s
 
 -- a result that is of this fault
 pub is_fault : {A : Type 0} (answer : Result A Fault) (fault : Fault) → IsErrAnd answer (λ e. e ≡ fault) → Err fault ≡ answer
 is_fault (Ok x) fault is = absurd is
 is_fault (Err e) fault is = sym (ap (λ f. Err f) is)
 
--- the log was answered by the claim's plan up to a fault
-pub answers_up_to : (it : Instance) (claim : Claim) (plan : Best) (x left : Plan) (run : Streams) (fault : LogFault) (answer : Result LogSums Fault)
-    → plan_in claim ≡ Ok plan → IsSame x (plan_of claim) → Stops (by_plan it x left) run fault → IsErrAnd answer (λ e. e ≡ log_told fault)
-    → AnswersAs a_dispatcher it claim run answer
-answers_up_to it (best c) plan x left run fault answer is same stops told =
-    rw (sym (is_fault answer (log_told fault) told)) (x, left, same, stops_told all_of (by_plan it x left) run fault stops)
-answers_up_to it (short c) plan x left run fault answer is same stops told = cc
+-- the answer is what a run over a log answers, with its fault as it is reported
+abbrev pub IsReported : {S : Type 0} → Result S LogFault → Result S Fault → Type 0
+IsReported given answer = MatchResult given (λ sums. answer ≡ Ok sums) (λ fault. IsErrAnd answer (λ e. e ≡ log_told fault))
 
--- the log was answered by the claim's plan to its end
-pub answers_whole : (it : Instance) (claim : Claim) (plan : Best) (x left : Plan) (run : Streams) (sums : LogSums) → plan_in claim ≡ Ok plan
-    → IsSame x (plan_of claim) → EndsWhole (by_plan it x left) run (all_of sums) → AnswersAs a_dispatcher it claim run (Ok sums)
-answers_whole it (best c) plan x left run sums is same whole = (x, left, same, whole)
-answers_whole it (short c) plan x left run sums is same whole = cc
+ends_log : {S : Type 0} (all : S → FrontSums) (desk : Desk) (run : Streams) (given : Result S LogFault) (answer : Result S Fault) → IsReported given answer
+    → IfOk given (λ sums. EndsWhole desk run (all sums)) → IfErr given (Stops desk run) → EndsLog all run answer desk
+ends_log all desk run (Ok sums) answer same whole stops = rw same whole
+ends_log all desk run (Err fault) (Ok sums) same whole stops = absurd same
+ends_log all desk run (Err fault) (Err e) same whole stops = (fault, same, stops)
+
+-- the log was answered by the claim's plan
+pub answered : (it : Instance) (claim : Claim) (plan : Best) (x left : Plan) (run : Streams) (given : Result LogSums LogFault) (answer : Result LogSums Fault)
+    → plan_in claim ≡ Ok plan → IsSame x (plan_of claim) → IsReported given answer → IfOk given (λ sums. EndsWhole (by_plan it x left) run (all_of sums))
+    → IfErr given (Stops (by_plan it x left) run) → AnswersAs a_dispatcher it claim run answer
+answered it (best c) plan x left run given answer is same told whole stops = (x, left, same, ends_log all_of (by_plan it x left) run given answer told whole stops)
+answered it (short c) plan x left run given answer is same told whole stops = cc
 
 -- by fronts that share it
-pub answers_at_up_to : (it : Instance) (claim : Claim) (plan : Best) (fronts : ℕ) (old new : Tables) (run : Streams) (fault : LogFault)
-    (answer : Result FrontSums Fault) → plan_in claim ≡ Ok plan → AreFrontsOf it (plan_of claim) fronts old → Stops (by_fronts old new) run fault
-    → IsErrAnd answer (λ e. e ≡ log_told fault) → AnswersAs (so_many fronts) it claim run answer
-answers_at_up_to it (best c) plan fronts old new run fault answer is fronts_are stops told =
-    rw (sym (is_fault answer (log_told fault) told)) (old, new, fronts_are, stops_told (λ sums. sums) (by_fronts old new) run fault stops)
-answers_at_up_to it (short c) plan fronts old new run fault answer is fronts_are stops told = cc
+pub answered_at : (it : Instance) (claim : Claim) (plan : Best) (fronts : ℕ) (old new : Tables) (run : Streams) (given : Result FrontSums LogFault)
+    (answer : Result FrontSums Fault) → plan_in claim ≡ Ok plan → AreFrontsOf it (plan_of claim) fronts old → IsReported given answer
+    → IfOk given (EndsWhole (by_fronts old new) run) → IfErr given (Stops (by_fronts old new) run) → AnswersAs (so_many fronts) it claim run answer
+answered_at it (best c) plan fronts old new run given answer is are told whole stops =
+    (old, new, are, ends_log (λ sums. sums) (by_fronts old new) run given answer told whole stops)
+answered_at it (short c) plan fronts old new run given answer is are told whole stops = cc
+
+-- ---- faults before the log
+
+module _ (P : Type 0) where
+  late : (fault : LogFault) (e : Fault) → e ≡ log_told fault → IsBeforeLog e → P
+  late log_fault.ReadFailed e told before = absurd (before.log log_fault.ReadFailed told)
+  late log_fault.WriteFailed e told before = absurd (before.log log_fault.WriteFailed told)
+  late log_fault.Header e told before = absurd (before.log log_fault.Header told)
+  late (log_fault.Fields row) e told before = absurd (before.log (log_fault.Fields row) told)
+  late (log_fault.BadHandle row) e told before = absurd (before.log (log_fault.BadHandle row) told)
+  late log_fault.LogTooLong e told before = absurd (before.log log_fault.LogTooLong told)
+  late log_fault.OutOfMemory e told before = absurd (before.memory told)
+  late (log_fault.BadBody row) e told before = absurd (before.log (log_fault.BadBody row) told)
+  late (log_fault.BadFront row) e told before = absurd (before.log (log_fault.BadFront row) told)
+
+  -- a run over a log reports no fault that comes before the log
+  pub none_before : {S : Type 0} (given : Result S LogFault) (answer : Result S Fault) → IsReported given answer → IfErr answer (λ e. IsBeforeLog e → P)
+  none_before (Ok sums) answer same = rw same tt
+  none_before (Err fault) (Ok sums) same = absurd same
+  none_before (Err fault) (Err e) same = late fault e same

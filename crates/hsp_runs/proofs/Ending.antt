@@ -8,7 +8,6 @@ use Rattle.hsp_dispatch.specs.declared.fault.LogFault.TheVariants as log_fault
 use Rattle.hsp_runs.specs.Dispatch.{EndsLog}
 use Rattle.hsp_runs.specs.Logs.{Ends}
 use Rattle.hsp_lines.specs.declared.fault.Fault.{Fault}
-use Rattle.hsp_lines.specs.declared.fault.Fault.TheVariants.{BadFronts, BadIndex, BadOption, BadServers, Build, Capacity, Cert, Costs, Demand, Handle, Log, NoValue, NotSiteValue, OutOfMemory, Refused, Settings, Site, Values, WrongKind}
 
 module _ (one other : Desk) (run : Streams) (heads : one.header ≡ other.header)
     (goes : (form : _) (rows : List Fields) (lines : List (List ℕ)) (sums : FrontSums) → one.Answers form rows lines sums → other.Answers form rows lines sums) where
@@ -54,22 +53,4 @@ module _ (one other : Desk) (run : Streams) (heads : one.header ≡ other.header
   pub ends : {S : Type 0} (all : S → FrontSums) (answer : Result S Fault) → EndsLog all run answer one
       → Ends all run answer other
   ends all (Ok sums) e = whole (all sums) e
-  ends all (Err (Log fault)) e = stopped fault e
-  ends all (Err OutOfMemory) e = stopped log_fault.OutOfMemory e
-  ends all (Err (Refused reason)) e = e
-  ends all (Err BadOption) e = e
-  ends all (Err BadServers) e = e
-  ends all (Err BadIndex) e = e
-  ends all (Err (Handle fault)) e = e
-  ends all (Err (Site fault)) e = e
-  ends all (Err (Settings fault)) e = e
-  ends all (Err (Values fault)) e = e
-  ends all (Err NoValue) e = e
-  ends all (Err NotSiteValue) e = e
-  ends all (Err (Demand fault)) e = e
-  ends all (Err (Costs fault)) e = e
-  ends all (Err (Capacity fault)) e = e
-  ends all (Err (Build fault)) e = e
-  ends all (Err (Cert fault)) e = e
-  ends all (Err WrongKind) e = e
-  ends all (Err BadFronts) e = e
+  ends all (Err e) (fault, told, stops) = (fault, told, stopped fault stops)

@@ -1,7 +1,6 @@
 -- What a run of fronts over a log shows of inputs and a certificate.
-use Rattle.std.proofs.Common.{◌≡◌, ◌≢◌, ◌∙◌, ◌<◌, ◌≤◌, ◌⊎◌, inl, inr, ℕ, zero, suc, List, [], ◌∷◌, ◌++◌, Result, Ok, Err, decimal, map, refl, ap, ap₂, sym, arith}
-use Rattle.std.proofs.lemmas.Bool.{cases_eq, cases_lt, eq-eqb, le-ltb, lt-ltb, ne_eqb}
-use Rattle.std.proofs.lemmas.List.{append-nil}
+use Rattle.std.proofs.Common.{◌≡◌, ◌≢◌, ◌∙◌, ◌<◌, ◌≤◌, ◌⊎◌, inl, inr, ℕ, zero, suc, List, [], ◌∷◌, ◌++◌, Result, Ok, Err, decimal, map, refl, ap, sym, arith}
+use Rattle.std.proofs.lemmas.Bool.{cases_lt, le-ltb, lt-ltb, ne_eqb}
 use Rattle.hsp_text.specs.Whole.{whole_within}
 use Rattle.hsp_text.specs.declared.limits.TheConstants.{MOST_FRONTS}
 use Rattle.hsp_text.specs.declared.whole.WholeFault.{WholeFault}
@@ -14,15 +13,16 @@ use Rattle.hsp_check.specs.Plan.{Plan}
 use Rattle.hsp_check.specs.Uses.{table}
 use Rattle.hsp_names.specs.Handle.{ReadingsAreHandles}
 use Rattle.hsp_dispatch.specs.Desks.{AnswersEvents, answers_by, by_fronts}
-use Rattle.hsp_dispatch.specs.Dispatch.{Entry, IsSame, answer_to, answers_after}
-use Rattle.hsp_dispatch.specs.Fronts.{AreFrontsOf, Event, Tables, answers_at, entries_at, event_answer, event_answers_after, front_answers, front_sums_of, left_at_front, share_of, shares_of}
+use Rattle.hsp_dispatch.specs.Dispatch.{IsSame}
+use Rattle.hsp_dispatch.specs.Fronts.{AreFrontsOf, Event, Tables, entries_at, event_answer, event_answers_after, front_answers, front_sums_of, left_at_front, share_of, shares_of}
 use Rattle.hsp_dispatch.specs.Lines.{front_line}
 use Rattle.hsp_dispatch.specs.Runs.{Streams}
-use Rattle.hsp_dispatch.specs.declared.answer.FrontAnswer.{FrontAnswer}
 use Rattle.hsp_dispatch.specs.declared.answer.FrontAnswer.TheVariants.{Answered}
 use Rattle.hsp_dispatch.specs.declared.answer.FrontSums.{FrontSums}
 use Rattle.hsp_dispatch.specs.declared.fault.LogFault.{LogFault}
+use Rattle.hsp_dispatch.proofs.FrontCounts.{as_dispatchers}
 use Rattle.hsp_dispatch.proofs.FrontLaws.{never_exceeds_together}
+use Rattle.hsp_dispatch.proofs.Resting.{answer_same}
 use Rattle.hsp_runs.specs.Accepted.{IsAcceptedOf}
 use Rattle.hsp_runs.specs.Counts.{above_none}
 use Rattle.hsp_runs.specs.Dispatch.{AnswersBy, AreAnsweredBy, EndsLog, fronts_at, so_many}
@@ -37,7 +37,7 @@ use Rattle.hsp_runs.specs.declared.inputs.Inputs.{Inputs}
 use Rattle.hsp_runs.proofs.ByHash.{logs_go_by_hash}
 use Rattle.hsp_runs.proofs.Ending.{ends}
 use Rattle.hsp_runs.proofs.PageRows.{whole_is}
-use Rattle.hsp_runs.proofs.ShownLog.{refused, same_answer, shown_by, shown_of}
+use Rattle.hsp_runs.proofs.ShownLog.{refused, shown_by, shown_of}
 
 -- ---- the answers by shares
 
@@ -47,7 +47,7 @@ module _ (it : Instance) (fronts : ℕ) (x : Plan) (held : ℕ → Plan) (are : 
   same_event earlier event = elim (cases_lt event.front fronts) [
     | inl inside ↦
         rw (lt-ltb event.front fronts inside)
-        (ap Answered (same_answer it (held event.front) (share_of fronts event.front x) (entries_at event.front earlier) event.entry (are event.front inside)))
+        (ap Answered (answer_same it (held event.front) (share_of fronts event.front x) (entries_at event.front earlier) event.entry (are event.front inside)))
     | inr past ↦ rw (le-ltb event.front fronts past) refl
   ]
 
@@ -55,37 +55,6 @@ module _ (it : Instance) (fronts : ℕ) (x : Plan) (held : ℕ → Plan) (are : 
   unfolding event_answers_after
   same_events earlier [] = refl
   same_events earlier (event ∷ events) = rw (same_event earlier event, same_events (earlier ++ event ∷ []) events) refl
-
--- ---- each front
-
-entries_append : (front : ℕ) (a b : List Event) → entries_at front (a ++ b) ≡ entries_at front a ++ entries_at front b
-entries_append front [] b = refl
-entries_append front (event ∷ a) b = elim (cases_eq event.front front) [
-  | inl here ↦ rw (eq-eqb event.front front here) (ap (λ (more : List Entry). event.entry ∷ more) (entries_append front a b))
-  | inr other ↦ rw (ne_eqb event.front front other) (entries_append front a b)
-]
-
--- the answers at a front are those of its share to its own entries
-at_front : (it : Instance) (fronts : ℕ) (x : Plan) (front : ℕ) → front < fronts → (before events : List Event)
-    → answers_at front events (event_answers_after it fronts (shares_of fronts x) before events)
-    ≡ map Answered (answers_after it (share_of fronts front x) (entries_at front before) (entries_at front events))
-unfolding event_answers_after answers_after
-at_front it fronts x front inside before [] = refl
-at_front it fronts x front inside before (event ∷ events) =
-    let later = at_front it fronts x front inside (before ++ event ∷ []) events in
-    let over : List Entry → List FrontAnswer = λ entries. map Answered (answers_after it (share_of fronts front x) entries (entries_at front events)) in
-    elim (cases_eq event.front front) [
-      | inl here ↦
-          let more : entries_at front (before ++ event ∷ []) ≡ entries_at front before ++ event.entry ∷ [] =
-          entries_append front before (event ∷ []) ∙ rw (eq-eqb event.front front here) refl in
-          let first : event_answer it fronts (shares_of fronts x) before event ≡ Answered (answer_to it (share_of fronts front x) (entries_at front before) event.entry) =
-          rw here (rw (lt-ltb front fronts inside) refl) in
-          rw (eq-eqb event.front front here) (ap₂ (λ (a : FrontAnswer) (rest : List FrontAnswer). a ∷ rest) first (later ∙ ap over more))
-      | inr other ↦
-          let same : entries_at front (before ++ event ∷ []) ≡ entries_at front before =
-          entries_append front before (event ∷ []) ∙ rw (ne_eqb event.front front other) (append-nil (entries_at front before)) in
-          rw (ne_eqb event.front front other) (later ∙ ap over same)
-    ]
 
 -- ---- the log
 
@@ -109,7 +78,7 @@ log_at inputs octets fronts some run answer accepted c is kind (old, new, are, e
     record {
       answered = ends (by_fronts old new) (by_shares it fronts x) run refl
           (answers_events it x fronts old new are) (λ sums. sums) answer end;
-      each = λ events front inside. at_front it fronts x front inside [] events;
+      each = λ events front inside. as_dispatchers it fronts x front events inside;
       within = λ events row site. never_exceeds_together it fronts x events row site some;
       by_hash = (logs_go_by_hash inputs octets accepted c is kind).share fronts;
     }

@@ -1,5 +1,5 @@
 -- What a run over a log shows of inputs and a certificate.
-use Rattle.std.proofs.Common.{◌≡◌, ◌≢◌, ◌∙◌, ◌⊎◌, inl, inr, ℕ, List, [], ◌∷◌, ◌++◌, Option, None, Some, Result, Ok, Err, IsErrAnd, map, refl, sym, subst}
+use Rattle.std.proofs.Common.{◌≡◌, ◌≢◌, ◌∙◌, ◌⊎◌, inl, inr, ℕ, List, [], Result, Ok, Err, IsErrAnd, map, refl, sym, subst}
 use Rattle.hsp_csv.specs.Records.{Fields}
 use Rattle.hsp_instance.specs.Instance.{Instance}
 use Rattle.hsp_cert.specs.Certificate.{Best, Claim}
@@ -9,7 +9,7 @@ use Rattle.hsp_cert.specs.declared.fault.CertFault.{CertFault}
 use Rattle.hsp_check.specs.Instance.{network_of}
 use Rattle.hsp_check.specs.Plan.{Plan}
 use Rattle.hsp_check.specs.Uses.{table}
-use Rattle.hsp_dispatch.specs.Dispatch.{Entry, IsSame, all_of, answer_in, answer_to, answers, answers_after, rest, row_of, sums_of}
+use Rattle.hsp_dispatch.specs.Dispatch.{IsSame, all_of, answers, sums_of}
 use Rattle.hsp_dispatch.specs.Lines.{line_of}
 use Rattle.hsp_dispatch.specs.Runs.{Streams}
 use Rattle.hsp_dispatch.specs.Desks.{AnswersEntries, by_plan}
@@ -17,7 +17,8 @@ use Rattle.hsp_dispatch.specs.declared.answer.FrontSums.{FrontSums}
 use Rattle.hsp_dispatch.specs.declared.fault.LogFault.{LogFault}
 use Rattle.hsp_dispatch.specs.declared.answer.LogSums.{LogSums}
 use Rattle.hsp_dispatch.proofs.Dispatching.{never_exceeds}
-use Rattle.hsp_dispatch.proofs.Resting.{spread_same}
+use Rattle.hsp_dispatch.proofs.OverCalls.{same_answers}
+use Rattle.hsp_dispatch.proofs.Resting.{rest_same}
 use Rattle.hsp_runs.specs.Accepted.{IsAccepted, IsAcceptedOf}
 use Rattle.hsp_runs.specs.Check.{IsCertificate}
 use Rattle.hsp_runs.specs.Dispatch.{AnswersAs, AnswersBy, EndsLog, IsAnsweredBy, Refuses, Staff, a_dispatcher}
@@ -38,25 +39,6 @@ use Rattle.hsp_runs.proofs.NoLog.{no_log}
 use Rattle.hsp_runs.proofs.PageRead.{gives_the_defined, is_instance}
 use Rattle.hsp_runs.proofs.Showing.{valid_holds}
 use Rattle.hsp_names.specs.Handle.{ReadingsAreHandles}
-
--- ---- the same plan
-
--- plans that send alike answer alike
-pub same_answer : (it : Instance) (x y : Plan) (earlier : List Entry) (entry : Entry) → IsSame x y → answer_to it x earlier entry ≡ answer_to it y earlier entry
-same_answer it x y earlier entry same = by (row_of it entry)
-  where
-    by : (row : Option ℕ) → answer_in it x earlier row ≡ answer_in it y earlier row
-    by None = refl
-    by (Some row) = rw (spread_same it x y row same) refl
-
-same_answers : (it : Instance) (x y : Plan) (earlier entries : List Entry) → IsSame x y → answers_after it x earlier entries ≡ answers_after it y earlier entries
-unfolding answers_after
-same_answers it x y earlier [] same = refl
-same_answers it x y earlier (entry ∷ entries) same = rw (same_answer it x y earlier entry same, same_answers it x y (earlier ++ entry ∷ []) entries same) refl
-
--- and leave alike
-same_rest : (it : Instance) (x y : Plan) (entries : List Entry) → IsSame x y → (row site : ℕ) → rest it x entries row site ≡ rest it y entries row site
-same_rest it x y entries same row site = rw (same row site, same_answers it x y [] entries same) refl
 
 -- ---- the certificate
 
@@ -130,7 +112,7 @@ answers_entries it x y left same form rows lines sums (entries, are, lines_are, 
     let given = same_answers it x y [] entries same in
     let of_plan : lines ≡ map (line_of it) (answers it y entries) = rw given at lines_are in
     let counted : sums ≡ all_of (sums_of (answers it y entries)) = rw given at sums_are in
-    (entries, are, of_plan, counted, λ row site. rest_is row site ∙ same_rest it x y entries same row site)
+    (entries, are, of_plan, counted, λ row site. rest_is row site ∙ rest_same it x y entries same row site)
 
 log_is : (inputs : Inputs) (octets : List ℕ) (run : Streams) (answer : Result LogSums Fault) (accepted : Accepted) (c : Best)
     → IsAcceptedOf inputs octets (Ok accepted) → accepted.certificate ≡ best c

@@ -1,5 +1,5 @@
 -- What a run over a log answers, and what it has written by then: by a dispatcher, or by fronts that share a plan.
-use Rattle.std.specs.Prelude.{◌≡◌, ◌⊎◌, ℕ, List, Option, option_map, Result, Ok, Err}
+use Rattle.std.specs.Prelude.{◌≡◌, ◌≢◌, ◌⊎◌, ℕ, List, Option, option_map, Result, Ok, Err}
 use Rattle.hsp_csv.specs.Records.{records_of}
 use Rattle.hsp_instance.specs.Instance.{Instance}
 use Rattle.hsp_cert.specs.Certificate.{Claim}
@@ -12,11 +12,12 @@ use Rattle.hsp_dispatch.specs.Runs.{Desk, EndsWhole, Stops, Streams, streams}
 use Rattle.hsp_dispatch.specs.Shares.{plan_of}
 use Rattle.hsp_dispatch.specs.declared.answer.FrontSums.{FrontSums}
 use Rattle.hsp_dispatch.specs.declared.answer.LogSums.{LogSums}
-use Rattle.hsp_dispatch.specs.declared.fault.LogFault.TheVariants as log_fault
+use Rattle.hsp_dispatch.specs.declared.fault.LogFault.{LogFault}
 use Rattle.hsp_text.specs.declared.limits.TheConstants.{MOST_FRONTS}
 use Rattle.hsp_runs.specs.Accepted.{IsAcceptedOf}
 use Rattle.hsp_runs.specs.Counts.{count_at}
 use Rattle.hsp_runs.specs.declared.accepted.Accepted.{Accepted}
+use Rattle.hsp_lines.specs.FaultText.{log_told}
 use Rattle.hsp_lines.specs.declared.fault.Fault.{Fault}
 use Rattle.hsp_lines.specs.declared.fault.Fault.TheVariants.{BadFronts, Log, OutOfMemory, WrongKind}
 use Rattle.hsp_runs.specs.declared.inputs.Inputs.{Inputs}
@@ -49,16 +50,19 @@ so_many fronts = record {
 abbrev pub over : Option (List ℕ) → Option (List ℕ) → Option (List ℕ) → Streams
 over octets before after = streams (option_map records_of octets) before after
 
--- the log was answered at the desk to its end, with its sums, or up to a fault
+-- The log was answered at the desk to its end, with its sums, or up to a fault. That is reported as the log's, unless memory ran out.
 abbrev pub EndsLog : {S : Type 0} → (S → FrontSums) → Streams → Result S Fault → Desk → Type 0
 EndsLog all run (Ok sums) desk = EndsWhole desk run (all sums)
-EndsLog all run (Err OutOfMemory) desk = Stops desk run log_fault.OutOfMemory
-EndsLog all run (Err (Log fault)) desk = Stops desk run fault
-EndsLog all run (Err e) desk = ⊥
+EndsLog all run (Err e) desk = (fault : LogFault) × (e ≡ log_told fault) × Stops desk run fault
 
 -- there is a fault, and nothing was written
 abbrev pub Refuses : {S : Type 0} → Streams → Fault → Result S Fault → Type 0
 Refuses run fault answer = (run.after ≡ run.before) × (answer ≡ Err fault)
+
+-- a fault that is found before the log is read: it is not the log's, and memory did not run out
+pub record IsBeforeLog (fault : Fault) : Type 0 where
+  pub memory : fault ≢ OutOfMemory
+  pub log : (of : LogFault) → fault ≢ Log of
 
 -- the log is answered by a plan, and not by a shortage
 abbrev pub AnswersAs : {S : Type 0} → Staff S → Instance → Claim → Streams → Result S Fault → Type 0

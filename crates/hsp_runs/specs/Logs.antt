@@ -18,18 +18,19 @@ use Rattle.hsp_dispatch.specs.declared.answer.LogSums.{LogSums}
 use Rattle.hsp_dispatch.specs.declared.fault.LogFault.{LogFault}
 use Rattle.hsp_runs.specs.Headline.{Defines}
 use Rattle.hsp_runs.specs.Shown.{ShowsPlan}
+use Rattle.hsp_lines.specs.FaultText.{log_told}
 use Rattle.hsp_lines.specs.declared.fault.Fault.{Fault}
-use Rattle.hsp_lines.specs.declared.fault.Fault.TheVariants.{Log, OutOfMemory}
+use Rattle.hsp_lines.specs.declared.fault.Fault.TheVariants.{Log}
 use Rattle.hsp_runs.specs.declared.inputs.Inputs.{Inputs}
 
 -- A run answered the log to its end, and the sums count the answers; or it stopped at a fault, when it had
--- answered rows from the log's beginning and written their lines, of the last one perhaps a part. Of a log or
--- a writer whose octets no one can know, as a file's, it says less: some rows were answered so.
+-- answered rows from the log's beginning and written their lines, of the last one perhaps a part. The fault is
+-- reported as the log's, unless memory ran out. Of a log or a writer whose octets no one can know, as a file's,
+-- it says less: some rows were answered so.
 abbrev pub Ends : {S : Type 0} → (S → FrontSums) → Streams → Result S Fault → Desk → Type 0
 Ends all run (Ok sums) desk = EndsWhole desk run (all sums)
-Ends all run (Err (Log fault)) desk = StopsSomewhere desk run ⊎ StopsInLine desk run
-Ends all run (Err OutOfMemory) desk = StopsSomewhere desk run ⊎ StopsInLine desk run
-Ends all run (Err fault) desk = ⊥
+Ends all run (Err e) desk =
+    (fault : LogFault) × (e ≡ log_told fault) × (StopsSomewhere desk run ⊎ StopsInLine desk run)
 
 -- The plan answered the log, or its beginning. Of any entries no more of a row are assigned to a site than
 -- the plan sends there, each to the server that is responsible for its handle by the site's hash option.

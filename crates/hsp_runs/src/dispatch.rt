@@ -1,8 +1,9 @@
 // Logs, answered by the plans of certificates.
 
+ghost use Rattle.std.specs.Prelude.{◌≡◌, IfErr};
 ghost use Rattle.hsp_check.specs.Instance.{network_of};
 ghost use Rattle.hsp_check.specs.Valid.{IsValid};
-ghost use Rattle.hsp_runs.specs.Dispatch.{AnswersBy, IsDispatched, a_dispatcher, over};
+ghost use Rattle.hsp_runs.specs.Dispatch.{AnswersBy, IsBeforeLog, IsDispatched, a_dispatcher, over};
 ghost use Rattle.hsp_runs.specs.Logs.{ShowsLogOf};
 
 use crate::accepted::{Accepted, accepted_in};
@@ -20,12 +21,13 @@ fn dispatched<R: Read + Drop, W: Write>(
     writer: &mut W,
 ) -> Result<LogSums, Fault>
     requires { IsValid (network_of accepted.now.instance) accepted.now.certificate }
-    ensures { AnswersBy a_dispatcher accepted.now
+    ensures answers { AnswersBy a_dispatcher accepted.now
         (over (R.remaining reader) (W.contents writer.old) (W.contents writer.new)) result }
+    ensures untouched { IfErr result (λ e. IsBeforeLog e → writer.new ≡ writer.old) }
 {
     let _plan = accepted.plan()?;
     let mut dispatcher = Dispatcher::new(alloc, &accepted.instance, &accepted.certificate)?;
-    Ok(run_log(alloc, reader, writer, &mut dispatcher)?)
+    run_log(alloc, reader, writer, &mut dispatcher).map_err(Fault::from)
 }
 
 /// Answers the entries of the log that `reader` gives, by the plan that the octets of `certificate` spell, with a line
@@ -46,6 +48,8 @@ pub fn dispatch_run<R: Read + Drop, W: Write>(
     // The answers, also those before a fault, are those of a best plan, none beyond it, each by the hash of its handle.
     ensures shows { ShowsLogOf inputs.now certificate.now
         (over (R.remaining reader) (W.contents writer.old) (W.contents writer.new)) result }
+    // Where the fault comes before the log, the writer is as it was, also one whose octets no one can know.
+    ensures untouched { IfErr result (λ e. IsBeforeLog e → writer.new ≡ writer.old) }
 {
     let accepted = accepted_in(alloc, inputs, certificate)?;
     dispatched(alloc, &accepted, reader, writer)

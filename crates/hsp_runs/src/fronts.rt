@@ -1,11 +1,11 @@
 // Logs of events, answered by fronts that share the plans of certificates.
 
-ghost use Rattle.std.specs.Prelude.{◌≤◌, IfOk};
+ghost use Rattle.std.specs.Prelude.{◌≡◌, ◌≤◌, IfErr, IfOk};
 ghost use Rattle.hsp_text.specs.Answers.{Gives};
 ghost use Rattle.hsp_text.specs.declared.limits.TheConstants.{MOST_FRONTS};
 ghost use Rattle.hsp_check.specs.Instance.{network_of};
 ghost use Rattle.hsp_check.specs.Valid.{IsValid};
-ghost use Rattle.hsp_runs.specs.Dispatch.{AnswersBy, IsDispatchedAt, fronts_at, over, so_many};
+ghost use Rattle.hsp_runs.specs.Dispatch.{AnswersBy, IsBeforeLog, IsDispatchedAt, fronts_at, over, so_many};
 ghost use Rattle.hsp_runs.specs.Logs.{ShowsFrontsOf};
 
 use crate::accepted::{Accepted, accepted_in};
@@ -37,12 +37,13 @@ fn dispatched_at<R: Read + Drop, W: Write>(
     requires valid { IsValid (network_of accepted.now.instance) accepted.now.certificate }
     requires some { 1 ≤ fronts }
     requires most { fronts ≤ MOST_FRONTS }
-    ensures { AnswersBy (so_many fronts) accepted.now
+    ensures answers { AnswersBy (so_many fronts) accepted.now
         (over (R.remaining reader) (W.contents writer.old) (W.contents writer.new)) result }
+    ensures untouched { IfErr result (λ e. IsBeforeLog e → writer.new ≡ writer.old) }
 {
     let _plan = accepted.plan()?;
     let mut all = Fronts::new(alloc, &accepted.instance, &accepted.certificate, fronts)?;
-    Ok(run_fronts(alloc, reader, writer, &mut all)?)
+    run_fronts(alloc, reader, writer, &mut all).map_err(Fault::from)
 }
 
 /// Answers the events of the log that `reader` gives as [`dispatch_run`] does entries. Each event is answered by the
@@ -63,6 +64,8 @@ pub fn fronts_run<R: Read + Drop, W: Write>(
     // Each front answers by its share of a best plan, and all together keep within the plan.
     ensures shows { ShowsFrontsOf fronts.now inputs.now certificate.now
         (over (R.remaining reader) (W.contents writer.old) (W.contents writer.new)) result }
+    // Where the fault comes before the log, the writer is as it was, also one whose octets no one can know.
+    ensures untouched { IfErr result (λ e. IsBeforeLog e → writer.new ≡ writer.old) }
 {
     let fronts = fronts_at(fronts)?;
     let accepted = accepted_in(alloc, inputs, certificate)?;

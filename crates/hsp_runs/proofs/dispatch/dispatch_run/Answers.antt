@@ -10,4 +10,4 @@ pub returns-clause-shows : goal.returns-clause-shows
 returns-clause-shows g c =
     let accepted = c.in_ok-accepted.accepted in
     let is = c.in_ok-accepted.ensures in
-    shown_where c.args.inputs.now c.args.certificate.now accepted _ c.dispatched.result is.accepted is.defines is.holds c.dispatched.ensures
+    shown_where c.args.inputs.now c.args.certificate.now accepted _ c.dispatched.result is.accepted is.defines is.holds c.dispatched.ensures.answers

@@ -13,4 +13,4 @@ returns-clause-shows g c =
     let accepted = c.in_ok-accepted.accepted in
     let is = c.in_ok-accepted.ensures in
     fronts_shown_where c.args.fronts.now c.args.inputs.now c.args.certificate.now c.in_ok-fronts.fronts accepted _ c.dispatched_at.result c.in_ok-fronts.ensures.given
-    is.accepted is.defines is.holds c.dispatched_at.ensures
+    is.accepted is.defines is.holds c.dispatched_at.ensures.answers
