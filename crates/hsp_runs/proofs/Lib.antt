@@ -17,6 +17,5 @@ pub mod NoLog
 pub mod Ending
 pub mod ShownLog
 pub mod ShownFronts
-pub mod Alike
-pub mod Alone
-pub mod PageAlone
+pub mod OneFault
+pub mod Always

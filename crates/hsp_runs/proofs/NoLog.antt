@@ -7,8 +7,8 @@ use Rattle.hsp_cert.specs.Certificate.{Claim}
 use Rattle.hsp_dispatch.specs.declared.fault.LogFault.{LogFault}
 use Rattle.hsp_runs.specs.Accepted.{IsAccepted, IsAcceptedOf}
 use Rattle.hsp_runs.specs.Check.{IsCertificate}
-use Rattle.hsp_runs.specs.Instance.{IsBuilt, IsInstanceOf, IsWithCosts, IsWithDemand, IsWithSettings, IsWithValues}
-use Rattle.hsp_runs.specs.Readings.{AreListed, AreValues, some_list}
+use Rattle.hsp_runs.specs.Instance.{BuildsInstance, IsInstanceOf, IsWithCosts, IsWithDemand, IsWithSettings, IsWithValues}
+use Rattle.hsp_runs.specs.Readings.{AreListed, ReadsValues, some_list}
 use Rattle.hsp_lines.specs.declared.fault.Fault.{Fault}
 use Rattle.hsp_lines.specs.declared.fault.Fault.TheVariants.{BadFronts, BadIndex, BadOption, BadServers, Build, Capacity, Cert, Costs, Demand, Handle, Log, NoValue, NotSiteValue, OutOfMemory, Refused, Settings, Site, Values, WrongKind}
 use Rattle.hsp_runs.specs.declared.inputs.Inputs.{Inputs}
@@ -30,7 +30,7 @@ told_none part apart (Err own) fault of same e = let own_is : part own ≡ Log o
 listed_none : (octets : List ℕ) → HasNoLog (AreListed octets)
 listed_none octets fault of is e = told_none Values (λ own from same. cc (same)) is.0 fault of is.3 e
 
-values_none : (octets : Option (List ℕ)) → HasNoLog (AreValues octets)
+values_none : (octets : Option (List ℕ)) → HasNoLog (ReadsValues octets)
 values_none None fault of is e = cc (is)
 values_none (Some octets) fault of is e = by is.0 is.1 is.2
   where
@@ -44,7 +44,7 @@ instance_none inputs =
     then_none _ (IsWithValues inputs settings) (values_none _) (λ values.
     then_none _ (IsWithDemand inputs settings values) (λ fault of is e. told_none Demand (λ own from same. cc (same)) _ fault of is e) (λ demand.
     then_none _ (IsWithCosts inputs settings values demand) (λ fault of is e. told_none Costs (λ own from same. cc (same)) _ fault of is e) (λ costs.
-    then_none _ (λ capacities. IsBuilt (record { settings = settings; values = values; demand = demand; costs = costs; capacities = capacities }))
+    then_none _ (λ capacities. BuildsInstance (record { settings = settings; values = values; demand = demand; costs = costs; capacities = capacities }))
     (λ fault of is e. told_none Capacity (λ own from same. cc (same)) _ fault of is e)
     (λ capacities fault of is e. told_none Build (λ own from same. cc (same)) is.0 fault of is.2 e)))))
 

@@ -31,7 +31,7 @@ use Rattle.hsp_runs.proofs.PageServers.{capacity_is_found, servers_are}
 use Rattle.hsp_instance.proofs.Limits.{are_instance}
 use Rattle.toml.specs.Data as toml
 use Rattle.toml.specs.Data.{Items}
-use Rattle.hsp_runs.specs.Told.{Tell, TellsSite}
+use Rattle.hsp_runs.specs.Told.{EachTells, TellsSite}
 use Rattle.hsp_runs.proofs.PageSettings.{settings_are_within, AreTold, map_itself, settings_are, settings_are_read}
 use Rattle.hsp_runs.proofs.PageSites.{AreListed, distinct_before, sites_are, sites_are_read}
 
@@ -288,7 +288,7 @@ module _ (handles : ReadingsAreHandles) where
 
 -- ---- what is built is within its limits
 
-have_servers : (values : Option (List HandleValue)) (items : Items) (sites : List Site) → Tell (TellsSite values) items sites → AllByRecursion HasServer sites
+have_servers : (values : Option (List HandleValue)) (items : Items) (sites : List Site) → EachTells (TellsSite values) items sites → AllByRecursion HasServer sites
 have_servers values toml.no_items [] tell = tt
 have_servers values toml.no_items (site ∷ sites) tell = absurd tell
 have_servers values (toml.item value items) [] tell = absurd tell

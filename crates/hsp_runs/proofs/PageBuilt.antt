@@ -20,7 +20,7 @@ use Rattle.hsp_instance.specs.declared.fault.Table.TheVariants.{Costs}
 use Rattle.hsp_instance.proofs.Lists.{all_at, all_map}
 use Rattle.hsp_instance.proofs.ServerLists.{both_gave}
 use Rattle.hsp_runs.specs.Headline.{IsCapacity, IsCost}
-use Rattle.hsp_runs.specs.Told.{Tell, TellsSite}
+use Rattle.hsp_runs.specs.Told.{EachTells, TellsSite}
 use Rattle.hsp_runs.proofs.Finding.{found, finds, is_at_place, place_of}
 
 -- ---- the parts of what is built
@@ -148,7 +148,7 @@ capacities_have_no_fault sites n (row ∷ rows) apart all =
 
 -- ---- sites
 
-pub sites_of_instance : (values : Option (List HandleValue)) (items : Items) (sites : List Site) → Tell (TellsSite values) items sites → AllByRecursion IsSite sites
+pub sites_of_instance : (values : Option (List HandleValue)) (items : Items) (sites : List Site) → EachTells (TellsSite values) items sites → AllByRecursion IsSite sites
 sites_of_instance values toml.no_items [] tell = tt
 sites_of_instance values toml.no_items (site ∷ sites) tell = absurd tell
 sites_of_instance values (toml.item value items) [] tell = absurd tell

@@ -10,7 +10,7 @@ use Rattle.hsp_instance.specs.Instance.{Instance, IsInstance}
 use Rattle.hsp_runs.specs.Told as told
 use Rattle.hsp_runs.specs.Instance.{IsInstanceOf}
 use Rattle.hsp_runs.specs.Laws.{AcceptsTheDefined, GivesTheDefined}
-use Rattle.hsp_runs.specs.Readings.{AreListed, AreValues, some_list}
+use Rattle.hsp_runs.specs.Readings.{AreListed, ReadsValues, some_list}
 use Rattle.hsp_lines.specs.declared.fault.Fault.{Fault}
 use Rattle.hsp_lines.specs.declared.fault.Fault.TheVariants.{Capacity, Costs, Demand, Settings, Values}
 use Rattle.hsp_runs.specs.declared.inputs.Inputs.{Inputs}
@@ -25,7 +25,7 @@ told_well part (Err fault) x e = cc (e)
 pub listed : (octets : List ℕ) (values : List HandleValue) → AreListed octets (Ok values) → Means values_format octets (Ok values)
 listed octets values are = let same = told_well Values are.0 values are.3 in rw same at are.1
 
-values_are : (given : Option (List ℕ)) (values : Option (List HandleValue)) → AreValues given (Ok values) → told.AreValues given values
+values_are : (given : Option (List ℕ)) (values : Option (List HandleValue)) → ReadsValues given (Ok values) → told.AreValues given values
 values_are None values are = let none : values ≡ None = cc (are) in rw none tt
 values_are (Some octets) values are = by are.0 are.1 are.2
   where
@@ -33,7 +33,7 @@ values_are (Some octets) values are = by are.0 are.1 are.2
     by (Ok own) is e = let same : values ≡ Some own = cc (e) in rw same (listed octets own is)
     by (Err fault) is e = cc (e)
 
-values_are_read : (given : Option (List ℕ)) (values : Option (List HandleValue)) → told.AreValues given values → AreValues given (Ok values)
+values_are_read : (given : Option (List ℕ)) (values : Option (List HandleValue)) → told.AreValues given values → ReadsValues given (Ok values)
 values_are_read None None are = refl
 values_are_read None (Some values) are = absurd are
 values_are_read (Some octets) None are = absurd are

@@ -22,7 +22,7 @@ use Rattle.hsp_tables.proofs.Documents.{document_is}
 use Rattle.hsp_tables.proofs.SettingsLists.{hosts_are, hosts_read_as_spelled, sites_are, sites_read_as_spelled}
 use Rattle.hsp_tables.proofs.TurnLaws.{first_step, test_held}
 use Rattle.hsp_instance.specs.Building.{host_of_entry}
-use Rattle.hsp_runs.specs.Told.{HasKeys, Tell, TellsHost}
+use Rattle.hsp_runs.specs.Told.{HasKeys, EachTells, TellsHost}
 
 -- ---- values of a document
 
@@ -221,7 +221,7 @@ host_is_read n ms host tells =
 
 module _ {Row Own : Type 0} (row_in : ℕ → Data → Result Row TableFault) (own : Row → Own) (Tells : Members → Own → Type 0) where
   told : ((n : ℕ) (value : Data) (row : Row) → row_in n value ≡ Ok row → (members : Members) × (value ≡ toml.table members) × Tells members (own row))
-      → (n : ℕ) (items : Items) (rows : List Row) → SpellInTurn row_in n (elements_in items) rows → Tell Tells items (map own rows)
+      → (n : ℕ) (items : Items) (rows : List Row) → SpellInTurn row_in n (elements_in items) rows → EachTells Tells items (map own rows)
   told is n toml.no_items [] spelled = tt
   told is n toml.no_items (row ∷ rows) spelled = absurd spelled
   told is n (toml.item value items) [] spelled = absurd spelled
@@ -230,7 +230,7 @@ module _ {Row Own : Type 0} (row_in : ℕ → Data → Result Row TableFault) (o
       (one.0, one.1, one.2, told is (n + 1) items rows spelled.1)
 
   spelled : ((n : ℕ) (members : Members) (row : Row) → Tells members (own row) → row_in n (toml.table members) ≡ Ok row)
-      → (n : ℕ) (items : Items) (rows : List Row) → Tell Tells items (map own rows) → SpellInTurn row_in n (elements_in items) rows
+      → (n : ℕ) (items : Items) (rows : List Row) → EachTells Tells items (map own rows) → SpellInTurn row_in n (elements_in items) rows
   spelled reads n toml.no_items [] tell = tt
   spelled reads n toml.no_items (row ∷ rows) tell = absurd tell
   spelled reads n (toml.item value items) [] tell = absurd tell
@@ -265,12 +265,12 @@ pub record AreTold (text : List ℕ) (settings : SettingsEntries) : Type 0 where
   pub keys : HasKeys (codes "site" ∷ codes "host" ∷ []) document
   pub site_items : Items
   pub site_array : AreAt (get_member (codes "site") document) site_items
-  pub sites : Tell TellsEntry site_items settings.sites
+  pub sites : EachTells TellsEntry site_items settings.sites
   pub few_sites : length settings.sites ≤ MOST_SITES
   pub names : IsDistinct same_name settings.sites
   pub host_items : Items
   pub host_array : AreAt (get_member (codes "host") document) host_items
-  pub hosts : Tell TellsHost host_items (map host_of_entry settings.hosts)
+  pub hosts : EachTells TellsHost host_items (map host_of_entry settings.hosts)
   pub few_hosts : length settings.hosts ≤ MOST_HOSTS
   pub addresses : IsDistinct same_address settings.hosts
 
@@ -318,7 +318,7 @@ pub settings_are_read : (text : List ℕ) (settings : SettingsEntries) → AreTo
 settings_are_read text settings told =
     let opened = document_is text told.document told.utf8 told.read in
     let keys = sym (root_keys told.document) ∙ told.keys in
-    let tell : Tell TellsEntry told.site_items (map (λ entry. entry) settings.sites) = rw (map_itself settings.sites) told.sites in
+    let tell : EachTells TellsEntry told.site_items (map (λ entry. entry) settings.sites) = rw (map_itself settings.sites) told.sites in
     let sites = lists (fault.BadSite 0) MOST_SITES site_at same_name site_after sites_read_as_spelled _ told.site_items settings.sites told.site_array
     (record { spelled = spelled site_at (λ entry. entry) TellsEntry site_is_read 0 told.site_items settings.sites tell; few = told.few_sites; apart = told.names }) in
     let hosts = lists (fault.BadHost 0) MOST_HOSTS host_at same_address host_after hosts_read_as_spelled _ told.host_items settings.hosts told.host_array

@@ -25,7 +25,7 @@ use Rattle.hsp_instance.specs.declared.fault.BuildFault.TheVariants.{BadHashOpti
 use Rattle.hsp_instance.proofs.Lists.{all_at}
 use Rattle.hsp_instance.proofs.SiteSums.{servers_of-push}
 use Rattle.hsp_instance.proofs.SitesInTurn.{IsChecked, site_is_checked}
-use Rattle.hsp_runs.specs.Told.{IsData, IsRecordOf, IsSource, Tell, TellsSite}
+use Rattle.hsp_runs.specs.Told.{IsData, IsRecordOf, IsSource, EachTells, TellsSite}
 use Rattle.hsp_runs.proofs.Finding.{found, finds, is_at_place, place_of}
 use Rattle.hsp_runs.proofs.PageSettings.{IsToldBy, TellsEntry}
 
@@ -157,7 +157,7 @@ record_is_read n before bytes site is few =
 pub record AreNext (values : Option (List HandleValue)) (earlier : List Site) (items : Items) (entries : List SiteEntry) (all : List Site) : Type 0 where
   pub sites : List Site
   pub whole : all ≡ earlier ++ sites
-  pub told : Tell (TellsSite values) items sites
+  pub told : EachTells (TellsSite values) items sites
   pub named : map (λ (entry : SiteEntry). entry.name) entries ≡ map (λ (site : Site). site.name) sites
   pub few : servers_of all ≤ MOST_SERVERS
 
@@ -181,7 +181,7 @@ one_site values earlier ms entry site tells next = by (site_octets values (lengt
         (of.0, tells_site, of.2)
 
 pub sites_are : (values : Option (List HandleValue)) (earlier : List Site) (items : Items) (entries : List SiteEntry) (all : List Site)
-    → servers_of earlier ≤ MOST_SERVERS → Tell TellsEntry items entries → AreSitesAfter values earlier entries (Ok all) → AreNext values earlier items entries all
+    → servers_of earlier ≤ MOST_SERVERS → EachTells TellsEntry items entries → AreSitesAfter values earlier entries (Ok all) → AreNext values earlier items entries all
 sites_are values earlier toml.no_items [] all few tell are =
     let same : all ≡ earlier = cc (are) in
     record { sites = []; whole = same ∙ sym (append-nil earlier); told = tt; named = refl; few = rw same few }
@@ -202,12 +202,12 @@ sites_are values earlier (toml.item value items) (entry ∷ entries) all few tel
 -- sites of the page are read, from the entries that their tables tell
 pub record AreReadFrom (values : Option (List HandleValue)) (earlier : List Site) (items : Items) (sites : List Site) : Type 0 where
   pub entries : List SiteEntry
-  pub told : Tell TellsEntry items entries
+  pub told : EachTells TellsEntry items entries
   pub named : map (λ (entry : SiteEntry). entry.name) entries ≡ map (λ (site : Site). site.name) sites
   pub read : AreSitesAfter values earlier entries (Ok (earlier ++ sites))
 
 pub sites_are_read : (values : Option (List HandleValue)) (earlier : List Site) (items : Items) (sites : List Site) → AreListed values
-    → servers_of (earlier ++ sites) ≤ MOST_SERVERS → Tell (TellsSite values) items sites → AreReadFrom values earlier items sites
+    → servers_of (earlier ++ sites) ≤ MOST_SERVERS → EachTells (TellsSite values) items sites → AreReadFrom values earlier items sites
 sites_are_read values earlier toml.no_items [] are few tell =
     record { entries = []; told = tt; named = refl; read = ap (λ (t : List Site). Ok t) (append-nil earlier) }
 sites_are_read values earlier toml.no_items (site ∷ sites) are few tell = absurd tell

@@ -1,11 +1,12 @@
--- The headline on one page: which inputs are accepted, which instance they define, and what plans show of it. These are
--- relations between texts and what they hold, without faults. laws.rt ties them to the runs.
+-- The headline on one page: which inputs are accepted, which instance they define, what plans show of it, and that runs
+-- answer wherever one is defined. These are relations between texts and what they hold, and of faults they name one: that
+-- memory ran out. laws.rt ties them to the runs.
 --
 -- Read before it: handles in hsp_names/specs/Handle.antt (RFC 3651, section 2), value lists and site records in
 -- hsp_record/specs (RFC 3651, sections 3.1 and 3.2.2), the responsible server in hsp_hash/specs/Place.antt (RFC 3652,
 -- section 3.1.3), how documents and tables state rows in Told.antt.
 use Rattle.std.specs.Prelude.{◌≡◌, ◌≢◌, ◌≤◌, ◌==◌, ◌&&◌, ◌↔◌, IsUtf8, true, ℕ, List, [], ◌∷◌, codes, decimal}
-use Rattle.std.specs.Prelude.{Option, Some, None, length, map, option_map}
+use Rattle.std.specs.Prelude.{Option, Some, None, length, map, option_map, Result, IsOkUnless}
 use Rattle.std.specs.List.{AllByRecursion, Contains, IsDistinct, slice_get}
 use Rattle.std.specs.Str.{bytes_eq}
 use Rattle.toml.specs.Data.{Members, get_member}
@@ -21,8 +22,13 @@ use Rattle.hsp_tables.specs.Capacities.{CapacityEntry}
 use Rattle.hsp_tables.specs.Costs.{CostEntry}
 use Rattle.hsp_instance.specs.Instance.{Host, Instance, IsAscending, Row, Site, SiteServer, number_at, servers_of}
 use Rattle.hsp_instance.specs.declared.arc.Arc.{Arc}
+use Rattle.hsp_check.specs.declared.verdict.Verdict.{Verdict}
+use Rattle.hsp_check.specs.declared.verdict.Verdict.TheVariants.{Yes}
+use Rattle.hsp_lines.specs.declared.fault.Fault.{Fault}
+use Rattle.hsp_lines.specs.declared.fault.Fault.TheVariants.{OutOfMemory}
 use Rattle.hsp_runs.specs.Shown.{Shows}
-use Rattle.hsp_runs.specs.Told.{AreFew, AreValues, HasKeys, IsTable, Lists, TellsHost, TellsSite}
+use Rattle.hsp_runs.specs.Memory.{IsOrNoMemory}
+use Rattle.hsp_runs.specs.Told.{AreFew, AreValues, HasKeys, IsTable, AreTablesAt, TellsHost, TellsSite}
 use Rattle.hsp_runs.specs.declared.inputs.Inputs.{Inputs}
 
 -- ---- settings
@@ -34,11 +40,11 @@ pub record AreSettings (values : Option (List HandleValue)) (text : List ℕ) (s
   pub document : Members
   pub read : parse_document text ≡ Some document
   pub keys : HasKeys (codes "site" ∷ codes "host" ∷ []) document
-  pub site : Lists (TellsSite values) (get_member (codes "site") document) sites
+  pub site : AreTablesAt (TellsSite values) (get_member (codes "site") document) sites
   pub few_sites : length sites ≤ MOST_SITES
   pub few_servers : servers_of sites ≤ MOST_SERVERS
   pub names : IsDistinct (λ (a b : Site). bytes_eq a.name b.name) sites
-  pub host : Lists TellsHost (get_member (codes "host") document) hosts
+  pub host : AreTablesAt TellsHost (get_member (codes "host") document) hosts
   pub few_hosts : length hosts ≤ MOST_HOSTS
   pub addresses : IsDistinct (λ (a b : Host). bytes_eq a.address b.address) hosts
 
@@ -140,3 +146,13 @@ pub record Defines (inputs : Inputs) (it : Instance) : Type 0 where
 -- Shown.antt says what holds, and Logs.antt what the logs that `dispatch` and `fronts` answer show.
 abbrev pub ShowsOf : Inputs → List ℕ → Type 0
 ShowsOf inputs octets = (instance : Instance) × Defines inputs instance × Shows octets instance
+
+-- ---- what runs always answer
+
+-- where the inputs define an instance `plan` prints a text, unless memory runs out
+abbrev pub PlansAlways : {X : Type 0} → Inputs → Result X Fault → Type 0
+PlansAlways inputs answer = (instance : Instance) → Defines inputs instance → IsOkUnless answer OutOfMemory
+
+-- where the octets are moreover the text of a certificate that holds for it `check` says Yes, unless memory runs out
+abbrev pub SaysYesAlways : Inputs → List ℕ → Result Verdict Fault → Type 0
+SaysYesAlways inputs octets answer = ShowsOf inputs octets → IsOrNoMemory Yes answer

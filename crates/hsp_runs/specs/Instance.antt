@@ -14,36 +14,36 @@ use Rattle.hsp_lines.specs.declared.fault.Fault.{Fault}
 use Rattle.hsp_lines.specs.declared.fault.Fault.TheVariants.{Demand, Costs, Capacity, Build}
 use Rattle.hsp_runs.specs.declared.inputs.Inputs.{Inputs}
 use Rattle.hsp_text.specs.Answers.{Then, told_as}
-use Rattle.hsp_runs.specs.Readings.{AreSettings, AreValues}
+use Rattle.hsp_runs.specs.Readings.{ReadsSettings, ReadsValues}
 
 -- the tables that octets spell
-abbrev pub IsDemand : List ℕ → Result (List DemandEntry) Fault → Type 0
-IsDemand octets answer = answer ≡ told_as Demand (table_of demand_table (records_of octets))
+abbrev pub ReadsDemand : List ℕ → Result (List DemandEntry) Fault → Type 0
+ReadsDemand octets answer = answer ≡ told_as Demand (table_of demand_table (records_of octets))
 
-abbrev pub AreCosts : List ℕ → Result (List CostEntry) Fault → Type 0
-AreCosts octets answer = answer ≡ told_as Costs (table_of cost_table (records_of octets))
+abbrev pub ReadsCosts : List ℕ → Result (List CostEntry) Fault → Type 0
+ReadsCosts octets answer = answer ≡ told_as Costs (table_of cost_table (records_of octets))
 
-abbrev pub AreCapacities : List ℕ → Result (List CapacityEntry) Fault → Type 0
-AreCapacities octets answer = answer ≡ told_as Capacity (table_of capacity_table (records_of octets))
+abbrev pub ReadsCapacities : List ℕ → Result (List CapacityEntry) Fault → Type 0
+ReadsCapacities octets answer = answer ≡ told_as Capacity (table_of capacity_table (records_of octets))
 
 -- the instance of what was read
-abbrev pub IsBuilt : building.Inputs → Result Instance Fault → Type 0
-IsBuilt read answer = (built : Result Instance BuildFault) × building.IsBuilt read built × (answer ≡ told_as Build built)
+abbrev pub BuildsInstance : building.Inputs → Result Instance Fault → Type 0
+BuildsInstance read answer = (built : Result Instance BuildFault) × building.IsBuilt read built × (answer ≡ told_as Build built)
 
 -- what is read after the costs, the demand, the values and the settings
 abbrev pub IsWithCosts : Inputs → SettingsEntries → Option (List HandleValue) → List DemandEntry → List CostEntry → Result Instance Fault → Type 0
 IsWithCosts inputs settings values demand costs =
-    Then (AreCapacities inputs.capacity.items) (λ capacities. IsBuilt (record { settings = settings; values = values; demand = demand; costs = costs; capacities = capacities }))
+    Then (ReadsCapacities inputs.capacity.items) (λ capacities. BuildsInstance (record { settings = settings; values = values; demand = demand; costs = costs; capacities = capacities }))
 
 abbrev pub IsWithDemand : Inputs → SettingsEntries → Option (List HandleValue) → List DemandEntry → Result Instance Fault → Type 0
-IsWithDemand inputs settings values demand = Then (AreCosts inputs.costs.items) (IsWithCosts inputs settings values demand)
+IsWithDemand inputs settings values demand = Then (ReadsCosts inputs.costs.items) (IsWithCosts inputs settings values demand)
 
 abbrev pub IsWithValues : Inputs → SettingsEntries → Option (List HandleValue) → Result Instance Fault → Type 0
-IsWithValues inputs settings values = Then (IsDemand inputs.demand.items) (IsWithDemand inputs settings values)
+IsWithValues inputs settings values = Then (ReadsDemand inputs.demand.items) (IsWithDemand inputs settings values)
 
 abbrev pub IsWithSettings : Inputs → SettingsEntries → Result Instance Fault → Type 0
-IsWithSettings inputs settings = Then (AreValues (option_map (λ v. v.items) inputs.values)) (IsWithValues inputs settings)
+IsWithSettings inputs settings = Then (ReadsValues (option_map (λ v. v.items) inputs.values)) (IsWithValues inputs settings)
 
 -- the instance of the settings, the values, the demand, the costs and the capacities, read in this order
 abbrev pub IsInstanceOf : Inputs → Result Instance Fault → Type 0
-IsInstanceOf inputs = Then (AreSettings inputs.settings.items) (IsWithSettings inputs)
+IsInstanceOf inputs = Then (ReadsSettings inputs.settings.items) (IsWithSettings inputs)

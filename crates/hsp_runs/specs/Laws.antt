@@ -44,7 +44,12 @@ GivesTheDefined = (inputs : Inputs) (it : Instance) → IsInstanceOf inputs (Ok 
 abbrev pub AcceptsTheDefined : Type 0
 AcceptsTheDefined = (inputs : Inputs) (it : Instance) → Defines inputs it → IsInstanceOf inputs (Ok it)
 
--- and they give nothing else: no fault stands beside it, and no other instance
+-- inputs give one answer: one instance, or one first fault
+abbrev pub GivesOneAnswer : Type 0
+GivesOneAnswer =
+    (inputs : Inputs) (a b : Result Instance Fault) → IsInstanceOf inputs a → IsInstanceOf inputs b → a ≡ b
+
+-- so where they define an instance they give nothing else: no fault stands beside it, and no other instance
 abbrev pub GivesNothingElse : Type 0
 GivesNothingElse =
     (inputs : Inputs) (it : Instance) (answer : Result Instance Fault)

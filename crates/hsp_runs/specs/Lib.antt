@@ -1,4 +1,4 @@
-pub mod Tells
+pub mod Memory
 pub mod Input
 pub mod Locate
 pub mod SiteText
@@ -7,6 +7,7 @@ pub mod Instance
 pub mod Shown
 pub mod Told
 pub mod Headline
+pub mod Always
 pub mod Logs
 pub mod Check
 pub mod Accepted

@@ -6,6 +6,7 @@ use Rattle.hsp_cert.specs.Certificate.Claim.{best, short}
 use Rattle.hsp_cert.specs.Text.{text_of}
 use Rattle.hsp_check.specs.Instance.{network_of}
 use Rattle.hsp_check.specs.Valid.{IsValid}
+use Rattle.hsp_flow.specs.Planning.{HasLimitedPrices}
 use Rattle.hsp_lines.specs.declared.fault.Fault.{Fault}
 use Rattle.hsp_runs.specs.declared.inputs.Inputs.{Inputs}
 use Rattle.hsp_runs.specs.Instance.{IsInstanceOf}
@@ -23,9 +24,11 @@ is_shortage (short c) = true
 abbrev pub printed : Claim → Printed
 printed claim = record { octets = text_of claim; is_short = is_shortage claim }
 
--- the text of a certificate that is valid for the instance
+-- the text of a certificate that is valid for the instance, and whose prices are limited
 abbrev pub IsPlanText : Instance → Result Printed Fault → Type 0
-IsPlanText instance (Ok text) = (claim : Claim) × IsCertificate claim × IsValid (network_of instance) claim × (text ≡ printed claim)
+IsPlanText instance (Ok text) =
+    (claim : Claim) × IsCertificate claim × IsValid (network_of instance) claim
+    × HasLimitedPrices (network_of instance) claim × (text ≡ printed claim)
 IsPlanText instance (Err e) = ⊥
 
 -- first the inputs are read, and then it is planned

@@ -13,8 +13,8 @@ use Rattle.hsp_lines.specs.declared.fault.Fault.{Fault}
 use Rattle.hsp_lines.specs.declared.fault.Fault.TheVariants.{Settings, Values, Build}
 
 -- the settings that octets spell
-abbrev pub AreSettings : List ℕ → Result SettingsEntries Fault → Type 0
-AreSettings octets answer = answer ≡ told_as Settings (settings_of octets)
+abbrev pub ReadsSettings : List ℕ → Result SettingsEntries Fault → Type 0
+ReadsSettings octets answer = answer ≡ told_as Settings (settings_of octets)
 
 -- the value list that octets spell
 abbrev pub AreListed : List ℕ → Result (List HandleValue) Fault → Type 0
@@ -26,9 +26,9 @@ abbrev pub some_list : Result (List HandleValue) Fault → Result (Option (List 
 some_list (Ok values) = Ok (Some values)
 some_list (Err e) = Err e
 
-abbrev pub AreValues : Option (List ℕ) → Result (Option (List HandleValue)) Fault → Type 0
-AreValues None answer = answer ≡ Ok None
-AreValues (Some octets) answer = (reading : Result (List HandleValue) Fault) × AreListed octets reading × (answer ≡ some_list reading)
+abbrev pub ReadsValues : Option (List ℕ) → Result (Option (List HandleValue)) Fault → Type 0
+ReadsValues None answer = answer ≡ Ok None
+ReadsValues (Some octets) answer = (reading : Result (List HandleValue) Fault) × AreListed octets reading × (answer ≡ some_list reading)
 
 -- the sites of settings and values
 abbrev pub AreSites : SettingsEntries → Option (List HandleValue) → Result (List Site) Fault → Type 0
@@ -36,4 +36,4 @@ AreSites settings values answer = (sites : Result (List Site) BuildFault) × Are
 
 -- the sites that the octets of settings and of values define
 abbrev pub AreSitesIn : List ℕ → Option (List ℕ) → Result (List Site) Fault → Type 0
-AreSitesIn settings values = Then (AreSettings settings) (λ s. Then (AreValues values) (AreSites s))
+AreSitesIn settings values = Then (ReadsSettings settings) (λ s. Then (ReadsValues values) (AreSites s))

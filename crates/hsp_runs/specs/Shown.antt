@@ -1,31 +1,41 @@
 -- What the text of a certificate shows of an instance: a transportation problem with limits of hosts (Network
 -- Flows, sections 1.2 and 9.1).
-use Rattle.std.specs.Prelude.{◌≡◌, ◌+◌, ℕ, List}
+use Rattle.std.specs.Prelude.{◌≡◌, ◌+◌, ◌<◌, true, ℕ, List, length, All}
 use Rattle.hsp_instance.specs.Instance.{Instance}
 use Rattle.hsp_cert.specs.Certificate as certificates
 use Rattle.hsp_cert.specs.Certificate.{Claim}
 use Rattle.hsp_cert.specs.Certificate.Claim.{best, short}
 use Rattle.hsp_cert.specs.Text.{text_of}
 use Rattle.hsp_check.specs.Instance.{network_of}
-use Rattle.hsp_check.specs.Network.{Network}
-use Rattle.hsp_check.specs.Plan.{Best, Feasible, Plan}
+use Rattle.hsp_check.specs.Network.{Network, is_allowed}
+use Rattle.hsp_check.specs.Plan.{Best, Feasible, Plan, total}
+use Rattle.hsp_check.specs.Prices.{ArePrices, Prices}
+use Rattle.hsp_check.specs.Short.{capacity_of, demand_of}
 use Rattle.hsp_sums.specs.Sums.{times}
 use Rattle.hsp_check.specs.Uses.{table}
-use Rattle.hsp_check.specs.Valid.{IsValidPlan, IsValidSet}
+use Rattle.hsp_check.specs.Verdict.{is_one_of}
 
--- The plan is feasible at the stated cost, no arc's reduced cost is negative, an arc in use has reduced cost 0, and
--- servers and hosts with room left have price 0 (complementary slackness, section 9.3). So the plan is best, and what
--- its rows pay is the cost and what servers and hosts earn (section 9.4).
+-- The plan is best: feasible, and no feasible plan costs less. It has the stated cost, no arc's reduced cost is negative,
+-- an arc in use has reduced cost 0, and servers and hosts with room left have price 0 (complementary slackness, section
+-- 9.3). What its rows pay is the cost and what servers and hosts earn (section 9.4).
 pub record HoldsBest (n : Network) (c : certificates.Best) : Type 0 where
-  pub valid : IsValidPlan n c
+  pub allowed : All (λ u. is_allowed n u.row u.site ≡ true) c.uses
   pub best : Best n (table c.uses)
+  pub cost : c.cost ≡ total n (table c.uses)
+  pub row_prices : (length c.row_prices ≡ length n.demands) × ArePrices c.row_prices
+  pub server_prices : (length c.server_prices ≡ length n.capacities) × ArePrices c.server_prices
+  pub host_prices : (length c.host_prices ≡ length n.limits) × ArePrices c.host_prices
+  pub prices : Prices n (table c.uses) c.row_prices c.server_prices c.host_prices
   pub dual : times n.demands c.row_prices
       ≡ c.cost + times n.capacities c.server_prices + times n.limits c.host_prices
 
 -- The rows ask for the stated demand, all servers that they can reach take the stated capacity, and that is less (a
 -- cut, section 6.7). So no plan is feasible.
 pub record HoldsShort (n : Network) (c : certificates.Short) : Type 0 where
-  pub valid : IsValidSet n c
+  pub there : All (λ row. row < length n.demands) c.rows
+  pub demand : c.demand ≡ demand_of n (is_one_of c.rows)
+  pub capacity : c.capacity ≡ capacity_of n (is_one_of c.rows)
+  pub less : c.capacity < c.demand
   pub none : (x : Plan) → Feasible n x → ⊥
 
 abbrev pub Holds : Network → Claim → Type 0

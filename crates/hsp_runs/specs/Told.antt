@@ -45,17 +45,17 @@ abbrev pub HasKeys : List (List ℕ) → Members → Type 0
 HasKeys keys members = list_all (λ key. list_any (bytes_eq key) keys) (keys_in members) ≡ true
 
 -- the tables of an array state the rows, one each
-abbrev pub Tell : {Row : Type 0} → (Members → Row → Type 0) → Items → List Row → Type 0
-Tell Tells toml.no_items [] = ⊤
-Tell Tells (toml.item value items) (row ∷ rows) =
-    (members : Members) × (value ≡ toml.table members) × Tells members row × Tell Tells items rows
-Tell Tells items rows = ⊥
+abbrev pub EachTells : {Row : Type 0} → (Members → Row → Type 0) → Items → List Row → Type 0
+EachTells Tells toml.no_items [] = ⊤
+EachTells Tells (toml.item value items) (row ∷ rows) =
+    (members : Members) × (value ≡ toml.table members) × Tells members row × EachTells Tells items rows
+EachTells Tells items rows = ⊥
 
 -- those of the array at a key, or none where there is no such key
-abbrev pub Lists : {Row : Type 0} → (Members → Row → Type 0) → Option Data → List Row → Type 0
-Lists Tells value rows =
+abbrev pub AreTablesAt : {Row : Type 0} → (Members → Row → Type 0) → Option Data → List Row → Type 0
+AreTablesAt Tells value rows =
     (items : Items) × ((value ≡ Some (toml.array items)) ⊎ ((value ≡ None) × (items ≡ toml.no_items)))
-    × Tell Tells items rows
+    × EachTells Tells items rows
 
 -- the data of the value of an index, of type HS_SITE
 abbrev pub IsData : Option (List HandleValue) → ℕ → List ℕ → Type 0

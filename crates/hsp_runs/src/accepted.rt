@@ -5,9 +5,10 @@ ghost use Rattle.hsp_text.specs.Answers.{Gives};
 ghost use Rattle.hsp_check.specs.Instance.{network_of};
 ghost use Rattle.hsp_check.specs.Valid.{IsValid};
 ghost use Rattle.hsp_runs.specs.Accepted.{IsAccepted, IsAcceptedOf, plan_in, shortage_in};
+ghost use Rattle.hsp_runs.specs.Always.{AcceptsAlways, AcceptsClaim};
 ghost use Rattle.hsp_runs.specs.Headline.{Defines};
 ghost use Rattle.hsp_runs.specs.Shown.{Holds};
-ghost use Rattle.hsp_runs.specs.Tells.{Tells};
+ghost use Rattle.hsp_runs.specs.Memory.{OrNoMemory};
 
 use crate::checking::{certificate_in, judged};
 use crate::inputs::Inputs;
@@ -49,11 +50,12 @@ impl Accepted {
 
 // The instance with the certificate, where that is valid for it.
 fn accepting(alloc: Global, instance: Instance, certificate: Certificate) -> Result<Accepted, Fault>
-    ensures accepted { Tells (IsAccepted instance certificate) result }
+    ensures accepted { OrNoMemory (IsAccepted instance certificate) result }
     ensures valid { IfOk result (λ accepted.
         IsValid (network_of accepted.instance) accepted.certificate) }
     ensures holds { IfOk result (λ accepted.
         Holds (network_of accepted.instance) accepted.certificate) }
+    ensures always { Holds (network_of instance) certificate → AcceptsClaim certificate result }
 {
     match judged(alloc, &instance, &certificate)? {
         Verdict::Yes => Ok(Accepted {
@@ -69,7 +71,7 @@ fn accepting(alloc: Global, instance: Instance, certificate: Certificate) -> Res
 /// Faults in this order: `Settings`, `Values`, `Demand`, `Costs`, `Capacity`, `Build`, `Cert`, `Refused` with the first
 /// reason.
 pub(crate) fn accepted_in(alloc: Global, inputs: &Inputs, octets: &[u8]) -> Result<Accepted, Fault>
-    ensures accepted { Tells (IsAcceptedOf inputs.now octets.now) result }
+    ensures accepted { OrNoMemory (IsAcceptedOf inputs.now octets.now) result }
     ensures valid { IfOk result (λ accepted.
         IsValid (network_of accepted.instance) accepted.certificate) }
     // The plan is best, or there is no feasible plan.
@@ -77,6 +79,8 @@ pub(crate) fn accepted_in(alloc: Global, inputs: &Inputs, octets: &[u8]) -> Resu
         Holds (network_of accepted.instance) accepted.certificate) }
     // The inputs define the instance.
     ensures defines { IfOk result (λ accepted. Defines inputs.now accepted.instance) }
+    // Where they define one, and the octets spell a certificate that holds for it, it is accepted, or memory runs out.
+    ensures always { AcceptsAlways inputs.now octets.now result }
 {
     let instance = instance_in(alloc, inputs)?;
     let certificate = certificate_in(alloc, octets)?;

@@ -4,9 +4,10 @@ ghost use Rattle.std.specs.Prelude.{◌≡◌, IfOk};
 ghost use Rattle.hsp_check.specs.Instance.{network_of};
 ghost use Rattle.hsp_check.specs.declared.verdict.Verdict.TheVariants.{Yes};
 ghost use Rattle.hsp_runs.specs.Check.{IsCertificate, IsChecked, IsVerdict, IsVerdictOn};
-ghost use Rattle.hsp_runs.specs.Headline.{ShowsOf};
+ghost use Rattle.hsp_runs.specs.Always.{ReadsAlways};
+ghost use Rattle.hsp_runs.specs.Headline.{SaysYesAlways, ShowsOf};
 ghost use Rattle.hsp_runs.specs.Shown.{Holds, Shows};
-ghost use Rattle.hsp_runs.specs.Tells.{Tells};
+ghost use Rattle.hsp_runs.specs.Memory.{IsOrNoMemory, OrNoMemory};
 
 use crate::inputs::Inputs;
 use crate::instance::instance_in;
@@ -18,7 +19,9 @@ use std::alloc::Global;
 
 /// The certificate that octets spell.
 pub(crate) fn certificate_in(alloc: Global, octets: &[u8]) -> Result<Certificate, Fault>
-    ensures { Tells (IsCertificate octets.now) result }
+    ensures certificate { OrNoMemory (IsCertificate octets.now) result }
+    // Where they spell one it is this one, or memory runs out.
+    ensures always { ReadsAlways octets.now result }
 {
     match read_cert(alloc, octets) {
         Ok(certificate) => Ok(certificate),
@@ -33,30 +36,36 @@ pub(crate) fn judged(
     instance: &Instance,
     certificate: &Certificate,
 ) -> Result<Verdict, Fault>
-    ensures verdict { Tells (IsVerdict instance.now certificate.now) result }
+    ensures verdict { OrNoMemory (IsVerdict instance.now certificate.now) result }
     ensures holds { IfOk result (λ verdict. verdict ≡ Yes
         → Holds (network_of instance.now) certificate.now) }
+    ensures always { Holds (network_of instance.now) certificate.now
+        → IsOrNoMemory Yes result }
 {
     Ok(check(alloc, instance, certificate)?)
 }
 
 // The verdict on the certificate that octets spell.
 fn judged_text(alloc: Global, instance: &Instance, octets: &[u8]) -> Result<Verdict, Fault>
-    ensures verdict { Tells (IsVerdictOn octets.now instance.now) result }
+    ensures verdict { OrNoMemory (IsVerdictOn octets.now instance.now) result }
     ensures shows { IfOk result (λ verdict. verdict ≡ Yes → Shows octets.now instance.now) }
+    ensures always { Shows octets.now instance.now → IsOrNoMemory Yes result }
 {
     let certificate = certificate_in(alloc, octets)?;
     judged(alloc, instance, &certificate)
 }
 
 /// Whether the text is that of a certificate which is valid for the instance of the inputs, and otherwise the first
-/// reason why it isn't.
+/// reason why it isn't. Where the inputs define an instance, and the text is that of a certificate that holds for it,
+/// the verdict is Yes, unless memory runs out.
 ///
 /// Faults in this order: `Settings`, `Values`, `Demand`, `Costs`, `Capacity`, `Build`, `Cert`.
 pub fn check_run(alloc: Global, inputs: &Inputs, cert: &[u8]) -> Result<Verdict, Fault>
-    ensures verdict { Tells (IsChecked inputs.now cert.now) result }
+    ensures verdict { OrNoMemory (IsChecked inputs.now cert.now) result }
     // Yes means that the certificate's plan is best, or that there is no feasible plan.
     ensures shows { IfOk result (λ verdict. verdict ≡ Yes → ShowsOf inputs.now cert.now) }
+    // And every such certificate gets a Yes, unless memory runs out.
+    ensures exactly { SaysYesAlways inputs.now cert.now result }
 {
     let instance = instance_in(alloc, inputs)?;
     judged_text(alloc, &instance, cert)

@@ -3,6 +3,7 @@
 ghost use Rattle.std.specs.Prelude.{◌≡◌, IfErr};
 ghost use Rattle.hsp_check.specs.Instance.{network_of};
 ghost use Rattle.hsp_check.specs.Valid.{IsValid};
+ghost use Rattle.hsp_runs.specs.Always.{DispatchesAlways};
 ghost use Rattle.hsp_runs.specs.Dispatch.{AnswersBy, IsBeforeLog, IsDispatched, a_dispatcher, over};
 ghost use Rattle.hsp_runs.specs.Logs.{ShowsLogOf};
 
@@ -35,7 +36,8 @@ fn dispatched<R: Read + Drop, W: Write>(
 ///
 /// Faults in this order: those of the inputs (`Settings`, `Values`, `Demand`, `Costs`, `Capacity`, `Build`), `Cert`,
 /// `Refused`, and `WrongKind` for a shortage, all with nothing written; then `Log`, when the entries before it were
-/// answered. A run stops anywhere if memory runs out.
+/// answered. A run stops anywhere if memory runs out. Where the inputs define an instance, and the certificate is a plan
+/// that holds for it, there is no other fault than `Log`, unless memory runs out.
 pub fn dispatch_run<R: Read + Drop, W: Write>(
     alloc: Global,
     inputs: &Inputs,
@@ -50,6 +52,8 @@ pub fn dispatch_run<R: Read + Drop, W: Write>(
         (over (R.remaining reader) (W.contents writer.old) (W.contents writer.new)) result }
     // Where the fault comes before the log, the writer is as it was, also one whose octets no one can know.
     ensures untouched { IfErr result (λ e. IsBeforeLog e → writer.new ≡ writer.old) }
+    // By every plan that holds the log is answered, up to a fault of its own at most, unless memory runs out.
+    ensures always { DispatchesAlways inputs.now certificate.now result }
 {
     let accepted = accepted_in(alloc, inputs, certificate)?;
     dispatched(alloc, &accepted, reader, writer)

@@ -5,6 +5,7 @@ ghost use Rattle.hsp_text.specs.Answers.{Gives};
 ghost use Rattle.hsp_text.specs.declared.limits.TheConstants.{MOST_FRONTS};
 ghost use Rattle.hsp_check.specs.Instance.{network_of};
 ghost use Rattle.hsp_check.specs.Valid.{IsValid};
+ghost use Rattle.hsp_runs.specs.Always.{DispatchesAtAlways};
 ghost use Rattle.hsp_runs.specs.Dispatch.{AnswersBy, IsBeforeLog, IsDispatchedAt, fronts_at, over, so_many};
 ghost use Rattle.hsp_runs.specs.Logs.{ShowsFrontsOf};
 
@@ -50,7 +51,8 @@ fn dispatched_at<R: Read + Drop, W: Write>(
 /// front that it names, which has only its share of the plan.
 ///
 /// The word `fronts` spells how many fronts there are, from 1 to 64. Otherwise the fault is `BadFronts`, before any
-/// other.
+/// other. Where it does, the inputs define an instance, and the certificate is a plan that holds for it, there is no
+/// other fault than `Log`, unless memory runs out.
 pub fn fronts_run<R: Read + Drop, W: Write>(
     alloc: Global,
     inputs: &Inputs,
@@ -66,6 +68,8 @@ pub fn fronts_run<R: Read + Drop, W: Write>(
         (over (R.remaining reader) (W.contents writer.old) (W.contents writer.new)) result }
     // Where the fault comes before the log, the writer is as it was, also one whose octets no one can know.
     ensures untouched { IfErr result (λ e. IsBeforeLog e → writer.new ≡ writer.old) }
+    // By every plan that holds the log is answered, up to a fault of its own at most, unless memory runs out.
+    ensures always { DispatchesAtAlways fronts.now inputs.now certificate.now result }
 {
     let fronts = fronts_at(fronts)?;
     let accepted = accepted_in(alloc, inputs, certificate)?;

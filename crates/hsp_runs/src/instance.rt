@@ -1,9 +1,10 @@
 // The instance that inputs define.
 
 ghost use Rattle.std.specs.Prelude.{IfOk, option_map};
+ghost use Rattle.hsp_runs.specs.Always.{GivesTheDefinedAlways};
 ghost use Rattle.hsp_runs.specs.Headline.{Defines};
-ghost use Rattle.hsp_runs.specs.Instance.{AreCapacities, AreCosts, IsBuilt, IsDemand, IsInstanceOf, IsWithCosts, IsWithDemand, IsWithSettings, IsWithValues};
-ghost use Rattle.hsp_runs.specs.Tells.{Tells};
+ghost use Rattle.hsp_runs.specs.Instance.{BuildsInstance, IsInstanceOf, IsWithCosts, IsWithDemand, IsWithSettings, IsWithValues, ReadsCapacities, ReadsCosts, ReadsDemand};
+ghost use Rattle.hsp_runs.specs.Memory.{OrNoMemory};
 
 use crate::inputs::Inputs;
 use crate::laws::instances_are_defined;
@@ -17,7 +18,7 @@ use hsp_tables::{
 use std::alloc::Global;
 
 fn demand_in(alloc: Global, octets: &[u8]) -> Result<Demand, Fault>
-    ensures { Tells (IsDemand octets.now) result }
+    ensures { OrNoMemory (ReadsDemand octets.now) result }
 {
     match read_demand(alloc, octets) {
         Ok(demand) => Ok(demand),
@@ -27,7 +28,7 @@ fn demand_in(alloc: Global, octets: &[u8]) -> Result<Demand, Fault>
 }
 
 fn costs_in(alloc: Global, octets: &[u8]) -> Result<Costs, Fault>
-    ensures { Tells (AreCosts octets.now) result }
+    ensures { OrNoMemory (ReadsCosts octets.now) result }
 {
     match read_costs(alloc, octets) {
         Ok(costs) => Ok(costs),
@@ -37,7 +38,7 @@ fn costs_in(alloc: Global, octets: &[u8]) -> Result<Costs, Fault>
 }
 
 fn capacities_in(alloc: Global, octets: &[u8]) -> Result<Capacities, Fault>
-    ensures { Tells (AreCapacities octets.now) result }
+    ensures { OrNoMemory (ReadsCapacities octets.now) result }
 {
     match read_capacity(alloc, octets) {
         Ok(capacities) => Ok(capacities),
@@ -61,7 +62,7 @@ fn built(
     costs: &Costs,
     capacity: &Capacities,
 ) -> Result<Instance, Fault>
-    ensures { Tells (IsBuilt (record {
+    ensures { OrNoMemory (BuildsInstance (record {
       settings = sources.entry.settings.now;
       values = option_map (λ v. v.now) sources.entry.values;
       demand = demand.now;
@@ -91,7 +92,7 @@ fn with_costs(
     demand: &Demand,
     costs: &Costs,
 ) -> Result<Instance, Fault>
-    ensures { Tells (IsWithCosts inputs.now sources.entry.settings.now
+    ensures { OrNoMemory (IsWithCosts inputs.now sources.entry.settings.now
         (option_map (λ v. v.now) sources.entry.values) demand.now costs.now) result }
 {
     let capacity = capacities_in(alloc, &inputs.capacity)?;
@@ -105,7 +106,7 @@ fn with_demand(
     sources: Sources<'_, '_, '_>,
     demand: &Demand,
 ) -> Result<Instance, Fault>
-    ensures { Tells (IsWithDemand inputs.now sources.entry.settings.now
+    ensures { OrNoMemory (IsWithDemand inputs.now sources.entry.settings.now
         (option_map (λ v. v.now) sources.entry.values) demand.now) result }
 {
     let costs = costs_in(alloc, &inputs.costs)?;
@@ -119,7 +120,7 @@ fn with_values(
     settings: &Settings,
     values: Option<&ValueList<'_>>,
 ) -> Result<Instance, Fault>
-    ensures { Tells (IsWithValues inputs.now settings.now
+    ensures { OrNoMemory (IsWithValues inputs.now settings.now
         (option_map (λ v. v.now) values.entry)) result }
 {
     let demand = demand_in(alloc, &inputs.demand)?;
@@ -128,21 +129,31 @@ fn with_values(
 
 // The instance, after the settings were read.
 fn with_settings(alloc: Global, inputs: &Inputs, settings: &Settings) -> Result<Instance, Fault>
-    ensures { Tells (IsWithSettings inputs.now settings.now) result }
+    ensures { OrNoMemory (IsWithSettings inputs.now settings.now) result }
 {
     let values = values_in(alloc, inputs.values.as_deref())?;
     with_values(alloc, inputs, settings, values.as_ref())
 }
 
-/// The instance that the inputs define.
-///
-/// Faults in this order: `Settings`, `Values`, `Demand`, `Costs`, `Capacity`, `Build`.
-pub(crate) fn instance_in(alloc: Global, inputs: &Inputs) -> Result<Instance, Fault>
-    ensures instance { Tells (IsInstanceOf inputs.now) result }
-    // The inputs define it, as the page of the headline states.
-    ensures defines { IfOk result (λ instance. Defines inputs.now instance) }
+// The instance of the inputs, or their first fault.
+fn first_answer(alloc: Global, inputs: &Inputs) -> Result<Instance, Fault>
+    ensures { OrNoMemory (IsInstanceOf inputs.now) result }
 {
-    instances_are_defined();
     let settings = settings_in(alloc, &inputs.settings)?;
     with_settings(alloc, inputs, &settings)
+}
+
+/// The instance that the inputs define.
+///
+/// Faults in this order: `Settings`, `Values`, `Demand`, `Costs`, `Capacity`, `Build`. Where the inputs define an
+/// instance the only fault is that memory runs out.
+pub(crate) fn instance_in(alloc: Global, inputs: &Inputs) -> Result<Instance, Fault>
+    ensures instance { OrNoMemory (IsInstanceOf inputs.now) result }
+    // The inputs define it, as the page of the headline states.
+    ensures defines { IfOk result (λ instance. Defines inputs.now instance) }
+    // Where they define an instance it is this one, or memory runs out.
+    ensures always { GivesTheDefinedAlways inputs.now result }
+{
+    instances_are_defined();
+    first_answer(alloc, inputs)
 }

@@ -2,10 +2,10 @@
 
 ghost use Rattle.std.specs.Prelude.{◌≡◌, IfOk};
 ghost use Rattle.hsp_cert.specs.Certificate.{IsCertificate};
-ghost use Rattle.hsp_runs.specs.Headline.{ShowsOf};
+ghost use Rattle.hsp_runs.specs.Headline.{PlansAlways, ShowsOf};
 ghost use Rattle.hsp_runs.specs.Shown.{Shows};
 ghost use Rattle.hsp_runs.specs.Plan.{IsPlanText, IsPlanned, printed};
-ghost use Rattle.hsp_runs.specs.Tells.{Tells};
+ghost use Rattle.hsp_runs.specs.Memory.{OrNoMemory};
 
 use crate::inputs::Inputs;
 use crate::instance::instance_in;
@@ -69,23 +69,24 @@ fn text_of(alloc: Global, certificate: &Certificate) -> Result<PlanText, AllocEr
 
 // The text of a valid certificate for the instance.
 fn planned(alloc: Global, instance: &Instance) -> Result<PlanText, Fault>
-    ensures text { Tells (IsPlanText instance.now) result }
+    ensures text { OrNoMemory (IsPlanText instance.now) result }
     ensures shows { IfOk result (λ text. Shows text.octets instance.now) }
 {
-    // Every instance is within its limits.
-    let _ = instance.rows();
     let certificate = solve(alloc, instance)?;
     Ok(text_of(alloc, &certificate)?)
 }
 
 /// The text of a plan for the instance of the inputs at the least cost, with prices that show it; or that of a
-/// shortage, a set of rows that asks for more than all that it can reach can take.
+/// shortage, a set of rows that asks for more than all that it can reach can take. Where the inputs define an instance
+/// there is such a text, unless memory runs out.
 ///
 /// Faults in this order: `Settings`, `Values`, `Demand`, `Costs`, `Capacity`, `Build`.
 pub fn plan_run(alloc: Global, inputs: &Inputs) -> Result<PlanText, Fault>
-    ensures text { Tells (IsPlanned inputs.now) result }
+    ensures text { OrNoMemory (IsPlanned inputs.now) result }
     // The plan is best, or there is no feasible plan.
     ensures shows { IfOk result (λ text. ShowsOf inputs.now text.octets) }
+    // Whatever instance the inputs define, there is a text, unless memory runs out.
+    ensures always { PlansAlways inputs.now result }
 {
     let instance = instance_in(alloc, inputs)?;
     planned(alloc, &instance)

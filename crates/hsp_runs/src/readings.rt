@@ -1,8 +1,8 @@
 // What runs read from their inputs.
 
 ghost use Rattle.std.specs.Prelude.{option_map};
-ghost use Rattle.hsp_runs.specs.Readings.{AreListed, AreSettings, AreSites, AreSitesIn, AreValues};
-ghost use Rattle.hsp_runs.specs.Tells.{Tells};
+ghost use Rattle.hsp_runs.specs.Readings.{AreListed, AreSites, AreSitesIn, ReadsSettings, ReadsValues};
+ghost use Rattle.hsp_runs.specs.Memory.{OrNoMemory};
 
 use hsp_instance::{BuildFault, Sites, build_sites};
 use hsp_lines::Fault;
@@ -12,7 +12,7 @@ use std::alloc::Global;
 
 /// The settings.
 pub(crate) fn settings_in(alloc: Global, octets: &[u8]) -> Result<Settings, Fault>
-    ensures { Tells (AreSettings octets.now) result }
+    ensures { OrNoMemory (ReadsSettings octets.now) result }
 {
     match read_settings(alloc, octets) {
         Ok(settings) => Ok(settings),
@@ -23,7 +23,7 @@ pub(crate) fn settings_in(alloc: Global, octets: &[u8]) -> Result<Settings, Faul
 
 // A value list.
 fn list_in(alloc: Global, octets: &[u8]) -> Result<ValueList<'_>, Fault>
-    ensures { Tells (AreListed octets.now) result }
+    ensures { OrNoMemory (AreListed octets.now) result }
 {
     match decode_values(alloc, octets) {
         Ok(values) => Ok(values),
@@ -37,7 +37,7 @@ pub(crate) fn values_in<'a>(
     alloc: Global,
     octets: Option<&'a [u8]>,
 ) -> Result<Option<ValueList<'a>>, Fault>
-    ensures { Tells (AreValues (option_map (λ o. o.now) octets.entry)) result }
+    ensures { OrNoMemory (ReadsValues (option_map (λ o. o.now) octets.entry)) result }
 {
     match octets {
         None => Ok(None),
@@ -51,7 +51,7 @@ fn sites_of(
     settings: &Settings,
     values: Option<&ValueList<'_>>,
 ) -> Result<Sites, Fault>
-    ensures { Tells (AreSites settings.now (option_map (λ v. v.now) values.entry)) result }
+    ensures { OrNoMemory (AreSites settings.now (option_map (λ v. v.now) values.entry)) result }
 {
     match build_sites(alloc, settings, values) {
         Ok(sites) => Ok(sites),
@@ -66,7 +66,7 @@ pub(crate) fn sites_in(
     settings: &[u8],
     values: Option<&[u8]>,
 ) -> Result<Sites, Fault>
-    ensures { Tells (AreSitesIn settings.now (option_map (λ o. o.now) values.entry)) result }
+    ensures { OrNoMemory (AreSitesIn settings.now (option_map (λ o. o.now) values.entry)) result }
 {
     let settings = settings_in(alloc, settings)?;
     let values = values_in(alloc, values)?;

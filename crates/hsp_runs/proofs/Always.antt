@@ -1,0 +1,137 @@
+-- What runs answer wherever inputs define an instance and octets spell a certificate that holds for it.
+use Rattle.std.proofs.Common.{◌≡◌, ◌≢◌, ◌∙◌, ◌<◌, ◌≤◌, inl, inr, ℕ, List, Result, Ok, Err, IfOk, IsErrAnd, IsOkUnless, decimal, refl, ap, subst, sym, arith}
+use Rattle.std.proofs.lemmas.Bool.{le-leb, ne_eqb}
+use Rattle.hsp_text.specs.Whole.{whole_within}
+use Rattle.hsp_text.specs.declared.limits.TheConstants.{MOST_FRONTS}
+use Rattle.hsp_text.proofs.Numerals.{digits_spell_their_number}
+use Rattle.hsp_instance.specs.Instance.{Instance}
+use Rattle.hsp_cert.specs.Certificate.{Best, Claim}
+use Rattle.hsp_cert.specs.Certificate.Claim.{best, short}
+use Rattle.hsp_cert.specs.Reading.{Agrees, Means}
+use Rattle.hsp_cert.specs.declared.fault.CertFault.{CertFault}
+use Rattle.hsp_cert.specs.declared.fault.CertFault.TheVariants as cert_fault
+use Rattle.hsp_check.specs.Instance.{network_of}
+use Rattle.hsp_check.specs.declared.verdict.Verdict.{Verdict}
+use Rattle.hsp_check.specs.declared.verdict.Verdict.TheVariants.{Yes}
+use Rattle.hsp_dispatch.specs.Desks.{by_fronts, by_plan}
+use Rattle.hsp_dispatch.specs.Dispatch.{all_of}
+use Rattle.hsp_dispatch.specs.Runs.{Desk, Streams}
+use Rattle.hsp_dispatch.specs.declared.answer.FrontSums.{FrontSums}
+use Rattle.hsp_dispatch.specs.declared.answer.LogSums.{LogSums}
+use Rattle.hsp_lines.specs.declared.fault.Fault.{Fault}
+use Rattle.hsp_lines.specs.declared.fault.Fault.TheVariants.{BadFronts, Cert, Log, OutOfMemory}
+use Rattle.hsp_runs.specs.Always.{AcceptsClaim, GivesTheDefinedAlways, IsOkUnlessLog, ReadsAlways}
+use Rattle.hsp_runs.specs.Counts.{above_none}
+use Rattle.hsp_runs.specs.Dispatch.{AnswersAs, AnswersBy, EndsLog, Refuses, a_dispatcher, fronts_at, so_many}
+use Rattle.hsp_runs.specs.Headline.{Defines, ShowsOf}
+use Rattle.hsp_runs.specs.Instance.{IsInstanceOf}
+use Rattle.hsp_runs.specs.Laws.{GivesNothingElse}
+use Rattle.hsp_runs.specs.Plan.{IsPlanText, Printed}
+use Rattle.hsp_runs.specs.Shown.{Holds, Shows, Spells}
+use Rattle.hsp_runs.specs.Memory.{IsOrNoMemory, OrNoMemory}
+use Rattle.hsp_runs.specs.declared.accepted.Accepted.{Accepted}
+use Rattle.hsp_runs.specs.declared.inputs.Inputs.{Inputs}
+
+-- ---- a fault that is handed on
+
+pub handed_unless : {X : Type 0} (value : X) (answer : Result X Fault) (fault : Fault) → IsErrAnd answer (λ e. e ≡ fault) → fault ≡ OutOfMemory
+    → IsOrNoMemory value answer
+handed_unless value (Ok x) fault is memory = absurd is
+handed_unless value (Err e) fault is memory = is ∙ memory
+
+pub handed_ok : {X : Type 0} (answer : Result X Fault) (fault : Fault) → IsErrAnd answer (λ e. e ≡ fault) → fault ≡ OutOfMemory → IsOkUnless answer OutOfMemory
+handed_ok (Ok x) fault is memory = absurd is
+handed_ok (Err e) fault is memory = is ∙ memory
+
+pub handed_claim : (claim : Claim) (answer : Result Accepted Fault) (fault : Fault) → IsErrAnd answer (λ e. e ≡ fault) → fault ≡ OutOfMemory → AcceptsClaim claim answer
+handed_claim claim (Ok x) fault is memory = absurd is
+handed_claim claim (Err e) fault is memory = is ∙ memory
+
+pub handed_log : {S : Type 0} (answer : Result S Fault) (fault : Fault) → IsErrAnd answer (λ e. e ≡ fault) → fault ≡ OutOfMemory → IsOkUnlessLog answer
+handed_log (Ok x) fault is memory = absurd is
+handed_log (Err e) fault is memory = inl (is ∙ memory)
+
+-- ---- what is read
+
+pub gives_always : GivesNothingElse → (inputs : Inputs) (answer : Result Instance Fault) → OrNoMemory (IsInstanceOf inputs) answer → GivesTheDefinedAlways inputs answer
+gives_always alone inputs (Ok x) is it page = let same = alone inputs it (Ok x) page is in cc (same)
+gives_always alone inputs (Err e) (inl memory) it page = memory
+gives_always alone inputs (Err e) (inr is) it page = let none = alone inputs it (Err e) page is in cc (none)
+
+-- what is read of a text whose reading this claim is
+pub reads_always : (octets : List ℕ) (given : Claim) → ((other : Result Claim CertFault) → Means octets other → Agrees (Ok given) other) → ReadsAlways octets (Ok given)
+reads_always octets given only claim is text = let same : ◌≡◌ {A = Result Claim CertFault} (Ok given) (Ok claim) = only (Ok claim) (is, text) in cc (same)
+
+-- a text with a fault spells no certificate
+pub reads_none : (octets : List ℕ) (fault : CertFault) → fault ≢ cert_fault.OutOfMemory → ((other : Result Claim CertFault) → Means octets other → Agrees (Err fault) other)
+    → ReadsAlways octets (Err (Cert fault))
+reads_none octets cert_fault.OutOfMemory apart only claim is text = absurd (apart refl)
+reads_none octets (cert_fault.BadLine n) apart only claim is text =
+    let none : ◌≡◌ {A = Result Claim CertFault} (Err (cert_fault.BadLine n)) (Ok claim) = only (Ok claim) (is, text) in cc (none)
+reads_none octets cert_fault.Ended apart only claim is text =
+    let none : ◌≡◌ {A = Result Claim CertFault} (Err cert_fault.Ended) (Ok claim) = only (Ok claim) (is, text) in cc (none)
+reads_none octets (cert_fault.AfterEnd n) apart only claim is text =
+    let none : ◌≡◌ {A = Result Claim CertFault} (Err (cert_fault.AfterEnd n)) (Ok claim) = only (Ok claim) (is, text) in cc (none)
+
+-- ---- what is judged
+
+-- the claim that was read is this one, and it holds for the instance that was read
+pub held_read : (octets : List ℕ) (it given : Instance) (claim read : Claim) → given ≡ it → read ≡ claim → Spells octets it claim → Holds (network_of given) read
+held_read octets it given claim read same one spells =
+    subst (λ k. Holds (network_of k) read) (sym same) (subst (λ k. Holds (network_of it) k) (sym one) spells.holds)
+
+-- a Yes for the instance that the inputs define is one for the inputs
+pub checked_shows : (inputs : Inputs) (octets : List ℕ) (it : Instance) (answer : Result Verdict Fault) → Defines inputs it
+    → IfOk answer (λ verdict. verdict ≡ Yes → Shows octets it) → IfOk answer (λ verdict. verdict ≡ Yes → ShowsOf inputs octets)
+checked_shows inputs octets it (Ok verdict) page shows = λ yes. (it, page, shows yes)
+checked_shows inputs octets it (Err e) page shows = tt
+
+-- ---- what is planned
+
+pub planned_always : (it : Instance) (answer : Result Printed Fault) → OrNoMemory (IsPlanText it) answer → IsOkUnless answer OutOfMemory
+planned_always it (Ok text) is = tt
+planned_always it (Err e) (inl memory) = memory
+planned_always it (Err e) (inr none) = absurd none
+
+-- ---- logs
+
+refused_always : {S : Type 0} (run : Streams) (answer : Result S Fault) → Refuses run OutOfMemory answer → IsOkUnlessLog answer
+refused_always run answer refused = subst (λ r. IsOkUnlessLog r) (sym refused.1) (inl refl)
+
+ends_always : {S : Type 0} (all : S → FrontSums) (run : Streams) (answer : Result S Fault) (desk : Desk) → EndsLog all run answer desk → IsOkUnlessLog answer
+ends_always all run (Ok sums) desk ends = tt
+ends_always all run (Err OutOfMemory) desk ends = inl refl
+ends_always all run (Err (Log fault)) desk ends = inr (fault, refl)
+ends_always all run (Err e) desk ends = absurd ends
+
+by_plan_always : (it : Instance) (claim : Claim) (plan : Best) (run : Streams) (answer : Result LogSums Fault) → claim ≡ best plan
+    → AnswersAs a_dispatcher it claim run answer → IsOkUnlessLog answer
+by_plan_always it (best c) plan run answer is (held, left, same, end) = ends_always all_of run answer (by_plan it held left) end
+by_plan_always it (short c) plan run answer is refused = cc (is)
+
+pub dispatched_always : (accepted : Accepted) (plan : Best) (run : Streams) (answer : Result LogSums Fault) → accepted.certificate ≡ best plan
+    → AnswersBy a_dispatcher accepted run answer → IsOkUnlessLog answer
+dispatched_always accepted plan run answer is (inl refused) = refused_always run answer refused
+dispatched_always accepted plan run answer is (inr answered) = by_plan_always accepted.instance accepted.certificate plan run answer is answered
+
+by_fronts_always : (it : Instance) (claim : Claim) (plan : Best) (fronts : ℕ) (run : Streams) (answer : Result FrontSums Fault) → claim ≡ best plan
+    → AnswersAs (so_many fronts) it claim run answer → IsOkUnlessLog answer
+by_fronts_always it (best c) plan fronts run answer is (old, new, are, end) = ends_always (λ sums. sums) run answer (by_fronts old new) end
+by_fronts_always it (short c) plan fronts run answer is refused = cc (is)
+
+pub dispatched_at_always : (accepted : Accepted) (plan : Best) (fronts : ℕ) (run : Streams) (answer : Result FrontSums Fault) → accepted.certificate ≡ best plan
+    → AnswersBy (so_many fronts) accepted run answer → IsOkUnlessLog answer
+dispatched_at_always accepted plan fronts run answer is (inl refused) = refused_always run answer refused
+dispatched_at_always accepted plan fronts run answer is (inr answered) =
+    by_fronts_always accepted.instance accepted.certificate plan fronts run answer is answered
+
+-- a word that spells a number of fronts has no fault
+number_read : (word : List ℕ) (fronts : ℕ) → word ≡ decimal fronts → 0 < fronts → fronts ≤ MOST_FRONTS → fronts_at word ≡ Ok fronts
+number_read word fronts is some few =
+    let spelled = (digits_spell_their_number fronts (decimal fronts) (omega arith)).1 refl in
+    let whole : whole_within MOST_FRONTS (decimal fronts) ≡ Ok fronts = rw (spelled.0, spelled.1, le-leb fronts MOST_FRONTS few) refl in
+    let above : above_none BadFronts (Ok fronts) ≡ Ok fronts = rw (ne_eqb fronts 0 (λ e. omega (arith, e))) refl in
+    ap (λ w. fronts_at w) is ∙ ap (λ r. above_none BadFronts r) whole ∙ above
+
+pub no_fault : {C : Type 0} (word : List ℕ) (fronts : ℕ) (fault : Fault) → word ≡ decimal fronts → 0 < fronts → fronts ≤ MOST_FRONTS → fronts_at word ≡ Err fault → C
+no_fault word fronts fault is some few none = let both = sym (number_read word fronts is some few) ∙ none in cc (both)
