@@ -1,13 +1,11 @@
 -- Inputs have one answer: the instance, or one first fault.
 use Rattle.std.proofs.Common.{◌≡◌, ◌∙◌, ℕ, List, [], ◌∷◌, ◌++◌, length, Option, Result, Ok, Err, ap, subst, sym}
 use Rattle.hsp_record.specs.Fields as formats
-use Rattle.hsp_record.specs.Site as records
 use Rattle.hsp_record.specs.Site.{site_format}
 use Rattle.hsp_record.specs.Values.{HandleValue}
-use Rattle.hsp_record.specs.declared.fault.RecordFault.{RecordFault}
 use Rattle.hsp_tables.specs.Settings.{SiteEntry}
 use Rattle.hsp_text.specs.Answers.{◌>>=◌, Follows, Then}
-use Rattle.hsp_instance.specs.Building.{AreSitesAfter, AreSitesOf, HasOneAnswer, IsNextSite, IsReading, IsSiteOf, instance_with, site_octets, site_of_reading}
+use Rattle.hsp_instance.specs.Building.{AreSitesAfter, HasOneAnswer, IsNextSite, IsSiteOf, instance_with, site_octets, site_of_reading}
 use Rattle.hsp_instance.specs.Instance.{Site, servers_of}
 use Rattle.hsp_instance.specs.declared.fault.BuildFault.{BuildFault}
 
