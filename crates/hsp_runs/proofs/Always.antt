@@ -1,5 +1,5 @@
 -- What runs answer wherever inputs define an instance and octets spell a certificate that holds for it.
-use Rattle.std.proofs.Common.{◌≡◌, ◌≢◌, ◌∙◌, ◌<◌, ◌≤◌, inl, inr, ℕ, List, Result, Ok, Err, IfOk, IsErrAnd, IsOkUnless, decimal, refl, ap, subst, sym, arith}
+use Rattle.std.proofs.Common.{◌≡◌, ◌≢◌, ◌∙◌, ◌<◌, ◌≤◌, ◌⊎◌, inl, inr, ℕ, List, Result, Ok, Err, IfOk, IsErrAnd, IsOkUnless, decimal, refl, ap, subst, sym, arith}
 use Rattle.std.proofs.lemmas.Bool.{le-leb, ne_eqb}
 use Rattle.hsp_text.specs.Whole.{whole_within}
 use Rattle.hsp_text.specs.declared.limits.TheConstants.{MOST_FRONTS}
@@ -18,6 +18,9 @@ use Rattle.hsp_dispatch.specs.Dispatch.{all_of}
 use Rattle.hsp_dispatch.specs.Runs.{Desk, Streams}
 use Rattle.hsp_dispatch.specs.declared.answer.FrontSums.{FrontSums}
 use Rattle.hsp_dispatch.specs.declared.answer.LogSums.{LogSums}
+use Rattle.hsp_dispatch.specs.declared.fault.LogFault.{LogFault}
+use Rattle.hsp_dispatch.specs.declared.fault.LogFault.TheVariants as log_fault
+use Rattle.hsp_lines.specs.FaultText.{log_told}
 use Rattle.hsp_lines.specs.declared.fault.Fault.{Fault}
 use Rattle.hsp_lines.specs.declared.fault.Fault.TheVariants.{BadFronts, Cert, Log, OutOfMemory}
 use Rattle.hsp_runs.specs.Always.{AcceptsClaim, GivesTheDefinedAlways, IsOkUnlessLog, ReadsAlways}
@@ -98,11 +101,17 @@ planned_always it (Err e) (inr none) = absurd none
 refused_always : {S : Type 0} (run : Streams) (answer : Result S Fault) → Refuses run OutOfMemory answer → IsOkUnlessLog answer
 refused_always run answer refused = subst (λ r. IsOkUnlessLog r) (sym refused.1) (inl refl)
 
+-- what is reported of a fault of a log
+abbrev IsOfLog : Fault → Type 0
+IsOfLog fault = (fault ≡ OutOfMemory) ⊎ ((of : LogFault) × (fault ≡ Log of))
+
+told_always : (fault : LogFault) → IsOfLog (log_told fault)
+told_always log_fault.OutOfMemory = inl refl
+told_always fault = inr (fault, refl)
+
 ends_always : {S : Type 0} (all : S → FrontSums) (run : Streams) (answer : Result S Fault) (desk : Desk) → EndsLog all run answer desk → IsOkUnlessLog answer
 ends_always all run (Ok sums) desk ends = tt
-ends_always all run (Err OutOfMemory) desk ends = inl refl
-ends_always all run (Err (Log fault)) desk ends = inr (fault, refl)
-ends_always all run (Err e) desk ends = absurd ends
+ends_always all run (Err e) desk (fault, is, stops) = subst IsOfLog (sym is) (told_always fault)
 
 by_plan_always : (it : Instance) (claim : Claim) (plan : Best) (run : Streams) (answer : Result LogSums Fault) → claim ≡ best plan
     → AnswersAs a_dispatcher it claim run answer → IsOkUnlessLog answer
