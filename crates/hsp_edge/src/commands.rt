@@ -1,10 +1,9 @@
 // The answers to commands, from the files that they name.
 
-ghost use Rattle.std.specs.Prelude.{◌≡◌, IfErr, IfOk, map, option_map, string_bytes};
+ghost use Rattle.std.specs.Prelude.{◌≡◌, map, string_bytes};
 ghost use Rattle.hsp_runs.specs.Locate.{placed};
 ghost use Rattle.hsp_edge.specs.Answers.{IsAnswered, text_told};
-ghost use Rattle.hsp_edge.specs.Commands.{AnswersCheck, AnswersPlan, AnswersReport, AnswersSite, AnswersSites, AreHeld, CarriesOut, FailsNamed, HoldsNamed, Obeys, OneFails, told_kind};
-ghost use Rattle.hsp_edge.specs.Failing.{IsUnread};
+ghost use Rattle.hsp_edge.specs.Commands.{AnswersCheck, AnswersPlan, AnswersReport, AnswersSite, AnswersSites, CarriesOut, Obeys, told_kind};
 
 use crate::answer::{
     Answer, Completed, check_answer, locate_answer, plan_answer, print, report_answer, site_answer,
@@ -12,44 +11,11 @@ use crate::answer::{
 use crate::dispatch::{dispatch, open_log};
 use crate::failure::Failure;
 use crate::files::{FileSource, read_whole};
+use crate::inputs::{read_inputs, read_named};
 use crate::output::Output;
 use hsp_command::{InputFiles, Kind, Order, Word, read_command};
-use hsp_runs::{Inputs, Locate, ReportKind};
+use hsp_runs::{Locate, ReportKind};
 use std::alloc::Global;
-
-// Every octet of a file that may be named.
-fn read_named<S: FileSource>(
-    alloc: Global,
-    files: &S,
-    path: &Option<Word>,
-) -> Result<Option<Vec<u8>>, Failure>
-    ensures octets { IfOk result
-        (λ octets. HoldsNamed (S.disk files.now) path.now (option_map (λ v. v.items) octets)) }
-    ensures unread { IfErr result (IsUnread (FailsNamed (S.disk files.now) path.now)) }
-{
-    match path {
-        Some(path) => Ok(Some(read_whole(alloc, files, path)?)),
-        None => Ok(None),
-    }
-}
-
-/// The files of inputs, read in their order.
-pub fn read_inputs<S: FileSource>(
-    alloc: Global,
-    files: &S,
-    named: &InputFiles,
-) -> Result<Inputs, Failure>
-    ensures held { IfOk result (λ inputs. AreHeld (S.disk files.now) named.now inputs) }
-    ensures unread { IfErr result (IsUnread (OneFails (S.disk files.now) named.now)) }
-{
-    Ok(Inputs {
-        settings: read_whole(alloc, files, &named.settings)?,
-        values: read_named(alloc, files, &named.values)?,
-        demand: read_whole(alloc, files, &named.demand)?,
-        costs: read_whole(alloc, files, &named.costs)?,
-        capacity: read_whole(alloc, files, &named.capacity)?,
-    })
-}
 
 fn locate_place(
     alloc: Global,

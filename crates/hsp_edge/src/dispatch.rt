@@ -9,9 +9,9 @@ ghost use Rattle.hsp_edge.specs.Dispatching.{AnswersEntries, AnswersEvents, Disp
 ghost use Rattle.hsp_edge.specs.Failing.{IsUnread};
 
 use crate::answer::Completed;
-use crate::commands::read_inputs;
 use crate::failure::Failure;
 use crate::files::{FileSource, OpenFile, read_whole};
+use crate::inputs::read_inputs;
 use crate::output::Output;
 use hsp_command::{InputFiles, Word};
 use hsp_dispatch::LogFault;

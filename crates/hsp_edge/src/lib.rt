@@ -8,6 +8,7 @@ mod dispatch;
 mod ending;
 mod failure;
 mod files;
+mod inputs;
 mod output;
 mod words;
 
