@@ -1,7 +1,7 @@
 -- What a command answers: to which words, and from which files.
-use Rattle.std.specs.Prelude.{◌≡◌, ◌⊎◌, ⊤, ℕ, List, Option, Some, None, Result, Ok, Err, IsErrAnd, option_map}
+use Rattle.std.specs.Prelude.{◌≡◌, ◌⊎◌, ⊤, ℕ, List, [], Option, Some, None, Result, Ok, Err, IsErrAnd, option_map}
 use Rattle.hsp_options.specs.Commands.{hsplan_app}
-use Rattle.clap.specs.Words.{subcommand_of}
+use Rattle.clap.specs.Words.{fault_of, subcommand_of}
 use Rattle.hsp_command.specs.Orders.{IsOrderOf, IsUsage}
 use Rattle.hsp_command.specs.declared.fault.CommandFault.{CommandFault}
 use Rattle.hsp_command.specs.declared.fault.CommandFault.TheVariants as command_fault
@@ -113,9 +113,9 @@ abbrev pub CarriesOut : Disk → Type 0 → Order → Option (List ℕ) → Opti
 CarriesOut disk MayFail (order.Dispatch inputs plan log fronts) old new ended = DispatchesFrom disk MayFail inputs plan log fronts old new ended
 CarriesOut disk MayFail order old new ended = (answer : Result Answer Failure) × AnswersTo disk order answer × Prints MayFail answer old new ended
 
--- the order that words give, or that they give none, or that memory ran out
+-- the order that words give, in which clap finds no fault; or that they give none; or that memory ran out
 abbrev pub IsOrdered : List (List ℕ) → Result Order CommandFault → Type 0
-IsOrdered words (Ok order) = IsOrderOf order (subcommand_of hsplan_app words)
+IsOrdered words (Ok order) = (fault_of hsplan_app words ≡ []) × IsOrderOf order (subcommand_of hsplan_app words)
 IsOrdered words (Err command_fault.Usage) = IsUsage words
 IsOrdered words (Err command_fault.OutOfMemory) = ⊤
 

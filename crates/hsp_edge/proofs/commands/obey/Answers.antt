@@ -4,7 +4,7 @@ use Rattle.hsp_edge.proofs.Orders.{ends_by, refused}
 use Rattle.hsp_edge.proofs.commands.obey.Goals as goal
 
 pub returns : goal.returns
-returns g c = (Ok c.in_ok-order.order, c.in_ok-order.ensures.order, c.carry_out.ensures)
+returns g c = (Ok c.in_ok-order.order, (c.in_ok-order.ensures.taken, c.in_ok-order.ensures.order), c.carry_out.ensures)
 
 pub returns-in_err-order : goal.returns-in_err-order
 returns-in_err-order g c =
