@@ -1,6 +1,6 @@
 -- A text that was written whole, before what was written was handed on.
 use Rattle.std.specs.Prelude.{OnErr}
-use Rattle.std.proofs.Common.{◌≡◌, ◌∙◌, ◌++◌, ℕ, List, Option, Some, None, Result, Ok, Err, length, take, ap, sym}
+use Rattle.std.proofs.Common.{◌∙◌, ◌++◌, ℕ, List, Option, Some, None, Result, Ok, Err, length, ap, sym}
 use Rattle.std.specs.Io.KnownBytes.{Appends, Keeps}
 use Rattle.std.proofs.Math.Seq.{take-length}
 use Rattle.hsp_text.specs.declared.output.WriteFailed.{WriteFailed}

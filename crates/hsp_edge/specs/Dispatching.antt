@@ -1,12 +1,12 @@
 -- How a log is answered on an output.
-use Rattle.std.specs.Prelude.{◌≡◌, ◌⊎◌, ℕ, List, Option, Some, None, Result, Ok, Err}
+use Rattle.std.specs.Prelude.{◌≡◌, ◌⊎◌, ⊤, ℕ, List, Option, Some, None, Result, Ok, Err}
 use Rattle.std.specs.Io.KnownBytes.{Keeps}
 use Rattle.hsp_dispatch.specs.declared.answer.FrontSums.{FrontSums}
 use Rattle.hsp_dispatch.specs.declared.answer.LogSums.{LogSums}
 use Rattle.hsp_dispatch.specs.declared.fault.LogFault.TheVariants.{WriteFailed}
 use Rattle.hsp_runs.specs.Dispatch.{IsDispatched, IsDispatchedAt, over}
 use Rattle.hsp_lines.specs.declared.fault.Fault.{Fault}
-use Rattle.hsp_lines.specs.declared.fault.Fault.TheVariants.{Log}
+use Rattle.hsp_lines.specs.declared.fault.Fault.TheVariants.{Log, OutOfMemory}
 use Rattle.hsp_runs.specs.declared.inputs.Inputs.{Inputs}
 use Rattle.hsp_edge.specs.declared.answer.Completed.{Completed}
 use Rattle.hsp_edge.specs.declared.failure.Failure.{Failure}
@@ -21,22 +21,35 @@ pub record Opened : Type 0 where
 abbrev pub opened_log : Inputs → List ℕ → Option (List ℕ) → Opened
 opened_log inputs certificate left = record { inputs = inputs; certificate = certificate; left = left }
 
--- the sums are reported with status 0, or the fault is; or what had been written couldn't be handed on, as may be
-abbrev pub TellsRun : {S : Type 0} → (S → Option LogSums) → Type 0 → Result S Fault → Result Completed Failure → Type 0
-TellsRun told MayFail (Ok sums) ended = ended ≡ Ok (record { status = 0; sums = told sums })
-TellsRun told MayFail (Err fault) ended = (ended ≡ Err (Refused fault)) ⊎ (MayFail × (ended ≡ Err (Refused (Log WriteFailed))))
+-- lines may have been written before the fault: it is the log's, or memory ran out
+abbrev pub MayFollowLines : Fault → Type 0
+MayFollowLines (Log fault) = ⊤
+MayFollowLines OutOfMemory = ⊤
+MayFollowLines fault = ⊥
 
--- the log's entries were answered on an output, what was written was handed on, and the sums are reported
+-- the fault is reported, and nothing else was done; or lines that may stand before it were handed on, and it is reported, or that
+-- they couldn't be handed on, as may be
+abbrev pub HandsOn : Type 0 → Fault → Option (List ℕ) → Option (List ℕ) → Fault → Type 0
+HandsOn MayFail fault written new reported =
+    ((new ≡ written) × (reported ≡ fault))
+    ⊎ (MayFollowLines fault × Keeps written new × ((reported ≡ fault) ⊎ (MayFail × (reported ≡ Log WriteFailed))))
+
+-- the run's sums are reported with status 0, and nothing else was done; or its fault is reported
+abbrev pub TellsRun : {S : Type 0} → (S → Option LogSums) → Type 0 → Result S Fault → Option (List ℕ) → Option (List ℕ) → Result Completed Failure → Type 0
+TellsRun sums_of MayFail (Ok sums) written new ended = (new ≡ written) × (ended ≡ Ok (record { status = 0; sums = sums_of sums }))
+TellsRun sums_of MayFail (Err fault) written new ended = (reported : Fault) × HandsOn MayFail fault written new reported × (ended ≡ Err (Refused reported))
+
+-- the log's entries were answered on an output, and the run's end is reported
 abbrev pub AnswersEntries : Type 0 → Opened → Option (List ℕ) → Option (List ℕ) → Result Completed Failure → Type 0
 AnswersEntries MayFail it old new ended =
     (written : Option (List ℕ)) × (answer : Result LogSums Fault) × IsDispatched it.inputs it.certificate (over it.left old written) answer
-    × Keeps written new × TellsRun Some MayFail answer ended
+    × TellsRun Some MayFail answer written new ended
 
 -- the same of its events, by as many fronts as a word spells; no sums are reported
 abbrev pub AnswersEvents : Type 0 → List ℕ → Opened → Option (List ℕ) → Option (List ℕ) → Result Completed Failure → Type 0
 AnswersEvents MayFail word it old new ended =
     (written : Option (List ℕ)) × (answer : Result FrontSums Fault) × IsDispatchedAt word it.inputs it.certificate (over it.left old written) answer
-    × Keeps written new × TellsRun (λ sums. None) MayFail answer ended
+    × TellsRun (λ sums. None) MayFail answer written new ended
 
 -- with a number of fronts, or without one
 abbrev pub Dispatches : Type 0 → Option (List ℕ) → Opened → Option (List ℕ) → Option (List ℕ) → Result Completed Failure → Type 0

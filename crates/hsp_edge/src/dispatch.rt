@@ -1,11 +1,8 @@
 // Logs that are answered on an output.
 
-ghost use Rattle.std.specs.Prelude.{◌≡◌, ◌⊎◌, IfErr, IfOk};
-ghost use Rattle.std.specs.Io.KnownBytes.{Keeps};
-ghost use Rattle.hsp_dispatch.specs.declared.fault.LogFault.TheVariants.{WriteFailed};
-ghost use Rattle.hsp_lines.specs.declared.fault.Fault.TheVariants.{Log};
+ghost use Rattle.std.specs.Prelude.{IfErr, IfOk, IsTrue};
 ghost use Rattle.hsp_edge.specs.Commands.{AreOpened, DispatchFails};
-ghost use Rattle.hsp_edge.specs.Dispatching.{AnswersEntries, AnswersEvents, Dispatches, opened_log};
+ghost use Rattle.hsp_edge.specs.Dispatching.{AnswersEntries, AnswersEvents, Dispatches, HandsOn, MayFollowLines, opened_log};
 ghost use Rattle.hsp_edge.specs.Failing.{IsUnread};
 
 use crate::answer::Completed;
@@ -49,13 +46,23 @@ pub fn open_log<S: FileSource>(
     })
 }
 
-// Hands on the lines that were written before the fault, and returns the fault or, where that fails, a failed write.
-// What a failed write left isn't tried again.
-fn handed_on<O: Output>(out: &mut O, fault: Fault) -> Fault
-    ensures kept { Keeps (O.contents out.old) (O.contents out.new) }
-    ensures fault { (result ≡ fault) ⊎ (O.may_fail × (result ≡ Log WriteFailed)) }
+// Whether lines may stand before the fault that are still to be handed on. At a fault of the inputs or the certificate
+// there are none, and what a failed write left isn't tried again.
+fn may_follow_lines(fault: &Fault) -> bool
+    ensures { IsTrue result → MayFollowLines fault.now }
 {
-    if fault == Fault::Log(LogFault::WriteFailed) {
+    match fault {
+        Fault::Log(inner) => *inner != LogFault::WriteFailed,
+        Fault::OutOfMemory => true,
+        _ => false,
+    }
+}
+
+// Hands on the lines that may stand before the fault, and returns the fault or, where that fails, a failed write.
+fn handed_on<O: Output>(out: &mut O, fault: Fault) -> Fault
+    ensures { HandsOn O.may_fail fault (O.contents out.old) (O.contents out.new) result }
+{
+    if !may_follow_lines(&fault) {
         return fault;
     }
     match out.hand_on() {
@@ -65,7 +72,7 @@ fn handed_on<O: Output>(out: &mut O, fault: Fault) -> Fault
 }
 
 /// Answers the log on `out`: its entries, whose sums it returns, or its events, by as many fronts as the word says. At
-/// a fault, the lines before it were handed on.
+/// a fault of the log, and where memory ran out, the lines before it were handed on.
 pub fn dispatch<F: OpenFile, O: Output>(
     alloc: Global,
     opened: OpenLog<F>,
