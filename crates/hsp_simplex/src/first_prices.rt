@@ -4,23 +4,13 @@
 // cost and price. A price rises with what is taken from its node, in proportion to the capacity, and all prices fall
 // by what a full node's price would rise. No source lifts a price by more than that: a small node's would not come down
 // again. Sources take their turns one by one, and see the prices as they are then. The steps get smaller from round to
-// round; after some rounds candidates are chosen among the arcs, and sources take no others. Costs are multiplied by a
-// power of two, so that small costs leave room for steps between them.
+// round. Costs are multiplied by a power of two, so that small costs leave room for steps between them.
 
-use crate::candidates::candidates;
 use crate::graph::{Graph, ROOT};
 use crate::lists::{get_or, increase, set};
 use crate::star::{Arc, ForwardStar};
 use crate::tree::INFINITE_COST;
 use std::alloc::{AllocError, Global};
-
-/// How many rounds are made over all arcs, and then over candidates.
-const ROUNDS: u32 = 7;
-
-const LAST_ROUNDS: u32 = 6;
-
-/// A candidate may cost more than the cheapest arc by this many rises of the next round.
-const WINDOW: u64 = 4;
 
 /// How often all prices fall in a round.
 const FALLS: usize = 32;
@@ -37,13 +27,6 @@ pub struct FirstPrices {
     /// What was taken of a host since prices last fell.
     loads: Vec<u64>,
     scale: u64,
-}
-
-/// First prices, and the arcs that matter by them.
-#[derive(Drop)]
-pub struct Guide {
-    pub prices: FirstPrices,
-    pub candidates: ForwardStar,
 }
 
 // How far prices move in a round: by what a full node's price rises, or falls at a time.
@@ -73,19 +56,9 @@ fn scale_for(greatest_cost: u64) -> u64 {
     scale
 }
 
-impl Guide {
-    pub(crate) fn new(alloc: Global, graph: &Graph) -> Result<Guide, AllocError> {
-        let mut prices = FirstPrices::zero(alloc, graph)?;
-        let first_rise = graph.greatest_cost.wrapping_mul(prices.scale) / 2;
-        let rise = prices.rounds(graph, &graph.star, ROUNDS, first_rise);
-        let candidates = candidates(alloc, graph, &prices, rise.wrapping_mul(WINDOW))?;
-        prices.rounds(graph, &candidates, LAST_ROUNDS, rise);
-        Ok(Guide { prices, candidates })
-    }
-}
-
 impl FirstPrices {
-    fn zero(alloc: Global, graph: &Graph) -> Result<FirstPrices, AllocError> {
+    /// No prices yet.
+    pub(crate) fn zero(alloc: Global, graph: &Graph) -> Result<FirstPrices, AllocError> {
         let nodes = graph.transit_count();
         Ok(FirstPrices {
             totals: vec![in alloc; 0; nodes]?,
@@ -96,8 +69,19 @@ impl FirstPrices {
         })
     }
 
-    // Makes `count` rounds over the arcs, the first with this rise, and returns the rise of the next one.
-    fn rounds(&mut self, graph: &Graph, star: &ForwardStar, count: u32, first_rise: u64) -> u64 {
+    /// By what a full node's price rises in the first round.
+    pub(crate) fn first_rise(&self, graph: &Graph) -> u64 {
+        graph.greatest_cost.wrapping_mul(self.scale) / 2
+    }
+
+    /// Makes `count` rounds over the arcs, the first with this rise, and returns the rise of the next one.
+    pub(crate) fn rounds(
+        &mut self,
+        graph: &Graph,
+        star: &ForwardStar,
+        count: u32,
+        first_rise: u64,
+    ) -> u64 {
         let mut rise = first_rise;
         for _ in 0..count {
             let step = Step::new(rise);

@@ -5,8 +5,9 @@
 // outlet is at its upper bound, or where the server fills its host, the host hangs from the server and the host's
 // outlet is. Each is filled once. What finds no room stays on the source's artificial arc.
 
-use crate::first_prices::{FirstPrices, Guide};
+use crate::first_prices::FirstPrices;
 use crate::graph::{Graph, ROOT};
+use crate::guide::Guide;
 use crate::lists::{ABSENT, get_or, number_of, set};
 use crate::star::ForwardStar;
 use crate::tree::{Node, OutletState, Tree};

@@ -7,6 +7,7 @@ mod cycle;
 mod first_prices;
 mod first_tree;
 mod graph;
+mod guide;
 mod lists;
 mod pivot;
 mod preorder;

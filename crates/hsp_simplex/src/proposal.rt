@@ -1,7 +1,7 @@
 // The network simplex from a network to an outcome.
 
-use crate::first_prices::Guide;
 use crate::graph::Graph;
+use crate::guide::Guide;
 use crate::lists::saturating_sum;
 use crate::regret::by_regret;
 use crate::shortage::total_capacity;
