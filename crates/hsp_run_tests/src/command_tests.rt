@@ -271,7 +271,7 @@ fn a_report_is_ordered(rt: HostRuntime) {
 
 #[test]
 fn other_words_are_no_order(rt: HostRuntime) {
-    let lines: [&[u8]; 24] = [
+    let lines: [&[u8]; 25] = [
         b"",
         b"locate",
         b"plan",
@@ -279,6 +279,7 @@ fn other_words_are_no_order(rt: HostRuntime) {
         b"--help",
         b"locate --help",
         b"locate --option local 10/3",
+        b"locate --servers 2 10/3",
         b"locate --option local --servers 2",
         b"locate --option local --servers 2 10/3 10/4",
         b"locate --option local --option na --servers 2 10/3",

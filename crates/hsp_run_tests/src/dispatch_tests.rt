@@ -1,3 +1,4 @@
+use crate::held::joined;
 use crate::line_tests::{Broken, is_told};
 use crate::run_tests::{BASE, CHEAPER_PLAN, LACKING, PLAN, SHORTAGE, Texts, inputs_of};
 use crate::same::is_same;
@@ -226,6 +227,26 @@ fn logs_are_answered_up_to_each_octet_that_cannot_be_written(rt: HostRuntime) {
     }
 }
 
+// A log of 2,000 good rows and a bad one behind them.
+fn long_log(rt: &impl Abort, alloc: Global) -> Vec<u8> {
+    let rows: [&[u8]; 2_000] = [b"r9,10/3\n"; 2_000];
+    let good = joined(rt, alloc, &rows);
+    joined(
+        rt,
+        alloc,
+        &[b"region,handle\n", good.as_slice(), b"r1,10\n"],
+    )
+}
+
+#[test]
+fn a_bad_row_behind_many_is_told(rt: HostRuntime) {
+    let log = long_log(&rt, rt.alloc());
+    let ended = run_twice(&rt, rt.alloc(), BASE_PLAN, log.as_slice(), 20_000);
+    let fault = LogFault::BadHandle { row: 2_000 };
+    is_same(&rt, &ended.answer, &Err(Fault::Log(fault)));
+    is_same(&rt, ended.page.taken.len(), 16_000);
+}
+
 #[test]
 fn what_is_not_accepted_answers_nothing(rt: HostRuntime) {
     let cases: [(Texts<'_>, &[u8], Fault); 2] = [
@@ -272,15 +293,27 @@ fn faults_of_logs_have_their_lines(rt: HostRuntime) {
     }
 }
 
+// The sums have this line.
+fn has_line(rt: &impl Abort, alloc: Global, sums: &LogSums, wanted: &[u8]) {
+    let line = match sums_line(alloc, sums) {
+        Ok(line) => line,
+        Err(AllocError) => sums_line(alloc, sums).expect(rt, "there is memory"),
+    };
+    is_same(rt, line.as_slice(), wanted);
+}
+
 #[test]
 fn sums_have_their_line(rt: HostRuntime) {
-    let line = match sums_line(rt.alloc(), &SUMS) {
-        Ok(line) => line,
-        Err(AllocError) => sums_line(rt.alloc(), &SUMS).expect(&rt, "there is memory"),
+    has_line(&rt, rt.alloc(), &SUMS, b"assigned 3 spent 1 unknown 1\n");
+    let greatest = LogSums {
+        assigned: u64::MAX,
+        spent: u64::MAX,
+        unknown: u64::MAX,
     };
-    is_same(
+    has_line(
         &rt,
-        line.as_slice(),
-        b"assigned 3 spent 1 unknown 1\n".as_slice(),
+        rt.alloc(),
+        &greatest,
+        b"assigned 18446744073709551615 spent 18446744073709551615 unknown 18446744073709551615\n",
     );
 }

@@ -8,6 +8,8 @@ mod dispatch_tests;
 #[cfg(test)]
 mod fronts_tests;
 #[cfg(test)]
+mod greatest_tests;
+#[cfg(test)]
 mod held;
 #[cfg(test)]
 mod line_tests;
