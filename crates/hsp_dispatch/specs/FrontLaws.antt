@@ -37,7 +37,8 @@ AnswersAsDispatchers =
     (it : Instance) (fronts : ℕ) (x : Plan) (front : ℕ) (events : List Event) → front < fronts
     → answers_at front events (front_answers it fronts x events) ≡ map Answered (answers it (share_of fronts front x) (entries_at front events))
 
--- fronts that hold what events leave of their shares answer more events as they stand in one list, and hold then what that list leaves
+-- Fronts hold what events leave of their shares. Then they answer more events as those stand in one list, and hold
+-- what that list leaves.
 abbrev pub FrontsGoOn : Type 0
 FrontsGoOn =
     (it : Instance) (x : Plan) (fronts : ℕ) (events more : List Event) (old new : Tables) → AreFrontsAfter it x fronts events old → IsLeftBy old more new

@@ -33,7 +33,8 @@ IsServedWhole =
 abbrev pub GoesOnWithTheRest : Type 0
 GoesOnWithTheRest = (it : Instance) (x : Plan) (a b : List Entry) → answers it x (a ++ b) ≡ answers it x a ++ answers it (rest it x a) b
 
--- a dispatcher that holds what entries leave of a plan answers more entries as they stand in one log, and holds then what that log leaves
+-- A dispatcher holds what entries leave of a plan. Then it answers more entries as those stand in one log, and holds
+-- what that log leaves.
 abbrev pub DispatcherGoesOn : Type 0
 DispatcherGoesOn =
     (it : Instance) (x old new : Plan) (entries more : List Entry) → IsSame old (rest it x entries) → IsSame new (rest it old more)

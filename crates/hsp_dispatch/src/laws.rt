@@ -16,9 +16,9 @@ pub fn log_in_parts()
     ensures { GoesOnWithTheRest }
 {}
 
-/// Over all calls the answers are those to one list of all entries, or all events, so far, and what is left is what that
-/// list leaves. This holds for any mixture of `assign` and `run_log` on a dispatcher, also after faults. It holds for
-/// any mixture of `assign` and `run_fronts` on fronts.
+/// Over all calls the answers are those to one list of all entries, or of all events, so far. What is left is what that
+/// list leaves. This holds for any mixture of `assign` and `run_log` on a dispatcher, and of `assign` and `run_fronts` on
+/// fronts, also after faults.
 pub fn over_all_calls()
     ensures dispatcher { DispatcherGoesOn }
     ensures fronts { FrontsGoOn }

@@ -50,7 +50,8 @@ so_many fronts = record {
 abbrev pub over : Option (List ℕ) → Option (List ℕ) → Option (List ℕ) → Streams
 over octets before after = streams (option_map records_of octets) before after
 
--- The log was answered at the desk to its end, with its sums, or up to a fault. That is reported as the log's, unless memory ran out.
+-- The log was answered at the desk to its end, with its sums, or up to a fault. The fault is reported as the log's,
+-- unless memory ran out.
 abbrev pub EndsLog : {S : Type 0} → (S → FrontSums) → Streams → Result S Fault → Desk → Type 0
 EndsLog all run (Ok sums) desk = EndsWhole desk run (all sums)
 EndsLog all run (Err e) desk = (fault : LogFault) × (e ≡ log_told fault) × Stops desk run fault
