@@ -11,6 +11,7 @@ pub mod PageArcs
 pub mod PageSettings
 pub mod PageSites
 pub mod PageBuilt
+pub mod FewRegions
 pub mod Page
 pub mod PageRead
 pub mod NoLog

@@ -21,6 +21,7 @@ use Rattle.hsp_instance.specs.Instance.{AreSites, HasServer, Host, Instance, IsI
 use Rattle.hsp_instance.specs.declared.arc.Arc.{Arc}
 use Rattle.hsp_instance.proofs.BuiltParts.{built_has_its_parts}
 use Rattle.hsp_instance.proofs.Lists.{all_from, all_map, distinct_map, map_twice}
+use Rattle.hsp_runs.proofs.FewRegions.{few_names, few_seen}
 use Rattle.hsp_runs.specs.Headline.{AreCapacities, AreCosts, AreDemand, AreServers, AreSettings, Defines, IsDemand}
 use Rattle.hsp_runs.specs.Told.{AreValues}
 use Rattle.hsp_runs.specs.declared.inputs.Inputs.{Inputs}
@@ -77,7 +78,7 @@ module _ (handles : ReadingsAreHandles) where
           each = all_map IsDemandEntry IsDemand row_of rows demand_row are.keyed.each;
           apart = distinct_map same_demand same_keys row_of rows (λ x y. refl) table.apart;
         },
-        rw (map_twice row_of (λ (row : Row). row.region) rows) table.regions,
+        few_names (map (λ (row : Row). row.region) (map row_of rows)) (rw (map_twice row_of (λ (row : Row). row.region) rows) table.regions),
       )
 
 costs_are : (sites : List Site) (text : List ℕ) (rows : List CostEntry) → building.cost_fault sites 0 rows ≡ None → table_of cost_table (records_of text) ≡ Ok rows → AreCosts sites text rows
@@ -91,7 +92,7 @@ costs_are sites text rows none e =
         each = costs_known sites 0 rows none are.keyed.each;
         apart = table.apart;
       },
-      table.regions,
+      few_names (map (λ (row : CostEntry). row.region) rows) table.regions,
     )
 
 capacities_are : (sites : List Site) (text : List ℕ) (rows : List CapacityEntry) → building.capacity_fault sites 0 rows ≡ None → table_of capacity_table (records_of text) ≡ Ok rows
@@ -212,7 +213,7 @@ module _ (handles : ReadingsAreHandles) where
         spelled = spelled;
         few = rw length-map are.0.few;
         apart = distinct_map same_keys same_demand demand_entry rows (λ x y. refl) are.0.apart;
-        regions = rw (map_twice demand_entry (λ (row : DemandEntry). row.region) rows) are.1;
+        regions = rw (map_twice demand_entry (λ (row : DemandEntry). row.region) rows) (few_seen (map (λ (row : Row). row.region) rows) are.1);
       })
 
 costs_are_read_as : (sites : List Site) (text : List ℕ) (rows : List CostEntry) → AllByRecursion IsSite sites → AreCosts sites text rows → table_of cost_table (records_of text) ≡ Ok rows
@@ -223,7 +224,7 @@ costs_are_read_as sites text rows of are =
       spelled = body_spells cost_table cost_fields _ cost_is_read 0 rows (cost_entries sites rows of are.0.each);
       few = are.0.few;
       apart = are.0.apart;
-      regions = are.1;
+      regions = few_seen (map (λ (row : CostEntry). row.region) rows) are.1;
     })
 
 capacities_are_read_as : (sites : List Site) (text : List ℕ) (rows : List CapacityEntry) → AllByRecursion IsSite sites → AreCapacities sites text rows

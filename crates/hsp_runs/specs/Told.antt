@@ -14,7 +14,6 @@ use Rattle.hsp_record.specs.Site as records
 use Rattle.hsp_record.specs.Values.{HandleValue, IsValueList, values_format}
 use Rattle.hsp_csv.specs.Records.{Fields, records_of}
 use Rattle.hsp_tables.specs.Settings.{keys_in}
-use Rattle.hsp_tables.specs.Table.{first_seen}
 use Rattle.hsp_instance.specs.Building.{server_of_record}
 use Rattle.hsp_instance.specs.Instance.{Host, Site, SiteServer}
 
@@ -34,9 +33,10 @@ pub record IsTable {Row : Type 0} (header : Fields) (most : ℕ) (fields : Row �
   pub each : AllByRecursion Is rows
   pub apart : IsDistinct same_key rows
 
--- the rows of a table name no more regions than there may be
+-- the rows of a table name no more regions than there may be: all are among so many names
 abbrev pub AreFew : List (List ℕ) → Type 0
-AreFew regions = length (first_seen regions) ≤ MOST_REGIONS
+AreFew regions =
+    (names : List (List ℕ)) × (length names ≤ MOST_REGIONS) × AllByRecursion (Contains names) regions
 
 -- ---- tables of a TOML document
 
