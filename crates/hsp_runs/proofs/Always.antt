@@ -23,12 +23,13 @@ use Rattle.hsp_dispatch.specs.declared.fault.LogFault.TheVariants as log_fault
 use Rattle.hsp_lines.specs.FaultText.{log_told}
 use Rattle.hsp_lines.specs.declared.fault.Fault.{Fault}
 use Rattle.hsp_lines.specs.declared.fault.Fault.TheVariants.{BadFronts, Cert, Log, OutOfMemory}
-use Rattle.hsp_runs.specs.Always.{AcceptsClaim, GivesTheDefinedAlways, IsOkUnlessLog, ReadsAlways}
+use Rattle.hsp_runs.specs.Always.{AcceptsClaim, GivesTheDefinedAlways, ReadsAlways}
 use Rattle.hsp_runs.specs.Counts.{above_none}
 use Rattle.hsp_runs.specs.Dispatch.{AnswersAs, AnswersBy, EndsLog, Refuses, a_dispatcher, fronts_at, so_many}
 use Rattle.hsp_runs.specs.Headline.{Defines, ShowsOf}
 use Rattle.hsp_runs.specs.Instance.{IsInstanceOf}
 use Rattle.hsp_runs.specs.Laws.{GivesNothingElse}
+use Rattle.hsp_runs.specs.Logs.{IsOkUnlessLog}
 use Rattle.hsp_runs.specs.Plan.{IsPlanText, Printed}
 use Rattle.hsp_runs.specs.Shown.{Holds, Shows, Spells}
 use Rattle.hsp_runs.specs.Memory.{IsOrNoMemory, OrNoMemory}

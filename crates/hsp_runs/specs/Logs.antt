@@ -1,8 +1,11 @@
--- What a run over a log shows of a plan, by a dispatcher or by fronts that share the plan.
-use Rattle.std.specs.Prelude.{◌≡◌, ◌≢◌, ◌≤◌, ◌<◌, ◌⊎◌, ℕ, List, decimal, map, Result, Ok, Err}
+-- What a run over a log shows of a plan, by a dispatcher or by fronts that share the plan, and that each plan that holds
+-- answers logs.
+use Rattle.std.specs.Prelude.{◌≡◌, ◌≢◌, ◌≤◌, ◌<◌, ◌⊎◌, ℕ, List, decimal, map, Result, Ok, Err, IfErr}
 use Rattle.hsp_text.specs.declared.limits.TheConstants.{MOST_FRONTS}
 use Rattle.hsp_csv.specs.Records.{Fields}
 use Rattle.hsp_instance.specs.Instance.{Instance}
+use Rattle.hsp_cert.specs.Certificate as certificates
+use Rattle.hsp_cert.specs.Certificate.Claim.{best}
 use Rattle.hsp_check.specs.Plan.{Plan}
 use Rattle.hsp_dispatch.specs.Desks.{RefusesEvent, by_plan}
 use Rattle.hsp_dispatch.specs.Dispatch.{Entry, all_of, answer_to, answers, assigned_in}
@@ -17,10 +20,10 @@ use Rattle.hsp_dispatch.specs.declared.answer.FrontSums.{FrontSums}
 use Rattle.hsp_dispatch.specs.declared.answer.LogSums.{LogSums}
 use Rattle.hsp_dispatch.specs.declared.fault.LogFault.{LogFault}
 use Rattle.hsp_runs.specs.Headline.{Defines}
-use Rattle.hsp_runs.specs.Shown.{ShowsPlan}
+use Rattle.hsp_runs.specs.Shown.{ShowsPlan, Spells}
 use Rattle.hsp_lines.specs.FaultText.{log_told}
 use Rattle.hsp_lines.specs.declared.fault.Fault.{Fault}
-use Rattle.hsp_lines.specs.declared.fault.Fault.TheVariants.{Log}
+use Rattle.hsp_lines.specs.declared.fault.Fault.TheVariants.{Log, OutOfMemory}
 use Rattle.hsp_runs.specs.declared.inputs.Inputs.{Inputs}
 
 -- A run answered the log to its end, and the sums count the answers; or it stopped at a fault, when it had
@@ -88,3 +91,21 @@ ShowsFrontsOf word inputs octets run answer =
     IsRefused run answer
     ⊎ ((fronts : ℕ) × (word ≡ decimal fronts) × (0 < fronts) × (fronts ≤ MOST_FRONTS)
     × ShowsPlanOf inputs octets (IsLogAt fronts run answer))
+
+-- ---- what runs over logs always answer
+
+-- the only faults are those of the log, and that memory ran out
+abbrev pub IsOkUnlessLog : {S : Type 0} → Result S Fault → Type 0
+IsOkUnlessLog answer = IfErr answer (λ fault. (fault ≡ OutOfMemory) ⊎ ((of : LogFault) × (fault ≡ Log of)))
+
+-- where the inputs define an instance, and the octets spell a plan that holds for it, `dispatch` answers the log, up to
+-- a fault of the log at most, or until memory runs out
+abbrev pub DispatchesAlways : {S : Type 0} → Inputs → List ℕ → Result S Fault → Type 0
+DispatchesAlways inputs octets answer =
+    (instance : Instance) (plan : certificates.Best) → Defines inputs instance → Spells octets instance (best plan)
+    → IsOkUnlessLog answer
+
+-- and so does `fronts`, where moreover the word spells a number of fronts
+abbrev pub DispatchesAtAlways : {S : Type 0} → List ℕ → Inputs → List ℕ → Result S Fault → Type 0
+DispatchesAtAlways word inputs octets answer =
+    (fronts : ℕ) → word ≡ decimal fronts → 0 < fronts → fronts ≤ MOST_FRONTS → DispatchesAlways inputs octets answer

@@ -3,9 +3,8 @@
 ghost use Rattle.std.specs.Prelude.{◌≡◌, IfErr};
 ghost use Rattle.hsp_check.specs.Instance.{network_of};
 ghost use Rattle.hsp_check.specs.Valid.{IsValid};
-ghost use Rattle.hsp_runs.specs.Always.{DispatchesAlways};
 ghost use Rattle.hsp_runs.specs.Dispatch.{AnswersBy, IsBeforeLog, IsDispatched, a_dispatcher, over};
-ghost use Rattle.hsp_runs.specs.Logs.{ShowsLogOf};
+ghost use Rattle.hsp_runs.specs.Logs.{DispatchesAlways, ShowsLogOf};
 
 use crate::accepted::{Accepted, accepted_in};
 use crate::inputs::Inputs;

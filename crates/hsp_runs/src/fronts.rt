@@ -5,9 +5,8 @@ ghost use Rattle.hsp_text.specs.Answers.{Gives};
 ghost use Rattle.hsp_text.specs.declared.limits.TheConstants.{MOST_FRONTS};
 ghost use Rattle.hsp_check.specs.Instance.{network_of};
 ghost use Rattle.hsp_check.specs.Valid.{IsValid};
-ghost use Rattle.hsp_runs.specs.Always.{DispatchesAtAlways};
 ghost use Rattle.hsp_runs.specs.Dispatch.{AnswersBy, IsBeforeLog, IsDispatchedAt, fronts_at, over, so_many};
-ghost use Rattle.hsp_runs.specs.Logs.{ShowsFrontsOf};
+ghost use Rattle.hsp_runs.specs.Logs.{DispatchesAtAlways, ShowsFrontsOf};
 
 use crate::accepted::{Accepted, accepted_in};
 use crate::counts::count_at;
