@@ -30,7 +30,7 @@ PAGE = os.path.join(TOP, "docs", "understand", "READING.md")
 RUNS = os.path.join(TOP, "crates", "hsp_runs")
 # How many words of definitions and clauses are read in a minute.
 RATE = 130
-HEADLINE, SHOWN, LOGS, LAWS = (f"Rattle.hsp_runs.specs.{it}" for it in ("Headline", "Shown", "Logs", "Laws"))
+HEADLINE, LOGS, RUNS_OVER_LOGS, LAWS = (f"Rattle.hsp_runs.specs.{it}" for it in ("Headline", "Logs", "Dispatch", "Laws"))
 # The calls of the headline, and their clauses that are of the page: without the order of faults.
 CALLS = (
     ("plan.rt", "plan_run", ("shows", "always")),
@@ -42,12 +42,14 @@ CALLS = (
 # at the clauses of the calls.
 PARTS = (
     ("Which inputs define which instance", ((HEADLINE, "Defines"),)),
-    ("What a certificate shows of it", ((HEADLINE, "ShowsOf"),)),
-    ("What logs that are answered show of it", ((LOGS, "ShowsLogOf"), (LOGS, "ShowsFrontsOf"))),
+    ("What a certificate shows of it, and that there always is one", tuple((HEADLINE, it) for it in ("ShowsOf", "PlansAlways", "SaysYesAlways"))),
+    ("What logs show of it, and that they are always answered", (
+        (RUNS_OVER_LOGS, "over"), (LOGS, "ShowsLogOf"), (LOGS, "ShowsFrontsOf"), (LOGS, "DispatchesAlways"), (LOGS, "DispatchesAtAlways"),
+        (RUNS_OVER_LOGS, "IsBeforeLog"))),
     ("No log exceeds a plan", (("Rattle.hsp_dispatch.specs.Laws", "NeverExceeds"), ("Rattle.hsp_dispatch.specs.FrontLaws", "NeverExceedsTogether"))),
     ("What the calls answer, with every fault in its order", ()),
     ("What holds of all inputs and of all runs", tuple((LAWS, it) for it in (
-        "GivesTheDefined", "AcceptsTheDefined", "GivesNothingElse", "DispatchedLogsShow", "FrontsLogsShow", "LogsGoByHash"))),
+        "GivesTheDefined", "AcceptsTheDefined", "GivesOneAnswer", "GivesNothingElse", "DispatchedLogsShow", "FrontsLogsShow", "LogsGoByHash"))),
 )
 # The files of the page in reading order, and what each is.
 FILES = (
@@ -63,10 +65,12 @@ QUESTIONS = (
     ("To which sites may a region's queries go, and at what cost?", "Headline.antt", "pub cost : Contains costs"),
     ("To which server of a site does a row's handle go?", "Headline.antt", "number_at sites arc.site (server_place"),
     ("Is a site's server without a row of capacity let in?", "Headline.antt", "× Contains capacities (record {"),
+    ("May `plan` refuse inputs that define an instance?", "Headline.antt", "PlansAlways inputs answer ="),
+    ("May `check` refuse a certificate that holds?", "Headline.antt", "SaysYesAlways inputs octets answer ="),
     ("What does the text of a plan show of cheaper plans?", "Shown.antt", "pub best : Best n"),
-    ("What must hold of each price in the text?", "Shown.antt", "pub valid : IsValidPlan n c"),
-    ("Are the demand and the capacity of a shortage the true sums?", "Shown.antt", "pub valid : IsValidSet n c"),
-    ("What was answered when a log stopped at a fault?", "Logs.antt", "Ends all run (Err (Log fault)) desk"),
+    ("What must hold of each price in the text?", "Shown.antt", "pub prices : Prices n"),
+    ("Are the demand and the capacity of a shortage the true sums?", "Shown.antt", "pub demand : c.demand ≡ demand_of n"),
+    ("What was answered when a log stopped at a fault?", "Logs.antt", "(StopsSomewhere desk run ⊎ StopsInLine desk run)"),
     ("Do all fronts together stay within the plan?", "Logs.antt", "pub within : (events : List Event)"),
 )
 STARTS = re.compile(r"^(?:infix[lr]? .*|(?:unfoldable |opaque )*(?:abbrev |record |data |pub )+(?:record |data )?(?P<name>\S+) .*)$")
