@@ -45,6 +45,7 @@ Agrees result other = result ≡ other
 abbrev pub HasOneSpelling : Type 0
 HasOneSpelling = (c d : Claim) → IsCertificate c → IsCertificate d → text_of c ≡ text_of d → c ≡ d
 
--- no two answers are true of a text, unless memory ran out at either: it spells at most one certificate, or has one fault
+-- No two answers are true of a text, where memory ran out at neither: it spells at most one certificate, or has one
+-- fault.
 abbrev pub HasOneAnswer : Type 0
 HasOneAnswer = (text : List ℕ) (a b : Result Claim CertFault) → Means text a → Means text b → Agrees a b

@@ -6,14 +6,14 @@ use Rattle.hsp_check.specs.declared.arc.NetworkArc.{NetworkArc}
 use Rattle.hsp_sums.specs.Sums.{sum_below, times}
 use Rattle.hsp_check.specs.Network.{Network, IsNetwork}
 use Rattle.hsp_check.specs.Plan.{Plan, planned, load, is_on, on_host, host_load, total, Feasible}
-use Rattle.hsp_check.specs.Prices.{at_home, price_at, Prices}
+use Rattle.hsp_check.specs.Prices.{at_host, price_at, Prices}
 use Rattle.hsp_check.specs.Short.{reaches, demand_of, room_of, capacity_of}
 use Rattle.hsp_check.specs.Claims.{PricesShowBest, ShortShowsNone}
 use Rattle.hsp_sums.proofs.Summing.{sum_below_same, sum_below_le, sum_below_zero, sum_below_add, sum_below_one, sum_by_same_all, sum_by_le_all, sum_by_add, by_key}
 
 -- a weight of the hosts at one server
 at_one : (o : Option ℕ) (m : ℕ) (w : ℕ → ℕ) (x : ℕ) → ((h : ℕ) → o ≡ Some h → h < m) →
-    sum_below m (λ h. w h * (if is_on o h then x else 0)) ≡ at_home o w * x
+    sum_below m (λ h. w h * (if is_on o h then x else 0)) ≡ at_host o w * x
 at_one None m w x in' = sum_below_zero m (λ h. w h * 0) (λ h l. mul-zero (w h)) ∙ sym (zero-mul x)
 at_one (Some k) m w x in' =
     let at : ℕ → ℕ = λ h. if k == h then x else 0 in
@@ -23,14 +23,14 @@ at_one (Some k) m w x in' =
     ∙ ap (λ v. w k * v) here
 
 -- a weight that depends on the host alone: the sum over the servers is the sum over the hosts
-by_home : (home : ℕ → Option ℕ) (w g : ℕ → ℕ) (n m : ℕ) → ((j h : ℕ) → j < n → home j ≡ Some h → h < m) →
-    sum_below n (λ j. at_home (home j) w * g j) ≡ sum_below m (λ h. w h * sum_below n (λ j. if is_on (home j) h then g j else 0))
-by_home home w g zero m in' = sym (sum_below_zero m (λ h. w h * 0) (λ h l. mul-zero (w h)))
-by_home home w g (suc n) m in' =
-    let rest : ℕ → ℕ = λ h. sum_below n (λ j. if is_on (home j) h then g j else 0) in
-    let at : ℕ → ℕ = λ h. if is_on (home n) h then g n else 0 in
-    let a : sum_below n (λ j. at_home (home j) w * g j) ≡ sum_below m (λ h. w h * rest h) = by_home home w g n m (λ j h l e. in' j h (omega arith) e) in
-    let b : sum_below m (λ h. w h * at h) ≡ at_home (home n) w * g n = at_one (home n) m w (g n) (λ h e. in' n h (omega arith) e) in
+by_home : (host_of : ℕ → Option ℕ) (w g : ℕ → ℕ) (n m : ℕ) → ((j h : ℕ) → j < n → host_of j ≡ Some h → h < m) →
+    sum_below n (λ j. at_host (host_of j) w * g j) ≡ sum_below m (λ h. w h * sum_below n (λ j. if is_on (host_of j) h then g j else 0))
+by_home host_of w g zero m in' = sym (sum_below_zero m (λ h. w h * 0) (λ h l. mul-zero (w h)))
+by_home host_of w g (suc n) m in' =
+    let rest : ℕ → ℕ = λ h. sum_below n (λ j. if is_on (host_of j) h then g j else 0) in
+    let at : ℕ → ℕ = λ h. if is_on (host_of n) h then g n else 0 in
+    let a : sum_below n (λ j. at_host (host_of j) w * g j) ≡ sum_below m (λ h. w h * rest h) = by_home host_of w g n m (λ j h l e. in' j h (omega arith) e) in
+    let b : sum_below m (λ h. w h * at h) ≡ at_host (host_of n) w * g n = at_one (host_of n) m w (g n) (λ h e. in' n h (omega arith) e) in
     let split : sum_below m (λ h. w h * (rest h + at h)) ≡ sum_below m (λ h. w h * rest h + w h * at h) =
     sum_below_same m _ _ (λ h l. mul-add (w h) (rest h) (at h)) in
     let sums : sum_below m (λ h. w h * rest h + w h * at h) ≡ sum_below m (λ h. w h * rest h) + sum_below m (λ h. w h * at h) =
@@ -38,15 +38,15 @@ by_home home w g (suc n) m in' =
     ap₂ (λ x y. x + y) a (sym b) ∙ sym sums ∙ sym split
 
 -- numbers of all servers: of those on no host, and of those on each host
-split_home : (home : ℕ → Option ℕ) (g : ℕ → ℕ) (n m : ℕ) → ((j h : ℕ) → j < n → home j ≡ Some h → h < m) →
-    sum_below n g ≡ sum_below n (λ j. if is_none (home j) then g j else 0) + sum_below m (λ h. sum_below n (λ j. if is_on (home j) h then g j else 0))
-split_home home g n m in' =
-    sum_below_same n _ _ (λ j l. each (home j) (g j))
-    ∙ sum_below_add n (λ j. if is_none (home j) then g j else 0) (λ j. at_home (home j) (λ _. 1) * g j)
-    ∙ ap (λ s. sum_below n (λ j. if is_none (home j) then g j else 0) + s)
-    (by_home home (λ _. 1) g n m in' ∙ sum_below_same m _ _ (λ h l. one-mul (sum_below n (λ j. if is_on (home j) h then g j else 0))))
+split_home : (host_of : ℕ → Option ℕ) (g : ℕ → ℕ) (n m : ℕ) → ((j h : ℕ) → j < n → host_of j ≡ Some h → h < m) →
+    sum_below n g ≡ sum_below n (λ j. if is_none (host_of j) then g j else 0) + sum_below m (λ h. sum_below n (λ j. if is_on (host_of j) h then g j else 0))
+split_home host_of g n m in' =
+    sum_below_same n _ _ (λ j l. each (host_of j) (g j))
+    ∙ sum_below_add n (λ j. if is_none (host_of j) then g j else 0) (λ j. at_host (host_of j) (λ _. 1) * g j)
+    ∙ ap (λ s. sum_below n (λ j. if is_none (host_of j) then g j else 0) + s)
+    (by_home host_of (λ _. 1) g n m in' ∙ sum_below_same m _ _ (λ h l. one-mul (sum_below n (λ j. if is_on (host_of j) h then g j else 0))))
   where
-    each : (o : Option ℕ) (x : ℕ) → x ≡ (if is_none o then x else 0) + at_home o (λ _. 1) * x
+    each : (o : Option ℕ) (x : ℕ) → x ≡ (if is_none o then x else 0) + at_host o (λ _. 1) * x
     each None x = omega (arith, zero-mul x)
     each (Some h) x = omega (arith, one-mul x)
 
@@ -66,9 +66,9 @@ module _ (n : Network) (is : IsNetwork n) where
   over_prices x p q =
       let w : ℕ → ℕ = λ h. slice_index q h in
       by_key (λ (a : NetworkArc). a.server) (planned x) (λ j. price_at n p q j) (length n.capacities) n.arcs is.servers
-      ∙ sum_below_same (length n.capacities) _ _ (λ j l. add-mul (slice_index p j) (at_home (n.home j) w) (load n x j))
-      ∙ sum_below_add (length n.capacities) (λ j. slice_index p j * load n x j) (λ j. at_home (n.home j) w * load n x j)
-      ∙ ap (λ s. sum_below (length n.capacities) (λ j. slice_index p j * load n x j) + s) (by_home n.home w (λ j. load n x j) (length n.capacities) (length n.limits) is.homes)
+      ∙ sum_below_same (length n.capacities) _ _ (λ j l. add-mul (slice_index p j) (at_host (n.host_of j) w) (load n x j))
+      ∙ sum_below_add (length n.capacities) (λ j. slice_index p j * load n x j) (λ j. at_host (n.host_of j) w * load n x j)
+      ∙ ap (λ s. sum_below (length n.capacities) (λ j. slice_index p j * load n x j) + s) (by_home n.host_of w (λ j. load n x j) (length n.capacities) (length n.limits) is.homes)
 
   -- servers and hosts are paid no more than for all that they can take
   at_most_full : (x : Plan) → Feasible n x → (p q : List ℕ) → sum_by (λ a. price_at n p q a.server * planned x a) n.arcs ≤ times n.capacities p + times n.limits q
@@ -134,15 +134,15 @@ module _ (n : Network) (is : IsNetwork n) where
       sum_by_le_all _ _ n.arcs (λ k d l. along k d l (cases_Bool (rows (slice_index_or n.arcs k d).row))) in
       let c : sum_by (λ a. reached a.server * planned x a) n.arcs ≡ sum_below (length n.capacities) gets =
       by_key (λ (a : NetworkArc). a.server) (planned x) reached (length n.capacities) n.arcs is.servers in
-      let s = split_home n.home gets (length n.capacities) (length n.limits) is.homes in
-      let alone : sum_below (length n.capacities) (λ j. if is_none (n.home j) then gets j else 0) ≤ sum_below (length n.capacities) (λ j. if is_none (n.home j) then room_of n rows j else 0) =
-      sum_below_le (length n.capacities) _ _ (λ j l. kept (is_none (n.home j)) _ _ (has (reaches n rows j) _ _ (feasible.within j l))) in
+      let s = split_home n.host_of gets (length n.capacities) (length n.limits) is.homes in
+      let alone : sum_below (length n.capacities) (λ j. if is_none (n.host_of j) then gets j else 0) ≤ sum_below (length n.capacities) (λ j. if is_none (n.host_of j) then room_of n rows j else 0) =
+      sum_below_le (length n.capacities) _ _ (λ j l. kept (is_none (n.host_of j)) _ _ (has (reaches n rows j) _ _ (feasible.within j l))) in
       let hosted : sum_below (length n.limits) (λ h. on_host n gets h) ≤ sum_below (length n.limits) (λ h. min (slice_index n.limits h) (on_host n (room_of n rows) h)) =
       sum_below_le (length n.limits) _ _ (λ h l.
       let v : on_host n gets h ≤ on_host n (room_of n rows) h =
-      sum_below_le (length n.capacities) _ _ (λ j m. kept (is_on (n.home j) h) _ _ (has (reaches n rows j) _ _ (feasible.within j m))) in
+      sum_below_le (length n.capacities) _ _ (λ j m. kept (is_on (n.host_of j) h) _ _ (has (reaches n rows j) _ _ (feasible.within j m))) in
       let y : on_host n gets h ≤ host_load n x h =
-      sum_below_le (length n.capacities) _ _ (λ j m. kept (is_on (n.home j) h) _ _ (part (reaches n rows j) (load n x j))) in
+      sum_below_le (length n.capacities) _ _ (λ j m. kept (is_on (n.host_of j) h) _ _ (part (reaches n rows j) (load n x j))) in
       let z : host_load n x h ≤ slice_index n.limits h = feasible.hosted h l in
       omega arith) in
       let d = over_rows x feasible in-set in

@@ -33,7 +33,7 @@ all_within it is =
     rw (length-map it.rows (λ (r : Row). r.count), length-map it.servers (λ (s : Server). s.capacity))
     (arcs_within it.servers 0 (length it.rows) it.arcs is.arcs (omega (arith, is.one_list_a_row)))
 
-homes_there : (it : Instance) → IsInstance it → (j h : ℕ) → j < length (network_of it).capacities → (network_of it).home j ≡ Some h → h < length (network_of it).limits
+homes_there : (it : Instance) → IsInstance it → (j h : ℕ) → j < length (network_of it).capacities → (network_of it).host_of j ≡ Some h → h < length (network_of it).limits
 homes_there it is j h l on =
     let no_server : Server = record { site = 0; place = 0; id = 0; capacity = 0; host = None } in
     let inside : j < length it.servers = rw (length-map it.servers (λ (s : Server). s.capacity)) at l in

@@ -47,7 +47,7 @@ same_capacity n f g same =
     let rooms : room_of n f ≡ room_of n g = fun_ext (λ j. ap (λ b. if b then slice_index n.capacities j else 0)
     (any_same (λ a. f a.row && a.server == j) (λ a. g a.row && a.server == j) n.arcs (λ k d l. ap (λ b. b && (slice_index_or n.arcs k d).server == j) (same k d l)))) in
     ap (λ (r : ℕ → ℕ).
-    sum_below (length n.capacities) (λ j. if is_none (n.home j) then r j else 0)
+    sum_below (length n.capacities) (λ j. if is_none (n.host_of j) then r j else 0)
     + sum_below (length n.limits) (λ h. min (slice_index n.limits h) (on_host n r h))) rooms
 
 -- what the flagged rows can reach is what the chosen ones can

@@ -35,6 +35,6 @@ network_of it = record {
   demands = demands_in it;
   capacities = capacities_in it;
   limits = limits_in it;
-  home = home_in (homes_in it);
+  host_of = home_in (homes_in it);
   arcs = arcs_from 0 it.arcs;
 }

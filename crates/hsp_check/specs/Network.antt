@@ -13,14 +13,14 @@ pub record Network : Type 0 where
   -- what the servers on each host can take together
   pub limits : List ℕ
   -- the host that a server stands on, if it stands on one
-  pub home : ℕ → Option ℕ
+  pub host_of : ℕ → Option ℕ
   pub arcs : List NetworkArc
 
 -- each arc's row and server, and each server's host, are there
 pub record IsNetwork (n : Network) : Type 0 where
   pub rows : All (λ a. a.row < length n.demands) n.arcs
   pub servers : All (λ a. a.server < length n.capacities) n.arcs
-  pub homes : (j h : ℕ) → j < length n.capacities → n.home j ≡ Some h → h < length n.limits
+  pub homes : (j h : ℕ) → j < length n.capacities → n.host_of j ≡ Some h → h < length n.limits
 
 -- whether the row may use the site
 abbrev pub is_allowed : Network → ℕ → ℕ → Bool

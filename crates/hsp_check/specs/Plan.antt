@@ -1,5 +1,5 @@
 -- Plans: a feasible flow of the transportation problem, and its cost (Network Flows, sections 1.2 and 9.1).
-use Rattle.std.specs.Prelude.{◌≡◌, ℕ, ◌*◌, ◌<◌, ◌≤◌, ◌==◌, Bool, false, length, sum_by, slice_index, if◌then◌else◌}
+use Rattle.std.specs.Prelude.{◌≡◌, ℕ, ◌*◌, ◌<◌, ◌≤◌, ◌==◌, false, length, sum_by, slice_index, if◌then◌else◌}
 use Rattle.hsp_check.specs.declared.arc.NetworkArc.{NetworkArc}
 use Rattle.hsp_sums.specs.Sums.{sum_below}
 use Rattle.hsp_check.specs.Network.{Network, is_allowed}
@@ -23,7 +23,7 @@ load n x j = sum_by (λ a. if a.server == j then planned x a else 0) n.arcs
 
 -- numbers of the servers on a host, added up
 abbrev pub on_host : Network → (ℕ → ℕ) → ℕ → ℕ
-on_host n f h = sum_below (length n.capacities) (λ j. if is_on (n.home j) h then f j else 0)
+on_host n f h = sum_below (length n.capacities) (λ j. if is_on (n.host_of j) h then f j else 0)
 
 -- what the servers on a host take together
 abbrev pub host_load : Network → Plan → ℕ → ℕ

@@ -5,13 +5,13 @@ use Rattle.hsp_check.specs.Network.{Network}
 use Rattle.hsp_check.specs.Plan.{Plan, planned, load, host_load}
 
 -- a weight of the server's host, 0 where it stands on none
-abbrev pub at_home : Option ℕ → (ℕ → ℕ) → ℕ
-at_home None w = 0
-at_home (Some h) w = w h
+abbrev pub at_host : Option ℕ → (ℕ → ℕ) → ℕ
+at_host None w = 0
+at_host (Some h) w = w h
 
 -- what a query to the server pays beside the arc's cost: the server's price and its host's
 abbrev pub price_at : Network → List ℕ → List ℕ → ℕ → ℕ
-price_at n p q j = slice_index p j + at_home (n.home j) (λ h. slice_index q h)
+price_at n p q j = slice_index p j + at_host (n.host_of j) (λ h. slice_index q h)
 
 -- The rows' prices u, the servers' p and the hosts' q fit the plan.
 pub record Prices (n : Network) (x : Plan) (u p q : List ℕ) : Type 0 where

@@ -13,7 +13,7 @@ network_in lists = record {
   demands = lists.demands.now;
   capacities = lists.capacities.now;
   limits = lists.limits.now;
-  home = home_in lists.homes.now;
+  host_of = home_in lists.homes.now;
   arcs = map (λ l. l.arc) lists.laid.now;
 }
 
@@ -23,7 +23,7 @@ network_with numbers laid = record {
   demands = numbers.demands.items;
   capacities = numbers.capacities.items;
   limits = numbers.limits.items;
-  home = home_in numbers.homes.items;
+  host_of = home_in numbers.homes.items;
   arcs = map (λ l. l.arc) laid;
 }
 

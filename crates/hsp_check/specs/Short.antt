@@ -25,7 +25,7 @@ room_of n rows j = if reaches n rows j then slice_index n.capacities j else 0
 -- the smaller of its limit and the sum of its servers
 abbrev pub capacity_of : Network → (ℕ → Bool) → ℕ
 capacity_of n rows =
-    sum_below (length n.capacities) (λ j. if is_none (n.home j) then room_of n rows j else 0)
+    sum_below (length n.capacities) (λ j. if is_none (n.host_of j) then room_of n rows j else 0)
     + sum_below (length n.limits) (λ h. min (slice_index n.limits h) (on_host n (room_of n rows) h))
 
 -- The rows of the set ask for more than that.

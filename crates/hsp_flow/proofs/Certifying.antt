@@ -13,7 +13,7 @@ use Rattle.hsp_check.specs.Plan as plans
 use Rattle.hsp_check.specs.Plan.{Feasible}
 use Rattle.hsp_check.specs.Network.{is_allowed}
 use Rattle.hsp_check.specs.Prices as priced
-use Rattle.hsp_check.specs.Prices.{Prices, ArePrices, at_home}
+use Rattle.hsp_check.specs.Prices.{Prices, ArePrices, at_host as host_price_by}
 use Rattle.hsp_check.specs.Valid.{IsValidPlan}
 use Rattle.hsp_check.specs.Uses.{table}
 use Rattle.hsp_sums.proofs.Summing.{sum_below_same}
@@ -24,7 +24,7 @@ use Rattle.hsp_flow.specs.Planning.{transport_of, uses_of, row_of, server_of, co
 use Rattle.hsp_flow.proofs.Ordering.{no_arc, each_weaker, all_ordered}
 use Rattle.hsp_flow.proofs.Bridging.{arc, leads, sum_at, total_at, planned_is, none_planned}
 
-same_at : (o : Option ℕ) (q : List ℕ) → at_home o (λ h. slice_index q h) ≡ at_host o q
+same_at : (o : Option ℕ) (q : List ℕ) → host_price_by o (λ h. slice_index q h) ≡ at_host o q
 same_at None q = refl
 same_at (Some h) q = refl
 

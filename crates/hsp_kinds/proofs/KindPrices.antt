@@ -7,7 +7,7 @@ use Rattle.hsp_check.specs.declared.arc.NetworkArc.{NetworkArc}
 use Rattle.hsp_sums.specs.Sums.{sum_below}
 use Rattle.hsp_check.specs.Network.{Network, IsNetwork}
 use Rattle.hsp_check.specs.Plan.{Plan, load, host_load}
-use Rattle.hsp_check.specs.Prices.{Prices, at_home, price_at}
+use Rattle.hsp_check.specs.Prices.{Prices, at_host, price_at}
 use Rattle.hsp_kinds.specs.Kinds.{without_row, arcs_in, arcs_of, AreAlikeIn, AreKinds, ArePricesOfKinds, pooled}
 use Rattle.hsp_kinds.specs.Keeping.{PricesOfKinds}
 use Rattle.hsp_kinds.proofs.Rowwise.{when, when_here, when_there}
@@ -57,7 +57,7 @@ of_kind i k v l = elim (cases_eq i k) [
 
 module _ (n m : Network) (kind : ℕ → ℕ) (n-is : IsNetwork n) (m-is : IsNetwork m) (are : AreKinds n m kind) (x : Plan) (u of_kinds p q : List ℕ) (own : ArePricesOfKinds n kind u of_kinds) where
   paid_alike : (j : ℕ) → price_at n p q j ≡ price_at m p q j
-  paid_alike j = ap (λ o. slice_index p j + at_home o (λ h. slice_index q h)) (are.home j)
+  paid_alike j = ap (λ o. slice_index p j + at_host o (λ h. slice_index q h)) (are.host_of j)
 
   abbrev IsLow : ℕ → Arc → Type 0
   IsLow v a = v ≤ a.cost + price_at m p q a.server

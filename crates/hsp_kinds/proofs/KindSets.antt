@@ -62,25 +62,25 @@ less_room : (s t : Bool) (v w : ℕ) → v ≡ w → (s ≡ true → t ≡ true)
 less_room true t v w e more = let is : t ≡ true = more refl in rw is (omega arith)
 less_room false t v w e more = omega arith
 
-pub less_capacity : (n m : Network) (s t : ℕ → Bool) → n.capacities ≡ m.capacities → n.limits ≡ m.limits → ((j : ℕ) → n.home j ≡ m.home j) →
+pub less_capacity : (n m : Network) (s t : ℕ → Bool) → n.capacities ≡ m.capacities → n.limits ≡ m.limits → ((j : ℕ) → n.host_of j ≡ m.host_of j) →
     ((j : ℕ) → reaches n s j ≡ true → reaches m t j ≡ true) → capacity_of n s ≤ capacity_of m t
-less_capacity n m s t caps limits home more =
+less_capacity n m s t caps limits host_of more =
     let room : (j : ℕ) → room_of n s j ≤ room_of m t j =
     λ j. less_room (reaches n s j) (reaches m t j) (slice_index n.capacities j) (slice_index m.capacities j) (ap (λ c. slice_index c j) caps) (more j) in
-    let alone : sum_below (length n.capacities) (λ j. if is_none (n.home j) then room_of n s j else 0) ≤ sum_below (length n.capacities) (λ j. if is_none (m.home j) then room_of m t j else 0) =
+    let alone : sum_below (length n.capacities) (λ j. if is_none (n.host_of j) then room_of n s j else 0) ≤ sum_below (length n.capacities) (λ j. if is_none (m.host_of j) then room_of m t j else 0) =
     sum_below_le (length n.capacities) _ _ (λ j l.
-    let e : when (is_none (n.home j)) (room_of n s j) ≡ when (is_none (m.home j)) (room_of n s j) = ap (λ o. when (is_none o) (room_of n s j)) (home j) in
-    let k = kept (is_none (m.home j)) _ _ (room j) in omega arith) in
-    let alone-m : sum_below (length n.capacities) (λ j. if is_none (m.home j) then room_of m t j else 0) ≡ sum_below (length m.capacities) (λ j. if is_none (m.home j) then room_of m t j else 0) =
-    ap (λ c. sum_below (length c) (λ j. if is_none (m.home j) then room_of m t j else 0)) caps in
+    let e : when (is_none (n.host_of j)) (room_of n s j) ≡ when (is_none (m.host_of j)) (room_of n s j) = ap (λ o. when (is_none o) (room_of n s j)) (host_of j) in
+    let k = kept (is_none (m.host_of j)) _ _ (room j) in omega arith) in
+    let alone-m : sum_below (length n.capacities) (λ j. if is_none (m.host_of j) then room_of m t j else 0) ≡ sum_below (length m.capacities) (λ j. if is_none (m.host_of j) then room_of m t j else 0) =
+    ap (λ c. sum_below (length c) (λ j. if is_none (m.host_of j) then room_of m t j else 0)) caps in
     let on : (h : ℕ) → on_host n (room_of n s) h ≤ on_host m (room_of m t) h =
     λ h.
-    let a : on_host n (room_of n s) h ≤ sum_below (length n.capacities) (λ j. when (is_on (m.home j) h) (room_of m t j)) =
+    let a : on_host n (room_of n s) h ≤ sum_below (length n.capacities) (λ j. when (is_on (m.host_of j) h) (room_of m t j)) =
     sum_below_le (length n.capacities) _ _ (λ j l.
-    let e : when (is_on (n.home j) h) (room_of n s j) ≡ when (is_on (m.home j) h) (room_of n s j) = ap (λ o. when (is_on o h) (room_of n s j)) (home j) in
-    let k = kept (is_on (m.home j) h) _ _ (room j) in omega arith) in
-    let b : sum_below (length n.capacities) (λ j. when (is_on (m.home j) h) (room_of m t j)) ≡ on_host m (room_of m t) h =
-    ap (λ c. sum_below (length c) (λ j. when (is_on (m.home j) h) (room_of m t j))) caps in
+    let e : when (is_on (n.host_of j) h) (room_of n s j) ≡ when (is_on (m.host_of j) h) (room_of n s j) = ap (λ o. when (is_on o h) (room_of n s j)) (host_of j) in
+    let k = kept (is_on (m.host_of j) h) _ _ (room j) in omega arith) in
+    let b : sum_below (length n.capacities) (λ j. when (is_on (m.host_of j) h) (room_of m t j)) ≡ on_host m (room_of m t) h =
+    ap (λ c. sum_below (length c) (λ j. when (is_on (m.host_of j) h) (room_of m t j))) caps in
     omega arith in
     let hosted : sum_below (length n.limits) (λ h. min (slice_index n.limits h) (on_host n (room_of n s) h)) ≤ sum_below (length n.limits) (λ h. min (slice_index m.limits h) (on_host m (room_of m t) h)) =
     sum_below_le (length n.limits) _ _ (λ h l.
@@ -147,13 +147,13 @@ module _ (n m : Network) (kind : ℕ → ℕ) (n-is : IsNetwork n) (m-is : IsNet
   pub kept_sets : ShortSetsAreKept n m kind
   kept_sets = record {
     of_kinds = λ set. (
-      (λ short. let a = less_capacity n m (λ i. set (kind i)) set are.capacities are.limits are.home (rows_reach set) in let d = asked set in omega arith),
-      (λ short. let a = less_capacity m n set (λ i. set (kind i)) (sym are.capacities) (sym are.limits) (λ j. sym (are.home j)) (kinds_reach set) in let d = asked set in omega arith),
+      (λ short. let a = less_capacity n m (λ i. set (kind i)) set are.capacities are.limits are.host_of (rows_reach set) in let d = asked set in omega arith),
+      (λ short. let a = less_capacity m n set (λ i. set (kind i)) (sym are.capacities) (sym are.limits) (λ j. sym (are.host_of j)) (kinds_reach set) in let d = asked set in omega arith),
     );
     of_rows = λ set short. (
       has_row (length n.demands) kind set,
       (let t = has_row (length n.demands) kind set in
-          let a = less_capacity m n t set (sym are.capacities) (sym are.limits) (λ j. sym (are.home j)) (kinds_of_reach set) in
+          let a = less_capacity m n t set (sym are.capacities) (sym are.limits) (λ j. sym (are.host_of j)) (kinds_of_reach set) in
           let b : demand_of n set ≤ demand_of n (λ i. t (kind i)) =
           sum_below_le (length n.demands) _ _ (λ i l. less_room (set i) (t (kind i)) (slice_index n.demands i) (slice_index n.demands i) refl (has_row_of (length n.demands) kind set i l)) in
           let d = asked t in

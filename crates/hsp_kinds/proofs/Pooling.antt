@@ -27,15 +27,15 @@ pub load_is : (n : Network) (x : Plan) (j : ℕ) → load n x j ≡ weighed n (a
 load_is n x j = same_by _ _ n.arcs (λ a. once (a.server == j) (planned x a))
 
 -- two plans that give the same weighed sums are alike
-pub alike_by : (n m : Network) (x y : Plan) → n.capacities ≡ m.capacities → ((j : ℕ) → n.home j ≡ m.home j) → ((c : Arc → ℕ) → weighed n c x ≡ weighed m c y) → AreAlikeIn n m x y
-alike_by n m x y caps home same =
+pub alike_by : (n m : Network) (x y : Plan) → n.capacities ≡ m.capacities → ((j : ℕ) → n.host_of j ≡ m.host_of j) → ((c : Arc → ℕ) → weighed n c x ≡ weighed m c y) → AreAlikeIn n m x y
+alike_by n m x y caps host_of same =
     let loads : (j : ℕ) → load n x j ≡ load m y j = λ j. load_is n x j ∙ same (at_server j) ∙ sym (load_is m y j) in
     record {
       total = same (λ a. a.cost);
       load = loads;
       host_load = λ h.
-          sum_below_same (length n.capacities) _ _ (λ j l. ap₂ (λ o v. if is_on o h then v else 0) (home j) (loads j))
-          ∙ ap (λ caps. sum_below (length caps) (λ j. if is_on (m.home j) h then load m y j else 0)) caps;
+          sum_below_same (length n.capacities) _ _ (λ j l. ap₂ (λ o v. if is_on o h then v else 0) (host_of j) (loads j))
+          ∙ ap (λ caps. sum_below (length caps) (λ j. if is_on (m.host_of j) h then load m y j else 0)) caps;
     }
 
 module _ (n m : Network) (kind : ℕ → ℕ) (n-is : IsNetwork n) (m-is : IsNetwork m) (are : AreKinds n m kind) where
@@ -57,7 +57,7 @@ module _ (n m : Network) (kind : ℕ → ℕ) (n-is : IsNetwork n) (m-is : IsNet
       ∙ sym (by_rows (length m.demands) m.arcs m-is.rows (λ k a. c a * pooled n kind x k a.site))
 
   pub pooled_alike : (x : Plan) → AreAlikeIn n m x (pooled n kind x)
-  pooled_alike x = alike_by n m x (pooled n kind x) are.capacities are.home (λ c. carried_over c x)
+  pooled_alike x = alike_by n m x (pooled n kind x) are.capacities are.host_of (λ c. carried_over c x)
 
   -- what a row gets, over its own arcs
   pub served_is : (w : Network) (x : Plan) (i : ℕ) → served w x i ≡ sum_by (λ a. 1 * x i a.site) (arcs_of w i)

@@ -178,7 +178,7 @@ module _ (n m : Network) (kind : ℕ → ℕ) (n-is : IsNetwork n) (m-is : IsNet
   same_weighed c = sum_by_same_all _ _ m.arcs (All-weaker (λ a. a.row < length m.demands) _ (λ a l. ap (λ v. c (without_row a) * v) (rows_of_kind a.row a.site l)) m.arcs m-is.rows)
 
   spread_alike : AreAlikeIn n m (spread n kind y) y
-  spread_alike = alike_by n m (spread n kind y) y are.capacities are.home (λ c. carried_over n m kind n-is m-is are c (spread n kind y) ∙ same_weighed c)
+  spread_alike = alike_by n m (spread n kind y) y are.capacities are.host_of (λ c. carried_over n m kind n-is m-is are c (spread n kind y) ∙ same_weighed c)
 
   spread_feasible : Feasible n (spread n kind y)
   spread_feasible = record {

@@ -246,7 +246,7 @@ module _ (at : Service) (rows : List Row) where
         omega (arith, all, each, listed, many);
     capacities = refl;
     limits = refl;
-    home = λ j. refl;
+    host_of = λ j. refl;
   }
 
   pub rows_are : IsNetwork (network_for at table) → IsNetwork (network_for at rows)

@@ -39,7 +39,7 @@ pub record AreKinds (n m : Network) (kind : ℕ → ℕ) : Type 0 where
   pub demands : (k : ℕ) → k < length m.demands → slice_index m.demands k ≡ together n kind (λ i. slice_index n.demands i) k
   pub capacities : n.capacities ≡ m.capacities
   pub limits : n.limits ≡ m.limits
-  pub home : (j : ℕ) → n.home j ≡ m.home j
+  pub host_of : (j : ℕ) → n.host_of j ≡ m.host_of j
 
 -- the plan of the kinds that sends what a plan of the rows sends
 abbrev pub pooled : Network → (ℕ → ℕ) → Plan → Plan

@@ -13,7 +13,7 @@ in_units unit n = record {
   demands = map (rounded_up unit) n.demands;
   capacities = map (λ most. most / unit) n.capacities;
   limits = map (λ most. most / unit) n.limits;
-  home = n.home;
+  host_of = n.host_of;
   arcs = n.arcs;
 }
 

@@ -92,7 +92,8 @@ HasOneSpelling {A} format = (x y : A) → format.Fits x → format.Fits y → sp
 abbrev pub HasNothingAfter : {A : Type 0} → Format A → Type 0
 HasNothingAfter {A} format = (x y : A) (after other : List ℕ) → format.Fits x → format.Fits y → spelling format x ++ after ≡ spelling format y ++ other → (x ≡ y) × (after ≡ other)
 
--- No two answers are true of the same octets, where memory ran out at neither: they spell at most one value, or have one fault.
+-- No two answers are true of the same octets, where memory ran out at neither: they spell at most one value, or have
+-- one fault.
 abbrev pub HasOneAnswer : {A : Type 0} → Format A → Type 0
 HasOneAnswer {A} format =
     (octets : List ℕ) (a b : Result A RecordFault) → a ≢ Err OutOfMemory → b ≢ Err OutOfMemory

@@ -10,7 +10,6 @@ use Rattle.hsp_cert.specs.declared.fault.CertFault.TheVariants as cert_fault
 use Rattle.hsp_check.specs.Instance.{network_of}
 use Rattle.hsp_check.specs.Valid.{IsValid}
 use Rattle.hsp_check.specs.Verdict as verdicts
-use Rattle.hsp_check.specs.Verdict.{is_one_of}
 use Rattle.hsp_check.specs.declared.verdict.Verdict.{Verdict}
 use Rattle.hsp_check.specs.declared.verdict.Verdict.TheVariants.{Yes}
 use Rattle.hsp_lines.specs.declared.fault.Fault.{Fault}

@@ -48,7 +48,7 @@ pub record AreSettings (values : Option (List HandleValue)) (text : List ℕ) (s
   pub few_hosts : length hosts ≤ MOST_HOSTS
   pub addresses : IsDistinct (λ (a b : Host). bytes_eq a.address b.address) hosts
 
--- ---- tables: comma-separated values (RFC 4180)
+-- ---- tables: comma-separated values (RFC 4180), as the `csv` crate reads them
 
 abbrev pub IsDemand : Row → Type 0
 IsDemand row =

@@ -17,7 +17,7 @@ use Rattle.hsp_tables.specs.Settings.{keys_in}
 use Rattle.hsp_instance.specs.Building.{server_of_record}
 use Rattle.hsp_instance.specs.Instance.{Host, Site, SiteServer}
 
--- ---- values and tables of comma-separated values (RFC 4180)
+-- ---- values, and tables of comma-separated values (RFC 4180), as the `csv` crate reads them
 
 -- the value list, where one is given
 abbrev pub AreValues : Option (List ℕ) → Option (List HandleValue) → Type 0
