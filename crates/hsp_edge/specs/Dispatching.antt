@@ -34,9 +34,14 @@ HandsOn MayFail fault written new reported =
     ((new ≡ written) × (reported ≡ fault))
     ⊎ (MayFollowLines fault × Keeps written new × ((reported ≡ fault) ⊎ (MayFail × (reported ≡ Log WriteFailed))))
 
--- the run's sums are reported with status 0, and nothing else was done; or its fault is reported
+-- the last lines were handed on, and the run's sums are reported with status 0; or the last lines couldn't be handed on, as may be
+abbrev pub Completes : Type 0 → Option LogSums → Option (List ℕ) → Option (List ℕ) → Result Completed Failure → Type 0
+Completes MayFail sums written new ended =
+    Keeps written new × ((ended ≡ Ok (record { status = 0; sums = sums })) ⊎ (MayFail × (ended ≡ Err (Refused (Log WriteFailed)))))
+
+-- the run's sums are reported, or its fault is
 abbrev pub TellsRun : {S : Type 0} → (S → Option LogSums) → Type 0 → Result S Fault → Option (List ℕ) → Option (List ℕ) → Result Completed Failure → Type 0
-TellsRun sums_of MayFail (Ok sums) written new ended = (new ≡ written) × (ended ≡ Ok (record { status = 0; sums = sums_of sums }))
+TellsRun sums_of MayFail (Ok sums) written new ended = Completes MayFail (sums_of sums) written new ended
 TellsRun sums_of MayFail (Err fault) written new ended = (reported : Fault) × HandsOn MayFail fault written new reported × (ended ≡ Err (Refused reported))
 
 -- the log's entries were answered on an output, and the run's end is reported

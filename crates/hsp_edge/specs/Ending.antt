@@ -43,6 +43,10 @@ last_text (Err failure) = []
 abbrev pub TellsBy : Type 0 → List ℕ → ℕ → Option (List ℕ) → Option (List ℕ) → ℕ → Type 0
 TellsBy MayFail line wanted old new status = (Appends old new line × (status ≡ wanted)) ⊎ (MayFail × IsBegun old new line × (status ≡ 5))
 
+-- what the output holds was handed on; or a write failed, as it may, and the status is 5
+abbrev pub IsHandedWith : Type 0 → Option (List ℕ) → Option (List ℕ) → ℕ → Type 0
+IsHandedWith MayFail contents handed status = (handed ≡ contents) ⊎ (MayFail × (status ≡ 5))
+
 abbrev pub Line : Type 0
 Line = Result (Vec ℕ Global) AllocError
 

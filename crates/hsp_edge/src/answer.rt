@@ -5,7 +5,7 @@ ghost use Rattle.hsp_runs.specs.Locate.{IsLocated};
 ghost use Rattle.hsp_runs.specs.Report.{IsReported};
 ghost use Rattle.hsp_runs.specs.SiteText.{IsSiteRun};
 ghost use Rattle.hsp_edge.specs.Answers.{IsAnswered, IsShownPlan, IsShownVerdict, fields_told, plan_status, plan_told, text_told, verdict_told};
-ghost use Rattle.hsp_edge.specs.Printing.{Prints};
+ghost use Rattle.hsp_edge.specs.Printing.{IsHandedOn, Prints};
 
 use crate::failure::Failure;
 use crate::output::Output;
@@ -90,12 +90,13 @@ pub fn report_answer(
     Ok(Answer { text, status: 0 })
 }
 
-/// Writes the text of an answer, and returns its status.
+/// Writes the text of an answer, hands it on, and returns its status.
 pub fn print<O: Output>(
     out: &mut O,
     answered: Result<Answer, Failure>,
 ) -> Result<Completed, Failure>
-    ensures { Prints O.may_fail answered (O.contents out.old) (O.contents out.new) result }
+    ensures prints { Prints O.may_fail answered (O.contents out.old) (O.contents out.new) result }
+    ensures handed { IsHandedOn out.old out.new (O.contents out.new) (O.handed out.new) result }
 {
     let answer = answered?;
     match out.put(answer.text.as_slice()) {

@@ -4,6 +4,7 @@ ghost use Rattle.std.specs.Prelude.{◌≡◌, map, string_bytes};
 ghost use Rattle.hsp_runs.specs.Locate.{placed};
 ghost use Rattle.hsp_edge.specs.Answers.{IsAnswered, text_told};
 ghost use Rattle.hsp_edge.specs.Commands.{AnswersCheck, AnswersPlan, AnswersReport, AnswersSite, AnswersSites, CarriesOut, Obeys, told_kind};
+ghost use Rattle.hsp_edge.specs.Printing.{IsHandedOn};
 
 use crate::answer::{
     Answer, Completed, check_answer, locate_answer, plan_answer, print, report_answer, site_answer,
@@ -116,8 +117,9 @@ fn carry_out<S: FileSource, O: Output>(
     order: &Order,
     out: &mut O,
 ) -> Result<Completed, Failure>
-    ensures { CarriesOut (S.disk files.now) O.may_fail order.now (O.contents out.old)
+    ensures carries_out { CarriesOut (S.disk files.now) O.may_fail order.now (O.contents out.old)
         (O.contents out.new) result }
+    ensures handed { IsHandedOn out.old out.new (O.contents out.new) (O.handed out.new) result }
 {
     match order {
         Order::LocatePlace {
@@ -155,8 +157,10 @@ pub fn obey<S: FileSource, O: Output>(
     words: &[String],
     out: &mut O,
 ) -> Result<Completed, Failure>
-    ensures { Obeys (S.disk files.now) O.may_fail (map string_bytes words.now)
+    ensures obeys { Obeys (S.disk files.now) O.may_fail (map string_bytes words.now)
         (O.contents out.old) (O.contents out.new) result }
+    // Nothing that was written waits in a buffer of the output, unless a write failed.
+    ensures handed { IsHandedOn out.old out.new (O.contents out.new) (O.handed out.new) result }
 {
     let order = read_command(alloc, words)?;
     carry_out(alloc, files, &order, out)

@@ -1,9 +1,11 @@
 // Logs that are answered on an output.
 
-ghost use Rattle.std.specs.Prelude.{IfErr, IfOk, IsTrue};
+ghost use Rattle.std.specs.Prelude.{◌≡◌, ◌⊎◌, IfErr, IfOk, IsFalse, IsTrue};
 ghost use Rattle.hsp_edge.specs.Commands.{AreOpened, DispatchFails};
-ghost use Rattle.hsp_edge.specs.Dispatching.{AnswersEntries, AnswersEvents, Dispatches, HandsOn, MayFollowLines, opened_log};
+ghost use Rattle.hsp_edge.specs.Dispatching.{AnswersEntries, AnswersEvents, Completes, Dispatches, HandsOn, MayFollowLines, opened_log};
 ghost use Rattle.hsp_edge.specs.Failing.{IsUnread};
+ghost use Rattle.hsp_edge.specs.Printing.{IsFailedWrite, IsHandedOn};
+ghost use Rattle.hsp_runs.specs.Dispatch.{IsBeforeLog};
 
 use crate::answer::Completed;
 use crate::failure::Failure;
@@ -11,7 +13,7 @@ use crate::files::{FileSource, OpenFile, read_whole};
 use crate::inputs::read_inputs;
 use crate::output::Output;
 use hsp_command::{InputFiles, Word};
-use hsp_dispatch::LogFault;
+use hsp_dispatch::{LogFault, LogSums};
 use hsp_runs::{Fault, Inputs, dispatch_run, fronts_run};
 use std::alloc::Global;
 
@@ -49,7 +51,8 @@ pub fn open_log<S: FileSource>(
 // Whether lines may stand before the fault that are still to be handed on. At a fault of the inputs or the certificate
 // there are none, and what a failed write left isn't tried again.
 fn may_follow_lines(fault: &Fault) -> bool
-    ensures { IsTrue result → MayFollowLines fault.now }
+    ensures lines { IsTrue result → MayFollowLines fault.now }
+    ensures no_lines { IsFalse result → IsBeforeLog fault.now ⊎ IsFailedWrite (Failure.Refused fault.now) }
 {
     match fault {
         Fault::Log(inner) => *inner != LogFault::WriteFailed,
@@ -60,7 +63,10 @@ fn may_follow_lines(fault: &Fault) -> bool
 
 // Hands on the lines that may stand before the fault, and returns the fault or, where that fails, a failed write.
 fn handed_on<O: Output>(out: &mut O, fault: Fault) -> Fault
-    ensures { HandsOn O.may_fail fault (O.contents out.old) (O.contents out.new) result }
+    ensures hands_on { HandsOn O.may_fail fault (O.contents out.old) (O.contents out.new) result }
+    ensures handed { IsBeforeLog fault ⊎ (O.handed out.new ≡ O.contents out.new)
+        ⊎ IsFailedWrite (Failure.Refused result) }
+    ensures untouched { IsBeforeLog fault → out.new ≡ out.old }
 {
     if !may_follow_lines(&fault) {
         return fault;
@@ -71,17 +77,29 @@ fn handed_on<O: Output>(out: &mut O, fault: Fault) -> Fault
     }
 }
 
-/// Answers the log on `out`: its entries, whose sums it returns, or its events, by as many fronts as the word says. At
-/// a fault of the log, and where memory ran out, the lines before it were handed on.
+// Hands on the last lines, and ends with the sums and status 0 or, where that fails, with a failed write.
+fn complete<O: Output>(out: &mut O, sums: Option<LogSums>) -> Result<Completed, Failure>
+    ensures completes { Completes O.may_fail sums (O.contents out.old) (O.contents out.new) result }
+    ensures handed { IsHandedOn out.old out.new (O.contents out.new) (O.handed out.new) result }
+{
+    match out.hand_on() {
+        Ok(()) => Ok(Completed { status: 0, sums }),
+        Err(_) => Err(Failure::Refused(Fault::Log(LogFault::WriteFailed))),
+    }
+}
+
+/// Answers the log on `out`: its entries, whose sums it returns, or its events, by as many fronts as the word says. The
+/// lines were handed on, also those before a fault of the log, and those before memory ran out.
 pub fn dispatch<F: OpenFile, O: Output>(
     alloc: Global,
     opened: OpenLog<F>,
     fronts: &Option<Word>,
     out: &mut O,
 ) -> Result<Completed, Failure>
-    ensures { Dispatches O.may_fail fronts.now
+    ensures dispatches { Dispatches O.may_fail fronts.now
         (opened_log opened.inputs opened.certificate.items (F.remaining opened.log))
         (O.contents out.old) (O.contents out.new) result }
+    ensures handed { IsHandedOn out.old out.new (O.contents out.new) (O.handed out.new) result }
 {
     match fronts {
         Some(fronts) => dispatch_events(alloc, opened, fronts, out),
@@ -95,9 +113,10 @@ fn dispatch_entries<F: OpenFile, O: Output>(
     opened: OpenLog<F>,
     out: &mut O,
 ) -> Result<Completed, Failure>
-    ensures { AnswersEntries O.may_fail
+    ensures answers { AnswersEntries O.may_fail
         (opened_log opened.inputs opened.certificate.items (F.remaining opened.log))
         (O.contents out.old) (O.contents out.new) result }
+    ensures handed { IsHandedOn out.old out.new (O.contents out.new) (O.handed out.new) result }
 {
     let OpenLog {
         inputs,
@@ -105,10 +124,7 @@ fn dispatch_entries<F: OpenFile, O: Output>(
         log,
     } = opened;
     match dispatch_run(alloc, &inputs, &certificate, log, out) {
-        Ok(sums) => Ok(Completed {
-            status: 0,
-            sums: Some(sums),
-        }),
+        Ok(sums) => complete(out, Some(sums)),
         Err(fault) => Err(Failure::Refused(handed_on(out, fault))),
     }
 }
@@ -120,9 +136,10 @@ fn dispatch_events<F: OpenFile, O: Output>(
     fronts: &Word,
     out: &mut O,
 ) -> Result<Completed, Failure>
-    ensures { AnswersEvents O.may_fail fronts.now
+    ensures answers { AnswersEvents O.may_fail fronts.now
         (opened_log opened.inputs opened.certificate.items (F.remaining opened.log))
         (O.contents out.old) (O.contents out.new) result }
+    ensures handed { IsHandedOn out.old out.new (O.contents out.new) (O.handed out.new) result }
 {
     let OpenLog {
         inputs,
@@ -130,10 +147,7 @@ fn dispatch_events<F: OpenFile, O: Output>(
         log,
     } = opened;
     match fronts_run(alloc, &inputs, &certificate, fronts.as_bytes(), log, out) {
-        Ok(_sums) => Ok(Completed {
-            status: 0,
-            sums: None,
-        }),
+        Ok(_sums) => complete(out, None),
         Err(fault) => Err(Failure::Refused(handed_on(out, fault))),
     }
 }

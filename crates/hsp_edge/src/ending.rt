@@ -1,7 +1,7 @@
 // How the program ends.
 
-ghost use Rattle.std.specs.Prelude.{◌≡◌, IfOk};
-ghost use Rattle.hsp_edge.specs.Ending.{Ends, Tells, TellsBy, TellsLine, last_text};
+ghost use Rattle.std.specs.Prelude.{◌≡◌, ◌⊎◌, IfOk};
+ghost use Rattle.hsp_edge.specs.Ending.{Ends, IsHandedWith, Tells, TellsBy, TellsLine, last_text};
 
 use crate::answer::Completed;
 use crate::failure::Failure;
@@ -25,8 +25,9 @@ pub fn last_line(alloc: Global, ended: &Result<Completed, Failure>) -> Result<Ve
 
 // Writes a text, and returns the status, which becomes 5 where the write failed.
 fn write_line<E: Output>(errors: &mut E, line: &[u8], status: u8) -> u8
-    ensures { TellsBy E.may_fail line.now status (E.contents errors.old)
+    ensures tells { TellsBy E.may_fail line.now status (E.contents errors.old)
         (E.contents errors.new) result }
+    ensures handed { IsHandedWith E.may_fail (E.contents errors.new) (E.handed errors.new) result }
 {
     match errors.put(line) {
         Ok(()) => status,
@@ -36,8 +37,9 @@ fn write_line<E: Output>(errors: &mut E, line: &[u8], status: u8) -> u8
 
 // Writes the line or, where memory ran out for it, that it ran out, and returns the status to end with.
 fn tell_line<E: Output>(errors: &mut E, line: &Result<Vec<u8>, AllocError>, status: u8) -> u8
-    ensures { TellsLine E.may_fail line.now status (E.contents errors.old)
+    ensures tells { TellsLine E.may_fail line.now status (E.contents errors.old)
         (E.contents errors.new) result }
+    ensures handed { IsHandedWith E.may_fail (E.contents errors.new) (E.handed errors.new) result }
 {
     match line {
         Ok(line) => write_line(errors, line.as_slice(), status),
@@ -47,8 +49,9 @@ fn tell_line<E: Output>(errors: &mut E, line: &Result<Vec<u8>, AllocError>, stat
 
 // Reports the failure, of a refused input by the line, and returns the status to end with.
 fn tell<E: Output>(errors: &mut E, failure: &Failure, line: &Result<Vec<u8>, AllocError>) -> u8
-    ensures { Tells E.may_fail failure.now line.now (E.contents errors.old)
+    ensures tells { Tells E.may_fail failure.now line.now (E.contents errors.old)
         (E.contents errors.new) result }
+    ensures handed { IsHandedWith E.may_fail (E.contents errors.new) (E.handed errors.new) result }
 {
     match failure {
         Failure::Usage => write_line(errors, b"hsplan: Usage\n", 2),
@@ -68,8 +71,11 @@ pub fn end_with<E: Output>(
     ended: &Result<Completed, Failure>,
     line: &Result<Vec<u8>, AllocError>,
 ) -> u8
-    ensures { Ends E.may_fail ended.now line.now (E.contents errors.old)
+    ensures ends { Ends E.may_fail ended.now line.now (E.contents errors.old)
         (E.contents errors.new) result }
+    // Nothing was written, or what was written is handed on, unless a write failed.
+    ensures handed { (errors.new ≡ errors.old)
+        ⊎ IsHandedWith E.may_fail (E.contents errors.new) (E.handed errors.new) result }
 {
     match ended {
         Ok(completed) if completed.sums.is_some() => tell_line(errors, line, completed.status),
