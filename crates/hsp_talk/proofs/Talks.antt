@@ -1,0 +1,342 @@
+-- A talk that goes on, turn by turn.
+use Rattle.std.proofs.Common.{◌≡◌, ℕ, Bool, true, false, true≢false, List, [], ◌∷◌, ◌++◌, length, take, Option, Some, None, IsSomeAnd, Result, Ok, Err, OnOk, IfErr, refl, ap, sym, ◌∙◌, subst, append_assoc, append-nil, arith, take-append-drop, drop}
+use Rattle.std.proofs.Math.Seq.{take-append_seam}
+use Rattle.std.specs.List.{concat}
+use Rattle.std.proofs.lemmas.List.Folds.{concat-append}
+use Rattle.hsp_talk.specs.Talk.{AreTaken, Event, GoesOn, HeldToTheEnd, IsPrompt, RefusesRow, SendsSome, StoppedBy, TakesRow, Took, has_ended, last_line, received_in, rows_in, rows_of, sent_in, whole_lines}
+use Rattle.hsp_talk.specs.Talk.Event.{received, sent}
+use Rattle.hsp_talk.specs.Turns.{AreCut, AreOwed, IsAt, IsRefused, StandsSo, rows_ended_by, sending}
+use Rattle.hsp_talk.specs.Refusals.{stop_by}
+use Rattle.hsp_talk.specs.declared.stop.Refusal.{Refusal}
+use Rattle.hsp_talk.specs.declared.stop.Refusal.TheVariants as refusal
+use Rattle.hsp_talk.specs.declared.stop.Stop.TheVariants as stop
+use Rattle.hsp_talk.proofs.Rows.{as_many, last_then, lines_then, rows_of-append, taken_then}
+
+-- ---- events
+
+head_or : {X : Type 0} → X → List X → X
+head_or d [] = d
+head_or d (x ∷ xs) = x
+
+rest_of : {X : Type 0} → List X → List X
+rest_of [] = []
+rest_of (x ∷ xs) = xs
+
+same_head : {X : Type 0} (x y : X) (xs ys : List X) → x ∷ xs ≡ y ∷ ys → x ≡ y
+unfolding head_or
+same_head x y xs ys e = ap (head_or x) e
+
+same_rest : {X : Type 0} (x y : X) (xs ys : List X) → x ∷ xs ≡ y ∷ ys → xs ≡ ys
+unfolding rest_of
+same_rest x y xs ys e = ap rest_of e
+
+not_within : {X : Type 0} (x : X) (xs ys : List X) → [] ≡ xs ++ x ∷ ys → ⊥
+not_within x [] ys e = let many : 0 ≡ length (x ∷ ys) = ap length e in absurd (omega arith)
+not_within x (y ∷ xs) ys e = let many : 0 ≡ length (y ∷ (xs ++ x ∷ ys)) = ap length e in absurd (omega arith)
+
+abbrev is_sent : Event → Bool
+is_sent (received octets) = false
+is_sent (sent octets) = true
+
+pub received_then : (events more : List Event) → received_in (events ++ more) ≡ received_in events ++ received_in more
+received_then [] more = refl
+received_then (received octets ∷ events) more = ap (λ r. octets ++ r) (received_then events more) ∙ sym (append_assoc octets (received_in events) (received_in more))
+received_then (sent octets ∷ events) more = received_then events more
+
+pub sent_then : (events more : List Event) → sent_in (events ++ more) ≡ sent_in events ++ sent_in more
+sent_then [] more = refl
+sent_then (received octets ∷ events) more = sent_then events more
+sent_then (sent octets ∷ events) more = ap (λ r. octets ++ r) (sent_then events more) ∙ sym (append_assoc octets (sent_in events) (sent_in more))
+
+-- whether a talk has ended by what comes after it
+pub ended_then : (events more : List Event) → has_ended events ≡ false → has_ended (events ++ more) ≡ has_ended more
+ended_then [] more e = refl
+ended_then (received [] ∷ events) more e = absurd (true≢false e)
+ended_then (received (octet ∷ octets) ∷ events) more e = ended_then events more e
+ended_then (sent octets ∷ events) more e = ended_then events more e
+
+ended_as : (events : List Event) (octets : List ℕ) → has_ended (events ++ sent octets ∷ []) ≡ has_ended events
+ended_as [] octets = refl
+ended_as (received [] ∷ events) octets = refl
+ended_as (received (octet ∷ more) ∷ events) octets = ended_as events octets
+ended_as (sent more ∷ events) octets = ended_as events octets
+
+-- ---- rows
+
+-- the rows that have come in, by whether a talk has ended and what it received
+abbrev rows_by : Bool → List ℕ → List (List ℕ)
+rows_by false octets = rows_of (whole_lines [] octets ++ [])
+rows_by true octets = rows_of (whole_lines [] octets ++ last_line [] octets ∷ [])
+
+rows_are : (events : List Event) (ended : Bool) → has_ended events ≡ ended → rows_in events ≡ rows_by ended (received_in events)
+rows_are events false e = rw e refl
+rows_are events true e = rw e refl
+
+rows_before_end : (events : List Event) → has_ended events ≡ false → rows_in events ≡ rows_of (whole_lines [] (received_in events))
+rows_before_end events e = rows_are events false e ∙ ap rows_of (append-nil (whole_lines [] (received_in events)))
+
+-- the rows that a piece ends come in
+pub rows_then : (events : List Event) (piece : List ℕ) → has_ended events ≡ false →
+    rows_in (events ++ received piece ∷ []) ≡ rows_in events ++ rows_ended_by (last_line [] (received_in events)) piece
+rows_then events [] e =
+    let octets = received_in events in
+    let same : received_in (events ++ received [] ∷ []) ≡ octets = received_then events (received [] ∷ []) ∙ append-nil octets in
+    rows_are (events ++ received [] ∷ []) true (ended_then events (received [] ∷ []) e) ∙ ap (rows_by true) same
+    ∙ rows_of-append (whole_lines [] octets) (last_line [] octets ∷ [])
+    ∙ ap (λ r. r ++ rows_of (last_line [] octets ∷ [])) (sym (rows_before_end events e))
+rows_then events (c ∷ piece) e =
+    let octets = received_in events in
+    let all : received_in (events ++ received (c ∷ piece) ∷ []) ≡ octets ++ c ∷ piece = received_then events (received (c ∷ piece) ∷ []) ∙ ap (λ p. octets ++ p) (append-nil (c ∷ piece)) in
+    rows_before_end (events ++ received (c ∷ piece) ∷ []) (ended_then events (received (c ∷ piece) ∷ []) e) ∙ ap (λ o. rows_of (whole_lines [] o)) all
+    ∙ ap rows_of (lines_then [] octets (c ∷ piece)) ∙ rows_of-append (whole_lines [] octets) (whole_lines (last_line [] octets) (c ∷ piece))
+    ∙ ap (λ r. r ++ rows_of (whole_lines (last_line [] octets) (c ∷ piece))) (sym (rows_before_end events e))
+
+received_as : (events : List Event) (octets : List ℕ) → received_in (events ++ sent octets ∷ []) ≡ received_in events
+received_as events octets = received_then events (sent octets ∷ []) ∙ append-nil (received_in events)
+
+-- a send brings no rows
+rows_as : (events : List Event) (octets : List ℕ) → rows_in (events ++ sent octets ∷ []) ≡ rows_in events
+rows_as events octets =
+    rows_are (events ++ sent octets ∷ []) (has_ended events) (ended_as events octets) ∙ ap (rows_by (has_ended events)) (received_as events octets)
+    ∙ sym (rows_are events (has_ended events) refl)
+
+sent_as : (events : List Event) (octets : List ℕ) → sent_in (events ++ sent octets ∷ []) ≡ sent_in events ++ octets
+sent_as events octets = sent_then events (sent octets ∷ []) ∙ ap (λ s. sent_in events ++ s) (append-nil octets)
+
+sent_by_read : (events : List Event) (octets : List ℕ) → sent_in (events ++ received octets ∷ []) ≡ sent_in events
+sent_by_read events octets = sent_then events (received octets ∷ []) ∙ append-nil (sent_in events)
+
+-- ---- promptness
+
+-- what holds before each read, when one event more has come
+reads_more : (P : List Event → Type 0) (events : List Event) (event : Event) →
+    ((before after : List Event) (octets : List ℕ) → events ≡ before ++ received octets ∷ after → P before) → ((octets : List ℕ) → event ≡ received octets → P events) →
+    (before after : List Event) (octets : List ℕ) → events ++ event ∷ [] ≡ before ++ received octets ∷ after → P before
+reads_more P [] event each last [] after octets e = last octets (same_head event (received octets) [] after e)
+reads_more P [] event each last (b ∷ before) after octets e = absurd (not_within (received octets) before after (same_rest event b [] (before ++ received octets ∷ after) e))
+reads_more P (x ∷ events) event each last [] after octets e =
+    each [] events octets (ap (λ y. y ∷ events) (same_head x (received octets) (events ++ event ∷ []) after e))
+reads_more P (x ∷ events) event each last (b ∷ before) after octets e =
+    subst (λ y. P (y ∷ before)) (same_head x b (events ++ event ∷ []) (before ++ received octets ∷ after) e)
+    (reads_more (λ l. P (x ∷ l)) events event (λ before after octets so. each (x ∷ before) after octets (ap (λ l. x ∷ l) so)) last
+    before after octets (same_rest x b (events ++ event ∷ []) (before ++ received octets ∷ after) e))
+
+pub prompt_read : (answers : List (List ℕ)) (events : List Event) (piece : List ℕ) → IsPrompt answers events →
+    (sent_in events ≡ concat (take (length (rows_in events)) answers)) × (has_ended events ≡ false) → IsPrompt answers (events ++ received piece ∷ [])
+prompt_read answers events piece each due =
+    reads_more (λ before. (sent_in before ≡ concat (take (length (rows_in before)) answers)) × (has_ended before ≡ false)) events (received piece) each (λ octets e. due)
+
+pub prompt_sent : (answers : List (List ℕ)) (events : List Event) (octets : List ℕ) → IsPrompt answers events → IsPrompt answers (events ++ sent octets ∷ [])
+prompt_sent answers events octets each =
+    reads_more (λ before. (sent_in before ≡ concat (take (length (rows_in before)) answers)) × (has_ended before ≡ false)) events (sent octets) each
+    (λ piece e. absurd (true≢false (ap is_sent e)))
+
+-- ---- turns
+
+module _ {D : Type 0} (Takes : TakesRow D) (first : D) where
+  -- the first rows that came in were taken, and `owed` is what of their answers was not sent
+  record Owing (at : D) (events : List Event) (owed : List ℕ) (later : List (List ℕ)) : Type 0 where
+    pub rows : List (List ℕ)
+    pub answers : List (List ℕ)
+    pub came : rows_in events ≡ rows ++ later
+    pub taken : AreTaken Takes first rows at answers
+    pub prompt : (more : List (List ℕ)) → IsPrompt (answers ++ more) events
+    pub owing : concat answers ≡ sent_in events ++ owed
+
+  abbrev took : (at : D) (events : List Event) (owed : List ℕ) (later : List (List ℕ)) → Owing at events owed later → Took Takes first at events
+  took at events owed later so = record {
+    rows = so.rows;
+    answers = so.answers;
+    later = later;
+    came = so.came;
+    taken = so.taken;
+    prompt = subst (λ a. IsPrompt a events) (append-nil so.answers) (so.prompt []);
+  }
+
+  -- a piece came in, and rows that it ended were taken
+  after_read : (desk at : D) (line piece : List ℕ) (events : List Event) (owed : List ℕ) (rows later : List (List ℕ)) →
+      StandsSo Takes first desk line events → rows_ended_by line piece ≡ rows ++ later → AreOwed Takes desk at rows [] owed →
+      Owing at (events ++ received piece ∷ []) owed later
+  after_read desk at line piece events owed rows later so parted more =
+      let due = λ (also : List (List ℕ)).
+      so.all_sent ∙ ap concat (sym (take-append_seam so.answers also))
+      ∙ ap (λ n. concat (take n (so.answers ++ also))) (sym (as_many Takes first (rows_in events) desk so.answers so.taken)) in
+      record {
+        rows = rows_in events ++ rows;
+        answers = so.answers ++ more.0;
+        came = rows_then events piece so.not_ended ∙ ap (λ l. rows_in events ++ rows_ended_by l piece) (sym so.begun) ∙ ap (λ r. rows_in events ++ r) parted
+            ∙ sym (append_assoc (rows_in events) rows later);
+        taken = taken_then Takes first (rows_in events) desk so.answers rows at more.0 so.taken more.1;
+        prompt = λ also.
+            subst (λ a. IsPrompt a (events ++ received piece ∷ [])) (sym (append_assoc so.answers more.0 also))
+            (prompt_read (so.answers ++ (more.0 ++ also)) events piece (so.prompt (more.0 ++ also)) (due (more.0 ++ also), so.not_ended));
+        owing = concat-append so.answers more.0 ∙ ap (λ s. s ++ concat more.0) (sym so.all_sent) ∙ ap (λ s. s ++ concat more.0) (sym (sent_by_read events piece))
+            ∙ ap (λ o. sent_in (events ++ received piece ∷ []) ++ o) (sym more.2);
+      }
+
+  -- some of what is owed is sent
+  abbrev after_send : (at : D) (events : List Event) (octets left : List ℕ) (later : List (List ℕ)) → Owing at events (octets ++ left) later →
+      Owing at (events ++ sent octets ∷ []) left later
+  after_send at events octets left later so = record {
+    rows = so.rows;
+    answers = so.answers;
+    came = rows_as events octets ∙ so.came;
+    taken = so.taken;
+    prompt = λ more. prompt_sent (so.answers ++ more) events octets (so.prompt more);
+    owing = so.owing ∙ sym (append_assoc (sent_in events) octets left) ∙ ap (λ s. s ++ left) (sym (sent_as events octets));
+  }
+
+  -- all that is owed is sent
+  after_all : (at : D) (events : List Event) (owed : List ℕ) (later : List (List ℕ)) → Owing at events owed later → Owing at (events ++ sending owed) [] later
+  after_all at events [] later so = subst (λ e. Owing at e [] later) (sym (append-nil events)) so
+  after_all at events (c ∷ owed) later so = after_send at events (c ∷ owed) [] later (subst (λ o. Owing at events o later) (sym (append-nil (c ∷ owed))) so)
+
+  none_owing : (at : D) (events : List Event) (later : List (List ℕ)) (so : Owing at events [] later) → sent_in events ≡ concat so.answers
+  none_owing at events later so = sym (so.owing ∙ append-nil (sent_in events))
+
+  ended_by_all : (events : List Event) (owed : List ℕ) → has_ended (events ++ sending owed) ≡ has_ended events
+  ended_by_all events [] = ap has_ended (append-nil events)
+  ended_by_all events (c ∷ owed) = ended_as events (c ∷ owed)
+
+  received_by_all : (events : List Event) (owed : List ℕ) → received_in (events ++ sending owed) ≡ received_in events
+  received_by_all events [] = ap received_in (append-nil events)
+  received_by_all events (c ∷ owed) = received_as events (c ∷ owed)
+
+  -- ---- talks that are known
+
+  -- no more octets come
+  pub talk_ends : (desk at : D) (line owed : List ℕ) (old now new : Option (List Event)) → IsAt Takes first desk line old → GoesOn old now (received [] ∷ []) →
+      AreOwed Takes desk at (rows_ended_by line []) [] owed → GoesOn now new (sending owed) → IsSomeAnd new (HeldToTheEnd Takes first at)
+  talk_ends desk at line owed None now new so read more sends = absurd so
+  talk_ends desk at line owed (Some events) None new so read more sends = absurd read
+  talk_ends desk at line owed (Some events) (Some with_piece) None so read more sends = absurd sends
+  talk_ends desk at line owed (Some events) (Some with_piece) (Some all) so read more sends =
+      let piece = received [] ∷ [] in
+      let owing = after_all at (events ++ piece) owed [] (after_read desk at line [] events owed (rows_ended_by line []) [] so (sym (append-nil (rows_ended_by line []))) more) in
+      subst (HeldToTheEnd Takes first at) (sym (sends ∙ ap (λ e. e ++ sending owed) read)) (
+        took at (events ++ piece ++ sending owed) [] [] owing,
+        refl,
+        none_owing at (events ++ piece ++ sending owed) [] owing,
+        ended_by_all (events ++ piece) owed ∙ ended_then events piece so.not_ended,
+      )
+
+  -- the same of a piece that is empty, where nothing was owed
+  pub talk_ends_by : (desk at : D) (line piece before owed : List ℕ) (old now new : Option (List Event)) → piece ≡ [] → before ≡ [] → IsAt Takes first desk line old →
+      GoesOn old now (received piece ∷ []) → AreOwed Takes desk at (rows_ended_by line piece) before owed → GoesOn now new (sending owed) → IsSomeAnd new (HeldToTheEnd Takes first at)
+  talk_ends_by desk at line piece before owed old now new is_end none so read more sends =
+      talk_ends desk at line owed old now new so (subst (λ p. GoesOn old now (received p ∷ [])) is_end read)
+      (subst (λ o. AreOwed Takes desk at (rows_ended_by line []) o owed) none (subst (λ p. AreOwed Takes desk at (rows_ended_by line p) before owed) is_end more)) sends
+
+  -- a turn ends, and the next read may come
+  pub talk_goes_on : (desk at : D) (line piece next owed : List ℕ) (old now new : Option (List Event)) → (length piece ≡ 0 → ⊥) → IsAt Takes first desk line old →
+      GoesOn old now (received piece ∷ []) → AreOwed Takes desk at (rows_ended_by line piece) [] owed → next ≡ last_line line piece → GoesOn now new (sending owed) →
+      IsAt Takes first at next new
+  talk_goes_on desk at line [] next owed old now new some so read more begun sends = absurd (some refl)
+  talk_goes_on desk at line (c ∷ octets) next owed None now new some so read more begun sends = absurd so
+  talk_goes_on desk at line (c ∷ octets) next owed (Some events) None new some so read more begun sends = absurd read
+  talk_goes_on desk at line (c ∷ octets) next owed (Some events) (Some with_piece) None some so read more begun sends = absurd sends
+  talk_goes_on desk at line (c ∷ octets) next owed (Some events) (Some with_piece) (Some all) some so read more begun sends =
+      let piece = received (c ∷ octets) ∷ [] in
+      let rows = rows_ended_by line (c ∷ octets) in
+      let owing = after_all at (events ++ piece) owed [] (after_read desk at line (c ∷ octets) events owed rows [] so (sym (append-nil rows)) more) in
+      subst (StandsSo Takes first at next) (sym (sends ∙ ap (λ e. e ++ sending owed) read)) (record {
+        answers = owing.answers;
+        taken = subst (λ r. AreTaken Takes first r at owing.answers) (sym (owing.came ∙ append-nil owing.rows)) owing.taken;
+        all_sent = none_owing at (events ++ piece ++ sending owed) [] owing;
+        prompt = owing.prompt;
+        not_ended = ended_by_all (events ++ piece) owed ∙ ended_then events piece so.not_ended;
+        begun = begun ∙ ap (λ l. last_line l (c ∷ octets)) so.begun ∙ sym (last_then [] (received_in events) (c ∷ octets))
+            ∙ ap (last_line []) (ap (λ o. received_in events ++ o) (sym (append-nil (c ∷ octets))) ∙ sym (received_then events piece))
+            ∙ ap (last_line []) (sym (received_by_all (events ++ piece) owed));
+      })
+
+  pub talk_begins : (talk : Option (List Event)) → talk ≡ Some [] → IsAt Takes first first [] talk
+  talk_begins talk e = subst (IsAt Takes first first []) (sym e) (record {
+    answers = [];
+    taken = refl;
+    all_sent = refl;
+    prompt = λ more before after octets so. absurd (not_within (received octets) before after so);
+    not_ended = refl;
+    begun = refl;
+  })
+
+  module _ {F : Type 0} (Refuses : RefusesRow D F) where
+    -- a read fails
+    pub read_fails : (desk : D) (line : List ℕ) (old new : Option (List Event)) → IsAt Takes first desk line old → GoesOn old new [] →
+        IsSomeAnd new (λ events. StoppedBy Takes Refuses first desk events stop.ReadFailed)
+    read_fails desk line None new so read = absurd so
+    read_fails desk line (Some events) None so read = absurd read
+    read_fails desk line (Some events) (Some all) so read =
+        subst (λ e. StoppedBy Takes Refuses first desk e stop.ReadFailed) (sym (read ∙ append-nil events)) (
+          record {
+            rows = rows_in events;
+            answers = so.answers;
+            later = [];
+            came = sym (append-nil (rows_in events));
+            taken = so.taken;
+            prompt = subst (λ a. IsPrompt a events) (append-nil so.answers) (so.prompt []);
+          },
+          refl,
+          so.all_sent,
+        )
+
+    pub no_more_turns : (desk : D) (line : List ℕ) (talk : Option (List Event)) → IsAt Takes first desk line talk →
+        IsSomeAnd talk (λ events. StoppedBy Takes Refuses first desk events stop.ReadFailed)
+    no_more_turns desk line None so = absurd so
+    no_more_turns desk line (Some events) so = read_fails desk line (Some events) (Some events) so (sym (append-nil events))
+
+    -- a write fails after some rows were taken
+    pub write_fails : (desk at last : D) (line piece owed : List ℕ) (rows later : List (List ℕ)) (old now new : Option (List Event)) → IsAt Takes first desk line old →
+        GoesOn old now (received piece ∷ []) → rows_ended_by line piece ≡ rows ++ later → AreOwed Takes desk at rows [] owed → SendsSome now new owed →
+        IsSomeAnd new (λ events. StoppedBy Takes Refuses first last events stop.WriteFailed)
+    write_fails desk at last line piece owed rows later None now new so read parted more sends = absurd so
+    write_fails desk at last line piece owed rows later (Some events) None new so read parted more sends = absurd read
+    write_fails desk at last line piece owed rows later (Some events) (Some with_piece) None so read parted more sends = absurd sends.1
+    write_fails desk at last line piece owed rows later (Some events) (Some with_piece) (Some all) so read parted more sends =
+        let came = events ++ received piece ∷ [] in
+        let gone = take sends.0 owed in
+        let left = drop sends.0 owed in
+        let owing = after_send at came gone left later
+        (subst (λ o. Owing at came o later) (sym (take-append-drop sends.0 owed)) (after_read desk at line piece events owed rows later so parted more)) in
+        subst (λ e. StoppedBy Takes Refuses first last e stop.WriteFailed) (sym (sends.1 ∙ ap (λ e. e ++ sent gone ∷ []) read))
+        (at, took at (came ++ sent gone ∷ []) left later owing, left, owing.owing)
+
+    -- the same, whether a row was refused or not
+    pub write_fails_after : (desk last : D) (line piece before owed : List ℕ) (taken : Result (Unit {0}) (Refusal F)) (old now new : Option (List Event)) → before ≡ [] →
+        IsAt Takes first desk line old → GoesOn old now (received piece ∷ []) → OnOk taken (AreOwed Takes desk last (rows_ended_by line piece) before owed) →
+        IfErr taken (AreCut Takes Refuses desk last (rows_ended_by line piece) before owed) → SendsSome now new owed →
+        IsSomeAnd new (λ events. StoppedBy Takes Refuses first last events stop.WriteFailed)
+    write_fails_after desk last line piece before owed (Ok u) old now new none so read more cut sends =
+        let rows = rows_ended_by line piece in
+        write_fails desk last last line piece owed rows [] old now new so read (sym (append-nil rows)) (subst (λ o. AreOwed Takes desk last rows o owed) none more) sends
+    write_fails_after desk last line piece before owed (Err by) old now new none so read more cut sends =
+        let is = subst (λ o. AreCut Takes Refuses desk last (rows_ended_by line piece) o owed by) none cut in
+        write_fails desk is.at last line piece owed is.rows is.later old now new so read is.parted is.taken sends
+
+    -- a row is refused, or memory runs out
+    stopped : (at last : D) (events : List Event) (later : List (List ℕ)) (by : Refusal F) → IsRefused Refuses at later last by → Owing at events [] later →
+        StoppedBy Takes Refuses first last events (stop_by by)
+    stopped at last events later (refusal.Fault fault) refused owing =
+        (at, took at events [] later owing, refused.0, refused.1, refused.2, refused.3, none_owing at events later owing)
+    stopped at last events later refusal.OutOfMemory refused owing = (at, took at events [] later owing, none_owing at events later owing)
+
+    row_refused : (desk last : D) (line piece owed : List ℕ) (by : Refusal F) (old now new : Option (List Event)) → IsAt Takes first desk line old →
+        GoesOn old now (received piece ∷ []) → AreCut Takes Refuses desk last (rows_ended_by line piece) [] owed by → GoesOn now new (sending owed) →
+        IsSomeAnd new (λ events. StoppedBy Takes Refuses first last events (stop_by by))
+    row_refused desk last line piece owed by None now new so read cut sends = absurd so
+    row_refused desk last line piece owed by (Some events) None new so read cut sends = absurd read
+    row_refused desk last line piece owed by (Some events) (Some with_piece) None so read cut sends = absurd sends
+    row_refused desk last line piece owed by (Some events) (Some with_piece) (Some all) so read cut sends =
+        let came = events ++ received piece ∷ [] in
+        subst (λ e. StoppedBy Takes Refuses first last e (stop_by by)) (sym (sends ∙ ap (λ e. e ++ sending owed) read))
+        (stopped cut.at last (came ++ sending owed) cut.later by cut.refused
+        (after_all cut.at came owed cut.later (after_read desk cut.at line piece events owed cut.rows cut.later so cut.parted cut.taken)))
+
+    -- the same, where nothing was owed
+    pub row_refused_by : (desk last : D) (line piece before owed : List ℕ) (found by : Refusal F) (old now new : Option (List Event)) → found ≡ by → before ≡ [] →
+        IsAt Takes first desk line old → GoesOn old now (received piece ∷ []) → AreCut Takes Refuses desk last (rows_ended_by line piece) before owed found →
+        GoesOn now new (sending owed) → IsSomeAnd new (λ events. StoppedBy Takes Refuses first last events (stop_by by))
+    row_refused_by desk last line piece before owed found by old now new is none so read cut sends =
+        let rows = rows_ended_by line piece in
+        row_refused desk last line piece owed by old now new so read
+        (subst (λ b. AreCut Takes Refuses desk last rows [] owed b) is (subst (λ o. AreCut Takes Refuses desk last rows o owed found) none cut)) sends

@@ -1,0 +1,8 @@
+use Rattle.std.proofs.Common.{◌≡◌, [], Some}
+use Rattle.hsp_talk.specs.Turns.{IsAt}
+use Rattle.hsp_talk.proofs.talking.talk.Given as goal
+
+-- before a read nothing is owed, and all rows that came in were taken
+abbrev pub invariant-turns : goal.invariant-turns
+invariant-turns g l =
+    (l.owed.items ≡ []) × (g.P.Peer.talk l.fn.peer ≡ Some [] → IsAt g.D.Desk.Takes l.fn.desk l.desk l.line.items (g.P.Peer.talk l.peer))

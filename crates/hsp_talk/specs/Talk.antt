@@ -1,0 +1,116 @@
+-- A talk: rows come in, one a line, and every answer goes out before the next read.
+use Rattle.std.specs.Prelude.{◌≡◌, ⊤, ℕ, ◌==◌, Bool, true, false, List, [], ◌∷◌, ◌++◌, Option, Some, None, if◌then◌else◌, length, take}
+use Rattle.std.specs.List.{concat}
+use Rattle.hsp_talk.specs.declared.stop.Stop.{Stop}
+use Rattle.hsp_talk.specs.declared.stop.Stop.TheVariants as stop
+
+-- ---- lines
+
+-- the end of a line
+abbrev pub line_feed : ℕ
+line_feed = 10
+
+-- the lines that octets end, each without its end; the first begins with the octets of a line that has begun
+abbrev pub whole_lines : List ℕ → List ℕ → List (List ℕ)
+whole_lines begun [] = []
+whole_lines begun (octet ∷ octets) = if octet == line_feed then begun ∷ whole_lines [] octets else whole_lines (begun ++ octet ∷ []) octets
+
+-- the line that octets begin and do not end
+abbrev pub last_line : List ℕ → List ℕ → List ℕ
+last_line begun [] = begun
+last_line begun (octet ∷ octets) = if octet == line_feed then last_line [] octets else last_line (begun ++ octet ∷ []) octets
+
+-- a row is a line that is not empty
+abbrev pub rows_of : List (List ℕ) → List (List ℕ)
+rows_of [] = []
+rows_of ([] ∷ lines) = rows_of lines
+rows_of ((octet ∷ octets) ∷ lines) = (octet ∷ octets) ∷ rows_of lines
+
+-- ---- events
+
+-- octets were received, or none because no more come; or octets were sent
+pub data Event : Type 0 where
+  received : List ℕ → Event
+  sent : List ℕ → Event
+
+-- all octets that were received, and all that were sent
+abbrev pub received_in : List Event → List ℕ
+received_in [] = []
+received_in (received octets ∷ events) = octets ++ received_in events
+received_in (sent octets ∷ events) = received_in events
+
+abbrev pub sent_in : List Event → List ℕ
+sent_in [] = []
+sent_in (received octets ∷ events) = sent_in events
+sent_in (sent octets ∷ events) = octets ++ sent_in events
+
+-- a read found that no more octets come
+abbrev pub has_ended : List Event → Bool
+has_ended [] = false
+has_ended (received [] ∷ events) = true
+has_ended (received (octet ∷ octets) ∷ events) = has_ended events
+has_ended (sent octets ∷ events) = has_ended events
+
+-- the rows that came in: of the whole lines, and at the end of the last line too
+abbrev pub rows_in : List Event → List (List ℕ)
+rows_in events = rows_of (whole_lines [] (received_in events) ++ (if has_ended events then last_line [] (received_in events) ∷ [] else []))
+
+-- a talk that is known goes on by some events
+abbrev pub GoesOn : Option (List Event) → Option (List Event) → List Event → Type 0
+GoesOn None new more = ⊤
+GoesOn (Some old) None more = ⊥
+GoesOn (Some old) (Some new) more = new ≡ old ++ more
+
+-- a send that failed: a beginning of the octets may be sent
+abbrev pub SendsSome : Option (List Event) → Option (List Event) → List ℕ → Type 0
+SendsSome old new octets = (count : ℕ) × GoesOn old new (sent (take count octets) ∷ [])
+
+-- ---- answers
+
+-- `Takes desk row next answer`: a desk takes a row with this answer, and is the next desk then
+abbrev pub TakesRow : Type 0 → Type 1
+TakesRow D = D → List ℕ → D → List ℕ → Type 0
+
+-- rows are taken in turn, from the first desk to the last, each with its answer
+abbrev pub AreTaken : {D : Type 0} → TakesRow D → D → List (List ℕ) → D → List (List ℕ) → Type 0
+AreTaken Takes first [] last [] = last ≡ first
+AreTaken {D} Takes first (row ∷ rows) last (answer ∷ answers) = (next : D) × Takes first row next answer × AreTaken Takes next rows last answers
+AreTaken Takes first [] last (answer ∷ answers) = ⊥
+AreTaken Takes first (row ∷ rows) last [] = ⊥
+
+-- No answer is owed at a read: the answers to all rows that came in before it, and no others, were sent. None follows the end.
+abbrev pub IsPrompt : List (List ℕ) → List Event → Type 0
+IsPrompt answers events =
+    (before after : List Event) (octets : List ℕ) → events ≡ before ++ received octets ∷ after →
+    (sent_in before ≡ concat (take (length (rows_in before)) answers)) × (has_ended before ≡ false)
+
+-- the first rows that came in were taken, the later ones were not, and no answer was owed at a read
+pub record Took {D : Type 0} (Takes : TakesRow D) (first last : D) (events : List Event) : Type 0 where
+  pub rows : List (List ℕ)
+  pub answers : List (List ℕ)
+  pub later : List (List ℕ)
+  pub came : rows_in events ≡ rows ++ later
+  pub taken : AreTaken Takes first rows last answers
+  pub prompt : IsPrompt answers events
+
+-- all rows until the end were taken and all their answers were sent
+abbrev pub HeldToTheEnd : {D : Type 0} → TakesRow D → D → D → List Event → Type 0
+HeldToTheEnd Takes first last events =
+    (took : Took Takes first last events) × (took.later ≡ []) × (sent_in events ≡ concat took.answers) × (has_ended events ≡ true)
+
+-- `Refuses desk row next fault`: a desk refuses a row by this fault, and is the next desk then
+abbrev pub RefusesRow : Type 0 → Type 0 → Type 1
+RefusesRow D F = D → List ℕ → D → F → Type 0
+
+-- Why a talk stopped early. At a failed read all rows that came in were taken and all answers sent; at a fault, those before the row that
+-- is refused; where memory runs out, those up to some row; where a write failed, a beginning of the answers was sent.
+abbrev pub StoppedBy : {D F : Type 0} → TakesRow D → RefusesRow D F → D → D → List Event → Stop F → Type 0
+StoppedBy Takes Refuses first last events stop.ReadFailed =
+    (took : Took Takes first last events) × (took.later ≡ []) × (sent_in events ≡ concat took.answers)
+StoppedBy {D} Takes Refuses first last events stop.WriteFailed =
+    (at : D) × (took : Took Takes first at events) × (unsent : List ℕ) × (concat took.answers ≡ sent_in events ++ unsent)
+StoppedBy {D} Takes Refuses first last events stop.OutOfMemory =
+    (at : D) × (took : Took Takes first at events) × (sent_in events ≡ concat took.answers)
+StoppedBy {D} Takes Refuses first last events (stop.Fault fault) =
+    (at : D) × (took : Took Takes first at events) × (row : List ℕ) × (rest : List (List ℕ))
+    × (took.later ≡ row ∷ rest) × Refuses at row last fault × (sent_in events ≡ concat took.answers)

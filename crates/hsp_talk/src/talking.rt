@@ -1,0 +1,144 @@
+// The talk.
+
+ghost use Rattle.std.specs.Prelude.{◌≡◌, ◌++◌, ◌∷◌, [], IfErr, IfOk, IsSomeAnd, OnErr, OnOk, Some};
+ghost use Rattle.hsp_talk.specs.Talk.{GoesOn, HeldToTheEnd, SendsSome, StoppedBy, last_line, rows_of, whole_lines};
+ghost use Rattle.hsp_talk.specs.Turns.{AreCut, AreOwed, rows_ended_by, sending};
+
+use crate::desk::Desk;
+use crate::peer::{Failed, Peer};
+use crate::stop::{Refusal, Stop, stop_for};
+use std::alloc::Global;
+
+// The most octets that are received at a time.
+const PIECE: usize = 8192;
+
+// Takes a line, if it is a row, and adds its answer to those that are owed.
+fn take_line<D: Desk>(
+    desk: &mut D,
+    line: &[u8],
+    answer: &mut Vec<u8>,
+    owed: &mut Vec<u8>,
+) -> Result<(), Refusal<D::Fault>>
+    ensures taken { OnOk result (AreOwed D.Takes desk.old desk.new
+        (rows_of (line.now ∷ [])) owed.old.items owed.new.items) }
+    ensures cut { IfErr result (AreCut D.Takes D.Refuses desk.old desk.new
+        (rows_of (line.now ∷ [])) owed.old.items owed.new.items) }
+{
+    if line.is_empty() {
+        return Ok(());
+    }
+    answer.clear();
+    if let Err(refusal) = desk.take(line, answer) {
+        return Err(refusal);
+    }
+    match owed.extend_from_slice(answer) {
+        Ok(()) => Ok(()),
+        Err(_) => Err(Refusal::OutOfMemory),
+    }
+}
+
+// Takes the lines that these octets end. What they begin is kept.
+fn take_lines<D: Desk>(
+    desk: &mut D,
+    octets: &[u8],
+    line: &mut Vec<u8>,
+    answer: &mut Vec<u8>,
+    owed: &mut Vec<u8>,
+) -> Result<(), Refusal<D::Fault>>
+    ensures taken { OnOk result (AreOwed D.Takes desk.old desk.new
+        (rows_of (whole_lines line.old.items octets.now)) owed.old.items owed.new.items) }
+    ensures begun { OnOk result (line.new.items ≡ last_line line.old.items octets.now) }
+    ensures cut { IfErr result (AreCut D.Takes D.Refuses desk.old desk.new
+        (rows_of (whole_lines line.old.items octets.now)) owed.old.items owed.new.items) }
+{
+    for octet in octets {
+        if *octet == b'\n' {
+            if let Err(refusal) = take_line(desk, line, answer, owed) {
+                return Err(refusal);
+            }
+            line.clear();
+        } else {
+            let Ok(()) = line.push(*octet) else {
+                return Err(Refusal::OutOfMemory);
+            };
+        }
+    }
+    Ok(())
+}
+
+// Takes the rows that a piece ends. Where no more octets come, the last line has ended too.
+fn take_piece<D: Desk>(
+    desk: &mut D,
+    piece: &[u8],
+    line: &mut Vec<u8>,
+    answer: &mut Vec<u8>,
+    owed: &mut Vec<u8>,
+) -> Result<(), Refusal<D::Fault>>
+    ensures taken { OnOk result (AreOwed D.Takes desk.old desk.new
+        (rows_ended_by line.old.items piece.now) owed.old.items owed.new.items) }
+    ensures begun { OnOk result (line.new.items ≡ last_line line.old.items piece.now) }
+    ensures cut { IfErr result (AreCut D.Takes D.Refuses desk.old desk.new
+        (rows_ended_by line.old.items piece.now) owed.old.items owed.new.items) }
+{
+    if piece.is_empty() {
+        take_line(desk, line, answer, owed)
+    } else {
+        take_lines(desk, piece, line, answer, owed)
+    }
+}
+
+// Sends what is owed, if anything is.
+fn send_owed<P: Peer>(peer: &mut P, owed: &mut Vec<u8>) -> Result<(), Failed>
+    ensures none_owed { OnOk result (owed.new.items ≡ []) }
+    ensures sends { OnOk result
+        (GoesOn (P.talk peer.old) (P.talk peer.new) (sending owed.old.items)) }
+    ensures fails { OnErr result (SendsSome (P.talk peer.old) (P.talk peer.new) owed.old.items) }
+{
+    if owed.is_empty() {
+        return Ok(());
+    }
+    peer.send(owed)?;
+    owed.clear();
+    Ok(())
+}
+
+/// Receives rows, one a line, and sends the desk's answers until no more rows come.
+///
+/// Every answer is sent before the next read, which may wait. A line ends with a line feed; a carriage return before
+/// it belongs to the line. An empty line is no row. The last line may lack its end, and is taken when no more octets
+/// come.
+///
+/// Where the desk refuses a row, the answers to the rows before it are sent first. The same holds where memory runs
+/// out.
+pub fn talk<P: Peer, D: Desk>(
+    alloc: Global,
+    desk: &mut D,
+    peer: &mut P,
+) -> Result<(), Stop<D::Fault>>
+    ensures whole { P.talk peer.old ≡ Some [] → OnOk result
+        (IsSomeAnd (P.talk peer.new) (HeldToTheEnd D.Takes desk.old desk.new)) }
+    ensures stops { P.talk peer.old ≡ Some [] → IfErr result (λ stop.
+        IsSomeAnd (P.talk peer.new) (λ events.
+        StoppedBy D.Takes D.Refuses desk.old desk.new events stop)) }
+{
+    let mut line = Vec::new(alloc);
+    let mut answer = Vec::new(alloc);
+    let mut owed = Vec::new(alloc);
+    let mut piece = [0u8; PIECE];
+    'turns: for _turn in 0..u64::MAX {
+        let Ok(count) = peer.receive(&mut piece) else {
+            return Err(Stop::ReadFailed);
+        };
+        let taken = take_piece(desk, &piece[..count], &mut line, &mut answer, &mut owed);
+        let Ok(()) = send_owed(peer, &mut owed) else {
+            return Err(Stop::WriteFailed);
+        };
+        if let Err(refusal) = taken {
+            return Err(stop_for(refusal));
+        }
+        if count == 0 {
+            return Ok(());
+        }
+    }
+    Err(Stop::ReadFailed)
+}
