@@ -3,9 +3,9 @@ use Rattle.std.proofs.Common.{◌≡◌, ℕ, Bool, true, false, true≢false, L
 use Rattle.std.proofs.Math.Seq.{take-append_seam}
 use Rattle.std.specs.List.{concat}
 use Rattle.std.proofs.lemmas.List.Folds.{concat-append}
-use Rattle.hsp_talk.specs.Talk.{AreTaken, Event, GoesOn, HeldToTheEnd, IsPrompt, RefusesRow, SendsSome, StoppedBy, TakesRow, Took, has_ended, last_line, received_in, rows_in, rows_of, sent_in, whole_lines}
+use Rattle.hsp_talk.specs.Talk.{AreTaken, Event, GoesOn, HeldToTheEnd, IsPrompt, RefusesRow, SendsSome, StoppedBy, TakesRow, Took, has_ended, last_line, received_in, rows_in, rows_of, sending, sent_in, whole_lines}
 use Rattle.hsp_talk.specs.Talk.Event.{received, sent}
-use Rattle.hsp_talk.specs.Turns.{AreCut, AreOwed, IsAt, IsRefused, StandsSo, rows_ended_by, sending}
+use Rattle.hsp_talk.specs.Turns.{AreCut, AreOwed, IsAt, IsRefused, StandsSo, rows_ended_by}
 use Rattle.hsp_talk.specs.Refusals.{stop_by}
 use Rattle.hsp_talk.specs.declared.stop.Refusal.{Refusal}
 use Rattle.hsp_talk.specs.declared.stop.Refusal.TheVariants as refusal
@@ -186,10 +186,15 @@ module _ {D : Type 0} (Takes : TakesRow D) (first : D) where
     owing = so.owing ∙ sym (append_assoc (sent_in events) octets left) ∙ ap (λ s. s ++ left) (sym (sent_as events octets));
   }
 
+  -- the same, where nothing may have to be sent
+  abbrev after_sending : (at : D) (events : List Event) (octets left : List ℕ) (later : List (List ℕ)) → Owing at events (octets ++ left) later →
+      Owing at (events ++ sending octets) left later
+  after_sending at events [] left later so = subst (λ e. Owing at e left later) (sym (append-nil events)) so
+  after_sending at events (c ∷ octets) left later so = after_send at events (c ∷ octets) left later so
+
   -- all that is owed is sent
   after_all : (at : D) (events : List Event) (owed : List ℕ) (later : List (List ℕ)) → Owing at events owed later → Owing at (events ++ sending owed) [] later
-  after_all at events [] later so = subst (λ e. Owing at e [] later) (sym (append-nil events)) so
-  after_all at events (c ∷ owed) later so = after_send at events (c ∷ owed) [] later (subst (λ o. Owing at events o later) (sym (append-nil (c ∷ owed))) so)
+  after_all at events owed later so = after_sending at events owed [] later (subst (λ o. Owing at events o later) (sym (append-nil owed)) so)
 
   none_owing : (at : D) (events : List Event) (later : List (List ℕ)) (so : Owing at events [] later) → sent_in events ≡ concat so.answers
   none_owing at events later so = sym (so.owing ∙ append-nil (sent_in events))
@@ -296,10 +301,10 @@ module _ {D : Type 0} (Takes : TakesRow D) (first : D) where
         let came = events ++ received piece ∷ [] in
         let gone = take sends.0 owed in
         let left = drop sends.0 owed in
-        let owing = after_send at came gone left later
+        let owing : Owing at (came ++ sending gone) left later = after_sending at came gone left later
         (subst (λ o. Owing at came o later) (sym (take-append-drop sends.0 owed)) (after_read desk at line piece events owed rows later so parted more)) in
-        subst (λ e. StoppedBy Takes Refuses first last e stop.WriteFailed) (sym (sends.1 ∙ ap (λ e. e ++ sent gone ∷ []) read))
-        (at, took at (came ++ sent gone ∷ []) left later owing, left, owing.owing)
+        subst (λ e. StoppedBy Takes Refuses first last e stop.WriteFailed) (sym (sends.1 ∙ ap (λ e. e ++ sending gone) read))
+        (at, took at (came ++ sending gone) left later owing, left, owing.owing)
 
     -- the same, whether a row was refused or not
     pub write_fails_after : (desk last : D) (line piece before owed : List ℕ) (taken : Result (Unit {0}) (Refusal F)) (old now new : Option (List Event)) → before ≡ [] →

@@ -10,7 +10,7 @@ use Rattle.hsp_talk.specs.declared.stop.Stop.TheVariants as stop
 abbrev pub line_feed : ℕ
 line_feed = 10
 
--- the lines that octets end, each without its end; the first begins with the octets of a line that has begun
+-- the lines that octets end, each without its end; the first goes on with a line that has begun
 abbrev pub whole_lines : List ℕ → List ℕ → List (List ℕ)
 whole_lines begun [] = []
 whole_lines begun (octet ∷ octets) = if octet == line_feed then begun ∷ whole_lines [] octets else whole_lines (begun ++ octet ∷ []) octets
@@ -61,9 +61,14 @@ GoesOn None new more = ⊤
 GoesOn (Some old) None more = ⊥
 GoesOn (Some old) (Some new) more = new ≡ old ++ more
 
--- a send that failed: a beginning of the octets may be sent
+-- the events by which octets are sent: none where there are no octets
+abbrev pub sending : List ℕ → List Event
+sending [] = []
+sending (octet ∷ octets) = sent (octet ∷ octets) ∷ []
+
+-- a send that failed: some of the first octets may be sent
 abbrev pub SendsSome : Option (List Event) → Option (List Event) → List ℕ → Type 0
-SendsSome old new octets = (count : ℕ) × GoesOn old new (sent (take count octets) ∷ [])
+SendsSome old new octets = (count : ℕ) × GoesOn old new (sending (take count octets))
 
 -- ---- answers
 
@@ -78,7 +83,8 @@ AreTaken {D} Takes first (row ∷ rows) last (answer ∷ answers) = (next : D) �
 AreTaken Takes first [] last (answer ∷ answers) = ⊥
 AreTaken Takes first (row ∷ rows) last [] = ⊥
 
--- No answer is owed at a read: the answers to all rows that came in before it, and no others, were sent. None follows the end.
+-- At each read no answer is owed: the answers to all rows that came in before it were sent, and nothing else.
+-- There is no read after the end.
 abbrev pub IsPrompt : List (List ℕ) → List Event → Type 0
 IsPrompt answers events =
     (before after : List Event) (octets : List ℕ) → events ≡ before ++ received octets ∷ after →
@@ -102,8 +108,11 @@ HeldToTheEnd Takes first last events =
 abbrev pub RefusesRow : Type 0 → Type 0 → Type 1
 RefusesRow D F = D → List ℕ → D → F → Type 0
 
--- Why a talk stopped early. At a failed read all rows that came in were taken and all answers sent; at a fault, those before the row that
--- is refused; where memory runs out, those up to some row; where a write failed, a beginning of the answers was sent.
+-- Why a talk stopped early.
+-- At a failed read, all rows that came in were taken, and their answers sent.
+-- At a fault, the rows before the one that is refused were taken, and their answers sent.
+-- Where memory ran out, the first rows were taken, and their answers sent.
+-- At a failed write, the first rows were taken, and some of their answers sent, the first octets first.
 abbrev pub StoppedBy : {D F : Type 0} → TakesRow D → RefusesRow D F → D → D → List Event → Stop F → Type 0
 StoppedBy Takes Refuses first last events stop.ReadFailed =
     (took : Took Takes first last events) × (took.later ≡ []) × (sent_in events ≡ concat took.answers)

@@ -2,7 +2,6 @@
 use Rattle.std.specs.Prelude.{◌≡◌, ⊤, ℕ, false, List, [], ◌∷◌, ◌++◌, Option, Some, None}
 use Rattle.std.specs.List.{concat}
 use Rattle.hsp_talk.specs.Talk.{AreTaken, Event, IsPrompt, RefusesRow, TakesRow, has_ended, last_line, received_in, rows_in, rows_of, sent_in, whole_lines}
-use Rattle.hsp_talk.specs.Talk.Event.{sent}
 use Rattle.hsp_talk.specs.declared.stop.Refusal.{Refusal}
 use Rattle.hsp_talk.specs.declared.stop.Refusal.TheVariants as refusal
 
@@ -28,11 +27,6 @@ pub record AreCut {D F : Type 0} (Takes : TakesRow D) (Refuses : RefusesRow D F)
   pub parted : all ≡ rows ++ later
   pub taken : AreOwed Takes first at rows owed now
   pub refused : IsRefused Refuses at later last by
-
--- the events by which what is owed is sent
-abbrev pub sending : List ℕ → List Event
-sending [] = []
-sending (octet ∷ octets) = sent (octet ∷ octets) ∷ []
 
 -- before a read: all rows that came in were taken, their answers were sent, and a line has begun
 pub record StandsSo {D : Type 0} (Takes : TakesRow D) (first last : D) (line : List ℕ) (events : List Event) : Type 0 where

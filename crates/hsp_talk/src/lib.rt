@@ -3,6 +3,7 @@
 #![tactic(auto)]
 
 mod desk;
+pub mod laws;
 mod peer;
 mod stop;
 mod talking;

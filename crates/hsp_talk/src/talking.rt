@@ -1,8 +1,17 @@
 // The talk.
 
 ghost use Rattle.std.specs.Prelude.{◌≡◌, ◌++◌, ◌∷◌, [], IfErr, IfOk, IsSomeAnd, OnErr, OnOk, Some};
-ghost use Rattle.hsp_talk.specs.Talk.{GoesOn, HeldToTheEnd, SendsSome, StoppedBy, last_line, rows_of, whole_lines};
-ghost use Rattle.hsp_talk.specs.Turns.{AreCut, AreOwed, rows_ended_by, sending};
+ghost use Rattle.hsp_talk.specs.Talk.{
+  GoesOn,
+  HeldToTheEnd,
+  SendsSome,
+  StoppedBy,
+  last_line,
+  rows_of,
+  sending,
+  whole_lines,
+};
+ghost use Rattle.hsp_talk.specs.Turns.{AreCut, AreOwed, rows_ended_by};
 
 use crate::desk::Desk;
 use crate::peer::{Failed, Peer};

@@ -1,0 +1,133 @@
+// A peer that gives pieces and notes what happens, and a desk that counts.
+
+ghost use Rattle.std.specs.Prelude.{⊤};
+
+use hsp_talk::{Desk, Failed, Peer, Refusal};
+use std::alloc::AllocError;
+
+/// How many octets a note has room for.
+const ROOM: usize = 200;
+
+/// A note of what happened. What has no room is left out.
+#[derive(Drop)]
+pub struct Note {
+    text: [u8; ROOM],
+    length: usize,
+}
+
+impl Note {
+    /// Nothing happened.
+    pub fn none() -> Note {
+        Note {
+            text: [0; ROOM],
+            length: 0,
+        }
+    }
+
+    /// Adds a mark, and octets behind it.
+    pub fn add(&mut self, mark: u8, octets: &[u8]) {
+        self.put(mark);
+        for octet in octets {
+            self.put(*octet);
+        }
+    }
+
+    fn put(&mut self, octet: u8) {
+        if let Some(place) = self.text.get_mut(self.length) {
+            *place = octet;
+            self.length = self.length.saturating_add(1);
+        }
+    }
+
+    /// The note.
+    pub fn text(&self) -> &[u8] {
+        match self.text.get(..self.length) {
+            Some(text) => text,
+            None => &self.text,
+        }
+    }
+}
+
+/// Gives pieces, one a read, and notes `<` and the octets for each read, `>` and the octets for each write. Reads and
+/// writes fail once as many as stand here were made.
+#[derive(Drop)]
+pub struct FakePeer<'a> {
+    pub pieces: &'a [&'a [u8]],
+    pub reads: u32,
+    pub writes: u32,
+    pub note: Note,
+}
+
+impl<'a> Peer for FakePeer<'a> {
+    fn receive(&mut self, piece: &mut [u8]) -> Result<usize, Failed> {
+        if self.reads == 0 {
+            return Err(Failed);
+        }
+        self.reads -= 1;
+        let octets: &[u8] = match self.pieces {
+            [first, rest @ ..] => {
+                self.pieces = rest;
+                first
+            }
+            [] => b"",
+        };
+        self.note.add(b'<', octets);
+        let count = octets.len().min(piece.len());
+        piece[..count].copy_from_slice(&octets[..count]);
+        Ok(count)
+    }
+
+    fn send(&mut self, octets: &[u8]) -> Result<(), Failed> {
+        if self.writes == 0 {
+            return Err(Failed);
+        }
+        self.writes -= 1;
+        self.note.add(b'>', octets);
+        Ok(())
+    }
+}
+
+/// A row that a desk refuses.
+#[derive(Clone, Copy, Debug, Drop)]
+pub struct BadRow;
+
+/// Counts rows, and answers each by its number and itself. `-` has no answer, `=` has two lines, `!` is a bad row, and
+/// at `?` memory runs out.
+#[derive(Drop)]
+pub struct CountingDesk {
+    pub taken: u8,
+}
+
+impl Desk for CountingDesk {
+    type Fault = BadRow;
+
+    ghost Takes = { λ old row new answer. ⊤ };
+
+    ghost Refuses = { λ old row new fault. ⊤ };
+
+    fn take(&mut self, row: &[u8], answer: &mut Vec<u8>) -> Result<(), Refusal<BadRow>> {
+        self.taken = self.taken.wrapping_add(1);
+        let lines = match row {
+            b"!" => return Err(Refusal::Fault(BadRow)),
+            b"?" => return Err(Refusal::OutOfMemory),
+            b"-" => 0,
+            b"=" => 2,
+            _ => 1,
+        };
+        for _line in 0..lines {
+            if put_line(answer, self.taken, row).is_err() {
+                return Err(Refusal::OutOfMemory);
+            }
+        }
+        Ok(())
+    }
+}
+
+// Adds a line: a digit, and the row.
+fn put_line(answer: &mut Vec<u8>, number: u8, row: &[u8]) -> Result<(), AllocError> {
+    answer.push(b'0' + number % 10)?;
+    answer.push(b' ')?;
+    answer.extend_from_slice(row)?;
+    answer.push(b'\n')?;
+    Ok(())
+}

@@ -1,0 +1,9 @@
+// Tests of talks by lines: which rows are taken of which pieces, and when their answers are sent.
+#![tactic(auto)]
+
+#[cfg(test)]
+mod fakes;
+#[cfg(test)]
+mod held;
+#[cfg(test)]
+mod talk_tests;

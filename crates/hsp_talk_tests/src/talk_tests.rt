@@ -1,0 +1,72 @@
+use crate::fakes::CountingDesk;
+use crate::held::{ALL, Limits, goes};
+use hsp_talk::{Joined, talk};
+
+#[test]
+fn each_row_is_answered_before_the_next_read(rt: HostRuntime) {
+    let cases: [(&[&[u8]], &[u8]); 5] = [
+        (&[], b"<.ended"),
+        (&[b"a\n", b"b\n"], b"<a\n>1 a\n<b\n>2 b\n<.ended"),
+        (&[b"a", b"b\nc", b"\n"], b"<a<b\nc>1 ab\n<\n>2 c\n<.ended"),
+        (&[b"a\nb\nc\n"], b"<a\nb\nc\n>1 a\n2 b\n3 c\n<.ended"),
+        (&[b"=\n-\n", b"-\n", b"a\n"], b"<=\n-\n>1 =\n1 =\n<-\n<a\n>4 a\n<.ended"),
+    ];
+    for (pieces, wanted) in cases {
+        goes(&rt, rt.alloc(), pieces, ALL, wanted);
+    }
+}
+
+#[test]
+fn rows_are_lines(rt: HostRuntime) {
+    let cases: [(&[&[u8]], &[u8]); 5] = [
+        (&[b"a\nb"], b"<a\nb>1 a\n<>2 b\n.ended"),
+        (&[b"a", b"b"], b"<a<b<>1 ab\n.ended"),
+        (&[b"\n"], b"<\n<.ended"),
+        (&[b"\n\na\n\n", b"b\n"], b"<\n\na\n\n>1 a\n<b\n>2 b\n<.ended"),
+        (&[b"a\r\n"], b"<a\r\n>1 a\r\n<.ended"),
+    ];
+    for (pieces, wanted) in cases {
+        goes(&rt, rt.alloc(), pieces, ALL, wanted);
+    }
+}
+
+#[test]
+fn a_refused_row_stops_the_talk(rt: HostRuntime) {
+    let cases: [(&[&[u8]], &[u8]); 4] = [
+        (&[b"a\n!\nb\n"], b"<a\n!\nb\n>1 a\n.bad"),
+        (&[b"a\n!"], b"<a\n!>1 a\n<.bad"),
+        (&[b"!\n"], b"<!\n.bad"),
+        (&[b"a\n?\nb\n"], b"<a\n?\nb\n>1 a\n.memory"),
+    ];
+    for (pieces, wanted) in cases {
+        goes(&rt, rt.alloc(), pieces, ALL, wanted);
+    }
+}
+
+#[test]
+fn reads_and_writes_fail(rt: HostRuntime) {
+    let pieces: [&[u8]; 2] = [b"a\nb", b"c\n"];
+    let cases: [(u32, u32, &[u8]); 5] = [
+        (0, 9, b".read"),
+        (1, 9, b"<a\nb>1 a\n.read"),
+        (2, 9, b"<a\nb>1 a\n<c\n>2 bc\n.read"),
+        (9, 0, b"<a\nb.write"),
+        (9, 1, b"<a\nb>1 a\n<c\n.write"),
+    ];
+    for (reads, writes, wanted) in cases {
+        goes(&rt, rt.alloc(), &pieces, Limits { reads, writes }, wanted);
+    }
+}
+
+#[test]
+fn a_reader_and_a_writer_are_a_peer(rt: HostRuntime) {
+    let mut desk = CountingDesk { taken: 0 };
+    let mut peer = Joined {
+        reader: b"a\nb".as_slice(),
+        writer: Vec::new(rt.alloc()),
+    };
+    // Where this growth is refused, nothing is asked of the answers.
+    if talk(rt.alloc(), &mut desk, &mut peer).is_ok() {
+        assert_eq!(&rt; peer.writer.as_slice(), b"1 a\n2 b\n".as_slice());
+    }
+}
