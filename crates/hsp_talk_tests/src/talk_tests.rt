@@ -9,7 +9,10 @@ fn each_row_is_answered_before_the_next_read(rt: HostRuntime) {
         (&[b"a\n", b"b\n"], b"<a\n>1 a\n<b\n>2 b\n<.ended"),
         (&[b"a", b"b\nc", b"\n"], b"<a<b\nc>1 ab\n<\n>2 c\n<.ended"),
         (&[b"a\nb\nc\n"], b"<a\nb\nc\n>1 a\n2 b\n3 c\n<.ended"),
-        (&[b"=\n-\n", b"-\n", b"a\n"], b"<=\n-\n>1 =\n1 =\n<-\n<a\n>4 a\n<.ended"),
+        (
+            &[b"=\n-\n", b"-\n", b"a\n"],
+            b"<=\n-\n>1 =\n1 =\n<-\n<a\n>4 a\n<.ended",
+        ),
     ];
     for (pieces, wanted) in cases {
         goes(&rt, rt.alloc(), pieces, ALL, wanted);
@@ -22,7 +25,10 @@ fn rows_are_lines(rt: HostRuntime) {
         (&[b"a\nb"], b"<a\nb>1 a\n<>2 b\n.ended"),
         (&[b"a", b"b"], b"<a<b<>1 ab\n.ended"),
         (&[b"\n"], b"<\n<.ended"),
-        (&[b"\n\na\n\n", b"b\n"], b"<\n\na\n\n>1 a\n<b\n>2 b\n<.ended"),
+        (
+            &[b"\n\na\n\n", b"b\n"],
+            b"<\n\na\n\n>1 a\n<b\n>2 b\n<.ended",
+        ),
         (&[b"a\r\n"], b"<a\r\n>1 a\r\n<.ended"),
     ];
     for (pieces, wanted) in cases {
