@@ -5,5 +5,6 @@
 mod fakes;
 #[cfg(test)]
 mod held;
+pub mod known;
 #[cfg(test)]
 mod talk_tests;

@@ -1,5 +1,6 @@
-use crate::fakes::CountingDesk;
+use crate::fakes::{CountingDesk, Note};
 use crate::held::{ALL, Limits, goes};
+use crate::known::{KnownPeer, Turn, hold};
 use hsp_talk::{Joined, talk};
 
 #[test]
@@ -74,5 +75,26 @@ fn a_reader_and_a_writer_are_a_peer(rt: HostRuntime) {
     // Where this growth is refused, nothing is asked of the answers.
     if talk(rt.alloc(), &mut desk, &mut peer).is_ok() {
         assert_eq!(&rt; peer.writer.as_slice(), b"1 a\n2 b\n".as_slice());
+    }
+}
+
+#[test]
+fn a_known_talk_is_held(rt: HostRuntime) {
+    let mut desk = CountingDesk { taken: 0 };
+    let mut peer = KnownPeer {
+        alloc: rt.alloc(),
+        text: b"a\nb",
+        turns: Vec::new(rt.alloc()),
+    };
+    let mut note = Note::none();
+    // Where a growth is refused, nothing is asked of the turns.
+    if hold(rt.alloc(), &mut desk, &mut peer).is_ok() {
+        for turn in &peer.turns {
+            match turn {
+                Turn::Received(octets) => note.add(b'<', octets),
+                Turn::Sent(octets) => note.add(b'>', octets),
+            }
+        }
+        assert_eq!(&rt; note.text(), b"<a\nb>1 a\n<>2 b\n".as_slice());
     }
 }
