@@ -4,7 +4,7 @@ ghost use Rattle.std.specs.Prelude.{◌≡◌, ◌≤◌, [], ◌∷◌, IfOk, L
 ghost use Rattle.hsp_talk.specs.Talk.{Event, GoesOn, SendsSome};
 ghost use Rattle.hsp_talk.specs.Talk.Event.{received, sent};
 
-use std::io::{Read, Write};
+use std::io::{ErrorKind, Read, Write};
 
 /// A read or a write failed.
 #[derive(Clone, Copy, Debug, Drop)]
@@ -30,7 +30,8 @@ pub trait Peer {
         ensures fails { OnErr result (SendsSome (talk self.old) (talk self.new) octets.now) };
 }
 
-/// A reader and a writer of the machine as one peer. Contracts know nothing of the order of its reads and writes.
+/// A reader and a writer of the machine as one peer. Contracts know nothing of the order of its reads and writes. A read
+/// that a signal interrupts is made again.
 #[derive(Drop)]
 pub struct Joined<R, W> {
     pub reader: R,
@@ -39,10 +40,17 @@ pub struct Joined<R, W> {
 
 impl<R: Read, W: Write> Peer for Joined<R, W> {
     fn receive(&mut self, piece: &mut [u8]) -> Result<usize, Failed> {
-        match self.reader.read(piece) {
-            Ok(count) => Ok(count),
-            Err(_) => Err(Failed),
+        for _again in 0..u64::MAX {
+            match self.reader.read(piece) {
+                Ok(count) => return Ok(count),
+                Err(error) => {
+                    if error.kind() != ErrorKind::Interrupted {
+                        return Err(Failed);
+                    }
+                }
+            }
         }
+        Err(Failed)
     }
 
     fn send(&mut self, octets: &[u8]) -> Result<(), Failed> {

@@ -1,9 +1,11 @@
-// A peer that gives pieces and notes what happens, and a desk that counts.
+// A peer that gives pieces and notes what happens, a reader that is interrupted, and a desk that counts.
 
 ghost use Rattle.std.specs.Prelude.{⊤};
 
 use hsp_talk::{Desk, Failed, Peer, Refusal};
 use std::alloc::AllocError;
+use std::io;
+use std::io::{ErrorKind, Read};
 
 /// How many octets a note has room for.
 const ROOM: usize = 200;
@@ -84,6 +86,27 @@ impl<'a> Peer for FakePeer<'a> {
         self.writes -= 1;
         self.note.add(b'>', octets);
         Ok(())
+    }
+}
+
+/// Gives a text, after a first read that a signal interrupts.
+#[derive(Drop)]
+pub struct InterruptedReader<'a> {
+    pub text: &'a [u8],
+    pub interrupted: bool,
+}
+
+impl<'a> Read for InterruptedReader<'a> {
+    fn read(&mut self, buf: &mut [u8]) -> io::Result<usize> {
+        if !self.interrupted {
+            self.interrupted = true;
+            return Err(io::Error::from(ErrorKind::Interrupted));
+        }
+        let count = self.text.len().min(buf.len());
+        let (first, rest) = self.text.split_at(count);
+        buf[..count].copy_from_slice(first);
+        self.text = rest;
+        Ok(count)
     }
 }
 

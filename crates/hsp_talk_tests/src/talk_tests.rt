@@ -1,4 +1,4 @@
-use crate::fakes::{CountingDesk, Note};
+use crate::fakes::{CountingDesk, InterruptedReader, Note};
 use crate::held::{ALL, Limits, goes};
 use crate::known::{KnownPeer, Turn, hold};
 use hsp_talk::{Joined, talk};
@@ -69,7 +69,10 @@ fn reads_and_writes_fail(rt: HostRuntime) {
 fn a_reader_and_a_writer_are_a_peer(rt: HostRuntime) {
     let mut desk = CountingDesk { taken: 0 };
     let mut peer = Joined {
-        reader: b"a\nb".as_slice(),
+        reader: InterruptedReader {
+            text: b"a\nb",
+            interrupted: false,
+        },
         writer: Vec::new(rt.alloc()),
     };
     // Where this growth is refused, nothing is asked of the answers.
