@@ -1,6 +1,6 @@
 # make demo        plans and checks a service of two sites, by the released program or by the one built here
 # make try ARGS='plan --settings F ..'    runs the program on your own files, without an installation
-# make install     installs the program below $(PREFIX) with its manual page, completions and guide;
+# make install     installs the programs and hsp below $(PREFIX) with manual pages, completions and guide;
 #                  with PROVED=1 the program is proved and built first
 # make uninstall   removes what make install put there
 # make prove       proves the program's crates from nothing, and builds the program
@@ -50,6 +50,8 @@ test:
 	tools/check_release.py
 	tools/check_growth.py
 	tools/check_program.py
+	tools/check_stream.py
+	tools/check_companion.py
 	tools/check_hostile.py
 	tools/check_limits.py
 	tools/check_io.py

@@ -31,6 +31,19 @@ CASES = [
     ("hsplan check --demand dem", ["demand.csv"]),
     ("hsplan dispatch --settings settings.toml --fr", ["--fronts"]),
     ("hsplan report --settings settings.toml --kind s", ["shortage"]),
+    ("hsplan-stream ", ["--help", "--version", "answer", "kinds", "places"]),
+    ("hsplan-stream pl", ["places"]),
+    ("hsplan-stream kinds --un", ["--unit"]),
+    ("hsplan-stream kinds --cap", []),
+    ("hsplan-stream places --settings set", ["settings.toml"]),
+    ("hsplan-stream answer --fr", ["--front", "--fronts"]),
+    ("hsplan-stream answer --demand dem", ["demand.csv"]),
+    ("hsp ", ["--help", "--version", "plan", "view", "whatif"]),
+    ("hsp wh", ["whatif"]),
+    ("hsp plan --no", ["--no-save"]),
+    ("hsp plan --bef", []),
+    ("hsp view --bef", ["--before"]),
+    ("hsp whatif --settings set", ["settings.toml"]),
 ]
 
 
@@ -41,12 +54,14 @@ def printed(command, folder):
 def ask_bash(line, folder):
     words = shlex.split(line) + ([""] if line.endswith(" ") else [])
     listed = " ".join(shlex.quote(it) for it in words)
-    script = f"source {FILES}/hsplan.bash; COMP_WORDS=({listed}); COMP_CWORD={len(words) - 1}; _hsplan; printf '%s\\n' \"${{COMPREPLY[@]}}\""
+    program = words[0]
+    asked = f"COMP_WORDS=({listed}); COMP_CWORD={len(words) - 1}; _{program.replace('-', '_')}"
+    script = f"source {FILES}/{program}.bash; {asked}; printf '%s\\n' \"${{COMPREPLY[@]}}\""
     return sorted(it for it in printed(["bash", "-c", script], folder).splitlines() if it)
 
 
 def ask_fish(line, folder):
-    script = f"source {FILES}/hsplan.fish; complete -C {shlex.quote(line)}"
+    script = f"source {FILES}/{line.split()[0]}.fish; complete -C {shlex.quote(line)}"
     return sorted(it.split("\t")[0] for it in printed(["fish", "--no-config", "-c", script], folder).splitlines())
 
 
@@ -91,13 +106,18 @@ def ask_zsh(line, folder):
     return [after.split(" ")[-1]] if after != line.rstrip() else []
 
 
+def shown(shell, line, wanted):
+    """What a shell shows of the wanted completions: fish shows options only after a hyphen."""
+    return [it for it in wanted if shell != "fish" or line.split(" ")[-1] or not it.startswith("-")]
+
+
 def tried(shell, ask):
     """The faults of the lines that a shell completes differently, and how many lines it was asked."""
     cases = [it for it in CASES if shell != "zsh" or len(it[1]) < 2]
     with tempfile.TemporaryDirectory() as folder:
         for name in ("demand.csv", "settings.toml"):
             open(os.path.join(folder, name), "w").close()
-        got = [(line, wanted, ask(line, folder)) for line, wanted in cases]
+        got = [(line, shown(shell, line, wanted), ask(line, folder)) for line, wanted in cases]
     return [f"{shell}: {line!r}: wanted {wanted}, got {found}" for line, wanted, found in got if wanted != found], len(cases)
 
 

@@ -3,7 +3,7 @@
 compares what the commands print with what the documents show.
 
 The commands are those of the blocks marked `console`. The lines of such a block are a transcript, as
-tools/transcripts.py describes it. The commands of one document run in turn in one shell. In docs/use/hsplan.1 the
+tools/transcripts.py describes it. The commands of one document run in turn in one shell. In a manual page the
 commands are the examples between `.EX` and `.EE`. They run in bash; those of the README and of docs/use run in dash
 and zsh as well, where these are installed.
 
@@ -13,7 +13,7 @@ It fails where
 - docs/maintain/GATE.md states another number of edits, tests, wrong bodies, crates or cases of the program than there
   is;
 - a document names a link, a `make` target or a script that is not there;
-- a word of a fault has no row in docs/use/FAULTS.md or no paragraph in docs/use/hsplan.1;
+- a word of a fault has no row in docs/use/FAULTS.md or no paragraph in a manual page;
 - the README states another logic of the kit than this machine's kit has;
 - a command stands in a block that is not marked, or prints something else;
 - a file still has the marks of a merge.
@@ -32,6 +32,7 @@ import sys
 import transcripts
 
 TOP = os.path.dirname(os.path.dirname(os.path.abspath(__file__)))
+PAGES = ("docs/use/hsplan.1", "docs/use/hsplan-stream.1", "docs/use/hsp.1")
 
 
 def text_of(path):
@@ -144,24 +145,25 @@ def unmarked():
 
 def fault_words():
     """The words that the line of a fault may have, from the sources."""
-    sources = ["fault_text.rt", "fault_words.rt", "verdict_text.rt"]
-    found = [word for it in sources for word in re.findall(r'b"(?:\d+ )?([A-Z][A-Za-z0-9]+)', text_of(f"crates/hsp_lines/src/{it}"))]
+    sources = [f"crates/hsp_lines/src/{it}" for it in ("fault_text.rt", "fault_words.rt", "verdict_text.rt")]
+    sources.append("crates/hsp_stream/src/fault_text.rt")
+    found = [word for it in sources for word in re.findall(r'b"(?:\d+ )?([A-Z][A-Za-z0-9]+)', text_of(it))]
     return sorted(set(found) | {"Usage", "read failed", "write failed"})
 
 
 def missing_words():
-    """The words of faults without a row in docs/use/FAULTS.md or a paragraph in the manual page, and how many words
+    """The words of faults without a row in docs/use/FAULTS.md or a paragraph in a manual page, and how many words
     there are."""
-    listed = {cell.split()[-1] if cell[:1].isdigit() else cell for cell in (it[0] for it in rows(text_of("docs/use/FAULTS.md")))}
-    manual = set(re.findall(r"^\.B (.*)$", text_of("docs/use/hsplan.1"), re.M))
+    listed = {cell.split()[-1] if cell[:1].isdigit() or cell.startswith("log: ") else cell for cell in (it[0] for it in rows(text_of("docs/use/FAULTS.md")))}
+    manual = {it.split()[-1] if it.startswith("log:") else it for page in PAGES for it in re.findall(r"^\.B (.*)$", text_of(page), re.M)}
     words = fault_words()
     faults = [f"docs/use/FAULTS.md has no row for {it}" for it in words if it not in listed]
-    return faults + [f"docs/use/hsplan.1 has no paragraph for {it}" for it in words if it not in manual], len(words)
+    return faults + [f"no manual page has a paragraph for {it}" for it in words if it not in manual], len(words)
 
 
-def manual_steps():
-    """The commands of the manual page."""
-    examples = re.findall(r"^\.EX\n(.*?)^\.EE$", text_of("docs/use/hsplan.1"), re.M | re.S)
+def manual_steps(page):
+    """The commands of a manual page."""
+    examples = re.findall(r"^\.EX\n(.*?)^\.EE$", text_of(page), re.M | re.S)
     lines = [line.replace("\\-", "-").replace("\\e", "\\") for it in examples for line in it.splitlines()]
     return transcripts.steps_of(lines)
 
@@ -199,7 +201,7 @@ def wrong_kit():
 def wrong_commands(program):
     """The commands of the documents that print something other than the documents show, and how many there are."""
     found = {path: [step for mark, lines in blocks(text_of(path)) if mark == "console" for step in transcripts.steps_of(lines)] for path in documents()}
-    found["docs/use/hsplan.1"] = manual_steps()
+    found.update({page: manual_steps(page) for page in PAGES})
     faults = [fault for path, steps in found.items() if steps for fault in transcripts.faults_of(path, steps, program)]
     for shell in ("dash", "zsh"):
         faults += wrong_in(shell, {path: steps for path, steps in found.items() if path == "README.md" or path.startswith("docs/use/")}, program)

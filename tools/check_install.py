@@ -11,6 +11,7 @@ import subprocess
 import sys
 import tempfile
 
+import companion
 import programs
 
 TOP = programs.TOP
@@ -44,12 +45,18 @@ def wanted_files():
     return {**built, **programs.FILES}
 
 
+def wrong_companion(path):
+    """A fault where the installed companion is not that of this tree."""
+    return [] if octets_of(path) == companion.archive() else ["hsp is not installed, or another one"]
+
+
 def faults_in(room):
     installed = make("install", room)
     if installed.returncode:
         return [f"make install: {installed.stdout}"]
     other = [it for it, path in wanted_files().items() if octets_of(os.path.join(room, "usr", path)) != octets_of(os.path.join(TOP, it))]
     found = [f"{it} is not installed, or not unchanged" for it in other] + wrong_answer(os.path.join(room, "usr", "bin", "hsplan"), room)
+    found += wrong_companion(os.path.join(room, "usr", "bin", "hsp"))
     removed = make("uninstall", room)
     return found + [f"make uninstall left {it}" for it in files_below(room)] + ([] if removed.returncode == 0 else [removed.stdout])
 
@@ -60,7 +67,7 @@ def main():
     if not absent:
         with tempfile.TemporaryDirectory() as room:
             faults = faults_in(room)
-    tried = "not tried" if absent else f"{len(wanted_files())} files installed and removed"
+    tried = "not tried" if absent else f"{len(wanted_files()) + 1} files installed and removed"
     print("\n".join(faults + [f"install: {tried}, {len(faults)} faults"]))
     return 1 if faults else 0
 

@@ -26,6 +26,7 @@ import time
 from typing import Callable, Optional
 
 import check_program
+import companion
 import programs
 
 LIMIT = 10
@@ -64,9 +65,17 @@ def wrong_files(room: str) -> list[str]:
         for it in there & set(wanted)
         if filecmp.cmp(os.path.join(room, it), os.path.join(programs.TOP, wanted[it]), shallow=False)
     }
-    return faults + [
-        f"the release has another {wanted[it]}: run make release" for it in sorted(there & set(wanted) - same)
-    ]
+    faults += [f"the release has another {wanted[it]}: run make release" for it in sorted(there & set(wanted) - same)]
+    return faults + wrong_companion(os.path.join(room, "bin", "hsp"))
+
+
+def wrong_companion(path: str) -> list[str]:
+    """A fault where the released companion is not the one of this tree."""
+    if not os.path.isfile(path):
+        return ["the release has no bin/hsp"]
+    with open(path, "rb") as file:
+        fine = file.read() == companion.archive()
+    return [] if fine else ["the release has another bin/hsp: run make release"]
 
 
 def wrong_programs(room: str, kit: str) -> list[str]:
@@ -202,7 +211,7 @@ def main() -> int:
         faults.append(f"{PATH} has an rt: the release was not tried without the kit")
     elif not faults:
         faults += tried(visit) + tried(strangers)
-    count = len(programs.FILES) + len(programs.PROGRAMS)
+    count = len(programs.FILES) + len(programs.PROGRAMS) + 1
     print("\n".join(faults + [f"release: version {programs.version()}, {count} files, {len(faults)} faults"]))
     return 1 if faults else 0
 

@@ -507,9 +507,10 @@ PICTURES: dict[str, Callable[[], svg.Picture]] = {
 
 
 def differing(drawn: dict[str, str]) -> list[str]:
-    """The files of the folder that are not what is drawn."""
+    """The drawings of the folder that are not what is drawn."""
     faults = []
-    for name in sorted(set(drawn) | set(os.listdir(FOLDER))):
+    there_are = (it for it in os.listdir(FOLDER) if not it.endswith(".png"))
+    for name in sorted(set(drawn).union(there_are)):
         path = os.path.join(FOLDER, name)
         there = None
         if os.path.exists(path):

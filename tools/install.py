@@ -1,5 +1,5 @@
 #!/usr/bin/env python3
-"""Installs hsplan with its manual page, its completions and its guide, or removes them.
+"""Installs hsplan, hsplan-stream and hsp with their manual pages, completions and guide, or removes them.
 
     tools/install.py --prefix /usr/local [--destdir D] [--uninstall]
 
@@ -15,7 +15,14 @@ import subprocess
 import sys
 import tempfile
 
+import companion
 import programs
+
+# What an installed program is asked, and what it has to answer.
+ASKED = {
+    "hsplan": (["locate", "--option", "local", "--servers", "2", "10/3"], "1\n"),
+    "hsplan-stream": (["--version"], "hsplan-stream {}\n"),
+}
 
 
 def put(source: str, target: str, mode: int) -> None:
@@ -29,8 +36,9 @@ def put(source: str, target: str, mode: int) -> None:
 
 def answers(path: str) -> bool:
     """Whether an installed program answers from another folder."""
-    words = [os.path.realpath(path), "locate", "--option", "local", "--servers", "2", "10/3"]
-    return subprocess.run(words, cwd="/", stdout=subprocess.PIPE, text=True).stdout == "1\n"
+    words, wanted = ASKED[os.path.basename(path)]
+    ended = subprocess.run([os.path.realpath(path), *words], cwd="/", stdout=subprocess.PIPE, text=True)
+    return ended.stdout == wanted.format(programs.version())
 
 
 def install(root: str) -> int:
@@ -43,13 +51,17 @@ def install(root: str) -> int:
                 print(f"{target} is installed, and does not run", file=sys.stderr)
                 return 1
             print(f"{target} is installed, and runs: {program.kind}")
+        made = os.path.join(folder, "hsp")
+        with open(made, "wb") as file:
+            file.write(companion.archive())
+        put(made, os.path.join(root, "bin", "hsp"), 0o755)
     for source, target in programs.FILES.items():
         put(os.path.join(programs.TOP, source), os.path.join(root, target), 0o644)
     return 0
 
 
 def uninstall(root: str) -> int:
-    for target in [os.path.join("bin", it) for it in programs.PROGRAMS] + list(programs.FILES.values()):
+    for target in [os.path.join("bin", it) for it in (*programs.PROGRAMS, "hsp")] + list(programs.FILES.values()):
         path = os.path.join(root, target)
         if os.path.lexists(path):
             os.remove(path)

@@ -182,7 +182,8 @@ def crate_functions(crate: str) -> list[Function]:
 
 
 def names_it(caller: Function, called: Function) -> bool:
-    """Whether a body names another function: by its type, as a member, or by its name."""
+    """Whether a body names another function: by its type, as a member, or by its name. A desk of a talk, which takes
+    rows, is asked where it was made."""
     name = re.escape(called.name)
     if not called.owner:
         return any(
@@ -191,7 +192,8 @@ def names_it(caller: Function, called: Function) -> bool:
         )
     by_type = re.search(rf"\b{re.escape(called.owner)}(?:::<[^>]*>)?::{name}\b", caller.body)
     by_self = caller.owner == called.owner and re.search(rf"\b(?:self\.|Self::){name}\b", caller.body)
-    return bool(by_type or by_self or re.search(rf"\.{name}\(", caller.body))
+    by_talk = called.name == "take" and re.search(rf"\b{re.escape(called.owner)}::new\b", caller.body)
+    return bool(by_type or by_self or by_talk or re.search(rf"\.{name}\(", caller.body))
 
 
 def callers(functions: list[Function], begun: Function) -> list[Function]:
@@ -333,10 +335,10 @@ def wrong_words(prose: str) -> list[str]:
     labels = {f"{crate}::{it.called()}": it for crate in proved_crates() for it in crate_functions(crate)}
     labels.update(
         {
-            f"{crate}::laws::{it.name}": it
+            f"{crate}::{it.file[:-3]}::{it.name}": it
             for crate in proved_crates()
             for it in crate_functions(crate)
-            if it.file == "laws.rt"
+            if it.file.endswith("laws.rt")
         }
     )
     for call, clause in re.findall(r"`(hsp\w+::[\w:]+)`(?: \(clauses? ((?:`\w+`(?:, | and )?)+)\))?", prose):

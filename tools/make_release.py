@@ -4,7 +4,7 @@
 Where the sources are still those of the release that is there, the programs of that release are taken. So a changed
 guide needs no proof.
 
-    release/hsplan-VERSION-x86_64-linux.tar.xz    programs, manual pages, completions and guide, as below PREFIX
+    release/hsplan-VERSION-x86_64-linux.tar.xz    programs, hsp, manual pages, completions and guide, as below PREFIX
     release/SHA256SUMS                            the sum of the archive, for `sha256sum -c`
     release/MADE                                  version, the kit's line of `rt version`, the sum over the sources
 
@@ -23,6 +23,7 @@ import sys
 import tarfile
 import tempfile
 
+import companion
 import programs
 
 
@@ -31,6 +32,14 @@ def contents(made: dict[str, str]) -> dict[str, tuple[str, int]]:
     held = {f"bin/{name}": (path, 0o755) for name, path in made.items()}
     held.update({target: (os.path.join(programs.TOP, source), 0o644) for source, target in programs.FILES.items()})
     return held
+
+
+def with_companion(folder: str, held: dict[str, tuple[str, int]]) -> dict[str, tuple[str, int]]:
+    """The same with the companion, which is made in a folder."""
+    path = os.path.join(folder, "hsp")
+    with open(path, "wb") as file:
+        file.write(companion.archive())
+    return {**held, "bin/hsp": (path, 0o755)}
 
 
 def packed(held: dict[str, tuple[str, int]]) -> bytes:
@@ -72,7 +81,8 @@ def proved(folder: str) -> tuple[dict[str, str], str]:
 
 
 def write_all(found: dict[str, str], by: str) -> None:
-    octets = packed(contents(found))
+    with tempfile.TemporaryDirectory() as folder:
+        octets = packed(with_companion(folder, contents(found)))
     os.makedirs(programs.RELEASE, exist_ok=True)
     for path in glob.glob(os.path.join(programs.RELEASE, "*.tar.xz")):
         os.remove(path)

@@ -14,14 +14,22 @@ import tarfile
 from typing import Callable, Dict, Iterator, List, NamedTuple, NoReturn, Optional, Tuple
 
 TOP = os.path.dirname(os.path.dirname(os.path.abspath(__file__)))
-PROGRAMS = ("hsplan",)
+PROGRAMS = ("hsplan", "hsplan-stream")
 RELEASE = os.path.join(TOP, "release")
 # What a release holds beside the programs, each file with its path below PREFIX.
 FILES = {
     "docs/use/hsplan.1": "share/man/man1/hsplan.1",
+    "docs/use/hsplan-stream.1": "share/man/man1/hsplan-stream.1",
+    "docs/use/hsp.1": "share/man/man1/hsp.1",
     "completions/hsplan.bash": "share/bash-completion/completions/hsplan",
     "completions/_hsplan": "share/zsh/site-functions/_hsplan",
     "completions/hsplan.fish": "share/fish/vendor_completions.d/hsplan.fish",
+    "completions/hsplan-stream.bash": "share/bash-completion/completions/hsplan-stream",
+    "completions/_hsplan-stream": "share/zsh/site-functions/_hsplan-stream",
+    "completions/hsplan-stream.fish": "share/fish/vendor_completions.d/hsplan-stream.fish",
+    "completions/hsp.bash": "share/bash-completion/completions/hsp",
+    "completions/_hsp": "share/zsh/site-functions/_hsp",
+    "completions/hsp.fish": "share/fish/vendor_completions.d/hsp.fish",
     "docs/use/GUIDE.md": "share/doc/hsplan/use/GUIDE.md",
     "docs/use/FAULTS.md": "share/doc/hsplan/use/FAULTS.md",
     "docs/use/LIMITS.md": "share/doc/hsplan/use/LIMITS.md",
@@ -59,9 +67,14 @@ def dependencies() -> Dict[str, List[str]]:
     return {name: [it for it in below if it in listed] for name, below in listed.items()}
 
 
+def crate_of(program: str) -> str:
+    """The crate of a program, by the program's name."""
+    return program.replace("-", "_")
+
+
 def crates_of(programs: Tuple[str, ...] = PROGRAMS) -> List[str]:
     """The crates that the programs are made of, sorted."""
-    below, found, waiting = dependencies(), set(), list(programs)
+    below, found, waiting = dependencies(), set(), [crate_of(it) for it in programs]
     while waiting:
         name = waiting.pop()
         if name not in found:
@@ -95,7 +108,8 @@ def digest() -> str:
 
 
 def built_path(name: str) -> str:
-    return os.path.join(TOP, "crates", name, "out", name)
+    crate = crate_of(name)
+    return os.path.join(TOP, "crates", crate, "out", crate)
 
 
 def built(name: str) -> Optional[str]:

@@ -44,7 +44,7 @@ class Kit:
     def build(self, crate: str, room: str, jobs: int) -> list[str]:
         """The command that proves a crate, and builds its library or its object file in the folder `room`."""
         below = programs.dependencies()
-        is_program = crate in programs.PROGRAMS
+        is_program = crate in map(programs.crate_of, programs.PROGRAMS)
         words = [
             self.path("bin", "rattle"),
             "build",
@@ -185,13 +185,14 @@ class Run:
 def take(kit: Kit, room: str) -> bool:
     """Links the programs, and puts them where `rt ci` leaves them in this repository."""
     for name in programs.PROGRAMS:
-        linked = subprocess.run(kit.link(name, room), stdout=subprocess.PIPE, stderr=subprocess.STDOUT, text=True)
+        crate = programs.crate_of(name)
+        linked = subprocess.run(kit.link(crate, room), stdout=subprocess.PIPE, stderr=subprocess.STDOUT, text=True)
         if linked.returncode:
             print(linked.stdout, end="")
             return False
         target = programs.built_path(name)
         os.makedirs(os.path.dirname(target), exist_ok=True)
-        shutil.copyfile(os.path.join(room, name), target + ".new")
+        shutil.copyfile(os.path.join(room, crate), target + ".new")
         os.chmod(target + ".new", 0o755)
         os.replace(target + ".new", target)
         print(f"built: {os.path.relpath(target, programs.TOP)}")

@@ -12,6 +12,9 @@ import shutil
 import subprocess
 import tempfile
 
+import companion
+import programs
+
 TOP = os.path.dirname(os.path.dirname(os.path.abspath(__file__)))
 PROGRAM = os.path.join(TOP, "crates", "hsplan", "out", "hsplan")
 MARK = "\x1e"
@@ -45,12 +48,22 @@ def text_of(steps):
     return "".join("\n".join(it.lines + it.wanted) + "\n" for it in steps)
 
 
+def stream_beside(program):
+    """The `hsplan-stream` that belongs to a program: the one in its folder, or otherwise the one built here."""
+    beside = os.path.join(os.path.dirname(program), "hsplan-stream")
+    return beside if os.path.exists(beside) else programs.built_path("hsplan-stream")
+
+
 def room_for(folder, program):
-    """Makes in an empty folder what a transcript may read and run: the examples, and the program as `hsplan`. Returns
-    its environment."""
+    """Makes in an empty folder what a transcript may read and run: the examples, the program as `hsplan`,
+    `hsplan-stream`, and `hsp`. Returns its environment."""
     shutil.copytree(os.path.join(TOP, "examples"), os.path.join(folder, "examples"), ignore=shutil.ignore_patterns("out"))
     os.mkdir(os.path.join(folder, "bin"))
     os.symlink(program, os.path.join(folder, "bin", "hsplan"))
+    os.symlink(stream_beside(program), os.path.join(folder, "bin", "hsplan-stream"))
+    with open(os.path.join(folder, "bin", "hsp"), "wb") as file:
+        file.write(companion.archive())
+    os.chmod(file.name, 0o755)
     return dict(os.environ, PATH=os.path.join(folder, "bin") + os.pathsep + os.environ["PATH"], LC_ALL="C")
 
 

@@ -54,13 +54,13 @@ pub enum Form<'a> {
     },
 }
 
-fn word_of(alloc: Global, text: &str) -> Result<Word, AllocError>
+pub(crate) fn word_of(alloc: Global, text: &str) -> Result<Word, AllocError>
     ensures { IfOk result (λ word. word ≡ text.now) }
 {
     Ok(Word::new(String::from_str(alloc, text)?))
 }
 
-fn word_if_any(alloc: Global, text: Option<&str>) -> Result<Option<Word>, AllocError>
+pub(crate) fn word_if_any(alloc: Global, text: Option<&str>) -> Result<Option<Word>, AllocError>
     ensures { IfOk result (λ word. word ≡ option_map (λ t. t.now) text.entry) }
 {
     match text {
@@ -69,7 +69,7 @@ fn word_if_any(alloc: Global, text: Option<&str>) -> Result<Option<Word>, AllocE
     }
 }
 
-fn files_of(alloc: Global, texts: &InputTexts<'_>) -> Result<InputFiles, AllocError>
+pub(crate) fn files_of(alloc: Global, texts: &InputTexts<'_>) -> Result<InputFiles, AllocError>
     ensures { IfOk result (λ files. files ≡ files_in texts.now) }
 {
     Ok(InputFiles {

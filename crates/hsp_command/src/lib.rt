@@ -1,13 +1,18 @@
-// The command line of the program: words, and the orders that they give.
+// The command lines of the programs: words, and the orders that they give.
 #![tactic(auto)]
 
 mod fault;
 mod form;
 mod order;
 mod reading;
+mod stream_form;
+mod stream_order;
+mod stream_reading;
 mod words;
 
 pub use fault::CommandFault;
 pub use order::{InputFiles, Kind, Order, Word};
 pub use reading::read_command;
+pub use stream_order::{FrontWords, StreamOrder};
+pub use stream_reading::read_stream_command;
 pub use words::split_words;

@@ -20,14 +20,14 @@ use hsp_options::hsplan_command;
 use std::alloc::Global;
 
 // The value of this name, where it was given.
-fn text_of<'a>(matches: &ArgMatches<'a>, name: &str) -> Option<&'a str>
+pub(crate) fn text_of<'a>(matches: &ArgMatches<'a>, name: &str) -> Option<&'a str>
     ensures { first_of name.now (rows_of (found_of matches.now))
         ≡ option_map (λ text. text.now) result }
 {
     matches.get_str(name)
 }
 
-fn inputs_of<'a>(matches: &ArgMatches<'a>) -> Option<InputTexts<'a>>
+pub(crate) fn inputs_of<'a>(matches: &ArgMatches<'a>) -> Option<InputTexts<'a>>
     ensures given { IfSome result
         (λ texts. HasInputs (rows_of (found_of matches.now)) (files_in texts)) }
     ensures absent { IfNone result ((inputs : InputFiles)
@@ -212,7 +212,7 @@ fn order_of(alloc: Global, name: &str, matches: &ArgMatches<'_>) -> Result<Order
 }
 
 // What an error of clap's parser says.
-fn command_fault(error: &Error) -> CommandFault
+pub(crate) fn command_fault(error: &Error) -> CommandFault
     ensures { result ≡ fault.OutOfMemory ↔ (kind_of error.now ≡ kind.OutOfMemory) }
 {
     if error.kind() == ErrorKind::OutOfMemory {

@@ -1,5 +1,5 @@
 mod RowFields
-mod Bodies
+pub mod Bodies
 mod InTurn
 mod Running
 mod Counting
@@ -12,6 +12,7 @@ pub mod Taking
 pub mod Dispatching
 pub mod ByHash
 pub mod FrontShares
+pub mod Parts
 pub mod Standings
 pub mod FrontsHeld
 pub mod FrontCounts

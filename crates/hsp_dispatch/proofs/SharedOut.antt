@@ -20,9 +20,12 @@ use Rattle.hsp_check.specs.Instance.{arc_of, arcs_from, network_of}
 use Rattle.hsp_check.specs.Network.{is_allowed}
 use Rattle.hsp_check.specs.Uses.{table}
 use Rattle.hsp_dispatch.specs.Dispatch.{IsSame, arc_to}
-use Rattle.hsp_dispatch.specs.Shares.{AreCells, AreSharesOf, AreUsesOf, IsCellOf, IsHeld, cell_of, cells_of, left_at, left_of, number_of}
+use Rattle.hsp_dispatch.specs.Portions.{AreSharesOf, part_of, parts_in, portion_of, with_part}
+use Rattle.hsp_dispatch.specs.Shares.{AreCells, AreUsesOf, IsCellOf, IsHeld, cell_of, cells_of, left_at, left_of, number_of, with_first}
 use Rattle.hsp_dispatch.specs.Standings.{AreBounded}
 use Rattle.hsp_dispatch.specs.declared.share.Cell.{Cell}
+use Rattle.hsp_dispatch.specs.declared.portion.Portion.{Portion}
+use Rattle.hsp_dispatch.proofs.Parts.{part_left, part_none, parts_are, parts_bounded, parts_more, parts_of_row}
 use Rattle.hsp_dispatch.proofs.Shares.{none_at}
 
 -- ---- uses in order
@@ -296,15 +299,21 @@ own_more : (it : Instance) (uses : List UseLine) (k : ℕ) (one : UseLine) → s
 own_more it uses k one e =
     ap (λ (us : List UseLine). cells_of it one.row us) (take_next uses k one e) ∙ cells_more it one.row (take k uses) one ∙ rw (eq-eqb one.row one.row refl) refl
 
--- the cell of a use comes after those of its row's earlier ones
-pub cells_stay : (it : Instance) (uses : List UseLine) (k : ℕ) (one : UseLine) → AreUsesOf it uses → slice_get uses k ≡ Some one
-    → AreCells (cells_of it one.row (take k uses) ++ cell_of it one ∷ [])
-cells_stay it uses k one are e =
-    let given = are_given it uses are in
-    rw (← own_more it uses k one e) (are_cells it one.row (take (k + 1) uses) (order_take (k + 1) uses given.order) (all_take IsCounted (k + 1) uses given.counts))
+-- the part of a use's cell stands behind those of its row's earlier ones
+part_more : (part : ℕ → ℕ) (it : Instance) (uses : List UseLine) (k : ℕ) (one : UseLine) → slice_get uses k ≡ Some one
+    → parts_in part (cells_of it one.row (take (k + 1) uses)) ≡ parts_in part (cells_of it one.row (take k uses)) ++ with_first (with_part part (cell_of it one)) []
+part_more part it uses k one e = ap (parts_in part) (own_more it uses k one e) ∙ parts_more part (cells_of it one.row (take k uses)) (cell_of it one)
 
-pub shared_none : (it : Instance) → AreSharesOf it [] (replicate (length it.rows) [])
-shared_none it = record { one_a_row = length-replicate (length it.rows) []; each = none_at_row (length it.rows) }
+-- and comes after them
+pub cells_stay : (part : ℕ → ℕ) (it : Instance) (uses : List UseLine) (k : ℕ) (one : UseLine) → AreUsesOf it uses → slice_get uses k ≡ Some one
+    → AreCells (parts_in part (cells_of it one.row (take k uses)) ++ with_first (with_part part (cell_of it one)) [])
+cells_stay part it uses k one are e =
+    let given = are_given it uses are in
+    subst AreCells (part_more part it uses k one e)
+    (parts_are part (cells_of it one.row (take (k + 1) uses)) (are_cells it one.row (take (k + 1) uses) (order_take (k + 1) uses given.order) (all_take IsCounted (k + 1) uses given.counts)))
+
+pub shared_none : (part : ℕ → ℕ) (it : Instance) → AreSharesOf part it [] (replicate (length it.rows) [])
+shared_none part it = record { one_a_row = length-replicate (length it.rows) []; each = none_at_row (length it.rows) }
   where
     none_at_row : (n row : ℕ) → row < n → slice_get (replicate {A = List Cell} n []) row ≡ Some []
     none_at_row zero row l = absurd (omega arith)
@@ -312,16 +321,18 @@ shared_none it = record { one_a_row = length-replicate (length it.rows) []; each
     none_at_row (suc n) (suc row) l = none_at_row n row (omega arith)
 
 -- one use more: its cell is added to those of its row
-pub shared_more : (it : Instance) (uses : List UseLine) (k : ℕ) (one : UseLine) (shares : List (List Cell)) (cells : List Cell) → slice_get uses k ≡ Some one
-    → AreSharesOf it (take k uses) shares → one.row < length it.rows → cells ≡ cells_of it one.row (take k uses) ++ cell_of it one ∷ []
-    → AreSharesOf it (take (k + 1) uses) (set shares one.row cells)
-shared_more it uses k one shares cells e are inside new = record {
+pub shared_more : (part : ℕ → ℕ) (it : Instance) (uses : List UseLine) (k : ℕ) (one : UseLine) (shares : List (List Cell)) (cells : List Cell) → slice_get uses k ≡ Some one
+    → AreSharesOf part it (take k uses) shares → one.row < length it.rows
+    → cells ≡ parts_in part (cells_of it one.row (take k uses)) ++ with_first (with_part part (cell_of it one)) []
+    → AreSharesOf part it (take (k + 1) uses) (set shares one.row cells)
+shared_more part it uses k one shares cells e are inside new = record {
   one_a_row = length-set shares one.row cells ∙ are.one_a_row;
   each = λ row l. elim (cases_eq one.row row) [
-    | inl here ↦ rw (← here) (set_here shares one.row cells (omega (arith, are.one_a_row)) ∙ ap Some (new ∙ sym (own_more it uses k one e)))
+    | inl here ↦ rw (← here) (set_here shares one.row cells (omega (arith, are.one_a_row)) ∙ ap Some (new ∙ sym (part_more part it uses k one e)))
     | inr other ↦
         set_other shares one.row row cells other ∙ are.each row l
-        ∙ ap Some (sym (ap (λ (us : List UseLine). cells_of it row us) (take_next uses k one e) ∙ cells_more it row (take k uses) one ∙ rw (ne_eqb one.row row other) (append-nil (cells_of it row (take k uses)))))
+        ∙ ap (λ (own : List Cell). Some (parts_in part own))
+        (sym (ap (λ (us : List UseLine). cells_of it row us) (take_next uses k one e) ∙ cells_more it row (take k uses) one ∙ rw (ne_eqb one.row row other) (append-nil (cells_of it row (take k uses)))))
   ];
 }
 
@@ -331,29 +342,32 @@ no_cells : (it : Instance) (row : ℕ) (uses : List UseLine) → AllByRecursion 
 no_cells it row [] all = refl
 no_cells it row (one ∷ uses) all = rw (ne_eqb one.row row (λ same. absurd (omega (arith, all.0, same)))) (no_cells it row uses all.1)
 
-pub are_held : (it : Instance) (uses : List UseLine) (shares : List (List Cell)) → IsInstance it → AreUsesOf it uses → AreSharesOf it uses shares
+pub are_held : (part : ℕ → ℕ) (it : Instance) (uses : List UseLine) (shares : List (List Cell)) → IsInstance it → AreUsesOf it uses → AreSharesOf part it uses shares
     → IsHeld (record { instance = it; shares = shares })
-are_held it uses shares is are shared =
+are_held part it uses shares is are shared =
     let given = are_given it uses are in
     record {
       within = is;
       one_a_row = shared.one_a_row;
       each = λ row cells e.
           let inside : row < length it.rows = omega (arith, slice_get_within shares row cells e, shared.one_a_row) in
-          let same : cells ≡ cells_of it row uses = same_Some cells (cells_of it row uses) (sym e ∙ shared.each row inside) in
-          rw same (record { each = each_is it row uses is given.goes; are = are_cells it row uses given.order given.counts });
+          let same : cells ≡ parts_in part (cells_of it row uses) = same_Some cells (parts_in part (cells_of it row uses)) (sym e ∙ shared.each row inside) in
+          rw same (parts_of_row part it row (cells_of it row uses) (record { each = each_is it row uses is given.goes; are = are_cells it row uses given.order given.counts }));
     }
 
-pub table_held : (it : Instance) (uses : List UseLine) (shares : List (List Cell)) → IsInstance it → AreUsesOf it uses → AreSharesOf it uses shares
-    → IsSame (left_of (record { instance = it; shares = shares })) (table uses)
-table_held it uses shares is are shared row site =
+pub table_held : (portion : Portion) (it : Instance) (uses : List UseLine) (shares : List (List Cell)) → IsInstance it → AreUsesOf it uses
+    → AreSharesOf (part_of portion) it uses shares → IsSame (left_of (record { instance = it; shares = shares })) (portion_of portion (table uses))
+table_held portion it uses shares is are shared row site =
     let given = are_given it uses are in
+    let left : part_of portion (left_at (cells_of it row uses) site) ≡ part_of portion (table uses row site) = ap (part_of portion) (left_is it row site uses given.order) in
     elim (cases_lt row (length it.rows)) [
-      | inl inside ↦ rw (shared.each row inside) (left_is it row site uses given.order)
+      | inl inside ↦
+          rw (shared.each row inside)
+          (part_left (part_of portion) (part_none portion) site (cells_of it row uses) (are_cells it row uses given.order given.counts) ∙ left)
       | inr past ↦
           let before : AllByRecursion (λ (one : UseLine). one.row < row) uses = all_from (λ (one : UseLine). one.row < row) uses (λ k one e. omega (arith, use_there it uses k one is are e)) in
           let none : left_at (cells_of it row uses) site ≡ 0 = rw (no_cells it row uses before) refl in
-          rw (slice_get_past shares row (omega (arith, shared.one_a_row))) (sym none ∙ left_is it row site uses given.order)
+          rw (slice_get_past shares row (omega (arith, shared.one_a_row))) (sym (part_none portion) ∙ ap (part_of portion) (sym none) ∙ left)
     ]
 
 -- ---- each cell has no more than a row's count may be
@@ -367,10 +381,11 @@ bounded_row it row (one ∷ uses) all =
       | inr other ↦ rw (ne_eqb one.row row other) (bounded_row it row uses parts.1)
     ]
 
-pub all_bounded : (it : Instance) (uses : List UseLine) (shares : List (List Cell)) → AreUsesOf it uses → AreSharesOf it uses shares
-    → AllByRecursion AreBounded shares
-all_bounded it uses shares are shared =
+pub all_bounded : (portion : Portion) (it : Instance) (uses : List UseLine) (shares : List (List Cell)) → 0 < portion.fronts → portion.unit ≡ 1
+    → AreUsesOf it uses → AreSharesOf (part_of portion) it uses shares → AllByRecursion AreBounded shares
+all_bounded portion it uses shares some one are shared =
     all_from AreBounded shares (λ row cells e.
     let inside : row < length it.rows = omega (arith, slice_get_within shares row cells e, shared.one_a_row) in
-    let same : cells ≡ cells_of it row uses = same_Some cells (cells_of it row uses) (sym e ∙ shared.each row inside) in
-    rw same (bounded_row it row uses are.ranges))
+    let own = cells_of it row uses in
+    let same : cells ≡ parts_in (part_of portion) own = same_Some cells (parts_in (part_of portion) own) (sym e ∙ shared.each row inside) in
+    rw same (parts_bounded portion own some one (bounded_row it row uses are.ranges)))

@@ -11,61 +11,23 @@ use Rattle.hsp_text.specs.declared.limits.TheConstants.{MOST_SITES}
 use Rattle.hsp_instance.specs.Instance.{Instance}
 use Rattle.hsp_instance.proofs.Lists.{back_at, drop_at, front_at}
 use Rattle.hsp_dispatch.specs.Fronts.{cells_at, share}
-use Rattle.hsp_dispatch.specs.Shares.{AreCells, AreCellsOf, IsCellOf, cells_in, first_of, left_at, without_first}
+use Rattle.hsp_dispatch.specs.Shares.{AreCells, AreCellsOf, cells_in, first_of, left_at, without_first}
 use Rattle.hsp_dispatch.specs.Standings.{AreBounded, AreSoles, IsSole, all_sums, cells_left, left_among, left_from, lefts_from, lefts_of, shares_in, shares_sum, sole_in, sums_of}
 use Rattle.hsp_dispatch.specs.declared.front_share.Standing.{Standing}
 use Rattle.hsp_dispatch.specs.declared.share.Cell.{Cell}
 use Rattle.hsp_dispatch.proofs.FrontShares.{share_le, share_none}
-use Rattle.hsp_dispatch.proofs.Shares.{Within, none_at}
+use Rattle.hsp_dispatch.proofs.Parts.{part_left, parts_of_row}
+use Rattle.hsp_dispatch.proofs.Shares.{Within}
 
 -- ---- what holds of cells holds of the shares in them
 
--- what only the site and the server of a cell decide
-shares_keep : (P : Cell → Type 0) → ((cell : Cell) (left : ℕ) → P cell → P (record cell { left = left })) → (fronts front : ℕ) (cells : List Cell)
-    → AllByRecursion P cells → AllByRecursion P (shares_in fronts front cells)
-shares_keep P keeps fronts front [] all = tt
-shares_keep P keeps fronts front (cell ∷ cells) all = elim (cases_eq (share fronts front cell.left) 0) [
-  | inl none ↦ rw (eq-eqb (share fronts front cell.left) 0 none) (shares_keep P keeps fronts front cells all.1)
-  | inr some ↦ rw (ne_eqb (share fronts front cell.left) 0 some) (keeps cell (share fronts front cell.left) all.0, shares_keep P keeps fronts front cells all.1)
-]
-
-shares_after : (fronts front site : ℕ) (cells : List Cell) → AllByRecursion (λ (later : Cell). site < later.site) cells
-    → AllByRecursion (λ (later : Cell). site < later.site) (shares_in fronts front cells)
-shares_after fronts front site cells after = shares_keep (λ (later : Cell). site < later.site) (λ cell left less. less) fronts front cells after
-
-shares_are : (fronts front : ℕ) (cells : List Cell) → AreCells cells → AreCells (shares_in fronts front cells)
-shares_are fronts front [] are = tt
-shares_are fronts front (cell ∷ cells) are = elim (cases_eq (share fronts front cell.left) 0) [
-  | inl none ↦ rw (eq-eqb (share fronts front cell.left) 0 none) (shares_are fronts front cells are.1.1)
-  | inr some ↦
-      rw (ne_eqb (share fronts front cell.left) 0 some)
-      (omega (arith, some), (shares_after fronts front cell.site cells are.1.0, shares_are fronts front cells are.1.1))
-]
-
 -- the shares in the cells of a row are cells of the row
 pub shares_of_row : (it : Instance) (row fronts front : ℕ) (cells : List Cell) → AreCellsOf it row cells → AreCellsOf it row (shares_in fronts front cells)
-shares_of_row it row fronts front cells are = record {
-  each = shares_keep (IsCellOf it row) (λ cell left own. record { site = own.site; arc = own.arc; is_arc = own.is_arc; server = own.server; there = own.there }) fronts front cells are.each;
-  are = shares_are fronts front cells are.are;
-}
+shares_of_row it row fronts front cells are = parts_of_row (share fronts front) it row cells are
 
 -- the share in what is left at a site
 pub share_left : (fronts front site : ℕ) (cells : List Cell) → AreCells cells → left_at (shares_in fronts front cells) site ≡ share fronts front (left_at cells site)
-share_left fronts front site [] are = sym (share_none fronts front)
-share_left fronts front site (cell ∷ cells) are = elim (cases_eq cell.site site) [
-  | inl at ↦
-      let none : left_at (shares_in fronts front cells) site ≡ 0 =
-      none_at (shares_in fronts front cells) site (shares_after fronts front site cells (rw at at are.1.0)) in
-      elim (cases_eq (share fronts front cell.left) 0) [
-        | inl nothing ↦ rw (eq-eqb cell.site site at, eq-eqb (share fronts front cell.left) 0 nothing) (none ∙ sym nothing)
-        | inr some ↦ rw (eq-eqb cell.site site at, ne_eqb (share fronts front cell.left) 0 some) (rw (eq-eqb cell.site site at) refl)
-      ]
-  | inr away ↦ elim (cases_eq (share fronts front cell.left) 0) [
-    | inl nothing ↦ rw (ne_eqb cell.site site away, eq-eqb (share fronts front cell.left) 0 nothing) (share_left fronts front site cells are.1.1)
-    | inr some ↦
-        rw (ne_eqb cell.site site away, ne_eqb (share fronts front cell.left) 0 some) (rw (ne_eqb cell.site site away) (share_left fronts front site cells are.1.1))
-  ]
-]
+share_left fronts front site cells are = part_left (share fronts front) (share_none fronts front) site cells are
 
 -- cells in order of their sites are no more than the sites
 pub few_cells : (most s : ℕ) (cells : List Cell) → AreCells cells → Within most s cells → length cells ≤ most

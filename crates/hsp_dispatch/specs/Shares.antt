@@ -100,11 +100,6 @@ abbrev pub cells_of : Instance → ℕ → List UseLine → List Cell
 cells_of it row [] = []
 cells_of it row (one ∷ uses) = if one.row == row then cell_of it one ∷ cells_of it row uses else cells_of it row uses
 
--- for each row the cells that the uses give it
-pub record AreSharesOf (it : Instance) (uses : List UseLine) (shares : List (List Cell)) : Type 0 where
-  pub one_a_row : length shares ≡ length it.rows
-  pub each : (row : ℕ) → row < length it.rows → slice_get shares row ≡ Some (cells_of it row uses)
-
 -- the shares of the rows of an instance
 abbrev pub holding : Instance → List (List Cell) → Held
 holding it shares = record { instance = it; shares = shares }

@@ -3,6 +3,7 @@ use Rattle.std.specs.Prelude.{Option, Some, None, ⊤, IfSome, ◌≡◌, ◌≤
 use Rattle.std.specs.List.{AllByRecursion}
 use Rattle.hsp_text.specs.declared.limits.TheConstants.{GREATEST_COUNT}
 use Rattle.hsp_dispatch.specs.Fronts.{share}
+use Rattle.hsp_dispatch.specs.Portions.{parts_in}
 use Rattle.hsp_dispatch.specs.declared.counts.Widths.{Widths}
 use Rattle.hsp_dispatch.specs.declared.counts.Widths.TheVariants.{One, Two, Four}
 use Rattle.hsp_dispatch.specs.declared.front_share.Standing.{Standing}
@@ -10,10 +11,7 @@ use Rattle.hsp_dispatch.specs.declared.share.Cell.{Cell}
 
 -- the cells of which a front has a share, with its share of each
 abbrev pub shares_in : ℕ → ℕ → List Cell → List Cell
-shares_in fronts front [] = []
-shares_in fronts front (cell ∷ cells) =
-    if share fronts front cell.left == 0 then shares_in fronts front cells
-    else record cell { left = share fronts front cell.left } ∷ shares_in fronts front cells
+shares_in fronts front cells = parts_in (share fronts front) cells
 
 -- the shares together
 abbrev pub shares_sum : ℕ → ℕ → List Cell → ℕ

@@ -1,15 +1,18 @@
 // The dispatcher: what is left of a plan, and the answers by it.
 
-ghost use Rattle.std.specs.Prelude.{◌≡◌, ◌<◌, IfOk, IfSome, length};
+ghost use Rattle.std.specs.Prelude.{◌≡◌, ◌<◌, ◌≤◌, IfOk, IfSome, length};
 ghost use Rattle.hsp_instance.specs.Instance.{IsInstance};
 ghost use Rattle.hsp_dispatch.specs.Dispatch.{IsSame};
-ghost use Rattle.hsp_dispatch.specs.Shares.{AreUsesOf, HoldsTable, IsLeftBy, IsPlanFor, IsRestOf, answer_by, first_answer, left_of, plan_of, query, taken_answer};
+ghost use Rattle.hsp_dispatch.specs.Portions.{portion_of};
+ghost use Rattle.hsp_dispatch.specs.Shares.{IsLeftBy, IsPlanFor, IsRestOf, answer_by, first_answer, left_of, plan_of, query, taken_answer};
+ghost use Rattle.hsp_dispatch.specs.declared.portion.TheConstants.{GREATEST_UNIT};
 
 use crate::answer::Answer;
 use crate::answering::served;
+use crate::portion::Portion;
 use crate::share::RowShare;
 use crate::sharing::share_out;
-use hsp_cert::{Certificate, UseLine};
+use hsp_cert::Certificate;
 use hsp_instance::Instance;
 use hsp_names::HandleRef;
 use std::alloc::{AllocError, Global};
@@ -47,21 +50,32 @@ impl<'a> Dispatcher<'a> {
         ensures instance { IfOk result (λ d. d.instance ≡ instance.now) }
         ensures plan { IfOk result (λ d. IsSame (left_of d) (plan_of certificate.now)) }
     {
-        let best = certificate.as_best().unwrap();
-        Dispatcher::over(alloc, instance, best.uses())
+        Dispatcher::by_portion(alloc, instance, certificate, Portion::whole())
     }
 
-    /// A dispatcher by uses of the instance.
-    pub(crate) fn over(
+    /// A dispatcher by a portion of the plan of a certificate that is valid for the instance: the share of one of some
+    /// fronts, each query of which stands for 1 to `GREATEST_UNIT` answers.
+    ///
+    /// # Errors
+    ///
+    /// An `AllocError` where memory runs out.
+    pub fn by_portion(
         alloc: Global,
         instance: &'a Instance,
-        uses: &[UseLine],
+        certificate: &Certificate,
+        portion: Portion,
     ) -> Result<Dispatcher<'a>, AllocError>
-        requires { AreUsesOf instance.now uses.now }
+        requires plan { IsPlanFor instance.now certificate.now }
+        requires some { 0 < portion.fronts }
+        requires front { portion.front < portion.fronts }
+        requires least { 1 ≤ portion.unit }
+        requires most { portion.unit ≤ GREATEST_UNIT }
         ensures instance { IfOk result (λ d. d.instance ≡ instance.now) }
-        ensures table { IfOk result (HoldsTable uses.now) }
+        ensures plan { IfOk result
+            (λ d. IsSame (left_of d) (portion_of portion (plan_of certificate.now))) }
     {
-        let shares = share_out(alloc, instance, uses)?;
+        let best = certificate.as_best().unwrap();
+        let shares = share_out(alloc, instance, best.uses(), &portion)?;
         Ok(Dispatcher { instance, shares })
     }
 
@@ -87,19 +101,19 @@ impl<'a> Dispatcher<'a> {
         served(self.instance, taken)
     }
 
-    /// How many queries of a row are left for a site, or 0 where the row or the site is not there.
+    /// How many answers of a row are left for a site, or 0 where the row or the site is not there.
     pub fn left(&self, row: u32, site: u32) -> u64
         ensures { result ≡ left_of self.now row site }
     {
         match self.shares.get(row as usize) {
-            Some(share) => u64::from(share.left(site)),
+            Some(share) => share.left(site),
             None => 0,
         }
     }
 
-    /// Takes one query from what is left of a row. Returns the number of the server to which it goes, or None where
-    /// nothing is left.
-    pub(crate) fn take(&mut self, row: u32) -> Option<u32>
+    /// Takes one query from what is left of a row that is there. Returns the number of the server to which it goes, or
+    /// None where nothing is left.
+    pub fn take(&mut self, row: u32) -> Option<u32>
         requires { row < length self.old.instance.rows }
         ensures instance { self.new.instance ≡ self.old.instance }
         ensures taken { taken_answer self.old.instance result ≡ first_answer self.old row }

@@ -10,7 +10,7 @@ use hsp_csv::is_header;
 
 /// What the second field of a log's rows holds.
 #[derive(Clone, Copy, PartialEq, Eq)]
-pub(crate) enum Form {
+pub enum Form {
     /// A handle.
     Handles,
     /// The body of a resolution request in hexadecimal digits.

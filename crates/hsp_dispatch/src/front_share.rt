@@ -23,15 +23,16 @@ pub(crate) struct Standing {
     pub(crate) left: u32,
 }
 
-// The share of a front in a number.
-fn share(number: u32, front: Front) -> u32
+/// The share of a front in a number.
+pub(crate) fn share(number: u64, front: Front) -> u64
     requires { 0 < front.fronts }
     ensures { result ≡ share front.fronts front.number number }
 {
-    if front.number < number % front.fronts {
-        number / front.fronts + 1
+    let fronts = u64::from(front.fronts);
+    if u64::from(front.number) < number % fronts {
+        number / fronts + 1
     } else {
-        number / front.fronts
+        number / fronts
     }
 }
 
@@ -45,7 +46,7 @@ pub(crate) fn sum_in(cells: &[Cell], front: Front) -> u32
     for cell in cells {
         sum += share(cell.left, front);
     }
-    sum
+    sum as u32
 }
 
 /// Where a front stands that has `left` queries left: at the last cell whose share, with the shares behind it, comes to
@@ -60,11 +61,11 @@ pub(crate) fn stand_with(cells: &[Cell], left: u32, front: Front) -> Standing
     let mut number = cells.len().saturating_sub(1);
     'cells: while number > 0 {
         let own = share(cells[number].left, front);
-        if here <= own {
+        if u64::from(here) <= own {
             let cell = number as u32;
             return Standing { cell, left: here };
         }
-        here -= own;
+        here -= own as u32;
         number -= 1;
     }
     Standing {
@@ -74,7 +75,7 @@ pub(crate) fn stand_with(cells: &[Cell], left: u32, front: Front) -> Standing
 }
 
 /// The share of a front in the cell of a site, or 0 where no cell is of the site.
-pub(crate) fn share_at(cells: &[Cell], site: u32, front: Front) -> u32
+pub(crate) fn share_at(cells: &[Cell], site: u32, front: Front) -> u64
     requires { 0 < front.fronts }
     ensures { result ≡ left_at (shares_in front.fronts front.number cells.now) site }
 {

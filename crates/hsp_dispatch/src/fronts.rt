@@ -18,6 +18,7 @@ use crate::counts::Counts;
 use crate::fault::LogFault;
 use crate::front_share::Front;
 use crate::plan_cells::PlanCells;
+use crate::portion::Portion;
 use crate::row_cells::RowCells;
 use crate::sharing::share_out;
 use hsp_cert::{Certificate, UseLine};
@@ -83,7 +84,7 @@ fn rows_by(
     ensures held { IfOk result (λ rows. IsHeld (holding instance.now rows.items)) }
     ensures table { IfOk result (λ rows. HoldsTable uses.now (holding instance.now rows.items)) }
 {
-    let shares = share_out(alloc, instance, uses)?;
+    let shares = share_out(alloc, instance, uses, &Portion::whole())?;
     let mut rows = Vec::with_capacity(alloc, shares.len())?;
     for share in &shares {
         rows.push(RowCells::new(share.cells(alloc)?))?;
@@ -234,6 +235,6 @@ impl<'a> Fronts<'a> {
         let left = self.lefts.get(self.place(front, row));
         let fronts = self.fronts;
         let number = front;
-        u64::from(self.plan.left(row, left, site, Front { fronts, number }))
+        self.plan.left(row, left, site, Front { fronts, number })
     }
 }

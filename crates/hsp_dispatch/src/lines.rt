@@ -22,9 +22,10 @@ impl Model for Line {
     ghost view = { λ line. line.text.items };
 }
 
-/// For each server of an instance, the line of a query that is assigned to it.
+/// For each server of an instance, the line of a query that is assigned to it: `assigned` with the site's name, the
+/// server's place and its identifier, each after a space, and an LF.
 #[derive(Drop)]
-pub(crate) struct ServerLines {
+pub struct ServerLines {
     lines: Vec<Line>,
 }
 
@@ -50,8 +51,12 @@ fn line_of(alloc: Global, instance: &Instance, server: u32) -> Result<Line, Allo
 }
 
 impl ServerLines {
-    /// The lines of all servers.
-    pub(crate) fn of(alloc: Global, instance: &Instance) -> Result<ServerLines, AllocError>
+    /// The lines of all servers, by their numbers.
+    ///
+    /// # Errors
+    ///
+    /// An `AllocError` where memory runs out.
+    pub fn of(alloc: Global, instance: &Instance) -> Result<ServerLines, AllocError>
         ensures { IfOk result (λ lines. lines ≡ lines_of instance.now) }
     {
         let mut lines = Vec::new(alloc);
@@ -61,8 +66,8 @@ impl ServerLines {
         Ok(ServerLines { lines })
     }
 
-    /// The line of the server with this number.
-    pub(crate) fn line(&self, server: u32) -> &[u8]
+    /// The line of the server with this number, with its LF.
+    pub fn line(&self, server: u32) -> &[u8]
         requires { server < length self.now }
         ensures { slice_get self.now server ≡ Some result.now }
     {

@@ -73,7 +73,7 @@ impl PlanCells {
     }
 
     /// What a front has left of a row at a site, where it has `left` queries left of the row in all.
-    pub(crate) fn left(&self, row: u32, left: u32, site: u32, front: Front) -> u32
+    pub(crate) fn left(&self, row: u32, left: u32, site: u32, front: Front) -> u64
         requires some { 0 < front.fronts }
         requires row { row < length self.now }
         ensures { result ≡

@@ -75,7 +75,7 @@ impl RowCells {
     }
 
     /// What a front has left at a site, where it has `left` queries left of the row.
-    pub(crate) fn left(&self, left: u32, site: u32, front: Front) -> u32
+    pub(crate) fn left(&self, left: u32, site: u32, front: Front) -> u64
         requires { 0 < front.fronts }
         ensures { result ≡ left_at (left_among front.fronts front.number left self.now) site }
     {
@@ -88,7 +88,7 @@ impl RowCells {
             return 0;
         };
         if cell.site == site {
-            return standing.left;
+            return u64::from(standing.left);
         }
         share_at(&self.cells[at + 1..], site, front)
     }

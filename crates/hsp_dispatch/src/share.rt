@@ -1,7 +1,7 @@
 // What a plan has left for a row.
 
-ghost use Rattle.std.specs.Prelude.{◌≡◌, ◌++◌, ◌∷◌, [], IfOk, OnOk};
-ghost use Rattle.hsp_dispatch.specs.Shares.{AreCells, first_of, left_at, without_first};
+ghost use Rattle.std.specs.Prelude.{◌≡◌, ◌++◌, [], IfOk, OnOk};
+ghost use Rattle.hsp_dispatch.specs.Shares.{AreCells, first_of, left_at, with_first, without_first};
 
 use std::alloc::{AllocError, Global};
 use std::marker::Model;
@@ -11,7 +11,7 @@ use std::marker::Model;
 pub(crate) struct Cell {
     pub(crate) site: u32,
     pub(crate) server: u32,
-    pub(crate) left: u32,
+    pub(crate) left: u64,
 }
 
 /// What is left for a row: cells in ascending order of their sites, each with something left. The first cell stands in
@@ -54,17 +54,17 @@ impl RowShare {
         }
     }
 
-    /// Adds a cell with something left. Its site comes after all others.
+    /// Adds a cell, if something is left in it. Its site comes after all others.
     pub(crate) fn push(&mut self, cell: Cell) -> Result<(), AllocError>
-        requires { AreCells (self.old ++ cell ∷ []) }
-        ensures { OnOk result (self.new ≡ self.old ++ cell ∷ []) }
+        requires { AreCells (self.old ++ with_first cell []) }
+        ensures { OnOk result (self.new ≡ self.old ++ with_first cell []) }
     {
         if self.first.left == 0 {
             self.first = cell;
-            return Ok(());
+        } else if cell.left > 0 {
+            self.more.reserve_exact(1)?;
+            self.more.push(cell)?;
         }
-        self.more.reserve_exact(1)?;
-        self.more.push(cell)?;
         Ok(())
     }
 
@@ -100,7 +100,7 @@ impl RowShare {
     }
 
     /// What is left at a site, or 0 where nothing is.
-    pub(crate) fn left(&self, site: u32) -> u32
+    pub(crate) fn left(&self, site: u32) -> u64
         ensures { result ≡ left_at self.now site }
     {
         if self.first.site == site {

@@ -1,2 +1,2 @@
-mod Orders
+pub mod Orders
 mod Writing

@@ -4,7 +4,6 @@ use Rattle.std.specs.Prelude.{IsErrAnd}
 use Rattle.hsp_command.specs.Orders.{IsUsage}
 use Rattle.hsp_command.specs.declared.fault.CommandFault.{CommandFault}
 use Rattle.hsp_command.specs.declared.fault.CommandFault.TheVariants as fault
-use Rattle.hsp_edge.specs.declared.failure.Failure.{Failure}
 use Rattle.hsp_edge.specs.Commands.{IsOrdered}
 
 pub refused : (words : List (List ℕ)) (it : CommandFault) → (it ≡ fault.Usage → IsUsage words) → IsOrdered words (Err it)
@@ -12,6 +11,6 @@ refused words fault.Usage usage = usage refl
 refused words fault.OutOfMemory usage = tt
 
 -- a command that ended by a failure
-pub ends_by : {A : Type 0} (ended : Result A Failure) (failure : Failure) → IsErrAnd ended (λ it. it ≡ failure) → ended ≡ Err failure
+pub ends_by : {A E : Type 0} (ended : Result A E) (failure : E) → IsErrAnd ended (λ it. it ≡ failure) → ended ≡ Err failure
 ends_by (Ok status) failure is = absurd is
 ends_by (Err it) failure is = ap (λ f. Err f) is

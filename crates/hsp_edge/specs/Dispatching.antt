@@ -4,13 +4,14 @@ use Rattle.std.specs.Io.KnownBytes.{Keeps}
 use Rattle.hsp_dispatch.specs.declared.answer.FrontSums.{FrontSums}
 use Rattle.hsp_dispatch.specs.declared.answer.LogSums.{LogSums}
 use Rattle.hsp_dispatch.specs.declared.fault.LogFault.TheVariants.{WriteFailed}
-use Rattle.hsp_runs.specs.Dispatch.{IsDispatched, IsDispatchedAt, over}
+use Rattle.hsp_runs.specs.Dispatch.{IsBeforeLog, IsDispatched, IsDispatchedAt, over}
 use Rattle.hsp_lines.specs.declared.fault.Fault.{Fault}
 use Rattle.hsp_lines.specs.declared.fault.Fault.TheVariants.{Log, OutOfMemory}
 use Rattle.hsp_runs.specs.declared.inputs.Inputs.{Inputs}
 use Rattle.hsp_edge.specs.declared.answer.Completed.{Completed}
 use Rattle.hsp_edge.specs.declared.failure.Failure.{Failure}
 use Rattle.hsp_edge.specs.declared.failure.Failure.TheVariants.{Refused}
+use Rattle.hsp_edge.specs.Printing.{IsFailedWrite}
 
 -- what a log is answered by, and what of the log is left to be read, where that is known
 pub record Opened : Type 0 where
@@ -26,6 +27,10 @@ abbrev pub MayFollowLines : Fault → Type 0
 MayFollowLines (Log fault) = ⊤
 MayFollowLines OutOfMemory = ⊤
 MayFollowLines fault = ⊥
+
+-- no lines are to be handed on: the fault comes before the log, or a write failed
+abbrev pub LeavesNoLines : Fault → Type 0
+LeavesNoLines fault = IsBeforeLog fault ⊎ IsFailedWrite (Refused fault)
 
 -- the fault is reported, and nothing else was done; or lines that may stand before it were handed on, and it is reported, or that
 -- they couldn't be handed on, as may be

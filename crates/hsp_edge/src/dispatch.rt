@@ -2,7 +2,7 @@
 
 ghost use Rattle.std.specs.Prelude.{◌≡◌, ◌⊎◌, IfErr, IfOk, IsFalse, IsTrue};
 ghost use Rattle.hsp_edge.specs.Commands.{AreOpened, DispatchFails};
-ghost use Rattle.hsp_edge.specs.Dispatching.{AnswersEntries, AnswersEvents, Completes, Dispatches, HandsOn, MayFollowLines, opened_log};
+ghost use Rattle.hsp_edge.specs.Dispatching.{AnswersEntries, AnswersEvents, Completes, Dispatches, HandsOn, LeavesNoLines, MayFollowLines, opened_log};
 ghost use Rattle.hsp_edge.specs.Failing.{IsUnread};
 ghost use Rattle.hsp_edge.specs.Printing.{IsFailedWrite, IsHandedOn};
 ghost use Rattle.hsp_runs.specs.Dispatch.{IsBeforeLog};
@@ -52,7 +52,7 @@ pub fn open_log<S: FileSource>(
 // there are none, and what a failed write left isn't tried again.
 fn may_follow_lines(fault: &Fault) -> bool
     ensures lines { IsTrue result → MayFollowLines fault.now }
-    ensures no_lines { IsFalse result → IsBeforeLog fault.now ⊎ IsFailedWrite (Failure.Refused fault.now) }
+    ensures no_lines { IsFalse result → LeavesNoLines fault.now }
 {
     match fault {
         Fault::Log(inner) => *inner != LogFault::WriteFailed,

@@ -3,9 +3,11 @@
 #![tactic(auto)]
 
 mod digest;
+mod digests;
 mod option;
 mod place;
 
 pub use digest::digest_of;
+pub use digests::Digests;
 pub use option::HashOption;
 pub use place::{number_of_digest, server_number};

@@ -1,6 +1,5 @@
 pub mod Instance
 pub mod KeyedRows
-pub mod Digests
 pub mod Building
 pub mod Parts
 pub mod RegionCosts

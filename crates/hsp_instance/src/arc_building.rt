@@ -10,10 +10,10 @@ ghost use Rattle.hsp_instance.specs.Instance.{AreSites};
 ghost use Rattle.hsp_instance.specs.RegionCosts.{HasCosts, arcs_by, arcs_of};
 
 use crate::arc::Arc;
-use crate::digests::Digests;
 use crate::instance::ArcList;
 use crate::region_costs::{RegionCosts, costs_there, place_of};
 use crate::sites::Site;
+use hsp_hash::Digests;
 use hsp_names::HandleRef;
 use hsp_tables::{Costs, Demand, DemandRow};
 use std::alloc::{AllocError, Global};

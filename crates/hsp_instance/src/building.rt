@@ -7,7 +7,7 @@ ghost use Rattle.hsp_text.specs.Answers.{GivesUnless, Stands};
 ghost use Rattle.hsp_instance.specs.Building.{IsBuilt, instance_with};
 
 use crate::arc_building::arcs_of;
-use crate::checks::{check_capacities, check_costs};
+use crate::checks::{check_capacities, check_cost_rows};
 use crate::fault::BuildFault;
 use crate::instance::Instance;
 use crate::rows::rows_of;
@@ -43,7 +43,7 @@ fn instance_with(
         }) sites) }
 {
     let list = sites.sites.as_slice();
-    check_costs(list, tables.costs)?;
+    check_cost_rows(list, tables.costs)?;
     check_capacities(list, tables.capacity)?;
     let hosts = hosts_of(alloc, settings)?;
     let servers = servers_of(alloc, list, tables.capacity, hosts.as_slice())?;

@@ -7,7 +7,6 @@ mod arc_building;
 mod building;
 mod checks;
 mod columns;
-mod digests;
 mod fault;
 mod group_numbers;
 mod grouping;
@@ -22,6 +21,7 @@ mod sites;
 
 pub use arc::Arc;
 pub use building::build;
+pub use checks::check_costs;
 pub use columns::{capacities_of, counts_of, homes_of, limits_of};
 pub use fault::{BuildFault, Table};
 pub use group_numbers::Groups;

@@ -29,8 +29,8 @@ fn put_record(out: &mut Vec<u8>, part: &[u8], fault: &RecordFault) -> Result<(),
     put_record_fault(out, fault)
 }
 
-// Appends what stands between `hsplan: ` and the line's end.
-fn put_fault(out: &mut Vec<u8>, fault: &Fault) -> Result<(), AllocError>
+/// Appends a fault in words: the part with the fault and `: ` where there is such a part, the fault with its fields.
+pub fn put_fault(out: &mut Vec<u8>, fault: &Fault) -> Result<(), AllocError>
     ensures { OnOk result (out.new.items ≡ out.old.items ++ fault_words fault.now) }
 {
     match fault {

@@ -23,7 +23,7 @@ pub(crate) fn put_with(out: &mut Vec<u8>, text: &[u8], number: u64) -> Result<()
 }
 
 /// The words of a handle's fault.
-pub(crate) fn handle_words(fault: &HandleFault) -> &'static [u8]
+pub fn handle_words(fault: &HandleFault) -> &'static [u8]
     ensures { result.now ≡ handle_words fault.now }
 {
     match fault {

@@ -8,6 +8,7 @@ mod sums_text;
 mod verdict_text;
 
 pub use fault::Fault;
-pub use fault_text::{fault_line, status_of};
+pub use fault_text::{fault_line, put_fault, status_of};
+pub use fault_words::handle_words;
 pub use sums_text::sums_line;
 pub use verdict_text::{verdict_line, verdict_status};

@@ -1,4 +1,4 @@
--- The commands of the program with their options, as clap's builder describes them.
+-- The commands of the programs with their options, as clap's builder describes them.
 use Rattle.std.specs.Prelude.{◌++◌, ◌∷◌, [], List, codes, fold, Some, true}
 use Rattle.clap.specs.Words.{App, Rule, Text, new_app, new_rule, with_rule, with_subcommand}
 
@@ -16,7 +16,7 @@ word name = record (new_rule name) { required = true }
 abbrev pub inputs : List Rule
 inputs = needed (codes "settings") ∷ option (codes "values") ∷ needed (codes "demand") ∷ needed (codes "costs") ∷ needed (codes "capacity") ∷ []
 
--- each command's name and arguments
+-- the name and the arguments of each command of hsplan
 abbrev pub commands : List (Text × List Rule)
 commands =
     (codes "locate", option (codes "option") ∷ option (codes "servers") ∷ option (codes "settings") ∷ option (codes "values") ∷ word (codes "handle") ∷ [])
@@ -27,6 +27,14 @@ commands =
     ∷ (codes "report", inputs ++ needed (codes "plan") ∷ needed (codes "kind") ∷ [])
     ∷ []
 
+-- the same of hsplan-stream
+abbrev pub stream_commands : List (Text × List Rule)
+stream_commands =
+    (codes "kinds", needed (codes "settings") ∷ option (codes "values") ∷ needed (codes "costs") ∷ option (codes "unit") ∷ needed (codes "log") ∷ [])
+    ∷ (codes "places", needed (codes "settings") ∷ option (codes "values") ∷ needed (codes "log") ∷ [])
+    ∷ (codes "answer", inputs ++ needed (codes "plan") ∷ needed (codes "log") ∷ option (codes "unit") ∷ option (codes "fronts") ∷ option (codes "front") ∷ [])
+    ∷ []
+
 -- a command with these arguments, in this order
 abbrev pub with_rules : App → List Rule → App
 with_rules app rules = fold with_rule app rules
@@ -34,9 +42,12 @@ with_rules app rules = fold with_rule app rules
 abbrev pub with_commands : App → List (Text × List Rule) → App
 with_commands app commands = fold (λ app command. with_subcommand app (with_rules (new_app command.0) command.1).top) app commands
 
--- the program without its commands: the words don't begin with its name
-abbrev pub bare_app : App
-bare_app = let app = new_app (codes "hsplan") in record app { top = record app.top { no_binary_name = true } }
+-- a program without its commands: the words don't begin with its name
+abbrev pub bare_app : Text → App
+bare_app name = let app = new_app name in record app { top = record app.top { no_binary_name = true } }
 
 abbrev pub hsplan_app : App
-hsplan_app = with_commands bare_app commands
+hsplan_app = with_commands (bare_app (codes "hsplan")) commands
+
+abbrev pub stream_app : App
+stream_app = with_commands (bare_app (codes "hsplan-stream")) stream_commands

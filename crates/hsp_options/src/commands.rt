@@ -1,11 +1,11 @@
-// The commands of the program, built for clap.
+// The commands of the programs, built for clap.
 
 ghost use Rattle.std.specs.Prelude.{◌≡◌, IfOk, false, map};
 ghost use Rattle.clap.specs.Words.{app_of, rule_of, with_subcommand};
-ghost use Rattle.hsp_options.specs.Commands.{hsplan_app, with_rules};
+ghost use Rattle.hsp_options.specs.Commands.{hsplan_app, stream_app, with_rules};
 ghost use Rattle.hsp_options.specs.Tables.{app_told, has_globals_of, rule_told, with_subcommands};
 
-use crate::tables::{Argument, COMMANDS, Subcommand};
+use crate::tables::{Argument, COMMANDS, STREAM_COMMANDS, Subcommand};
 use clap::{Arg, Command};
 use std::alloc::{AllocError, Global};
 
@@ -72,10 +72,18 @@ fn with_subcommands<'a>(
     Ok(command)
 }
 
-/// All commands of the program, for words that don't begin with its name. An error means that memory ran out.
+/// All commands of `hsplan`, for words that don't begin with its name. An error means that memory ran out.
 pub fn hsplan_command<'a>(alloc: Global) -> Result<Command<'a>, AllocError>
     ensures { IfOk result (λ c. app_of c ≡ hsplan_app) }
 {
     let command = Command::new(alloc, "hsplan").no_binary_name(true);
     with_subcommands(alloc, command, &COMMANDS)
+}
+
+/// All commands of `hsplan-stream`, for words that don't begin with its name. An error means that memory ran out.
+pub fn stream_command<'a>(alloc: Global) -> Result<Command<'a>, AllocError>
+    ensures { IfOk result (λ c. app_of c ≡ stream_app) }
+{
+    let command = Command::new(alloc, "hsplan-stream").no_binary_name(true);
+    with_subcommands(alloc, command, &STREAM_COMMANDS)
 }

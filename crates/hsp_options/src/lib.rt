@@ -1,7 +1,7 @@
-// The commands of the program with their options, built for clap.
+// The commands of the programs with their options, built for clap.
 #![tactic(auto)]
 
 mod commands;
 mod tables;
 
-pub use commands::hsplan_command;
+pub use commands::{hsplan_command, stream_command};

@@ -29,7 +29,7 @@ const INPUTS: [Argument<'static>; 5] = [
     Needed("capacity"),
 ];
 
-/// The commands of the program.
+/// The commands of `hsplan`.
 pub(crate) const COMMANDS: [Subcommand<'static>; 6] = [
     Subcommand {
         name: "locate",
@@ -66,5 +66,30 @@ pub(crate) const COMMANDS: [Subcommand<'static>; 6] = [
         name: "report",
         inputs: &INPUTS,
         others: &[Needed("plan"), Needed("kind")],
+    },
+];
+
+/// The commands of `hsplan-stream`.
+pub(crate) const STREAM_COMMANDS: [Subcommand<'static>; 3] = [
+    Subcommand {
+        name: "kinds",
+        inputs: &[Needed("settings"), Optional("values"), Needed("costs")],
+        others: &[Optional("unit"), Needed("log")],
+    },
+    Subcommand {
+        name: "places",
+        inputs: &[Needed("settings"), Optional("values")],
+        others: &[Needed("log")],
+    },
+    Subcommand {
+        name: "answer",
+        inputs: &INPUTS,
+        others: &[
+            Needed("plan"),
+            Needed("log"),
+            Optional("unit"),
+            Optional("fronts"),
+            Optional("front"),
+        ],
     },
 ];

@@ -92,7 +92,7 @@ fn greatest_numbers_of_tables_have_their_lines(rt: HostRuntime) {
 
 #[test]
 fn greatest_numbers_of_sites_have_their_lines(rt: HostRuntime) {
-    let cases: [(Fault, &[u8]); 9] = [
+    let cases: [(Fault, &[u8]); 6] = [
         (
             Fault::Build(BuildFault::NoValue { site: u32::MAX }),
             b"hsplan: build: NoValue site 4294967295\n",
@@ -120,6 +120,13 @@ fn greatest_numbers_of_sites_have_their_lines(rt: HostRuntime) {
             Fault::Build(BuildFault::ServerIdTwice { site: u32::MAX }),
             b"hsplan: build: ServerIdTwice site 4294967295\n",
         ),
+    ];
+    all_have_lines(&rt, rt.alloc(), &cases);
+}
+
+#[test]
+fn greatest_numbers_of_tables_that_name_sites_have_their_lines(rt: HostRuntime) {
+    let cases: [(Fault, &[u8]); 3] = [
         (
             Fault::Build(BuildFault::UnknownSite {
                 table: Table::Capacity,

@@ -21,14 +21,14 @@ use std::alloc::Global;
 
 /// An instance, and a certificate that is valid for it.
 #[derive(Drop)]
-pub(crate) struct Accepted {
-    pub(crate) instance: Instance,
-    pub(crate) certificate: Certificate,
+pub struct Accepted {
+    pub instance: Instance,
+    pub certificate: Certificate,
 }
 
 impl Accepted {
     /// The plan of the certificate with its prices, or `WrongKind` where the certificate shows a shortage.
-    pub(crate) fn plan(&self) -> Result<BestRef<'_>, Fault>
+    pub fn plan(&self) -> Result<BestRef<'_>, Fault>
         ensures { Gives (λ plan. plan) result (plan_in self.now.certificate) }
     {
         match self.certificate.as_best() {
@@ -38,7 +38,7 @@ impl Accepted {
     }
 
     /// The short set of the certificate, or `WrongKind` where the certificate shows a plan.
-    pub(crate) fn shortage(&self) -> Result<ShortRef<'_>, Fault>
+    pub fn shortage(&self) -> Result<ShortRef<'_>, Fault>
         ensures { Gives (λ set. set) result (shortage_in self.now.certificate) }
     {
         match self.certificate.as_short() {
@@ -70,7 +70,7 @@ fn accepting(alloc: Global, instance: Instance, certificate: Certificate) -> Res
 ///
 /// Faults in this order: `Settings`, `Values`, `Demand`, `Costs`, `Capacity`, `Build`, `Cert`, `Refused` with the first
 /// reason.
-pub(crate) fn accepted_in(alloc: Global, inputs: &Inputs, octets: &[u8]) -> Result<Accepted, Fault>
+pub fn accepted_in(alloc: Global, inputs: &Inputs, octets: &[u8]) -> Result<Accepted, Fault>
     ensures accepted { OrNoMemory (IsAcceptedOf inputs.now octets.now) result }
     ensures valid { IfOk result (λ accepted.
         IsValid (network_of accepted.instance) accepted.certificate) }

@@ -27,7 +27,8 @@ fn demand_in(alloc: Global, octets: &[u8]) -> Result<Demand, Fault>
     }
 }
 
-fn costs_in(alloc: Global, octets: &[u8]) -> Result<Costs, Fault>
+/// The costs that octets spell.
+pub fn costs_in(alloc: Global, octets: &[u8]) -> Result<Costs, Fault>
     ensures { OrNoMemory (ReadsCosts octets.now) result }
 {
     match read_costs(alloc, octets) {

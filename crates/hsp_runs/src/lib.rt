@@ -17,13 +17,17 @@ mod report;
 mod site;
 mod site_lines;
 
+pub use accepted::{Accepted, accepted_in};
 pub use checking::check_run;
+pub use counts::count_at;
 pub use dispatch::dispatch_run;
 pub use fronts::fronts_run;
 pub use hsp_lines::{Fault, fault_line, status_of, sums_line, verdict_line, verdict_status};
 pub use input::{first_line, read_file};
 pub use inputs::Inputs;
+pub use instance::costs_in;
 pub use locate::{Locate, locate_run};
 pub use plan::{PlanText, plan_run};
+pub use readings::{settings_in, sites_in, sites_of, values_in};
 pub use report::{ReportKind, report_run};
 pub use site::site_run;

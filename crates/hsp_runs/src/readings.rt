@@ -11,7 +11,7 @@ use hsp_tables::{Settings, TableFault, read_settings};
 use std::alloc::Global;
 
 /// The settings.
-pub(crate) fn settings_in(alloc: Global, octets: &[u8]) -> Result<Settings, Fault>
+pub fn settings_in(alloc: Global, octets: &[u8]) -> Result<Settings, Fault>
     ensures { OrNoMemory (ReadsSettings octets.now) result }
 {
     match read_settings(alloc, octets) {
@@ -33,7 +33,7 @@ fn list_in(alloc: Global, octets: &[u8]) -> Result<ValueList<'_>, Fault>
 }
 
 /// The value list, where one is given.
-pub(crate) fn values_in<'a>(
+pub fn values_in<'a>(
     alloc: Global,
     octets: Option<&'a [u8]>,
 ) -> Result<Option<ValueList<'a>>, Fault>
@@ -45,8 +45,8 @@ pub(crate) fn values_in<'a>(
     }
 }
 
-// The sites of settings and values.
-fn sites_of(
+/// The sites of settings and values.
+pub fn sites_of(
     alloc: Global,
     settings: &Settings,
     values: Option<&ValueList<'_>>,
@@ -61,11 +61,7 @@ fn sites_of(
 }
 
 /// The sites that settings define, with the value list, where one is given.
-pub(crate) fn sites_in(
-    alloc: Global,
-    settings: &[u8],
-    values: Option<&[u8]>,
-) -> Result<Sites, Fault>
+pub fn sites_in(alloc: Global, settings: &[u8], values: Option<&[u8]>) -> Result<Sites, Fault>
     ensures { OrNoMemory (AreSitesIn settings.now (option_map (λ o. o.now) values.entry)) result }
 {
     let settings = settings_in(alloc, settings)?;

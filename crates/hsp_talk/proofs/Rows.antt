@@ -1,11 +1,14 @@
 -- Lines, rows, and desks that take them.
-use Rattle.std.proofs.Common.{◌≡◌, ℕ, ◌==◌, true, false, List, [], ◌∷◌, ◌++◌, length, if◌then◌else◌, refl, ap, sym, ◌∙◌, subst, append_assoc, append-nil, arith, eq-eqb, eqb-true, true≢false}
-use Rattle.std.specs.List.{concat}
+use Rattle.std.proofs.Common.{◌≡◌, ℕ, inl, inr, zero, suc, min, ◌+◌, ◌-◌, ◌<◌, ◌≤◌, ◌==◌, Bool, true, false, cond, ltb, not, Some, None, take, drop, length-drop, List, [], ◌∷◌, ◌++◌, length, if◌then◌else◌, refl, ap, sym, ◌∙◌, subst, append_assoc, append-nil, arith, eq-eqb, eqb-true, true≢false}
+use Rattle.std.specs.List.{concat, position, position_or_len}
+use Rattle.std.proofs.Math.Seq.{take-length}
+use Rattle.std.proofs.lemmas.List.{take_all}
 use Rattle.std.proofs.lemmas.List.Folds.{concat-append}
-use Rattle.std.proofs.lemmas.Bool.{ne_eqb}
-use Rattle.hsp_talk.specs.Talk.{AreTaken, RefusesRow, TakesRow, last_line, rows_of, whole_lines}
+use Rattle.std.proofs.lemmas.Bool.{cases_lt, ltb-false, ltb-true}
+use Rattle.hsp_talk.specs.Talk.{AreTaken, RefusesRow, TakesRow, cut, is_line_feed, last_line, rows_of, whole_lines}
 use Rattle.hsp_talk.specs.Refusals.{IsRefusal}
-use Rattle.hsp_talk.specs.Turns.{AreCut, AreOwed, IsRefused}
+use Rattle.hsp_talk.specs.Turns.{AreCut, AreOwed, IsRefused, rows_ended_by}
+use Rattle.hsp_talk.specs.declared.limits.TheConstants.{LONGEST_ROW}
 use Rattle.hsp_talk.specs.declared.stop.Refusal.{Refusal}
 use Rattle.hsp_talk.specs.declared.stop.Refusal.TheVariants as refusal
 
@@ -32,11 +35,160 @@ last_then begun (x ∷ xs) ys =
 pub rows_of-append : (rs bs : List (List ℕ)) → rows_of (rs ++ bs) ≡ rows_of rs ++ rows_of bs
 rows_of-append [] bs = refl
 rows_of-append ([] ∷ rs) bs = rows_of-append rs bs
-rows_of-append ((x ∷ xs) ∷ rs) bs = ap (λ rows. (x ∷ xs) ∷ rows) (rows_of-append rs bs)
+rows_of-append ((x ∷ xs) ∷ rs) bs = ap (λ rows. cut (x ∷ xs) ∷ rows) (rows_of-append rs bs)
 
-pub one_row : (line : List ℕ) → (length line ≡ 0 → ⊥) → rows_of (line ∷ []) ≡ line ∷ []
-one_row [] ne = absurd (ne refl)
-one_row (x ∷ xs) ne = refl
+-- ---- cut lines
+
+taken_again : (n : ℕ) (a b : List ℕ) → take n (take n a ++ b) ≡ take n (a ++ b)
+taken_again zero a b = refl
+taken_again (suc n) [] b = refl
+taken_again (suc n) (x ∷ a) b = ap (λ t. x ∷ t) (taken_again n a b)
+
+-- a line that is cut and goes on
+pub cut_then : (a b : List ℕ) → cut (cut a ++ b) ≡ cut (a ++ b)
+unfolding cut
+cut_then a b = taken_again (LONGEST_ROW + 1) a b
+
+pub cut_twice : (a : List ℕ) → cut (cut a) ≡ cut a
+cut_twice a = ap cut (sym (append-nil (cut a))) ∙ cut_then a [] ∙ ap cut (append-nil a)
+
+pub cut_short : (a : List ℕ) → length a ≤ LONGEST_ROW + 1 → cut a ≡ a
+unfolding cut
+cut_short a few = take_all (LONGEST_ROW + 1) a few
+
+taken_within : (n : ℕ) (a : List ℕ) → length (take n a) ≤ n
+taken_within zero a = omega arith
+taken_within (suc n) [] = omega arith
+taken_within (suc n) (x ∷ a) = let less = taken_within n a in omega arith
+
+pub within_cut : (a : List ℕ) → length (cut a) ≤ LONGEST_ROW + 1
+unfolding cut
+within_cut a = taken_within (LONGEST_ROW + 1) a
+
+-- of octets after a line as many are left as there is room
+taken_after : (n : ℕ) (a b : List ℕ) → length a ≤ n → take n (a ++ b) ≡ a ++ take (n - length a) b
+taken_after n [] b few = let e : n - 0 ≡ n = omega arith in rw e refl
+taken_after zero (x ∷ a) b few = absurd (omega arith)
+taken_after (suc n) (x ∷ a) b few = let e : suc n - suc (length a) ≡ n - length a = omega arith in rw e (ap (λ t. x ∷ t) (taken_after n a b (omega arith)))
+
+taken_least : (n count : ℕ) (b : List ℕ) → count ≡ min (length b) n → take count b ≡ take n b
+taken_least n count b e = elim (cases_lt (length b) n) [
+  | inl less ↦ let all : count ≡ length b = omega arith in rw all (take_all (length b) b (omega arith) ∙ sym (take_all n b (omega arith)))
+  | inr more ↦ let all : count ≡ n = omega arith in rw all refl
+]
+
+pub cut_within : (a b : List ℕ) (count : ℕ) → length a ≤ LONGEST_ROW + 1 → count ≡ min (length b) (LONGEST_ROW + 1 - length a) → a ++ take count b ≡ cut (a ++ b)
+unfolding cut
+cut_within a b count few is = ap (λ t. a ++ t) (taken_least (LONGEST_ROW + 1 - length a) count b is) ∙ sym (taken_after (LONGEST_ROW + 1) a b few)
+
+dropped_one : (place : ℕ) (octets : List ℕ) → drop 1 (drop place octets) ≡ drop (suc place) octets
+dropped_one zero octets = refl
+dropped_one (suc place) [] = refl
+dropped_one (suc place) (x ∷ octets) = dropped_one place octets
+
+-- the octets after a place
+pub all_after : (octets more : List ℕ) (place : ℕ) → more ≡ drop place octets → take (length more - 1) (drop 1 more) ≡ drop (suc place) octets
+all_after octets more place is = rw (← length-drop 1 more) (take-length (drop 1 more)) ∙ ap (drop 1) is ∙ dropped_one place octets
+
+-- lines that are cut to the same, and go on
+goes_on_so : (a b more : List ℕ) → cut a ≡ cut b → cut (a ++ more) ≡ cut (b ++ more)
+goes_on_so a b more e = sym (cut_then a more) ∙ ap (λ c. cut (c ++ more)) e ∙ cut_then b more
+
+not_none_cut : (n y : ℕ) (b : List ℕ) → take (suc n) [] ≡ take (suc n) (y ∷ b) → ⊥
+not_none_cut n y b e = let none : [] ≡ y ∷ take n b = e in cc none
+
+-- lines that are cut to the same are the same row
+pub row_so : (a b : List ℕ) (lines : List (List ℕ)) → cut a ≡ cut b → rows_of (a ∷ lines) ≡ rows_of (b ∷ lines)
+unfolding cut
+row_so [] [] lines e = refl
+row_so [] (y ∷ b) lines e = absurd (not_none_cut LONGEST_ROW y b e)
+row_so (x ∷ a) [] lines e = absurd (not_none_cut LONGEST_ROW x a (sym e))
+row_so (x ∷ a) (y ∷ b) lines e = ap (λ row. row ∷ rows_of lines) e
+
+pub rows_so : (a b octets : List ℕ) → cut a ≡ cut b → rows_of (whole_lines a octets) ≡ rows_of (whole_lines b octets)
+rows_so a b [] e = refl
+rows_so a b (x ∷ xs) e =
+    elim (x == 10) as (λ t. rows_of (if t then a ∷ whole_lines [] xs else whole_lines (a ++ x ∷ []) xs) ≡ rows_of (if t then b ∷ whole_lines [] xs else whole_lines (b ++ x ∷ []) xs)) [
+      | true ↦ row_so a b (whole_lines [] xs) e
+      | false ↦ rows_so (a ++ x ∷ []) (b ++ x ∷ []) xs (goes_on_so a b (x ∷ []) e)
+    ]
+
+pub last_so : (a b octets : List ℕ) → cut a ≡ cut b → cut (last_line a octets) ≡ cut (last_line b octets)
+last_so a b [] e = e
+last_so a b (x ∷ xs) e =
+    elim (x == 10) as (λ t. cut (if t then last_line [] xs else last_line (a ++ x ∷ []) xs) ≡ cut (if t then last_line [] xs else last_line (b ++ x ∷ []) xs)) [
+      | true ↦ refl
+      | false ↦ last_so (a ++ x ∷ []) (b ++ x ∷ []) xs (goes_on_so a b (x ∷ []) e)
+    ]
+
+pub ended_so : (a b piece : List ℕ) → cut a ≡ cut b → rows_ended_by a piece ≡ rows_ended_by b piece
+ended_so a b [] e = row_so a b [] e
+ended_so a b (x ∷ xs) e = rows_so a b (x ∷ xs) e
+
+-- ---- where the first line ends
+
+abbrev first_end : List ℕ → ℕ
+first_end octets = position_or_len is_line_feed octets
+
+pub record EndsAt (line octets : List ℕ) (place : ℕ) : Type 0 where
+  pub lines : whole_lines line octets ≡ (line ++ take place octets) ∷ whole_lines [] (drop (suc place) octets)
+  pub last : last_line line octets ≡ last_line [] (drop (suc place) octets)
+
+by_octet : (line octets : List ℕ) (x later : ℕ) (b : Bool) → (x == 10) ≡ b → (later < length octets → EndsAt (line ++ x ∷ []) octets later) → cond (not b) (1 + later) 0 < length (x ∷ octets)
+    → EndsAt line (x ∷ octets) (cond (not b) (1 + later) 0)
+by_octet line octets x later true is rest less = record { lines = rw (is, append-nil line) refl; last = rw is refl }
+by_octet line octets x later false is rest less =
+    let more = rest (omega arith) in
+    let e : 1 + later ≡ suc later = omega arith in
+    rw e (record { lines = rw is (more.lines ∙ ap (λ l. l ∷ whole_lines [] (drop (suc later) octets)) (append_assoc line (x ∷ []) (take later octets))); last = rw is more.last })
+
+ends_there : (line octets : List ℕ) → first_end octets < length octets → EndsAt line octets (first_end octets)
+ends_there line [] less = absurd (omega arith)
+ends_there line (x ∷ octets) less = by_octet line octets x (first_end octets) (x == 10) refl (ends_there (line ++ x ∷ []) octets) less
+
+pub ends_at : (line octets : List ℕ) (place : ℕ) → position is_line_feed octets ≡ Some place → EndsAt line octets place
+ends_at line octets place e = by (ltb (first_end octets) (length octets)) refl e
+  where
+    by : (b : Bool) → ltb (first_end octets) (length octets) ≡ b → cond b (Some (first_end octets)) None ≡ Some place → EndsAt line octets place
+    by true is same = let there : first_end octets ≡ place = cc same in rw there at (ends_there line octets (ltb-true _ _ is))
+    by false is same = cc same
+
+pub record HasNoEnd (line octets : List ℕ) : Type 0 where
+  pub lines : whole_lines line octets ≡ []
+  pub last : last_line line octets ≡ line ++ octets
+
+by_no_octet : (line octets : List ℕ) (x later : ℕ) (b : Bool) → (x == 10) ≡ b → ((later < length octets → ⊥) → HasNoEnd (line ++ x ∷ []) octets) → (cond (not b) (1 + later) 0 < length (x ∷ octets) → ⊥)
+    → HasNoEnd line (x ∷ octets)
+by_no_octet line octets x later true is rest none = absurd (none (omega arith))
+by_no_octet line octets x later false is rest none =
+    let more = rest (λ less. none (omega arith)) in
+    record { lines = rw is more.lines; last = rw is (more.last ∙ append_assoc line (x ∷ []) octets) }
+
+no_end_there : (line octets : List ℕ) → (first_end octets < length octets → ⊥) → HasNoEnd line octets
+no_end_there line [] none = record { lines = refl; last = sym (append-nil line) }
+no_end_there line (x ∷ octets) none = by_no_octet line octets x (first_end octets) (x == 10) refl (no_end_there (line ++ x ∷ []) octets) none
+
+pub no_end : (line octets : List ℕ) → position is_line_feed octets ≡ None → HasNoEnd line octets
+no_end line octets e = by (ltb (first_end octets) (length octets)) refl e
+  where
+    by : (b : Bool) → ltb (first_end octets) (length octets) ≡ b → cond b (Some (first_end octets)) None ≡ None → HasNoEnd line octets
+    by true is same = cc same
+    by false is same = no_end_there line octets (λ less. let most = ltb-false _ _ is in omega arith)
+
+pub cut_none : cut [] ≡ []
+unfolding cut
+cut_none = refl
+
+-- a line that no octets follow
+pub cut_at_end : (line piece : List ℕ) → length piece ≡ 0 → length line ≤ LONGEST_ROW + 1 → line ≡ cut (last_line line piece)
+cut_at_end line [] none few = sym (cut_short line few)
+cut_at_end line (x ∷ piece) none few = absurd (omega arith)
+
+-- ---- rows
+
+pub one_row : (line : List ℕ) → (length line ≡ 0 → ⊥) → length line ≤ LONGEST_ROW + 1 → rows_of (line ∷ []) ≡ line ∷ []
+one_row [] ne few = absurd (ne refl)
+one_row (x ∷ xs) ne few = ap (λ row. row ∷ []) (cut_short (x ∷ xs) few)
 
 pub no_row : (line : List ℕ) → length line ≡ 0 → rows_of (line ∷ []) ≡ []
 no_row [] e = refl
@@ -70,10 +222,10 @@ module _ {D : Type 0} (Takes : TakesRow D) where
   )
 
   -- a row is taken
-  pub one_owed : (first last : D) (line owed answer now : List ℕ) → (length line ≡ 0 → ⊥) → Takes first line last answer → now ≡ owed ++ answer →
+  pub one_owed : (first last : D) (line owed answer now : List ℕ) → (length line ≡ 0 → ⊥) → length line ≤ LONGEST_ROW + 1 → Takes first line last answer → now ≡ owed ++ answer →
       AreOwed Takes first last (rows_of (line ∷ [])) owed now
-  one_owed first last line owed answer now ne so is =
-      subst (λ rows. AreOwed Takes first last rows owed now) (sym (one_row line ne))
+  one_owed first last line owed answer now ne few so is =
+      subst (λ rows. AreOwed Takes first last rows owed now) (sym (one_row line ne few))
       (answer ∷ [], (last, so, refl), is ∙ ap (λ a. owed ++ a) (sym (append-nil answer)))
 
   -- ---- the lines of a piece
@@ -83,66 +235,50 @@ module _ {D : Type 0} (Takes : TakesRow D) where
     pub rows : List (List ℕ)
     pub left : all ≡ rows ++ rows_of (whole_lines line rest)
     pub taken : AreOwed Takes first at rows owed now
-    pub begun : begins ≡ last_line line rest
+    pub begun : begins ≡ cut (last_line line rest)
 
   pub so_far : (first : D) (line octets rest owed : List ℕ) → octets ≡ rest →
-      SoFar first first (rows_of (whole_lines line octets)) (last_line line octets) line rest owed owed
+      SoFar first first (rows_of (whole_lines line octets)) (cut (last_line line octets)) line rest owed owed
   so_far first line octets rest owed e = record {
     rows = [];
     left = ap (λ r. rows_of (whole_lines line r)) e;
     taken = none_owed first owed;
-    begun = ap (last_line line) e;
+    begun = ap (λ r. cut (last_line line r)) e;
   }
 
-  lines_at_end : (line rest : List ℕ) (c : ℕ) → c ≡ 10 → whole_lines line (c ∷ rest) ≡ line ∷ whole_lines [] rest
-  lines_at_end line rest c e = let t : (c == 10) ≡ true = eq-eqb c 10 e in rw t refl
+  module _ (first at : D) (all : List (List ℕ)) (begins line rest owed now : List ℕ) (so : SoFar first at all begins line rest owed now) (place : ℕ) (next : position is_line_feed rest ≡ Some place)
+      (ended : List ℕ) (is : ended ≡ cut (line ++ take place rest)) where
+    -- the rows from the line that ends on
+    rows_from : all ≡ so.rows ++ rows_of (ended ∷ []) ++ rows_of (whole_lines [] (drop (suc place) rest))
+    rows_from =
+        so.left ∙ ap (λ l. so.rows ++ rows_of l) (ends_at line rest place next).lines
+        ∙ ap (λ r. so.rows ++ r) (sym (row_so ended (line ++ take place rest) (whole_lines [] (drop (suc place) rest)) (ap cut is ∙ cut_twice (line ++ take place rest))))
+        ∙ ap (λ r. so.rows ++ r) (rows_of-append (ended ∷ []) (whole_lines [] (drop (suc place) rest)))
+        ∙ sym (append_assoc so.rows (rows_of (ended ∷ [])) (rows_of (whole_lines [] (drop (suc place) rest))))
 
-  rows_at_end : (line rest : List ℕ) (c : ℕ) → c ≡ 10 → rows_of (whole_lines line (c ∷ rest)) ≡ rows_of (line ∷ []) ++ rows_of (whole_lines [] rest)
-  rows_at_end line rest c e = ap rows_of (lines_at_end line rest c e) ∙ rows_of-append (line ∷ []) (whole_lines [] rest)
-
-  last_at_end : (line rest : List ℕ) (c : ℕ) → c ≡ 10 → last_line line (c ∷ rest) ≡ last_line [] rest
-  last_at_end line rest c e = let t : (c == 10) ≡ true = eq-eqb c 10 e in rw t refl
-
-  lines_in_line : (line rest : List ℕ) (c : ℕ) → (c ≡ 10 → ⊥) → whole_lines line (c ∷ rest) ≡ whole_lines (line ++ c ∷ []) rest
-  lines_in_line line rest c ne = let t : (c == 10) ≡ false = ne_eqb c 10 ne in rw t refl
-
-  last_in_line : (line rest : List ℕ) (c : ℕ) → (c ≡ 10 → ⊥) → last_line line (c ∷ rest) ≡ last_line (line ++ c ∷ []) rest
-  last_in_line line rest c ne = let t : (c == 10) ≡ false = ne_eqb c 10 ne in rw t refl
-
-  module _ (first at : D) (all : List (List ℕ)) (begins line rest owed now : List ℕ) (so : SoFar first at all begins line rest owed now) (c : ℕ) (left : List ℕ) (next : rest ≡ c ∷ left) where
     -- a line ends
-    pub line_ends : (after : D) (owing : List ℕ) → c ≡ 10 → AreOwed Takes at after (rows_of (line ∷ [])) now owing → SoFar first after all begins [] left owed owing
-    line_ends after owing e more = record {
-      rows = so.rows ++ rows_of (line ∷ []);
-      left = so.left ∙ ap (λ r. so.rows ++ rows_of (whole_lines line r)) next ∙ ap (λ r. so.rows ++ r) (rows_at_end line left c e)
-          ∙ sym (append_assoc so.rows (rows_of (line ∷ [])) (rows_of (whole_lines [] left)));
-      taken = owed_then first at after so.rows (rows_of (line ∷ [])) owed now owing so.taken more;
-      begun = so.begun ∙ ap (last_line line) next ∙ last_at_end line left c e;
+    ends : (after : D) (owing : List ℕ) → AreOwed Takes at after (rows_of (ended ∷ [])) now owing → SoFar first after all begins [] (drop (suc place) rest) owed owing
+    ends after owing more = record {
+      rows = so.rows ++ rows_of (ended ∷ []);
+      left = rows_from;
+      taken = owed_then first at after so.rows (rows_of (ended ∷ [])) owed now owing so.taken more;
+      begun = so.begun ∙ ap cut (ends_at line rest place next).last;
     }
 
-    -- a line goes on
-    pub line_goes_on : (c ≡ 10 → ⊥) → SoFar first at all begins (line ++ c ∷ []) left owed now
-    line_goes_on ne = record {
-      rows = so.rows;
-      left = so.left ∙ ap (λ r. so.rows ++ rows_of (whole_lines line r)) next ∙ ap (λ l. so.rows ++ rows_of l) (lines_in_line line left c ne);
-      taken = so.taken;
-      begun = so.begun ∙ ap (last_line line) next ∙ last_in_line line left c ne;
-    }
+    -- the same of the line and the octets that are left then
+    pub line_ends : (after : D) (owing begun left : List ℕ) → AreOwed Takes at after (rows_of (ended ∷ [])) now owing → begun ≡ [] → left ≡ drop (suc place) rest → SoFar first after all begins begun left owed owing
+    line_ends after owing begun left more none from =
+        subst (λ l. SoFar first after all begins l left owed owing) (sym none) (subst (λ r. SoFar first after all begins [] r owed owing) (sym from) (ends after owing more))
 
-  -- the same, by equal values
-  pub so_is : (first at at' : D) (all : List (List ℕ)) (begins line line' rest owed now now' : List ℕ) → SoFar first at all begins line rest owed now → at' ≡ at → line' ≡ line → now' ≡ now →
-      SoFar first at' all begins line' rest owed now'
-  so_is first at at' all begins line line' rest owed now now' so same_at same_line same_now =
-      subst (λ d. SoFar first d all begins line' rest owed now') (sym same_at) (subst (λ l. SoFar first at all begins l rest owed now') (sym same_line)
-      (subst (λ o. SoFar first at all begins line rest owed o) (sym same_now) so))
+  -- no line ends any more
+  pub all_taken : (first at : D) (all : List (List ℕ)) (begins line rest owed now : List ℕ) → SoFar first at all begins line rest owed now → position is_line_feed rest ≡ None
+      → AreOwed Takes first at all owed now
+  all_taken first at all begins line rest owed now so none =
+      subst (λ rows. AreOwed Takes first at rows owed now) (sym (so.left ∙ ap (λ l. so.rows ++ rows_of l) (no_end line rest none).lines ∙ append-nil so.rows)) so.taken
 
-  -- nothing is left
-  pub all_taken : (first at : D) (all : List (List ℕ)) (begins line rest owed now : List ℕ) → SoFar first at all begins line rest owed now → rest ≡ [] → AreOwed Takes first at all owed now
-  all_taken first at all begins line rest owed now so e =
-      subst (λ rows. AreOwed Takes first at rows owed now) (sym (so.left ∙ ap (λ r. so.rows ++ rows_of (whole_lines line r)) e ∙ append-nil so.rows)) so.taken
-
-  pub all_begun : (first at : D) (all : List (List ℕ)) (begins line rest owed now : List ℕ) → SoFar first at all begins line rest owed now → rest ≡ [] → line ≡ begins
-  all_begun first at all begins line rest owed now so e = sym (so.begun ∙ ap (last_line line) e)
+  pub all_begun : (first at : D) (all : List (List ℕ)) (begins line rest owed now : List ℕ) → SoFar first at all begins line rest owed now → position is_line_feed rest ≡ None
+      → cut (line ++ rest) ≡ begins
+  all_begun first at all begins line rest owed now so none = sym (so.begun ∙ ap cut (no_end line rest none).last)
 
   -- ---- refusals
 
@@ -167,12 +303,12 @@ module _ {D : Type 0} (Takes : TakesRow D) where
       refused = refused_then cut.at cut.later later last by cut.refused;
     }
 
-    pub line_cut : (first at last : D) (all : List (List ℕ)) (begins line rest owed now after : List ℕ) (c : ℕ) (left : List ℕ) (by : Refusal F) → SoFar first at all begins line rest owed now →
-        rest ≡ c ∷ left → c ≡ 10 → AreCut Takes Refuses at last (rows_of (line ∷ [])) now after by → AreCut Takes Refuses first last all owed after by
-    line_cut first at last all begins line rest owed now after c left by so next e cut =
-        cut_after first at last so.rows (rows_of (line ∷ [])) (rows_of (whole_lines [] left)) all owed now after by
-        (so.left ∙ ap (λ r. so.rows ++ rows_of (whole_lines line r)) next ∙ ap (λ r. so.rows ++ r) (rows_at_end line left c e)
-        ∙ sym (append_assoc so.rows (rows_of (line ∷ [])) (rows_of (whole_lines [] left)))) so.taken cut
+    pub line_cut : (first at last : D) (all : List (List ℕ)) (begins line rest owed now after : List ℕ) (by : Refusal F) (so : SoFar first at all begins line rest owed now) (place : ℕ)
+        → position is_line_feed rest ≡ Some place → (ended : List ℕ) → ended ≡ cut (line ++ take place rest) → AreCut Takes Refuses at last (rows_of (ended ∷ [])) now after by
+        → AreCut Takes Refuses first last all owed after by
+    line_cut first at last all begins line rest owed now after by so place next ended is cut =
+        cut_after first at last so.rows (rows_of (ended ∷ [])) (rows_of (whole_lines [] (drop (suc place) rest))) all owed now after by
+        (rows_from first at all begins line rest owed now so place next ended is) so.taken cut
 
     -- memory runs out within a line
     pub octet_cut : (first at : D) (all : List (List ℕ)) (begins line rest owed now : List ℕ) → SoFar first at all begins line rest owed now → AreCut Takes Refuses first at all owed now refusal.OutOfMemory
@@ -192,7 +328,7 @@ empty [] e = refl
 empty (x ∷ xs) e = absurd (omega arith)
 
 -- why a desk refuses a row
-pub refused_by : {D F : Type 0} (Refuses : RefusesRow D F) (at last : D) (line : List ℕ) (by : Refusal F) → (length line ≡ 0 → ⊥) → IsRefusal (Refuses at line last) by →
+pub refused_by : {D F : Type 0} (Refuses : RefusesRow D F) (at last : D) (line : List ℕ) (by : Refusal F) → (length line ≡ 0 → ⊥) → length line ≤ LONGEST_ROW + 1 → IsRefusal (Refuses at line last) by →
     IsRefused Refuses at (rows_of (line ∷ [])) last by
-refused_by Refuses at last line (refusal.Fault fault) some so = (line, [], one_row line some, so)
-refused_by Refuses at last line refusal.OutOfMemory some so = tt
+refused_by Refuses at last line (refusal.Fault fault) some few so = (line, [], one_row line some few, so)
+refused_by Refuses at last line refusal.OutOfMemory some few so = tt

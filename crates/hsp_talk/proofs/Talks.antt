@@ -3,14 +3,14 @@ use Rattle.std.proofs.Common.{◌≡◌, ℕ, Bool, true, false, true≢false, L
 use Rattle.std.proofs.Math.Seq.{take-append_seam}
 use Rattle.std.specs.List.{concat}
 use Rattle.std.proofs.lemmas.List.Folds.{concat-append}
-use Rattle.hsp_talk.specs.Talk.{AreTaken, Event, GoesOn, HeldToTheEnd, IsPrompt, RefusesRow, SendsSome, StoppedBy, TakesRow, Took, has_ended, last_line, received_in, rows_in, rows_of, sending, sent_in, whole_lines}
+use Rattle.hsp_talk.specs.Talk.{AreTaken, Event, GoesOn, HeldToTheEnd, IsPrompt, RefusesRow, SendsSome, StoppedBy, TakesRow, Took, cut, has_ended, last_line, received_in, rows_in, rows_of, sending, sent_in, whole_lines}
 use Rattle.hsp_talk.specs.Talk.Event.{received, sent}
 use Rattle.hsp_talk.specs.Turns.{AreCut, AreOwed, IsAt, IsRefused, StandsSo, rows_ended_by}
 use Rattle.hsp_talk.specs.Refusals.{stop_by}
 use Rattle.hsp_talk.specs.declared.stop.Refusal.{Refusal}
 use Rattle.hsp_talk.specs.declared.stop.Refusal.TheVariants as refusal
 use Rattle.hsp_talk.specs.declared.stop.Stop.TheVariants as stop
-use Rattle.hsp_talk.proofs.Rows.{as_many, last_then, lines_then, rows_of-append, taken_then}
+use Rattle.hsp_talk.proofs.Rows.{as_many, cut_none, cut_twice, ended_so, last_so, last_then, lines_then, rows_of-append, taken_then}
 
 -- ---- events
 
@@ -164,7 +164,7 @@ module _ {D : Type 0} (Takes : TakesRow D) (first : D) where
       record {
         rows = rows_in events ++ rows;
         answers = so.answers ++ more.0;
-        came = rows_then events piece so.not_ended ∙ ap (λ l. rows_in events ++ rows_ended_by l piece) (sym so.begun) ∙ ap (λ r. rows_in events ++ r) parted
+        came = rows_then events piece so.not_ended ∙ ap (λ r. rows_in events ++ r) (ended_so (last_line [] (received_in events)) line piece (sym (cut_twice (last_line [] (received_in events))) ∙ ap cut (sym so.begun))) ∙ ap (λ r. rows_in events ++ r) parted
             ∙ sym (append_assoc (rows_in events) rows later);
         taken = taken_then Takes first (rows_in events) desk so.answers rows at more.0 so.taken more.1;
         prompt = λ also.
@@ -234,7 +234,7 @@ module _ {D : Type 0} (Takes : TakesRow D) (first : D) where
 
   -- a turn ends, and the next read may come
   pub talk_goes_on : (desk at : D) (line piece next owed : List ℕ) (old now new : Option (List Event)) → (length piece ≡ 0 → ⊥) → IsAt Takes first desk line old →
-      GoesOn old now (received piece ∷ []) → AreOwed Takes desk at (rows_ended_by line piece) [] owed → next ≡ last_line line piece → GoesOn now new (sending owed) →
+      GoesOn old now (received piece ∷ []) → AreOwed Takes desk at (rows_ended_by line piece) [] owed → next ≡ cut (last_line line piece) → GoesOn now new (sending owed) →
       IsAt Takes first at next new
   talk_goes_on desk at line [] next owed old now new some so read more begun sends = absurd (some refl)
   talk_goes_on desk at line (c ∷ octets) next owed None now new some so read more begun sends = absurd so
@@ -250,9 +250,9 @@ module _ {D : Type 0} (Takes : TakesRow D) (first : D) where
         all_sent = none_owing at (events ++ piece ++ sending owed) [] owing;
         prompt = owing.prompt;
         not_ended = ended_by_all (events ++ piece) owed ∙ ended_then events piece so.not_ended;
-        begun = begun ∙ ap (λ l. last_line l (c ∷ octets)) so.begun ∙ sym (last_then [] (received_in events) (c ∷ octets))
-            ∙ ap (last_line []) (ap (λ o. received_in events ++ o) (sym (append-nil (c ∷ octets))) ∙ sym (received_then events piece))
-            ∙ ap (last_line []) (sym (received_by_all (events ++ piece) owed));
+        begun = begun ∙ last_so line (last_line [] (received_in events)) (c ∷ octets) (ap cut so.begun ∙ cut_twice (last_line [] (received_in events))) ∙ ap cut (sym (last_then [] (received_in events) (c ∷ octets)))
+            ∙ ap (λ o. cut (last_line [] o)) (ap (λ o. received_in events ++ o) (sym (append-nil (c ∷ octets))) ∙ sym (received_then events piece))
+            ∙ ap (λ o. cut (last_line [] o)) (sym (received_by_all (events ++ piece) owed));
       })
 
   pub talk_begins : (talk : Option (List Event)) → talk ≡ Some [] → IsAt Takes first first [] talk
@@ -262,7 +262,7 @@ module _ {D : Type 0} (Takes : TakesRow D) (first : D) where
     all_sent = refl;
     prompt = λ more before after octets so. absurd (not_within (received octets) before after so);
     not_ended = refl;
-    begun = refl;
+    begun = sym cut_none;
   })
 
   module _ {F : Type 0} (Refuses : RefusesRow D F) where

@@ -1,6 +1,7 @@
 -- A talk: rows come in, one a line, and every answer goes out before the next read.
-use Rattle.std.specs.Prelude.{◌≡◌, ⊤, ℕ, ◌==◌, Bool, true, false, List, [], ◌∷◌, ◌++◌, Option, Some, None, if◌then◌else◌, length, take}
+use Rattle.std.specs.Prelude.{◌≡◌, ⊤, ℕ, ◌+◌, ◌==◌, Bool, true, false, List, [], ◌∷◌, ◌++◌, Option, Some, None, if◌then◌else◌, length, take}
 use Rattle.std.specs.List.{concat}
+use Rattle.hsp_talk.specs.declared.limits.TheConstants.{LONGEST_ROW}
 use Rattle.hsp_talk.specs.declared.stop.Stop.{Stop}
 use Rattle.hsp_talk.specs.declared.stop.Stop.TheVariants as stop
 
@@ -20,11 +21,18 @@ abbrev pub last_line : List ℕ → List ℕ → List ℕ
 last_line begun [] = begun
 last_line begun (octet ∷ octets) = if octet == line_feed then last_line [] octets else last_line (begun ++ octet ∷ []) octets
 
--- a row is a line that is not empty
+abbrev pub is_line_feed : ℕ → Bool
+is_line_feed octet = octet == line_feed
+
+-- what of a line is a row: of a line that is too long the greatest length of a row, and one octet more
+unfoldable pub cut : List ℕ → List ℕ
+cut line = take (LONGEST_ROW + 1) line
+
+-- a row is a line that is not empty, cut
 abbrev pub rows_of : List (List ℕ) → List (List ℕ)
 rows_of [] = []
 rows_of ([] ∷ lines) = rows_of lines
-rows_of ((octet ∷ octets) ∷ lines) = (octet ∷ octets) ∷ rows_of lines
+rows_of ((octet ∷ octets) ∷ lines) = cut (octet ∷ octets) ∷ rows_of lines
 
 -- ---- events
 

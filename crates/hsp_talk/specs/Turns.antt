@@ -1,7 +1,7 @@
 -- The turns of a talk: a piece of octets is received, the rows that it ends are taken, and their answers are sent.
 use Rattle.std.specs.Prelude.{◌≡◌, ⊤, ℕ, false, List, [], ◌∷◌, ◌++◌, Option, Some, None}
 use Rattle.std.specs.List.{concat}
-use Rattle.hsp_talk.specs.Talk.{AreTaken, Event, IsPrompt, RefusesRow, TakesRow, has_ended, last_line, received_in, rows_in, rows_of, sent_in, whole_lines}
+use Rattle.hsp_talk.specs.Talk.{AreTaken, Event, IsPrompt, RefusesRow, TakesRow, cut, has_ended, last_line, received_in, rows_in, rows_of, sent_in, whole_lines}
 use Rattle.hsp_talk.specs.declared.stop.Refusal.{Refusal}
 use Rattle.hsp_talk.specs.declared.stop.Refusal.TheVariants as refusal
 
@@ -28,14 +28,14 @@ pub record AreCut {D F : Type 0} (Takes : TakesRow D) (Refuses : RefusesRow D F)
   pub taken : AreOwed Takes first at rows owed now
   pub refused : IsRefused Refuses at later last by
 
--- before a read: all rows that came in were taken, their answers were sent, and a line has begun
+-- before a read: all rows that came in were taken, their answers were sent, and what a row keeps of a line has begun
 pub record StandsSo {D : Type 0} (Takes : TakesRow D) (first last : D) (line : List ℕ) (events : List Event) : Type 0 where
   pub answers : List (List ℕ)
   pub taken : AreTaken Takes first (rows_in events) last answers
   pub all_sent : sent_in events ≡ concat answers
   pub prompt : (more : List (List ℕ)) → IsPrompt (answers ++ more) events
   pub not_ended : has_ended events ≡ false
-  pub begun : line ≡ last_line [] (received_in events)
+  pub begun : line ≡ cut (last_line [] (received_in events))
 
 -- the same of a talk that is known
 abbrev pub IsAt : {D : Type 0} → TakesRow D → D → D → List ℕ → Option (List Event) → Type 0

@@ -4,11 +4,13 @@
 
 mod desk;
 pub mod laws;
+mod limits;
 mod peer;
 mod stop;
 mod talking;
 
 pub use desk::Desk;
+pub use limits::LONGEST_ROW;
 pub use peer::{Failed, Joined, Peer};
 pub use stop::{Refusal, Stop};
 pub use talking::talk;

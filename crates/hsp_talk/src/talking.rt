@@ -1,11 +1,14 @@
 // The talk.
 
-ghost use Rattle.std.specs.Prelude.{◌≡◌, ◌++◌, ◌∷◌, [], IfErr, IfOk, IsSomeAnd, OnErr, OnOk, Some};
+ghost use Rattle.std.specs.Prelude.{◌≡◌, ◌<◌, ◌≤◌, ◌+◌, ◌++◌, ◌∷◌, [], IfErr, IfOk, IfSome, IsSomeAnd, OnErr, OnOk, Some, length, position};
+ghost use Rattle.hsp_talk.specs.declared.limits.TheConstants.{LONGEST_ROW};
 ghost use Rattle.hsp_talk.specs.Talk.{
   GoesOn,
   HeldToTheEnd,
   SendsSome,
   StoppedBy,
+  cut,
+  is_line_feed,
   last_line,
   rows_of,
   sending,
@@ -14,9 +17,10 @@ ghost use Rattle.hsp_talk.specs.Talk.{
 ghost use Rattle.hsp_talk.specs.Turns.{AreCut, AreOwed, rows_ended_by};
 
 use crate::desk::Desk;
+use crate::limits::LONGEST_ROW;
 use crate::peer::{Failed, Peer};
 use crate::stop::{Refusal, Stop, stop_for};
-use std::alloc::Global;
+use std::alloc::{AllocError, Global};
 
 // The most octets that are received at a time.
 const PIECE: usize = 8192;
@@ -28,6 +32,7 @@ fn take_line<D: Desk>(
     answer: &mut Vec<u8>,
     owed: &mut Vec<u8>,
 ) -> Result<(), Refusal<D::Fault>>
+    requires { length line.now ≤ LONGEST_ROW + 1 }
     ensures taken { OnOk result (AreOwed D.Takes desk.old desk.new
         (rows_of (line.now ∷ [])) owed.old.items owed.new.items) }
     ensures cut { IfErr result (AreCut D.Takes D.Refuses desk.old desk.new
@@ -46,6 +51,25 @@ fn take_line<D: Desk>(
     }
 }
 
+// Where the first line ends.
+fn end_of_line(octets: &[u8]) -> Option<usize>
+    ensures place { result ≡ position is_line_feed octets.now }
+    ensures within { IfSome result (λ place. place < length octets.now) }
+{
+    octets.iter().position(|octet| *octet == b'\n')
+}
+
+// Adds octets to a line, as far as a row may have them and one more.
+fn lengthen(line: &mut Vec<u8>, octets: &[u8]) -> Result<(), AllocError>
+    requires { length line.old.items ≤ LONGEST_ROW + 1 }
+    ensures { OnOk result (line.new.items ≡ cut (line.old.items ++ octets.now)) }
+{
+    let room = LONGEST_ROW + 1 - line.len();
+    let count = octets.len().min(room);
+    line.extend_from_slice(&octets[..count])?;
+    Ok(())
+}
+
 // Takes the lines that these octets end. What they begin is kept.
 fn take_lines<D: Desk>(
     desk: &mut D,
@@ -54,25 +78,29 @@ fn take_lines<D: Desk>(
     answer: &mut Vec<u8>,
     owed: &mut Vec<u8>,
 ) -> Result<(), Refusal<D::Fault>>
+    requires { length line.old.items ≤ LONGEST_ROW + 1 }
     ensures taken { OnOk result (AreOwed D.Takes desk.old desk.new
         (rows_of (whole_lines line.old.items octets.now)) owed.old.items owed.new.items) }
-    ensures begun { OnOk result (line.new.items ≡ last_line line.old.items octets.now) }
+    ensures begun { OnOk result (line.new.items ≡ cut (last_line line.old.items octets.now)) }
     ensures cut { IfErr result (AreCut D.Takes D.Refuses desk.old desk.new
         (rows_of (whole_lines line.old.items octets.now)) owed.old.items owed.new.items) }
 {
-    for octet in octets {
-        if *octet == b'\n' {
-            if let Err(refusal) = take_line(desk, line, answer, owed) {
-                return Err(refusal);
-            }
-            line.clear();
-        } else {
-            let Ok(()) = line.push(*octet) else {
-                return Err(Refusal::OutOfMemory);
-            };
+    let mut rest = octets;
+    'lines: while let Some(place) = end_of_line(rest) {
+        let (ended, more) = rest.split_at(place);
+        let Ok(()) = lengthen(line, ended) else {
+            return Err(Refusal::OutOfMemory);
+        };
+        if let Err(refusal) = take_line(desk, line, answer, owed) {
+            return Err(refusal);
         }
+        line.clear();
+        rest = &more[1..];
     }
-    Ok(())
+    match lengthen(line, rest) {
+        Ok(()) => Ok(()),
+        Err(_) => Err(Refusal::OutOfMemory),
+    }
 }
 
 // Takes the rows that a piece ends. Where no more octets come, the last line has ended too.
@@ -83,9 +111,10 @@ fn take_piece<D: Desk>(
     answer: &mut Vec<u8>,
     owed: &mut Vec<u8>,
 ) -> Result<(), Refusal<D::Fault>>
+    requires { length line.old.items ≤ LONGEST_ROW + 1 }
     ensures taken { OnOk result (AreOwed D.Takes desk.old desk.new
         (rows_ended_by line.old.items piece.now) owed.old.items owed.new.items) }
-    ensures begun { OnOk result (line.new.items ≡ last_line line.old.items piece.now) }
+    ensures begun { OnOk result (line.new.items ≡ cut (last_line line.old.items piece.now)) }
     ensures cut { IfErr result (AreCut D.Takes D.Refuses desk.old desk.new
         (rows_ended_by line.old.items piece.now) owed.old.items owed.new.items) }
 {
@@ -116,6 +145,9 @@ fn send_owed<P: Peer>(peer: &mut P, owed: &mut Vec<u8>) -> Result<(), Failed>
 /// Every answer is sent before the next read, which may wait. A line ends with a line feed; a carriage return before
 /// it belongs to the line. An empty line is no row. The last line may lack its end, and is taken when no more octets
 /// come.
+///
+/// Of a line with more than [`LONGEST_ROW`] octets, the first [`LONGEST_ROW`] and one more are the row, and the rest is
+/// passed over. So memory is bounded whatever comes, and the desk sees that the row is too long.
 ///
 /// Where the desk refuses a row, the answers to the rows before it are sent first. The same holds where memory runs
 /// out.

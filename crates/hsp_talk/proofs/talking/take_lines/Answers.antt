@@ -1,36 +1,29 @@
-use Rattle.std.proofs.Common.{[], ◌∷◌, ◌+◌, slice_index, drop, ap, subst, ◌∙◌}
-use Rattle.std.proofs.lemmas.List.{drop_more}
-use Rattle.hsp_talk.specs.Talk.{rows_of}
-use Rattle.hsp_talk.specs.Turns.{AreCut, AreOwed}
-use Rattle.hsp_talk.proofs.Rows.{line_cut, line_ends, line_goes_on, so_is}
+use Rattle.std.proofs.Common.{◌++◌, ap, arith, sym, ◌∙◌}
+use Rattle.hsp_talk.specs.Talk.{cut}
+use Rattle.hsp_talk.proofs.Rows.{all_after, all_begun, all_taken, line_cut, line_ends, within_cut}
 use Rattle.hsp_talk.proofs.talking.take_lines.Goals as goal
-use Rattle.hsp_talk.proofs.talking.take_lines.Goals.{then-octet-eq10+in_default, else-octet-eq10+in-Ok}
+
+pub take_line-requires : goal.take_line-requires
+take_line-requires g c = rw (c.deref.ensures.value, c.in-Ok.ensures) (within_cut _)
 
 pub returns-in-Err-clause-cut : goal.returns-in-Err-clause-cut
 returns-in-Err-clause-cut g c =
-    let line = c.loop-octet.line.items in
-    let octets = c.args.octets.now in
-    let i = c.loop-octet.octet-index in
-    line_cut g.D.Desk.Takes g.D.Desk.Refuses c.args.desk.now c.loop-octet.desk c.take_line.new.desk _ _ line _ _ c.loop-octet.owed.items _ (slice_index octets i) (drop (i + 1) octets) c.in-Err.refusal
-    c.loop-octet.invariant (drop_more octets i 0 c.loop-octet-test.true) c.if-octet-eq10.true
-    (subst (λ l. AreCut g.D.Desk.Takes g.D.Desk.Refuses c.loop-octet.desk c.take_line.new.desk (rows_of (l ∷ [])) c.loop-octet.owed.items c.take_line.new.owed.items c.in-Err.refusal) c.deref.ensures.value c.in-Err.ensures.cut)
+    line_cut g.D.Desk.Takes g.D.Desk.Refuses c.args.desk.now c.lines.desk c.take_line.new.desk _ _ c.lines.line.items c.lines.rest.now _ c.lines.owed.items _ c.in-Err.refusal c.lines.invariant.so_far c.in-Some.place
+    (sym c.in-Some.ensures.place) c.deref.result.now (c.deref.ensures.value ∙ c.in-Ok.ensures ∙ ap (λ o. cut (c.lines.line.items ++ o)) c.split_at.ensures.front) c.in-Err.ensures.cut
 
-pub loop-octet-preserved : goal.loop-octet-preserved
-loop-octet-preserved g c =
-    let line = c.loop-octet.line.items in
-    let octets = c.args.octets.now in
-    let i = c.loop-octet.octet-index in
-    let next = drop_more octets i 0 c.loop-octet-test.true in
-    elim c.if-octet-eq10.branch [
-      | then-octet-eq10+in_default w ↦
-          so_is g.D.Desk.Takes c.args.desk.now w.take_line.new.desk _ _ _ [] _ _ _ w.take_line.new.owed.items _
-          (line_ends g.D.Desk.Takes c.args.desk.now c.loop-octet.desk _ _ line _ _ c.loop-octet.owed.items c.loop-octet.invariant (slice_index octets i) (drop (i + 1) octets) next
-          w.take_line.new.desk w.take_line.new.owed.items w.if-octet-eq10.true
-          (subst (λ l. AreOwed g.D.Desk.Takes c.loop-octet.desk w.take_line.new.desk (rows_of (l ∷ [])) c.loop-octet.owed.items w.take_line.new.owed.items) w.deref.ensures.value w.in_default.ensures.taken))
-          w.desk-is (ap (λ v. v.items) w.line-is ∙ w.clear.ensures.items) (ap (λ v. v.items) w.owed-is)
-      | else-octet-eq10+in-Ok w ↦
-          so_is g.D.Desk.Takes c.args.desk.now c.loop-octet.desk _ _ _ _ _ _ _ c.loop-octet.owed.items _
-          (line_goes_on g.D.Desk.Takes c.args.desk.now c.loop-octet.desk _ _ line _ _ c.loop-octet.owed.items c.loop-octet.invariant (slice_index octets i) (drop (i + 1) octets) next
-          w.if-octet-eq10.false)
-          w.desk-is (ap (λ v. v.items) w.line-is ∙ w.in-Ok.ensures.items) (ap (λ v. v.items) w.owed-is)
-    ]
+pub lines-preserved : goal.lines-preserved
+lines-preserved g c = record {
+  so_far =
+      line_ends g.D.Desk.Takes c.args.desk.now c.lines.desk _ _ c.lines.line.items c.lines.rest.now _ c.lines.owed.items c.lines.invariant.so_far c.in-Some.place (sym c.in-Some.ensures.place)
+      c.deref.result.now (c.deref.ensures.value ∙ c.in-Ok.ensures ∙ ap (λ o. cut (c.lines.line.items ++ o)) c.split_at.ensures.front) c.take_line.new.desk c.take_line.new.owed.items _ _
+      c.in_default-take_line.ensures.taken c.clear.ensures.items (all_after c.lines.rest.now c.split_at.result.1.now c.in-Some.place c.split_at.ensures.back);
+  short = rw c.clear.ensures.items (omega arith);
+}
+
+pub returns-in-Ok-lengthen-clause-taken : goal.returns-in-Ok-lengthen-clause-taken
+returns-in-Ok-lengthen-clause-taken g c =
+    all_taken g.D.Desk.Takes c.args.desk.now c.lines.desk _ _ c.lines.line.items c.lines.rest.now _ c.lines.owed.items c.lines.invariant.so_far (sym c.end_of_line.ensures.place ∙ c.in_default.is)
+
+pub returns-in-Ok-lengthen-clause-begun : goal.returns-in-Ok-lengthen-clause-begun
+returns-in-Ok-lengthen-clause-begun g c =
+    c.in-Ok-lengthen.ensures ∙ all_begun g.D.Desk.Takes c.args.desk.now c.lines.desk _ _ c.lines.line.items c.lines.rest.now _ c.lines.owed.items c.lines.invariant.so_far (sym c.end_of_line.ensures.place ∙ c.in_default.is)

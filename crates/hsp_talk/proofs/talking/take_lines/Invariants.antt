@@ -1,9 +1,15 @@
-use Rattle.std.proofs.Common.{drop}
-use Rattle.hsp_talk.specs.Talk.{last_line, rows_of, whole_lines}
+use Rattle.std.proofs.Common.{◌+◌, ◌≤◌, length}
+use Rattle.hsp_talk.specs.Talk.{cut, last_line, rows_of, whole_lines}
+use Rattle.hsp_talk.specs.declared.limits.TheConstants.{LONGEST_ROW}
 use Rattle.hsp_talk.proofs.Rows.{SoFar}
 use Rattle.hsp_talk.proofs.talking.take_lines.Given as goal
 
 -- the lines of the octets so far were taken
-abbrev pub invariant-loop-octet : goal.invariant-loop-octet
-invariant-loop-octet g l =
-    SoFar g.D.Desk.Takes l.fn.desk l.desk (rows_of (whole_lines l.fn.line.items l.octets)) (last_line l.fn.line.items l.octets) l.line.items (drop l.octet-index l.octets) l.fn.owed.items l.owed.items
+abbrev pub invariant-lines : goal.invariant-lines
+invariant-lines g l = record {
+  so_far : SoFar g.D.Desk.Takes l.fn.desk l.desk (rows_of (whole_lines l.fn.line.items l.octets)) (cut (last_line l.fn.line.items l.octets)) l.line.items l.rest l.fn.owed.items l.owed.items;
+  short : length l.line.items ≤ LONGEST_ROW + 1;
+}
+
+abbrev pub decreases-lines : goal.decreases-lines
+decreases-lines g l = length l.rest

@@ -1,6 +1,7 @@
-use Rattle.std.proofs.Common.{take, refl, ap, subst, sym, ◌∙◌, length-take-le}
+use Rattle.std.proofs.Common.{arith, take, refl, ap, subst, sym, ◌∙◌, length-take-le}
 use Rattle.hsp_talk.specs.Turns.{AreOwed, rows_ended_by}
-use Rattle.hsp_talk.proofs.Talks.{no_more_turns, read_fails, row_refused_by, talk_ends_by, talk_goes_on, write_fails_after}
+use Rattle.hsp_talk.proofs.Rows.{within_cut}
+use Rattle.hsp_talk.proofs.Talks.{no_more_turns, read_fails, row_refused_by, talk_begins, talk_ends_by, talk_goes_on, write_fails_after}
 use Rattle.hsp_talk.proofs.talking.talk.Goals as goal
 
 pub returns-in_default-clause-stops : goal.returns-in_default-clause-stops
@@ -25,6 +26,13 @@ returns-then-count-eq0-clause-whole g c =
     c.take_piece-taken.new.owed.items _ _ _ (ap (λ n. take n c.receive.new.piece) c.if-count-eq0.true) c.turns.invariant.0 (c.turns.invariant.1 known) c.in-Ok.ensures.receives
     c.in_default-taken.ensures.taken c.in-Ok-send_owed.ensures.sends
 
+pub turns-init : goal.turns-init
+turns-init g c = (
+  c.new-owed.ensures.items,
+  λ known. rw c.new-line.ensures.items (talk_begins g.D.Desk.Takes c.args.desk.now (g.P.Peer.talk c.args.peer.now) known),
+  rw c.new-line.ensures.items (omega arith),
+)
+
 pub turns-preserved : goal.turns-preserved
 turns-preserved g c =
     let piece = take c.in-Ok.count c.receive.new.piece in (
@@ -33,6 +41,7 @@ turns-preserved g c =
           c.take_piece-taken.new.owed.items _ _ _ (λ none. c.if-count-eq0.false (sym (length-take-le c.in-Ok.count c.receive.new.piece c.in-Ok.ensures.within) ∙ none)) (c.turns.invariant.1 known) c.in-Ok.ensures.receives
           (subst (λ o. AreOwed g.D.Desk.Takes c.turns.desk c.take_piece-taken.new.desk (rows_ended_by c.turns.line.items piece) o c.take_piece-taken.new.owed.items) c.turns.invariant.0 c.in_default-taken.ensures.taken)
           c.in_default-taken.ensures.begun c.in-Ok-send_owed.ensures.sends,
+      rw c.in_default-taken.ensures.begun (within_cut _),
     )
 
 pub returns-clause-stops : goal.returns-clause-stops

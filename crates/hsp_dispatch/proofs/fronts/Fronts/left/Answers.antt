@@ -25,4 +25,4 @@ returns c =
     let inside : c.args.row < length rows = omega (arith, c.if-row-len.false, c.len.ensures) in
     let own = there rows c.args.row inside in
     let left : slice_get lefts (c.args.row * fronts + c.args.front) ≡ Some c.get-left.result = rw place at c.get-left.ensures in
-    rw (← c.self.view_is, c.from.ensures, c.left.ensures, own.1) (number_left it fronts c.args.front c.args.row c.get-left.result c.args.site rows lefts own.0 front own.1 left)
+    rw (← c.self.view_is, c.left.ensures, own.1) (number_left it fronts c.args.front c.args.row c.get-left.result c.args.site rows lefts own.0 front own.1 left)

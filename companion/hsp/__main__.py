@@ -1,0 +1,3 @@
+from hsp.cli import main
+
+main(prog_name="hsp")

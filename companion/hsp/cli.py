@@ -1,0 +1,335 @@
+"""The commands of hsp."""
+
+from __future__ import annotations
+
+import csv
+import difflib
+import io
+import json
+import os
+import sys
+from collections.abc import Callable
+from typing import Any, TypeVar
+
+import click
+
+from hsp import __version__
+from hsp.numbers import some
+from hsp.plans import Planned, Reference, cheapest, least_purchase, planned, shortage, with_gains, with_purchase
+from hsp.charts import drawn
+from hsp.page import View, changes_between, render
+from hsp.programs import Desk, Missing, Refused
+from hsp.service import Service, read_service
+from hsp.terminal import colored, head, plan_lines, shortage_lines
+from hsp.whatif import Changes, full_servers, server_named, sizes, standard
+from hsp.whatif import csv_of as cases_csv
+from hsp.whatif import lines as case_lines
+
+Command = TypeVar("Command", bound=Callable[..., Any])
+
+
+class Commands(click.Group):
+    """The commands, a near name for a misspelt one, and one place for faults."""
+
+    def resolve_command(
+        self, context: click.Context, words: list[str]
+    ) -> tuple[str | None, click.Command | None, list[str]]:
+        if words and words[0] not in self.commands and not words[0].startswith("-"):
+            near = difflib.get_close_matches(words[0], self.commands, 1, 0.5)
+            context.fail(f"no command '{words[0]}'" + (f"; did you mean '{near[0]}'?" if near else ""))
+        return super().resolve_command(context, words)
+
+    def invoke(self, context: click.Context) -> Any:
+        try:
+            return super().invoke(context)
+        except Missing as fault:
+            ended(5, *str(fault).splitlines())
+        except Refused as fault:
+            ended(fault.status, f"hsplan refuses these files: {fault.line}")
+        except BrokenPipeError:
+            raise  # click ends without a word where nobody reads on
+        except OSError as fault:
+            ended(5, f"{fault.filename}: {fault.strerror}")
+
+
+def ended(status: int, *lines: str) -> None:
+    """Prints lines on standard error, and ends with a status."""
+    for line in lines:
+        click.echo(f"hsp: {line}", err=True)
+    sys.exit(status)
+
+
+@click.group(cls=Commands, context_settings={"help_option_names": ["-h", "--help"], "max_content_width": 100})
+@click.version_option(__version__, "-V", "--version", prog_name="hsp", message="%(prog)s %(version)s")
+def main() -> None:
+    """Shows the load plan of a Handle System service.
+
+    DIR has settings.toml, demand.csv, costs.csv and capacity.csv, and may have hsp.toml with a title and units.
+    Every rule is hsplan's. Nothing is sent anywhere.
+    """
+
+
+def with_files(command: Command) -> Command:
+    """Adds the folder, and the options for other files."""
+    for kind in ("values", "capacity", "costs", "demand", "settings"):
+        words = "the value list that the settings refer to" if kind == "values" else f"in place of DIR's {kind}"
+        command = click.option(f"--{kind}", metavar="FILE", help=words)(command)
+    folder = click.Path(exists=True, file_okay=False)
+    return click.argument("folder", metavar="DIR", default=".", type=folder)(command)
+
+
+def write(path: str, text: str) -> None:
+    """Writes the whole text, or nothing."""
+    with open(path + ".part", "w", encoding="utf-8") as file:
+        file.write(text)
+    os.replace(path + ".part", path)
+
+
+def progress(number: int) -> Callable[[], None]:
+    """Counts plans on a terminal, where there are many of them."""
+    if number < 8 or not sys.stderr.isatty():
+        return lambda: None
+    done = 0
+
+    def one_more() -> None:
+        nonlocal done
+        done += 1
+        last = "\r" + " " * 60 + "\r" if done == number else ""
+        click.echo(f"\rplanning: {done} of {number}{last}", err=True, nl=False)
+
+    return one_more
+
+
+def shares_of(plan: Planned) -> list[tuple[str, str, int, float]]:
+    """How many of each region's queries go to each site, and which share that is."""
+    found = []
+    for region, (asked, _) in plan.regions.items():
+        for at, site in enumerate(plan.service.sites):
+            queries = plan.shares.get((region, at), 0)
+            if queries:
+                found.append((region, site.name, queries, round(queries / asked, 6)))
+    return found
+
+
+def csv_of(plan: Planned) -> str:
+    out = io.StringIO()
+    writer = csv.writer(out, lineterminator="\n")
+    writer.writerow(["region", "site", "queries", "share"])
+    writer.writerows(shares_of(plan))
+    return out.getvalue()
+
+
+def json_of(plan: Planned, reference: Reference | None) -> str:
+    """What the lines show, for other programs."""
+    servers = [
+        {
+            "site": it.site,
+            "server_id": it.id,
+            "load": plan.loads[it.number],
+            "capacity": plan.service.capacity(it),
+            "price": plan.prices[it.number],
+        }
+        for it in plan.service.servers
+    ]
+    gains = [
+        {
+            "site": it.server.site,
+            "server_id": it.server.id,
+            "one_query_saves": it.one,
+            "room": it.room,
+            "room_saves": it.all,
+        }
+        for it in plan.gains
+    ]
+    shares = [{"region": a, "site": b, "queries": c, "share": d} for a, b, c, d in shares_of(plan)]
+    told = {
+        "title": plan.service.titles.title,
+        "served": True,
+        "queries": plan.service.asked,
+        "cost": plan.cost,
+        "cost_at_cheapest_sites": reference.cost if reference else None,
+        "servers": servers,
+        "room": gains,
+        "regions": [{"region": it, "queries": a, "cost": b} for it, (a, b) in plan.regions.items()],
+        "shares": shares,
+    }
+    return json.dumps(told, indent=2, ensure_ascii=False) + "\n"
+
+
+def show_shortage(service: Service, desk: Desk, as_json: bool) -> None:
+    """Shows who lacks what, and what has to be bought. Ends with status 3."""
+    short = shortage(service, desk)
+    bought = None if short.stranded else least_purchase(service, desk)
+    after = with_purchase(service, desk, bought) if bought else None
+    if as_json:
+        purchase = [
+            {"site": it.site, "server_id": it.id, "more": more} for it, more in (bought or {}).items() if after
+        ]
+        told = {"title": service.titles.title, "served": False, "queries": service.asked, "lack": short.lack}
+        click.echo(json.dumps({**told, "least_purchase": purchase or None}, indent=2, ensure_ascii=False))
+    else:
+        click.echo(head(service))
+        for line in shortage_lines(service, short, bought, after):
+            click.echo(line)
+    sys.exit(3)
+
+
+@main.command()
+@with_files
+@click.option("--unit", help="of costs, such as ms")
+@click.option("--all", "every", is_flag=True, help="all full servers and all regions")
+@click.option("-o", "--output", metavar="FILE", help="the certificate, in place of DIR/plan.txt")
+@click.option("--no-save", is_flag=True, help="keep no certificate")
+@click.option("--csv", "as_csv", is_flag=True, help="only how many queries of each region go to each site")
+@click.option("--json", "as_json", is_flag=True, help="the same sums for other programs")
+def plan(
+    folder: str,
+    unit: str | None,
+    every: bool,
+    output: str | None,
+    no_save: bool,
+    as_csv: bool,
+    as_json: bool,
+    **given: str | None,
+) -> None:
+    """Plans, checks and shows the plan in some ten lines.
+
+    Status 3 is a shortage: then the lines say who lacks what, and the least that has to be bought.
+    """
+    desk = Desk()
+    service = read_service(folder, desk, given, cost=unit)
+    if not service.certificate.is_plan:
+        show_shortage(service, desk, as_json)
+    found = planned(service, desk)
+    reference = cheapest(service, desk)
+    if not as_csv:
+        priced = [it for it in service.servers if found.prices[it.number] > 0 and found.is_full(it)]
+        found = with_gains(found, desk, progress(len(priced)))
+    path = output or os.path.normpath(os.path.join(folder, "plan.txt"))
+    verdict = desk.verdict(service.inputs, service.plan_file)
+    if verdict != "yes":
+        ended(1, f"hsplan check says {verdict} to hsplan's own plan: please report this with your files")
+    if not no_save:
+        write(path, service.certificate.text)
+    if as_csv or as_json:
+        click.echo(csv_of(found) if as_csv else json_of(found, reference), nl=False)
+        return
+    click.echo(head(service))
+    for line in plan_lines(found, reference, every):
+        click.echo(line)
+    kept = "" if no_save else f"; kept in {path}"
+    click.echo(f"check {colored(verdict, 'green')}: no plan within these capacities costs less{kept}")
+
+
+def earlier(folder: str, desk: Desk, now: Service) -> tuple[Service, Reference] | None:
+    """Another folder's plan, as a reference for this one. Sites are matched by their names."""
+    old = read_service(folder, desk, {})
+    if not old.certificate.is_plan:
+        return None
+    found = planned(old, desk)
+    loads = {(it.site, it.id): found.loads[it.number] for it in old.servers}
+    numbers = {site.name: at for at, site in enumerate(now.sites)}
+    names = [site.name for site in old.sites]
+    shares = {(region, numbers[names[at]]): it for (region, at), it in found.shares.items() if names[at] in numbers}
+    before = [loads.get((it.site, it.id), 0) for it in now.servers]
+    return old, Reference(f"in the plan of {old.titles.title}", found.cost, old.asked, before, found.regions, shares)
+
+
+def view_of(service: Service, desk: Desk, before: str | None) -> View:
+    """All that the page shows: the plan, or the shortage and the plan after the least purchase."""
+    shown = View(service, None, cheapest(service, desk))
+    after: Service | None = service
+    if not service.certificate.is_plan:
+        shown.short = shortage(service, desk)
+        bought = None if shown.short.stranded else least_purchase(service, desk)
+        after = with_purchase(service, desk, bought) if bought else None
+        shown.bought = bought if bought and after else {}
+    if after:
+        found = planned(after, desk)
+        shown.plan = with_gains(found, desk, progress(sum(it > 0 for it in found.prices)))
+        if desk.verdict(after.inputs, after.plan_file) != "yes":
+            raise Missing("hsplan check doesn't say yes to hsplan's own plan: please report this with your files")
+    held = earlier(before, desk, service) if before else None
+    if held:
+        shown.before, shown.reference = held
+        shown.changes = changes_between(held[0], service)
+    return shown
+
+
+@main.command()
+@with_files
+@click.option(
+    "--before",
+    metavar="DIR",
+    type=click.Path(exists=True, file_okay=False),
+    help="the plan of another folder beside it",
+)
+@click.option("--unit", help="of costs, such as ms")
+@click.option("--title", help="of the page")
+@click.option("-o", "--output", metavar="FILE", help="the page, in place of DIR/plan.html")
+def view(
+    folder: str, before: str | None, unit: str | None, title: str | None, output: str | None, **given: str | None
+) -> None:
+    """Writes one page: loads, prices, and who is served where.
+
+    The page is one file. It asks no network, and needs no script but to sort and search its rows.
+    """
+    desk = Desk()
+    service = read_service(folder, desk, given, title, unit)
+    text = render(view_of(service, desk, before))
+    path = output or os.path.normpath(os.path.join(folder, "plan.html"))
+    write(path, text)
+    click.echo(f"{path}  {len(text.encode()) / 1024:,.0f} KiB, {some(len(service.rows), 'row')}")
+    sys.exit(0 if service.certificate.is_plan else 3)
+
+
+@main.command()
+@with_files
+@click.option("--server", metavar="SITE:ID", help="the cost by the size of this server")
+@click.option("--from", "low", type=click.IntRange(0), metavar="N", help="the least size; half of the present one")
+@click.option(
+    "--to", "high", type=click.IntRange(0), metavar="N", help="the greatest size; half more than the present one"
+)
+@click.option("--points", default=9, show_default=True, type=click.IntRange(2, 100), help="how many sizes")
+@click.option(
+    "--step", default=10.0, show_default=True, type=click.FloatRange(0.1, 1000), help="more room, in percent"
+)
+@click.option("--unit", help="of costs, such as ms")
+@click.option("--csv", "as_csv", is_flag=True, help="for other programs")
+@click.option("--chart", metavar="FILE", help="a picture of the costs, SVG")
+def whatif(
+    folder: str,
+    server: str | None,
+    low: int | None,
+    high: int | None,
+    points: int,
+    step: float,
+    unit: str | None,
+    as_csv: bool,
+    chart: str | None,
+    **given: str | None,
+) -> None:
+    """Plans again with one thing changed.
+
+    By default: more room at each full server, each site lost, and 10% more demand.
+    """
+    desk = Desk()
+    service = read_service(folder, desk, given, cost=unit)
+    if server:
+        own = server_named(service, server)
+        room = service.capacity(own)
+        ends = (room // 2 if low is None else low, room * 3 // 2 if high is None else high)
+        cases = sizes(Changes(service, desk, progress(points)), own, min(ends), max(ends), points)
+    else:
+        number = len(full_servers(service)) + len(service.sites) + 1
+        cases = standard(Changes(service, desk, progress(number)), step)
+    if as_csv:
+        click.echo(cases_csv(cases), nl=False)
+    else:
+        for line in case_lines(service, cases, step):
+            click.echo(line)
+    if chart:
+        write(chart, drawn(service, cases, step))
+
+
+__all__ = ["main"]

@@ -1,0 +1,41 @@
+"""Numbers and lists as people read them."""
+
+from __future__ import annotations
+
+from collections.abc import Iterable
+
+MINUS = "\u2212"
+
+
+def signed(number: float) -> str:
+    """A change with its sign: a minus as long as a plus, and none at 0."""
+    return ("+" if number > 0 else MINUS if number < 0 else "") + f"{abs(number):,}"
+
+
+def average(cost: int, asked: int) -> str:
+    """The cost of a query."""
+    each = cost / asked if asked else 0.0
+    return f"{each:.1f}" if each < 1000 else f"{each:,.0f}"
+
+
+def percent(part: int, whole: int) -> str:
+    """A share. It is 0% or 100% only where that is exact."""
+    if not whole or not part:
+        return "0%"
+    if part == whole:
+        return "100%"
+    share = 100 * part / whole
+    return "<1%" if share < 1 else ">99%" if share > 99 else f"{round(share)}%"
+
+
+def some(number: int, word: str, many: str = "") -> str:
+    """A number of things: `1 site`, `2 sites`."""
+    return f"{number:,} {word if number == 1 else many or word + 's'}"
+
+
+def listed(words: Iterable[str], most: int = 4) -> str:
+    """Words in a list, of which the last ones are only counted where there are more than `most`."""
+    shown = list(words)
+    if len(shown) > most:
+        shown = shown[: most - 1] + [f"{len(shown) - most + 1} more"]
+    return " and ".join(filter(None, [", ".join(shown[:-1]), *shown[-1:]]))

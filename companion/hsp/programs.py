@@ -1,0 +1,215 @@
+"""The one place that calls hsplan and hsplan-stream. No rule of theirs is written here a second time."""
+
+from __future__ import annotations
+
+import csv
+import functools
+import io
+import itertools
+import os
+import shutil
+import subprocess
+import tempfile
+from collections.abc import Iterable
+from dataclasses import dataclass, replace
+from typing import NamedTuple
+
+# A capacity that no demand within hsplan's limits can fill.
+BOUNDLESS = 1_000_000_000
+
+
+class Refused(Exception):
+    """hsplan refused its inputs, with this status and this line."""
+
+    def __init__(self, status: int, line: str) -> None:
+        super().__init__(line)
+        self.status = status
+        self.line = line
+
+
+class Missing(Exception):
+    """A file or a program isn't there; the text says which."""
+
+
+def program(name: str) -> str:
+    """The path of a program: that of the environment's HSPLAN or HSPLAN_STREAM, or the one in PATH."""
+    found = os.environ.get(name.upper().replace("-", "_")) or shutil.which(name)
+    if not found:
+        raise Missing(f"{name} isn't in PATH. Install it, or set {name.upper().replace('-', '_')} to its file.")
+    return found
+
+
+class Printed(NamedTuple):
+    """What a run printed, and its status."""
+
+    status: int
+    out: str
+    line: str
+
+
+def run(name: str, *words: str) -> Printed:
+    """Runs a program without standard input."""
+    done = subprocess.run([program(name), *words], stdin=subprocess.DEVNULL, capture_output=True)
+    return Printed(
+        done.returncode, done.stdout.decode("utf-8", "replace"), done.stderr.decode("utf-8", "replace").strip()
+    )
+
+
+def asked(name: str, *words: str) -> str:
+    """What a run prints that may not be refused."""
+    printed = run(name, *words)
+    if printed.status:
+        raise Refused(printed.status, printed.line.removeprefix(f"{name}: ") or printed.out.strip())
+    return printed.out
+
+
+@dataclass(frozen=True)
+class Inputs:
+    """The files of a plan, by their paths."""
+
+    settings: str
+    demand: str
+    costs: str
+    capacity: str
+    values: str | None = None
+
+    def of_sites(self) -> list[str]:
+        """The options that say which sites there are."""
+        return ["--settings", self.settings, *(["--values", self.values] if self.values else [])]
+
+    def words(self) -> list[str]:
+        """The options of all files."""
+        files = ["--demand", self.demand, "--costs", self.costs, "--capacity", self.capacity]
+        return self.of_sites() + files
+
+    def but(self, **changed: str) -> Inputs:
+        """The same with other files in some places."""
+        return replace(self, **changed)
+
+
+class Use(NamedTuple):
+    """So many queries of a row that a plan sends to a site."""
+
+    row: int
+    site: int
+    queries: int
+
+
+class Certificate:
+    """The text of a plan or of a shortage. Its sums are read at once, its lines when they are asked for."""
+
+    def __init__(self, text: str) -> None:
+        self.text = text
+        head = text[:200].split("\n")
+        told = dict(it.split(" ") for it in head[2:4] if it.count(" ") == 1)
+        self.is_plan = head[1] == "PLAN"
+        self.cost, self.demand, self.capacity = (int(told.get(it, 0)) for it in ("cost", "demand", "capacity"))
+
+    @functools.cached_property
+    def _lines(self) -> dict[str, list[tuple[int, ...]]]:
+        found: dict[str, list[tuple[int, ...]]] = {"use": [], "row": [], "server": [], "host": []}
+        for line in self.text.splitlines():
+            word, _, rest = line.partition(" ")
+            if word in found:
+                found[word].append(tuple(map(int, rest.split())))
+        return found
+
+    @property
+    def uses(self) -> list[Use]:
+        return [Use(*it) for it in self._lines["use"]]
+
+    def prices(self, of: str) -> list[int]:
+        """The prices of the rows, the servers or the hosts of a plan: `row`, `server` or `host`."""
+        return [it[1] for it in self._lines[of]]
+
+    @property
+    def rows(self) -> list[int]:
+        """The numbers of the rows of a shortage."""
+        return [it[0] for it in self._lines["row"]]
+
+
+class Load(NamedTuple):
+    """What a server takes by a plan, what it can take, and its price."""
+
+    load: int
+    capacity: int
+    price: int
+
+
+class Bound(NamedTuple):
+    """The sum of the rows' prices, less that of the full servers and hosts, and the cost of the plan."""
+
+    rows: int
+    full: int
+    cost: int
+
+
+def table_of(header: str, rows: Iterable[Iterable[object]]) -> str:
+    """A table as comma-separated values."""
+    out = io.StringIO()
+    csv.writer(out, lineterminator="\n").writerows(rows)
+    return f"{header}\n{out.getvalue()}"
+
+
+class Desk:
+    """A folder for the files that are made on the way, and the questions that are asked with them."""
+
+    def __init__(self) -> None:
+        self._folder = tempfile.TemporaryDirectory(prefix="hsp-")
+        self._numbers = itertools.count(1)
+
+    def put(self, text: str | bytes, suffix: str = ".txt") -> str:
+        """Writes a file, and returns its path."""
+        path = os.path.join(self._folder.name, f"{next(self._numbers)}{suffix}")
+        with open(path, "wb") as file:
+            file.write(text if isinstance(text, bytes) else text.encode())
+        return path
+
+    def put_table(self, header: str, rows: Iterable[Iterable[object]]) -> str:
+        return self.put(table_of(header, rows), ".csv")
+
+    def plan(self, inputs: Inputs) -> tuple[Certificate, str]:
+        """The certificate of a plan or of a shortage, and the path of its file."""
+        printed = run("hsplan", "plan", *inputs.words())
+        if printed.status not in (0, 3) or not printed.out:
+            raise Refused(printed.status, printed.line.removeprefix("hsplan: "))
+        return Certificate(printed.out), self.put(printed.out)
+
+    def verdict(self, inputs: Inputs, plan: str) -> str:
+        """What the checker says of a certificate: `yes`, or `no` and why."""
+        return run("hsplan", "check", *inputs.words(), "--plan", plan).out.strip()
+
+    def _report(self, inputs: Inputs, plan: str, kind: str) -> list[str]:
+        return asked("hsplan", "report", *inputs.words(), "--plan", plan, "--kind", kind).splitlines()
+
+    def loads(self, inputs: Inputs, plan: str) -> tuple[list[Load], Bound]:
+        """The load of each server, in the order of the settings, and the sums that show the cost."""
+        *lines, bound = self._report(inputs, plan, "load")[1:]
+        _, rows, _, full, _, cost = bound.split()
+        return [Load(*map(int, it.split()[2:5])) for it in lines], Bound(int(rows), int(full), int(cost))
+
+    def regions(self, inputs: Inputs, plan: str) -> dict[str, tuple[int, int]]:
+        """The demand and the cost of each region."""
+        lines = (it.split() for it in self._report(inputs, plan, "region")[1:-1])
+        return {name: (int(demand), int(cost)) for demand, cost, name in lines}
+
+    def reached(self, inputs: Inputs, plan: str) -> set[tuple[str, int]]:
+        """The servers that the rows of a shortage may use, by site and identifier."""
+        lines = [it.split() for it in self._report(inputs, plan, "shortage")]
+        first = next(at for at, it in enumerate(lines) if it[:1] == ["place"])
+        return {(it[3], int(it[1])) for it in lines[first + 1 :]}
+
+    def site(self, octets: bytes) -> str:
+        """The fields of a site's record."""
+        return asked("hsplan", "site", self.put(octets, ".site"))
+
+    def site_of_value(self, values: str, index: int) -> str:
+        """The fields of the record that a value list has at an index."""
+        return asked("hsplan", "site", "--index", str(index), values)
+
+    def places(self, inputs: Inputs, handles: Iterable[str]) -> dict[tuple[str, str], int]:
+        """The place of the responsible server of each handle at each site, by handle and site."""
+        log = self.put_table("handle", ([it] for it in handles))
+        printed = asked("hsplan-stream", "places", *inputs.of_sites(), "--log", log)
+        rows = list(csv.reader(io.StringIO(printed, newline="")))[1:]
+        return {(handle, site): int(place) for handle, site, place, _ in rows}

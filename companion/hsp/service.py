@@ -1,0 +1,217 @@
+"""A service: the files of a folder, and what hsplan says they hold."""
+
+from __future__ import annotations
+
+import csv
+import difflib
+import ipaddress
+import os
+import tomllib
+from dataclasses import dataclass, field
+from typing import Any
+
+from hsp.programs import Certificate, Desk, Inputs, Missing, Refused
+
+# The conventional names of the files.
+NAMES = {"settings": "settings.toml", "demand": "demand.csv", "costs": "costs.csv", "capacity": "capacity.csv"}
+VALUES = "sites.values"
+TITLES = "hsp.toml"
+
+
+@dataclass(frozen=True)
+class Server:
+    """A server of a site. Its number counts the servers of all sites, in the order of the settings."""
+
+    number: int
+    site: str
+    id: int
+    address: str
+
+    @property
+    def label(self) -> str:
+        return f"{self.site} {self.id}"
+
+
+@dataclass(frozen=True)
+class Site:
+    """A site with its servers, by their places."""
+
+    name: str
+    option: int
+    servers: list[Server]
+
+
+@dataclass(frozen=True)
+class Row:
+    """How many queries for a handle come from a region."""
+
+    region: str
+    handle: str
+    count: int
+
+
+@dataclass(frozen=True)
+class Titles:
+    """What the service and its units are called."""
+
+    title: str
+    cost: str = ""
+    time: str = ""
+
+
+@dataclass(frozen=True)
+class Service:
+    """All that is read from a folder, and its certificate."""
+
+    folder: str
+    titles: Titles
+    inputs: Inputs
+    settings: dict[str, Any]
+    sites: list[Site]
+    rows: list[Row]
+    costs: dict[tuple[str, str], int]
+    capacities: dict[tuple[str, int], int]
+    certificate: Certificate
+    plan_file: str
+    places: dict[tuple[str, str], int] = field(repr=False)
+
+    @property
+    def servers(self) -> list[Server]:
+        return [it for site in self.sites for it in site.servers]
+
+    @property
+    def regions(self) -> list[str]:
+        return list(dict.fromkeys(row.region for row in self.rows))
+
+    @property
+    def handles(self) -> int:
+        """How many handles there are."""
+        return len({row.handle for row in self.rows})
+
+    @property
+    def asked(self) -> int:
+        """How many queries there are."""
+        return sum(row.count for row in self.rows)
+
+    def capacity(self, server: Server) -> int:
+        return self.capacities[server.site, server.id]
+
+    def server(self, site: int, handle: str) -> Server:
+        """The server that is responsible for a handle at a site."""
+        at = self.sites[site]
+        return at.servers[self.places[handle, at.name]]
+
+    def sites_for(self, region: str) -> list[int]:
+        """The numbers of the sites that a region may use."""
+        return [at for at, site in enumerate(self.sites) if (region, site.name) in self.costs]
+
+
+def _absent(folder: str, paths: list[str]) -> str:
+    """Which files are not there, each with a near name where there is one."""
+    if len(paths) == len(NAMES):
+        return f"{folder}: none of {', '.join(NAMES.values())} is here"
+    lines = []
+    for path in paths:
+        near = difflib.get_close_matches(os.path.basename(path), os.listdir(os.path.dirname(path) or "."), 1, 0.6)
+        why = "is a folder, not a file" if os.path.isdir(path) else "no such file"
+        lines.append(f"{path}: {why}" + (f"; did you mean {near[0]}?" if near and why == "no such file" else ""))
+    return "\n".join(lines)
+
+
+def inputs_in(folder: str, given: dict[str, str | None]) -> Inputs:
+    """The files of a folder by their conventional names, or those that were given instead."""
+    files = {kind: given.get(kind) or os.path.normpath(os.path.join(folder, name)) for kind, name in NAMES.items()}
+    absent = [path for path in files.values() if not os.path.exists(path) or os.path.isdir(path)]
+    if absent:
+        raise Missing(_absent(folder, absent))
+    values = given.get("values")
+    beside = os.path.join(folder, VALUES)
+    if not values and os.path.isfile(beside):
+        values = beside
+    return Inputs(**files, values=values)
+
+
+def table(path: str) -> list[list[str]]:
+    """The records of a table below its header. An empty line is none."""
+    with open(path, encoding="utf-8-sig", newline="") as file:
+        return [row for row in csv.reader(file) if row][1:]
+
+
+def dotted(address: str) -> str:
+    """An address of 32 hexadecimal digits, as people write it."""
+    octets = bytes.fromhex(address)
+    if octets[:12] == bytes(12):
+        return str(ipaddress.IPv4Address(octets[12:]))
+    return str(ipaddress.IPv6Address(octets))
+
+
+def titles_in(folder: str, title: str | None, cost: str | None) -> Titles:
+    """The names of the service and its units: those given, or those of `hsp.toml`, or the folder's name."""
+    path = os.path.join(folder, TITLES)
+    told: dict[str, Any] = {}
+    if os.path.isfile(path):
+        with open(path, "rb") as file:
+            try:
+                told = tomllib.load(file)
+            except (tomllib.TOMLDecodeError, UnicodeDecodeError) as error:
+                raise Missing(f"{path}: not TOML: {error}") from error
+    names = [it for it in os.path.abspath(folder).split(os.sep) if it not in ("out", "")]
+    plain: dict[str, str] = {key: str(told[key]) for key in ("title", "cost", "time") if key in told}
+    fallback = names[-1] if names else folder
+    own_title = title if title else plain.get("title", fallback)
+    own_cost = cost if cost else plain.get("cost", "")
+    return Titles(own_title, own_cost, plain.get("time", ""))
+
+
+def _site_of(name: str, fields: str, first: int) -> Site:
+    """A site by the fields of its record, whose servers are numbered from `first` on."""
+    option = 0
+    servers: list[Server] = []
+    for line in fields.splitlines():
+        word, *rest = line.split()
+        if word == "option":
+            option = int(rest[0])
+        elif word == "server":
+            servers.append(Server(first + len(servers), name, int(rest[1]), rest[2]))
+    return Site(name, option, servers)
+
+
+def sites_of(desk: Desk, inputs: Inputs, settings: dict[str, Any]) -> list[Site]:
+    """The sites of the settings. hsplan reads their records."""
+    sites: list[Site] = []
+    first = 0
+    for it in settings.get("site", []):
+        if "record" in it:
+            fields = desk.site(bytes.fromhex(it["record"]))
+        else:
+            fields = desk.site_of_value(inputs.values or "", it["index"])
+        sites.append(_site_of(it["name"], fields, first))
+        first += len(sites[-1].servers)
+    return sites
+
+
+def read_service(
+    folder: str, desk: Desk, given: dict[str, str | None], title: str | None = None, cost: str | None = None
+) -> Service:
+    """Reads a folder. hsplan plans it first, so any fault of the files is hsplan's."""
+    inputs = inputs_in(folder, given)
+    certificate, plan_file = desk.plan(inputs)
+    with open(inputs.settings, "rb") as file:
+        settings = tomllib.load(file)
+    rows = [Row(region, handle, int(count)) for region, handle, count in table(inputs.demand)]
+    return Service(
+        folder,
+        titles_in(folder, title, cost),
+        inputs,
+        settings,
+        sites_of(desk, inputs, settings),
+        rows,
+        {(region, site): int(it) for region, site, it in table(inputs.costs)},
+        {(site, int(server)): int(room) for site, server, room in table(inputs.capacity)},
+        certificate,
+        plan_file,
+        desk.places(inputs, dict.fromkeys(row.handle for row in rows)),
+    )
+
+
+__all__ = ["Refused", "Row", "Server", "Service", "Site", "Titles", "dotted", "inputs_in", "read_service", "table"]

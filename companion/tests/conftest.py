@@ -1,0 +1,66 @@
+"""What the tests share: the real programs, and copies of the examples.
+
+The programs are those of HSPLAN and HSPLAN_STREAM, or those that are built here.
+"""
+
+from __future__ import annotations
+
+import os
+import shutil
+import subprocess
+import sys
+from collections.abc import Callable, Iterator
+from pathlib import Path
+
+import pytest
+
+TOP = Path(__file__).resolve().parents[2]
+sys.path[:0] = [str(TOP / "companion"), str(TOP / "tools")]
+
+import make_examples  # noqa: E402
+import programs  # noqa: E402
+
+Hsp = Callable[..., "subprocess.CompletedProcess[str]"]
+
+
+@pytest.fixture(autouse=True, scope="session")
+def _programs() -> None:
+    """Names the real programs to the companion."""
+    for name in programs.PROGRAMS:
+        key = name.upper().replace("-", "_")
+        path = os.environ.setdefault(key, programs.built_path(name))
+        if not os.access(path, os.X_OK):
+            pytest.exit(f"no program {path}: run rt ci or make prove first", 1)
+
+
+@pytest.fixture(scope="session")
+def hsp() -> Hsp:
+    """Runs hsp as its users do. Returns the ended process."""
+
+    def run(*words: str, status: int = 0, **more: str) -> "subprocess.CompletedProcess[str]":
+        environment = {**os.environ, "PYTHONPATH": str(TOP / "companion"), **more}
+        command = [sys.executable, "-m", "hsp", *words]
+        ended = subprocess.run(command, capture_output=True, text=True, env=environment, stdin=subprocess.DEVNULL)
+        assert ended.returncode == status, ended.stdout + ended.stderr
+        assert "Traceback" not in ended.stderr, ended.stderr
+        return ended
+
+    return run
+
+
+@pytest.fixture(scope="session")
+def twelve(tmp_path_factory: pytest.TempPathFactory) -> Path:
+    """A folder with the example of twelve sites."""
+    folder = tmp_path_factory.mktemp("twelve-sites")
+    make_examples.write(str(folder), make_examples.twelve_sites())
+    return folder
+
+
+@pytest.fixture
+def example(tmp_path: Path) -> Iterator[Callable[[str], Path]]:
+    """Copies an example into a folder of the test's own."""
+
+    def copied(name: str) -> Path:
+        return Path(shutil.copytree(TOP / "examples" / name, tmp_path / name))
+
+    yield copied

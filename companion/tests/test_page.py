@@ -1,0 +1,223 @@
+"""hsp view: each page in headless Chromium, at two widths, in light and dark."""
+
+from __future__ import annotations
+
+import json
+import random
+import re
+import shutil
+import time
+from collections.abc import Callable, Iterator
+from pathlib import Path
+from typing import Any
+
+import pytest
+from selenium import webdriver
+from selenium.webdriver.chrome.options import Options
+from selenium.webdriver.chrome.service import Service as Driver
+
+from hsp.plans import planned
+from hsp.programs import Desk
+from hsp.service import read_service
+
+from conftest import TOP, Hsp
+
+import measure_dispatch
+
+Example = Callable[[str], Path]
+PAGES = ("two-sites", "base", "hosts", "shortage", "compared", "twelve-sites")
+WIDTHS = (1200, 420)
+# The contrast of each text with what is behind it (WCAG 2.1, success criterion 1.4.3), least first.
+CONTRAST = """
+const bright = it => { const [r, g, b] = it.map(v => (v /= 255) <= .04045 ? v / 12.92 : ((v + .055) / 1.055) ** 2.4);
+  return .2126 * r + .7152 * g + .0722 * b; };
+const parts = it => (it.match(/[\\d.]+/g) || []).map(Number);
+const behind = it => { for (; it; it = it.parentElement) { const c = parts(getComputedStyle(it).backgroundColor);
+  if (c.length == 3 || c[3] > 0) return c; } return [255, 255, 255]; };
+const found = [];
+const walk = document.createTreeWalker(document.body, NodeFilter.SHOW_TEXT);
+while (walk.nextNode()) {
+  const it = walk.currentNode.parentElement, text = walk.currentNode.textContent.trim();
+  if (!text || it.closest("script, style, svg, option") || !it.getClientRects().length) continue;
+  const [a, b] = [bright(parts(getComputedStyle(it).color)), bright(behind(it))].sort((x, y) => y - x);
+  found.push([(a + .05) / (b + .05), text]);
+}
+return found.sort((a, b) => a[0] - b[0])[0];
+"""
+
+
+class Page:
+    """A page in a browser."""
+
+    def __init__(self, browser: Any, path: Path, width: int, scheme: str) -> None:
+        self.browser, self.path = browser, path
+        media = [{"name": "prefers-color-scheme", "value": scheme}]
+        browser.execute_cdp_cmd("Emulation.setEmulatedMedia", {"features": media})
+        size = {"width": width, "height": 900, "deviceScaleFactor": 1, "mobile": width < 600}
+        browser.execute_cdp_cmd("Emulation.setDeviceMetricsOverride", size)
+        browser.get_log("browser")
+        browser.get_log("performance")
+        browser.get(path.as_uri())
+
+    def run(self, script: str) -> Any:
+        return self.browser.execute_script(script)
+
+    def text(self) -> str:
+        return str(self.run("return document.body.innerText"))
+
+    def requests(self) -> list[str]:
+        """The addresses that the page asked for, but its own."""
+        events = (json.loads(it["message"])["message"] for it in self.browser.get_log("performance"))
+        asked = (it["params"]["request"]["url"] for it in events if it["method"] == "Network.requestWillBeSent")
+        return [it for it in asked if it != self.path.as_uri()]
+
+    def shown(self) -> list[list[str]]:
+        """The cells of the rows that the table shows."""
+        cells = "return [...document.getElementById('rows').tBodies[0].rows].map(r => [...r.cells].map(c => c.textContent))"
+        return list(self.run(cells))
+
+    def choose(self, field: str, value: str) -> None:
+        self.run(
+            f"const it = document.getElementById({field!r}); it.value = {value!r}; "
+            "it.dispatchEvent(new Event('input', {bubbles: true}))"
+        )
+
+
+@pytest.fixture(scope="module")
+def browser() -> Iterator[Any]:
+    options = Options()
+    options.binary_location = shutil.which("chromium") or "chromium"
+    for word in ("--headless=new", "--no-sandbox", "--disable-gpu"):
+        options.add_argument(word)
+    options.set_capability("goog:loggingPrefs", {"browser": "ALL", "performance": "ALL"})
+    driver = webdriver.Chrome(service=Driver(shutil.which("chromedriver") or "chromedriver"), options=options)
+    yield driver
+    driver.quit()
+
+
+@pytest.fixture(scope="module")
+def pages(hsp: Hsp, twelve: Path, tmp_path_factory: pytest.TempPathFactory) -> dict[str, Path]:
+    """The pages of all examples."""
+    room = tmp_path_factory.mktemp("pages")
+    two = Path(shutil.copytree(TOP / "examples" / "two-sites", room / "two-sites"))
+    base = Path(shutil.copytree(TOP / "examples" / "base", room / "base"))
+    wider = Path(shutil.copytree(two, room / "wider"))
+    (wider / "capacity.csv").write_text((two / "capacity.csv").read_text().replace("paris,2,1510", "paris,2,1800"))
+    words = {
+        "two-sites": [str(two), "--unit", "ms"],
+        "base": [str(base)],
+        "hosts": [str(two), "--settings", str(two / "hosts.toml")],
+        "shortage": [str(two), "--demand", str(two / "premiere.csv")],
+        "compared": [str(wider), "--before", str(two)],
+        "twelve-sites": [str(twelve)],
+    }
+    for name, given in words.items():
+        hsp("view", *given, "-o", str(room / f"{name}.html"), status=3 if name == "shortage" else 0)
+    return {name: room / f"{name}.html" for name in PAGES}
+
+
+@pytest.mark.parametrize("scheme", ["light", "dark"])
+@pytest.mark.parametrize("width", WIDTHS)
+@pytest.mark.parametrize("name", PAGES)
+def test_a_page_stands(browser: Any, pages: dict[str, Path], name: str, width: int, scheme: str) -> None:
+    page = Page(browser, pages[name], width, scheme)
+    assert browser.get_log("browser") == []
+    assert page.requests() == []
+    assert page.run("return document.documentElement.scrollWidth") <= width
+    contrast, text = page.run(CONTRAST)
+    assert contrast >= 4.5, f"{text}: {contrast:.2f}"
+
+
+@pytest.mark.parametrize("name", ["two-sites", "base", "twelve-sites"])
+def test_a_page_has_the_numbers_of_the_reports(browser: Any, pages: dict[str, Path], twelve: Path, name: str) -> None:
+    folder = twelve if name == "twelve-sites" else pages[name].parent / name
+    desk = Desk()
+    service = read_service(str(folder), desk, {})
+    plan = planned(service, desk)
+    page = Page(browser, pages[name], 1200, "light")
+    text = page.text()
+    assert f"{plan.cost:,}" in text
+    rows = page.run(
+        "return [...document.querySelectorAll('.servers tbody tr')].map(r => "
+        "[r.cells[0].textContent, r.querySelector('.num').firstChild.textContent + r.querySelector('.num span').textContent])"
+    )
+    assert rows == [[str(it.id), f"{plan.loads[it.number]:,} / {service.capacity(it):,}"] for it in service.servers]
+    matrix = page.run(
+        "return [...document.querySelectorAll('.matrix tbody tr')].map(r => [r.cells[0].firstChild.textContent.trim(), "
+        "...[...r.cells].slice(1).map(c => (c.querySelector('b') || {}).textContent || '')])"
+    )
+    for region, *shares in matrix:
+        asked = plan.regions[region][0]
+        for at, share in enumerate(shares):
+            sent = plan.shares.get((region, at), 0)
+            exact = 100 * sent / asked
+            told = (
+                {"": 0.0, "<1%": 0.5, ">99%": 99.5}.get(share) if share in ("", "<1%", ">99%") else float(share[:-1])
+            )
+            assert told is not None and abs(told - exact) <= 0.5
+
+
+def test_rows_are_sorted_and_searched(browser: Any, pages: dict[str, Path]) -> None:
+    page = Page(browser, pages["twelve-sites"], 1200, "light")
+    assert page.text().count("7,070 of 7,070 rows") == 1
+    assert len(page.shown()) == 100
+    page.run("document.querySelectorAll('#rows th button')[2].click()")
+    counts = [int(it[2].replace(",", "")) for it in page.shown()]
+    assert counts == sorted(counts, reverse=True)
+    page.run("document.querySelectorAll('#rows th button')[2].click()")
+    counts = [int(it[2].replace(",", "")) for it in page.shown()]
+    assert counts == sorted(counts)
+    handle = page.shown()[0][1]
+    page.choose("find", handle.upper())
+    assert page.shown() and all(handle.lower() in it[1].lower() for it in page.shown())
+    page.choose("find", "")
+    page.choose("kind", "split")
+    assert page.shown() and all(":" in it[5] for it in page.shown())
+
+
+def test_a_page_needs_no_script(browser: Any, pages: dict[str, Path], tmp_path: Path) -> None:
+    text = pages["two-sites"].read_text(encoding="utf-8")
+    plain = tmp_path / "plain.html"
+    plain.write_text(re.sub(r"<script.*?</script>", "", text, flags=re.S), encoding="utf-8")
+    page = Page(browser, plain, 1200, "light")
+    assert len(page.shown()) == 36 and "Everyone is served." in page.text()
+    assert page.run("return document.getElementById('controls').hidden")
+
+
+def test_a_handle_stays_text(hsp: Hsp, browser: Any, example: Example) -> None:
+    folder = example("two-sites")
+    evil = "20.500.1234/<script>document.title='evil'</script><img src=x onerror=alert(1)>"
+    with open(folder / "demand.csv", "a", encoding="utf-8") as file:
+        file.write(f'eu,"{evil}",1\n')
+    hsp("view", str(folder), "--title", "<b>films</b>")
+    page = Page(browser, folder / "plan.html", 1200, "light")
+    assert browser.title == "<b>films</b>: load plan"
+    page.choose("find", "<script>")
+    assert [it[1] for it in page.shown()] == [evil]
+    assert page.requests() == [] and browser.get_log("browser") == []
+
+
+def test_a_page_forbids_the_network(pages: dict[str, Path]) -> None:
+    for path in pages.values():
+        text = path.read_text(encoding="utf-8")
+        assert "default-src 'none'; style-src 'unsafe-inline'; script-src 'unsafe-inline'" in text
+        assert not re.search(r"""(src|href)=["']?(https?:)?//""", text)
+
+
+def test_sizes_of_pages(pages: dict[str, Path]) -> None:
+    assert pages["twelve-sites"].stat().st_size <= 300_000
+    assert pages["two-sites"].stat().st_size <= 40_000
+
+
+def test_the_largest_service(hsp: Hsp, browser: Any, tmp_path: Path) -> None:
+    """1,024 servers of 32 sites and 8,192 rows: within 15 seconds and 1.5 megabytes, with sites folded."""
+    measure_dispatch.inputs(str(tmp_path), random.Random(1), factor=1.2)
+    begun = time.monotonic()
+    hsp("view", str(tmp_path))
+    gone = time.monotonic() - begun
+    path = tmp_path / "plan.html"
+    assert path.stat().st_size <= 1_500_000 and gone <= 15, f"{path.stat().st_size} octets, {gone:.1f} seconds"
+    page = Page(browser, path, 420, "light")
+    assert browser.get_log("browser") == []
+    assert page.run("return document.documentElement.scrollWidth") <= 420
+    assert page.run("return document.querySelectorAll('details').length") > 0

@@ -1,0 +1,177 @@
+"""hsp plan: its lines and tables, against hsplan's reports and against plans of changed inputs."""
+
+from __future__ import annotations
+
+import csv
+import io
+import json
+import os
+import subprocess
+from collections.abc import Callable
+from pathlib import Path
+from typing import Any
+
+import pytest
+
+from hsp.plans import capacity_file, cheapest, least_purchase, planned, shortage, with_gains, with_purchase
+from hsp.programs import BOUNDLESS, Desk
+from hsp.service import Service, read_service
+
+from conftest import Hsp
+
+Example = Callable[[str], Path]
+
+TWO_SITES = """\
+two-sites  2 sites, 5 servers, 3 regions, 12 handles, 6,282 queries
+fits  left alone, 2 servers would get 482 queries too many; keeping to capacity costs 29,607 ms (10.7%)
+cost  307,216 ms, 48.9 ms a query; 44.2 if all asked their cheapest site
+full  2 of 5 servers; more room saves
+      reston 2  one query more 74 ms; 482 more 14,271 ms in all
+      paris 2   one query more 72 ms; 482 more 22,882 ms in all
+goes  eu     18.1 (+6.1)  paris 91% and reston 9%
+      us     21.9 (+4.9)  reston 93% and paris 7%
+      asia  145.0 (+2.0)  reston 92% and paris 8%
+check yes: no plan within these capacities costs less; kept in {kept}
+"""
+
+
+def read(folder: Path, **given: str) -> tuple[Service, Desk]:
+    desk = Desk()
+    return read_service(str(folder), desk, dict(given)), desk
+
+
+def report(folder: Path, kind: str) -> list[list[str]]:
+    """The fields of each line of a report of hsplan, below its head."""
+    files = ["settings.toml", "demand.csv", "costs.csv", "capacity.csv"]
+    options = [word for name in files for word in ("--" + name.split(".")[0], str(folder / name))]
+    words = [os.environ["HSPLAN"], "report", *options, "--plan", str(folder / "plan.txt"), "--kind", kind]
+    printed = subprocess.run(words, capture_output=True, text=True, check=True).stdout
+    return [line.split() for line in printed.splitlines()[1:]]
+
+
+def test_the_lines_of_two_sites(hsp: Hsp, example: Example) -> None:
+    folder = example("two-sites")
+    kept = folder / "plan.txt"
+    assert hsp("plan", str(folder), "--unit", "ms").stdout == TWO_SITES.format(kept=kept)
+    assert kept.read_text().startswith("HSPLAN 1\nPLAN\ncost 307216\n")
+
+
+def test_the_folder_is_the_present_one(hsp: Hsp, example: Example, monkeypatch: pytest.MonkeyPatch) -> None:
+    folder = example("two-sites")
+    monkeypatch.chdir(folder)
+    assert "cost  307,216, 48.9 a query" in hsp("plan", "--no-save").stdout
+    assert not (folder / "plan.txt").exists()
+
+
+def test_titles_of_hsp_toml(hsp: Hsp, example: Example) -> None:
+    folder = example("two-sites")
+    (folder / "hsp.toml").write_text('title = "Films"\ncost = "s"\ntime = "an hour"\n')
+    lines = hsp("plan", str(folder), "--no-save").stdout.splitlines()
+    assert lines[0].startswith("Films  2 sites") and lines[0].endswith("queries in an hour")
+    assert "307,216 s" in lines[2]
+
+
+@pytest.mark.parametrize("name", ["two-sites", "base"])
+def test_csv_and_json_have_the_sums_of_the_reports(hsp: Hsp, example: Example, name: str) -> None:
+    folder = example(name)
+    told = json.loads(hsp("plan", str(folder), "--json").stdout)
+    rows = list(csv.DictReader(io.StringIO(hsp("plan", str(folder), "--csv").stdout)))
+    *regions, total = report(folder, "region")
+    for demand, cost, region in regions:
+        own = [it for it in rows if it["region"] == region]
+        assert sum(int(it["queries"]) for it in own) == int(demand)
+        assert {"region": region, "queries": int(demand), "cost": int(cost)} in told["regions"]
+    assert total == ["total", str(told["queries"]), str(told["cost"])]
+    loads = report(folder, "load")[:-1]
+    assert [(it["site"], it["load"], it["capacity"], it["price"]) for it in told["servers"]] == [
+        (site, int(load), int(capacity), int(price)) for _, _, load, capacity, price, site in loads
+    ]
+    for it in rows:
+        own = [load for _, _, load, _, _, site in loads if site == it["site"]]
+        assert float(it["share"]) > 0 and own
+
+
+def test_a_shortage_has_status_3_and_the_least_purchase(hsp: Hsp, example: Example) -> None:
+    folder = example("two-sites")
+    words = ["plan", str(folder), "--demand", str(folder / "premiere.csv")]
+    lines = hsp(*words, status=3).stdout.splitlines()
+    assert lines[1].startswith("short 270 queries can't be served")
+    assert lines[-1].split() == ["reston", "2", "270", "more:", "1,460", "to", "1,730"]
+    told = json.loads(hsp(*words, "--json", status=3).stdout)
+    assert (told["served"], told["lack"]) == (False, 270)
+    assert told["least_purchase"] == [{"site": "reston", "server_id": 2, "more": 270}]
+
+
+def with_capacities(service: Service, desk: Desk, changed: dict[tuple[str, int], int]) -> Any:
+    capacity = capacity_file(desk, {**service.capacities, **changed})
+    return desk.plan(service.inputs.but(capacity=capacity))[0]
+
+
+def test_the_least_purchase_suffices_and_one_less_does_not(example: Example) -> None:
+    folder = example("two-sites")
+    service, desk = read(folder, demand=str(folder / "premiere.csv"))
+    bought = least_purchase(service, desk)
+    assert bought and shortage(service, desk).lack == sum(bought.values()) == 270
+    room = {(it.site, it.id): service.capacity(it) + more for it, more in bought.items()}
+    assert with_capacities(service, desk, room).is_plan
+    for key in room:
+        assert not with_capacities(service, desk, {**room, key: room[key] - 1}).is_plan
+    after = with_purchase(service, desk, bought)
+    assert after and after.certificate.cost == with_capacities(service, desk, room).cost
+
+
+@pytest.mark.parametrize("name", ["two-sites", "base"])
+def test_what_room_saves_is_what_a_plan_with_it_saves(example: Example, name: str) -> None:
+    service, desk = read(example(name))
+    found = with_gains(planned(service, desk), desk)
+    assert found.gains
+    for gain in found.gains:
+        key, own = (gain.server.site, gain.server.id), service.capacity(gain.server)
+        assert found.cost - with_capacities(service, desk, {key: own + 1}).cost == gain.one
+        assert found.cost - with_capacities(service, desk, {key: own + gain.room}).cost == gain.all
+        assert found.cost - with_capacities(service, desk, {key: BOUNDLESS}).cost == gain.all
+        assert gain.one <= found.prices[gain.server.number]
+
+
+def test_a_price_may_be_above_what_room_saves(example: Example) -> None:
+    service, desk = read(example("base"))
+    found = with_gains(planned(service, desk), desk)
+    assert sorted((found.prices[it.server.number], it.one) for it in found.gains) == [(2, 0), (3, 1)]
+
+
+def test_cheapest_sites_are_the_sum_of_the_cheapest_costs(twelve: Path) -> None:
+    service, desk = read(twelve)
+    reference = cheapest(service, desk)
+    least = {it: min(cost for (region, _), cost in service.costs.items() if region == it) for it in service.regions}
+    assert reference and reference.cost == sum(row.count * least[row.region] for row in service.rows)
+
+
+def test_twelve_sites(hsp: Hsp, twelve: Path) -> None:
+    lines = hsp("plan", str(twelve), "--all").stdout.splitlines()
+    assert "cost  17,838,403, 23.5 a query; 22.2 if all asked their cheapest site" in lines
+    assert sum(line.startswith("      ") or line.startswith("goes") for line in lines) == 13 + 10
+
+
+def test_faults_are_one_line(hsp: Hsp, example: Example, tmp_path: Path) -> None:
+    folder = example("two-sites")
+    assert "did you mean 'plan'?" in hsp("plam", status=2).stderr
+    assert hsp("plan", str(tmp_path / "absent"), status=2).stderr.count("absent") == 1
+    (folder / "costs.csv").rename(folder / "cost.csv")
+    assert (
+        hsp("plan", str(folder), status=5).stderr
+        == f"hsp: {folder}/costs.csv: no such file; did you mean cost.csv?\n"
+    )
+    (folder / "cost.csv").rename(folder / "costs.csv")
+    (folder / "demand.csv").write_text("region,handle,count\neu,x,1\n")
+    assert (
+        hsp("plan", str(folder), status=1).stderr
+        == "hsp: hsplan refuses these files: demand: BadHandle row 0 NoSlash\n"
+    )
+    no_program = hsp("plan", str(folder), status=5, HSPLAN="", PATH="/nowhere").stderr
+    assert no_program == "hsp: hsplan isn't in PATH. Install it, or set HSPLAN to its file.\n"
+
+
+def test_the_version(hsp: Hsp) -> None:
+    version = (Path(__file__).parents[2] / "VERSION").read_text().strip()
+    assert hsp("--version").stdout == f"hsp {version}\n"
+    assert "Shows the load plan" in hsp("--help").stdout

@@ -1,0 +1,28 @@
+# Completions of hsp for bash.
+
+_hsp_options() {
+    local files="--settings --values --demand --costs --capacity --unit --help"
+    case $1 in
+        plan) echo "$files --all --output --no-save --csv --json" ;;
+        view) echo "$files --before --title --output" ;;
+        whatif) echo "$files --server --from --to --points --step --csv --chart" ;;
+    esac
+}
+
+_hsp() {
+    local current=${COMP_WORDS[COMP_CWORD]} before=${COMP_WORDS[COMP_CWORD - 1]}
+    COMPREPLY=()
+    if [ "$COMP_CWORD" -eq 1 ]; then
+        COMPREPLY=($(compgen -W "plan view whatif --help --version" -- "$current"))
+    elif [[ " --unit --title --server --from --to --points --step " == *" $before "* ]]; then
+        COMPREPLY=()
+    elif [[ $current == -* ]]; then
+        COMPREPLY=($(compgen -W "$(_hsp_options "${COMP_WORDS[1]}")" -- "$current"))
+    else
+        compopt -o filenames 2> /dev/null
+        local IFS=$'\n'
+        COMPREPLY=($(compgen -f -- "$current"))
+    fi
+}
+
+complete -F _hsp hsp

@@ -1,0 +1,92 @@
+-- The parts in the cells of a row: each cell has a part of what it had, and those of which nothing is left are left out.
+use Rattle.std.proofs.Common.{◌≡◌, ◌<◌, ◌≤◌, ◌/◌, ◌%◌, ◌∙◌, ◌++◌, ℕ, List, [], ◌∷◌, arith, refl, sym, ap, eq-eqb}
+use Rattle.std.proofs.Common.{inl, inr}
+use Rattle.std.specs.List.{AllByRecursion}
+use Rattle.std.proofs.lemmas.Bool.{cases_eq, ne_eqb}
+use Rattle.std.proofs.Math.Nat.{div-one, mod-one}
+use Rattle.hsp_instance.specs.Instance.{Instance}
+use Rattle.hsp_dispatch.specs.Portions.{part_of, parts_in, with_part, whole_portion}
+use Rattle.hsp_dispatch.specs.Shares.{AreCells, AreCellsOf, IsCellOf, left_at, with_first}
+use Rattle.hsp_dispatch.specs.Standings.{AreBounded}
+use Rattle.hsp_dispatch.specs.declared.portion.Portion.{Portion}
+use Rattle.hsp_dispatch.specs.declared.share.Cell.{Cell}
+use Rattle.hsp_dispatch.proofs.FrontShares.{share_le, share_none}
+use Rattle.hsp_dispatch.proofs.Shares.{none_at}
+
+-- ---- the parts of numbers
+
+-- of nothing a portion has nothing
+pub part_none : (portion : Portion) → part_of portion 0 ≡ 0
+part_none portion = rw (share_none portion.fronts portion.front) (omega arith)
+
+-- the whole has all
+pub part_whole : (number : ℕ) → part_of whole_portion number ≡ number
+part_whole number =
+    let whole : number / 1 ≡ number = div-one number in
+    let rest : number % 1 ≡ 0 = mod-one number in
+    rw (whole, rest) (omega arith)
+
+-- in units of one no portion has more than the number
+part_le : (portion : Portion) (number : ℕ) → 0 < portion.fronts → portion.unit ≡ 1 → part_of portion number ≤ number
+part_le portion number some one = rw one (omega (arith, share_le portion.fronts portion.front number some))
+
+-- ---- the parts in cells
+
+-- what only the site and the server of a cell decide
+parts_keep : (P : Cell → Type 0) → ((cell : Cell) (left : ℕ) → P cell → P (record cell { left = left })) → (part : ℕ → ℕ) (cells : List Cell)
+    → AllByRecursion P cells → AllByRecursion P (parts_in part cells)
+parts_keep P keeps part [] all = tt
+parts_keep P keeps part (cell ∷ cells) all = elim (cases_eq (part cell.left) 0) [
+  | inl none ↦ rw (eq-eqb (part cell.left) 0 none) (parts_keep P keeps part cells all.1)
+  | inr some ↦ rw (ne_eqb (part cell.left) 0 some) (keeps cell (part cell.left) all.0, parts_keep P keeps part cells all.1)
+]
+
+parts_after : (part : ℕ → ℕ) (site : ℕ) (cells : List Cell) → AllByRecursion (λ (later : Cell). site < later.site) cells
+    → AllByRecursion (λ (later : Cell). site < later.site) (parts_in part cells)
+parts_after part site cells after = parts_keep (λ (later : Cell). site < later.site) (λ cell left less. less) part cells after
+
+pub parts_are : (part : ℕ → ℕ) (cells : List Cell) → AreCells cells → AreCells (parts_in part cells)
+parts_are part [] are = tt
+parts_are part (cell ∷ cells) are = elim (cases_eq (part cell.left) 0) [
+  | inl none ↦ rw (eq-eqb (part cell.left) 0 none) (parts_are part cells are.1.1)
+  | inr some ↦ rw (ne_eqb (part cell.left) 0 some) (omega (arith, some), (parts_after part cell.site cells are.1.0, parts_are part cells are.1.1))
+]
+
+-- the parts in the cells of a row are cells of the row
+pub parts_of_row : (part : ℕ → ℕ) (it : Instance) (row : ℕ) (cells : List Cell) → AreCellsOf it row cells → AreCellsOf it row (parts_in part cells)
+parts_of_row part it row cells are = record {
+  each = parts_keep (IsCellOf it row) (λ cell left own. record { site = own.site; arc = own.arc; is_arc = own.is_arc; server = own.server; there = own.there }) part cells are.each;
+  are = parts_are part cells are.are;
+}
+
+-- the part in what is left at a site
+pub part_left : (part : ℕ → ℕ) → part 0 ≡ 0 → (site : ℕ) (cells : List Cell) → AreCells cells → left_at (parts_in part cells) site ≡ part (left_at cells site)
+part_left part nothing site [] are = sym nothing
+part_left part nothing site (cell ∷ cells) are = elim (cases_eq cell.site site) [
+  | inl at ↦
+      let none : left_at (parts_in part cells) site ≡ 0 = none_at (parts_in part cells) site (parts_after part site cells (rw at at are.1.0)) in
+      elim (cases_eq (part cell.left) 0) [
+        | inl empty ↦ rw (eq-eqb cell.site site at, eq-eqb (part cell.left) 0 empty) (none ∙ sym empty)
+        | inr some ↦ rw (eq-eqb cell.site site at, ne_eqb (part cell.left) 0 some) (rw (eq-eqb cell.site site at) refl)
+      ]
+  | inr away ↦ elim (cases_eq (part cell.left) 0) [
+    | inl empty ↦ rw (ne_eqb cell.site site away, eq-eqb (part cell.left) 0 empty) (part_left part nothing site cells are.1.1)
+    | inr some ↦ rw (ne_eqb cell.site site away, ne_eqb (part cell.left) 0 some) (rw (ne_eqb cell.site site away) (part_left part nothing site cells are.1.1))
+  ]
+]
+
+-- one cell more
+pub parts_more : (part : ℕ → ℕ) (cells : List Cell) (cell : Cell) → parts_in part (cells ++ cell ∷ []) ≡ parts_in part cells ++ with_first (with_part part cell) []
+parts_more part [] cell = refl
+parts_more part (first ∷ cells) cell = elim (cases_eq (part first.left) 0) [
+  | inl none ↦ rw (eq-eqb (part first.left) 0 none) (parts_more part cells cell)
+  | inr some ↦ rw (ne_eqb (part first.left) 0 some) (ap (λ (rest : List Cell). with_part part first ∷ rest) (parts_more part cells cell))
+]
+
+-- cells have no more in units of one
+pub parts_bounded : (portion : Portion) (cells : List Cell) → 0 < portion.fronts → portion.unit ≡ 1 → AreBounded cells → AreBounded (parts_in (part_of portion) cells)
+parts_bounded portion [] some one bounded = tt
+parts_bounded portion (cell ∷ cells) some one bounded = elim (cases_eq (part_of portion cell.left) 0) [
+  | inl none ↦ rw (eq-eqb (part_of portion cell.left) 0 none) (parts_bounded portion cells some one bounded.1)
+  | inr more ↦ rw (ne_eqb (part_of portion cell.left) 0 more) (omega (arith, part_le portion cell.left some one, bounded.0), parts_bounded portion cells some one bounded.1)
+]

@@ -1,0 +1,4 @@
+pub mod Lines
+pub mod Marks
+pub mod Shapes
+pub mod Commas

@@ -1,0 +1,13 @@
+pub mod KindsBack
+pub mod KindsParts
+pub mod KindsRows
+pub mod KindsRuns
+pub mod KindsText
+pub mod KindsWhole
+mod Tellings
+pub mod PlacePrinting
+pub mod PlaceTalks
+mod RowsAnswered
+mod Accepting
+mod TalkEnds
+pub mod OwnHash

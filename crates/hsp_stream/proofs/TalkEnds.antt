@@ -1,0 +1,126 @@
+-- Talks at a desk that answers rows.
+use Rattle.std.proofs.Common.{◌≡◌, ◌≢◌, ◌∙◌, ℕ, List, [], map, Option, None, Some, Result, Ok, Err, IfErr, IsSomeAnd, refl, ap}
+use Rattle.hsp_tables.specs.Costs.{CostEntry}
+use Rattle.hsp_instance.specs.Instance.{Instance}
+use Rattle.hsp_check.specs.Plan.{Plan}
+use Rattle.hsp_dispatch.specs.Dispatch.{Entry, IsSame, answers}
+use Rattle.hsp_dispatch.specs.Shares.{left_of}
+use Rattle.hsp_dispatch.specs.declared.answer.Answer.{Answer}
+use Rattle.hsp_dispatch.specs.declared.form.Form.{Form}
+use Rattle.hsp_dispatch.proofs.OverCalls.{same_answers}
+use Rattle.hsp_dispatch.proofs.Resting.{rest_same}
+use Rattle.hsp_talk.specs.Talk.{Event, HeldToTheEnd, StoppedBy, Took}
+use Rattle.hsp_talk.specs.declared.stop.Stop.{Stop}
+use Rattle.hsp_talk.specs.declared.stop.Stop.TheVariants as stop
+use Rattle.hsp_stream.specs.AnswerTalk.{Answered, EndsBy, LacksHeader, StopsBy}
+use Rattle.hsp_stream.specs.Asking.{IsNoHeader}
+use Rattle.hsp_stream.specs.Saying.{none_said, said, said_line, sums_said}
+use Rattle.hsp_stream.specs.TalkFaults.{IsBeforeLog, fault_of}
+use Rattle.hsp_stream.specs.Telling.{Answering, AreAnswered, TakesRow, entries_in}
+use Rattle.hsp_stream.specs.declared.answerer.NoHeader.{NoHeader}
+use Rattle.hsp_stream.specs.declared.fault.RowFault.TheVariants.{Header, ReadFailed, WriteFailed}
+use Rattle.hsp_stream.specs.declared.fault.StreamFault.{StreamFault}
+use Rattle.hsp_stream.specs.declared.fault.StreamFault.TheVariants.{Log, OutOfMemory}
+use Rattle.hsp_stream.specs.declared.given.StreamSums.{StreamSums}
+use Rattle.hsp_stream.proofs.RowsAnswered.{answers_all, answers_none}
+
+abbrev pub RefusesRow : Answering → List ℕ → Answering → NoHeader → Type 0
+RefusesRow desk row next fault = IsNoHeader desk.form row
+
+module _ (first : Answering) (form : first.form ≡ None) (none : first.sums ≡ none_said) where
+  -- what was taken was answered
+  abbrev so_far : (last : Answering) (events : List Event) (stated : Option Form) (sums : StreamSums) → last.form ≡ stated → sums ≡ last.sums
+      → Took TakesRow first last events → Answered first.teller.costs first.teller.held.instance (left_of first.teller.held) stated sums events
+  so_far last events stated sums is same took = record {
+    rows = took.rows;
+    lines = took.answers;
+    later = took.later;
+    left = left_of last.teller.held;
+    came = took.came;
+    answered = rw (← is, same) (rw form at (answers_all first first last [] [] took.rows took.answers (answers_none first none) took.taken).answered);
+    prompt = took.prompt;
+  }
+
+  abbrev Ends : List Event → Result StreamSums StreamFault → Type 0
+  Ends events answer = EndsBy first.teller.costs first.teller.held.instance (left_of first.teller.held) events answer
+
+  -- the talk ended behind a header
+  pub ended : (last : Answering) (sums : StreamSums) (new : Option (List Event)) → last.form ≢ None → sums ≡ last.sums
+      → IsSomeAnd new (HeldToTheEnd TakesRow first last) → IsSomeAnd new (λ events. Ends events (Ok sums))
+  ended last sums None some same held = absurd held
+  ended last sums (Some events) some same held = by last.form refl
+    where
+      by : (stated : Option Form) → last.form ≡ stated → Ends events (Ok sums)
+      by None e = absurd (some e)
+      by (Some own) e = (own, so_far last events (Some own) sums e same held.0, held.1, held.2, held.3)
+
+  -- the talk ended without a header
+  pub ended_early : (last : Answering) (new : Option (List Event)) → last.form ≡ None → IsSomeAnd new (HeldToTheEnd TakesRow first last)
+      → IsSomeAnd new (λ events. Ends events (Err (Log Header)))
+  ended_early last None lacking held = absurd held
+  ended_early last (Some events) lacking held =
+      let lacks : LacksHeader events held.0.later = rw held.1 held.3 in
+      (last.sums, so_far last events None last.sums lacking refl held.0, lacks, held.2)
+
+  -- the talk stopped
+  pub stopped : (last : Answering) (new : Option (List Event)) (why : Stop NoHeader) → IsSomeAnd new (λ events. StoppedBy TakesRow RefusesRow first last events why)
+      → IsSomeAnd new (λ events. Ends events (Err (fault_of why)))
+  stopped last None why by = absurd by
+  stopped last (Some events) stop.ReadFailed by = (last.form, last.sums, so_far last events last.form last.sums refl refl by.0, (by.1, by.2))
+  stopped last (Some events) stop.WriteFailed by = (by.0.form, by.0.sums, so_far by.0 events by.0.form by.0.sums refl refl by.1, (by.2, by.3))
+  stopped last (Some events) stop.OutOfMemory by = (by.0.form, by.0.sums, so_far by.0 events by.0.form by.0.sums refl refl by.1, by.2)
+  stopped last (Some events) (stop.Fault fault) by =
+      let refused = by.5 in
+      let lacks : LacksHeader events by.1.later = rw by.4 refused.1 in
+      (by.0.sums, so_far by.0 events None by.0.sums refused.0 refl by.1, lacks, by.6)
+
+-- ---- plans that send alike
+
+module _ (costs : List CostEntry) (it : Instance) (x y : Plan) (same : IsSame x y) where
+  answers_same : (entries : List Entry) → answers it x entries ≡ answers it y entries
+  answers_same entries = same_answers it x y [] entries same
+
+  rows_same : (left : Plan) (first last : Option Form) (rows lines : List (List ℕ)) (sums : StreamSums) → AreAnswered costs it x left first last rows lines sums
+      → AreAnswered costs it y left first last rows lines sums
+  rows_same left first last rows lines sums so =
+      let entries = entries_in costs it so.asked in
+      record {
+        asked = so.asked;
+        asks = so.asks;
+        lines_are = so.lines_are ∙ ap (λ (given : List Answer). map (said_line it) (said so.asked given)) (answers_same entries);
+        sums_are = so.sums_are ∙ ap (λ (given : List Answer). sums_said (said so.asked given)) (answers_same entries);
+        left_is = λ row site. so.left_is row site ∙ rest_same it x y entries same row site;
+      }
+
+  abbrev some_same : (form : Option Form) (sums : StreamSums) (events : List Event) → Answered costs it x form sums events → Answered costs it y form sums events
+  some_same form sums events so = record {
+    rows = so.rows;
+    lines = so.lines;
+    later = so.later;
+    left = so.left;
+    came = so.came;
+    answered = rows_same so.left None form so.rows so.lines sums so.answered;
+    prompt = so.prompt;
+  }
+
+  stops_same : (events : List Event) (fault : StreamFault) → StopsBy costs it x events fault → StopsBy costs it y events fault
+  stops_same events (Log ReadFailed) by = (by.0, by.1, some_same by.0 by.1 events by.2, by.3)
+  stops_same events (Log WriteFailed) by = (by.0, by.1, some_same by.0 by.1 events by.2, by.3)
+  stops_same events OutOfMemory by = (by.0, by.1, some_same by.0 by.1 events by.2, by.3)
+  stops_same events (Log Header) by = (by.0, some_same None by.0 events by.1, by.2, by.3)
+  stops_same events (Log other) by = absurd by
+  stops_same events other by = absurd by
+
+  pub ends_same : (events : List Event) (answer : Result StreamSums StreamFault) → EndsBy costs it x events answer → EndsBy costs it y events answer
+  ends_same events (Ok sums) by = (by.0, some_same (Some by.0) sums events by.1, by.2, by.3, by.4)
+  ends_same events (Err fault) by = stops_same events fault by
+
+pub log_ends : (costs : List CostEntry) (it own : Instance) (x y : Plan) (answer : Result StreamSums StreamFault) (new : Option (List Event)) → own ≡ it → IsSame x y
+    → IsSomeAnd new (λ events. EndsBy costs own x events answer) → IsSomeAnd new (λ events. EndsBy costs it y events answer)
+log_ends costs it own x y answer None same_it same ends = absurd ends
+log_ends costs it own x y answer (Some events) same_it same ends = rw (← same_it) (ends_same costs own x y same events answer ends)
+
+-- no fault of a talk comes before the log
+pub untouched_so : {A : Type 0} (Same : Type 0) (ended : Result A StreamFault) → IfErr ended (λ e. IsBeforeLog e → ⊥) → IfErr ended (λ e. IsBeforeLog e → Same)
+untouched_so Same (Ok sums) never = tt
+untouched_so Same (Err e) never = λ before. absurd (never before)

@@ -1,0 +1,13 @@
+// What holds of every plan and of whatever rows ask.
+
+ghost use Rattle.hsp_stream.specs.AnswerLaws.{AnswersKeepWithin, GoesByOwnHash};
+
+/// Whatever rows ask, no more of their queries are assigned to a site by a row of demand than the plan sends there.
+pub fn answers_keep_within()
+    ensures { AnswersKeepWithin }
+{}
+
+/// A query that is answered by the row of its kind goes to the server that its own hash names.
+pub fn goes_by_own_hash()
+    ensures { GoesByOwnHash }
+{}

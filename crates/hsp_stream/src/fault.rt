@@ -1,0 +1,74 @@
+// Why a run over a log of any length has no answer.
+
+ghost use Rattle.std.specs.Prelude.{◌≡◌};
+ghost use Rattle.hsp_stream.specs.Faults.{input_told};
+ghost use Rattle.hsp_stream.specs.declared.fault.StreamFault.TheVariants.{OutOfMemory};
+
+use hsp_lines::Fault;
+use hsp_names::HandleFault;
+use std::alloc::AllocError;
+use thiserror::Error;
+
+/// Why a run over the rows of a log stopped. Rows are numbered from 0, without the header.
+#[derive(Debug, PartialEq, Eq, Drop)]
+pub enum RowFault {
+    /// A read of the log failed.
+    ReadFailed,
+    /// An answer can't be written.
+    WriteFailed,
+    /// The first record is not the header of a log, or there is no record.
+    Header,
+    /// The row has another number of fields than the header.
+    Fields { row: u64 },
+    /// The row's region is not a name.
+    BadName { row: u64 },
+    /// What the row gives as its handle is not a handle.
+    BadHandle { row: u64, fault: HandleFault },
+    /// The row's count is not a whole number up to 1,000,000,000,000.
+    BadNumber { row: u64 },
+    /// The row's region is the 65th.
+    TooManyRegions { row: u64 },
+    /// The row is the first of the 8,193rd kind.
+    TooManyKinds { row: u64 },
+    /// The count of this row of the table is above 1,000,000. This unit is the least that brings it down to that.
+    CountTooLarge { row: u32, unit: u64 },
+}
+
+/// Why a run has no answer. Of several reasons, a run reports the first in the order that it states.
+#[derive(Debug, PartialEq, Eq, Drop, Error)]
+pub enum StreamFault {
+    /// The unit isn't a whole number from 1 to 1,000,000.
+    #[error("bad unit")]
+    BadUnit,
+    /// The front isn't a whole number below the number of fronts.
+    #[error("bad front")]
+    BadFront,
+    /// A file or the number of fronts is refused, as the runs of `hsplan` refuse it.
+    #[error("{0}")]
+    Input(Fault),
+    /// The run over the log stopped.
+    #[error("log: {0:?}")]
+    Log(RowFault),
+    /// Memory ran out.
+    #[error("out of memory")]
+    OutOfMemory,
+}
+
+impl From<AllocError> for StreamFault {
+    ghost from_gives = { λ _ fault. fault ≡ OutOfMemory };
+
+    fn from(_error: AllocError) -> StreamFault {
+        StreamFault::OutOfMemory
+    }
+}
+
+impl From<Fault> for StreamFault {
+    ghost from_gives = { λ input fault. fault ≡ input_told input };
+
+    fn from(fault: Fault) -> StreamFault {
+        match fault {
+            Fault::OutOfMemory => StreamFault::OutOfMemory,
+            other => StreamFault::Input(other),
+        }
+    }
+}

@@ -1,0 +1,120 @@
+// Faults as the program prints them, and the statuses that it ends with.
+
+ghost use Rattle.std.specs.Prelude.{◌≡◌, ◌++◌, IfOk, OnOk, codes, decimal};
+ghost use Rattle.hsp_stream.specs.declared.fault.RowFault.TheVariants as row_fault;
+ghost use Rattle.hsp_stream.specs.Lines.{fault_text, fault_words, numbered, row_words, row_status, status_in};
+
+use crate::fault::{RowFault, StreamFault};
+use hsp_lines::{handle_words, put_fault as put_input_fault, status_of};
+use hsp_names::HandleFault;
+use hsp_text::push_whole;
+use std::alloc::{AllocError, Global};
+
+// Appends a word, a name and the digits of a number, each after a space.
+fn put_numbered(out: &mut Vec<u8>, word: &[u8], name: &[u8], number: u64) -> Result<(), AllocError>
+    ensures { OnOk result (out.new.items ≡ out.old.items ++ numbered word.now name.now number) }
+{
+    out.extend_from_slice(word)?;
+    out.extend_from_slice(b" ")?;
+    out.extend_from_slice(name)?;
+    out.extend_from_slice(b" ")?;
+    push_whole(out, number)
+}
+
+// Appends a space and a word.
+fn put_word(out: &mut Vec<u8>, word: &[u8]) -> Result<(), AllocError>
+    ensures { OnOk result (out.new.items ≡ out.old.items ++ (codes " " ++ word.now)) }
+{
+    out.extend_from_slice(b" ")?;
+    out.extend_from_slice(word)
+}
+
+fn put_bad_handle(out: &mut Vec<u8>, row: u64, fault: &HandleFault) -> Result<(), AllocError>
+    ensures { OnOk result (out.new.items ≡ out.old.items ++ row_words (row_fault.BadHandle row fault.now)) }
+{
+    put_numbered(out, b"BadHandle", b"row", row)?;
+    put_word(out, handle_words(fault))
+}
+
+fn put_count(out: &mut Vec<u8>, row: u32, unit: u64) -> Result<(), AllocError>
+    ensures { OnOk result (out.new.items ≡ out.old.items ++ row_words (row_fault.CountTooLarge row unit)) }
+{
+    put_numbered(out, b"CountTooLarge", b"row", u64::from(row))?;
+    put_numbered(out, b"", b"unit", unit)
+}
+
+// Appends the fault of a run over a log, with its row.
+fn put_row_fault(out: &mut Vec<u8>, fault: &RowFault) -> Result<(), AllocError>
+    ensures { OnOk result (out.new.items ≡ out.old.items ++ row_words fault.now) }
+{
+    match fault {
+        RowFault::ReadFailed => out.extend_from_slice(b"ReadFailed"),
+        RowFault::WriteFailed => out.extend_from_slice(b"WriteFailed"),
+        RowFault::Header => out.extend_from_slice(b"Header"),
+        RowFault::Fields { row } => put_numbered(out, b"Fields", b"row", *row),
+        RowFault::BadName { row } => put_numbered(out, b"BadName", b"row", *row),
+        RowFault::BadHandle { row, fault } => put_bad_handle(out, *row, fault),
+        RowFault::BadNumber { row } => put_numbered(out, b"BadNumber", b"row", *row),
+        RowFault::TooManyRegions { row } => put_numbered(out, b"TooManyRegions", b"row", *row),
+        RowFault::TooManyKinds { row } => put_numbered(out, b"TooManyKinds", b"row", *row),
+        RowFault::CountTooLarge { row, unit } => put_count(out, *row, *unit),
+    }
+}
+
+// Appends what stands between `hsplan-stream: ` and the line's end.
+fn put_fault(out: &mut Vec<u8>, fault: &StreamFault) -> Result<(), AllocError>
+    ensures { OnOk result (out.new.items ≡ out.old.items ++ fault_words fault.now) }
+{
+    match fault {
+        StreamFault::BadUnit => out.extend_from_slice(b"BadUnit"),
+        StreamFault::BadFront => out.extend_from_slice(b"BadFront"),
+        StreamFault::Input(inner) => put_input_fault(out, inner),
+        StreamFault::Log(inner) => {
+            out.extend_from_slice(b"log: ")?;
+            put_row_fault(out, inner)
+        }
+        StreamFault::OutOfMemory => out.extend_from_slice(b"OutOfMemory"),
+    }
+}
+
+/// The line that reports a fault: `hsplan-stream: `, the part with the fault and `: ` where there is such a part, the
+/// fault with its fields, LF.
+pub fn stream_fault_line(alloc: Global, fault: &StreamFault) -> Result<Vec<u8>, AllocError>
+    ensures { IfOk result (λ line. line.items ≡ fault_text fault.now) }
+{
+    let mut line = Vec::new(alloc);
+    line.extend_from_slice(b"hsplan-stream: ")?;
+    put_fault(&mut line, fault)?;
+    line.extend_from_slice(b"\n")?;
+    Ok(line)
+}
+
+// The status at a fault of a run over a log.
+fn row_status(fault: &RowFault) -> u8
+    ensures { result ≡ row_status fault.now }
+{
+    match fault {
+        RowFault::ReadFailed | RowFault::WriteFailed => 5,
+        RowFault::Header
+        | RowFault::Fields { .. }
+        | RowFault::BadName { .. }
+        | RowFault::BadHandle { .. }
+        | RowFault::BadNumber { .. }
+        | RowFault::TooManyRegions { .. }
+        | RowFault::TooManyKinds { .. }
+        | RowFault::CountTooLarge { .. } => 1,
+    }
+}
+
+/// The status that the program ends with at a fault: 5 for a log that can't be read to its end and for answers that
+/// can't be written, 4 where memory runs out, that of `hsplan` for a refused file, and otherwise 1.
+pub fn stream_status(fault: &StreamFault) -> u8
+    ensures { result ≡ status_in fault.now }
+{
+    match fault {
+        StreamFault::BadUnit | StreamFault::BadFront => 1,
+        StreamFault::Input(inner) => status_of(inner),
+        StreamFault::Log(inner) => row_status(inner),
+        StreamFault::OutOfMemory => 4,
+    }
+}

@@ -1,0 +1,87 @@
+// The run `kinds`: the table of the kinds of a log.
+
+ghost use Rattle.std.specs.Prelude.{◌≡◌, ◌<◌, ◌≤◌, ◌⊎◌, Err, IfErr, IfOk, IfSome, Ok, option_map};
+ghost use Rattle.hsp_csv.specs.Records.{records_of};
+ghost use Rattle.hsp_text.specs.Answers.{Gives};
+ghost use Rattle.hsp_stream.specs.KindsLog.{IsReadFault};
+ghost use Rattle.hsp_stream.specs.KindsRun.{IsKindsText, kinds_text, unit_at};
+
+use crate::fault::StreamFault;
+use crate::kinds_files::{KindsInputs, files_in};
+use crate::kinds_log::count_log;
+use crate::kinds_table::text_of_kinds;
+use hsp_instance::Sites;
+use hsp_lines::Fault;
+use hsp_runs::count_at;
+use hsp_tables::Costs;
+use hsp_tally::Kinds;
+use std::alloc::Global;
+use std::io::Read;
+
+/// The greatest unit of counts.
+const MOST_UNIT: u32 = 1_000_000;
+
+// The unit that a word spells; without a word it is 1.
+fn unit_at(unit: Option<&[u8]>) -> Result<u32, StreamFault>
+    ensures unit { Gives (λ unit. unit) result (unit_at (option_map (λ o. o.now) unit.entry)) }
+    ensures some { IfOk result (λ unit. 0 < unit) }
+{
+    let Some(word) = unit else {
+        return Ok(1);
+    };
+    match count_at(word, MOST_UNIT, Fault::BadServers) {
+        Ok(unit) => Ok(unit),
+        Err(_) => Err(StreamFault::BadUnit),
+    }
+}
+
+// The table of a log, by sites and costs.
+fn text_of_log<R: Read + Drop>(
+    alloc: Global,
+    sites: &Sites,
+    costs: &Costs,
+    unit: u32,
+    log: R,
+) -> Result<Vec<u8>, StreamFault>
+    requires { 0 < unit }
+    ensures text { IfOk result (λ text. IfSome (R.remaining log)
+        (λ octets. kinds_text costs.now sites.now unit (records_of octets) ≡ Ok text.items)) }
+    ensures fault { IfErr result (λ fault. IsReadFault fault ⊎ IfSome (R.remaining log)
+        (λ octets. kinds_text costs.now sites.now unit (records_of octets) ≡ Err fault)) }
+{
+    let mut kinds = Kinds::new(alloc, sites, costs);
+    count_log(alloc, &mut kinds, log)?;
+    text_of_kinds(alloc, &kinds, u64::from(unit))
+}
+
+/// The table of the kinds of the rows that the log has, as comma-separated values.
+///
+/// Rows are of one kind where they have one region and where, at each site at which the region has a cost, one server is
+/// responsible for their handles. The table has the header `region,handle,count` and a line for each kind, in
+/// first-seen order: the region and the handle of the kind's first row, and the sum of the counts of its rows. With a
+/// unit, that sum is divided by the unit and rounded up. The log has the header `region,handle` or
+/// `region,handle,count`; without a count each row counts 1.
+///
+/// Faults in this order: `BadUnit`; of the files those of [`KindsInputs`] as `hsplan plan` reports them, and last a cost
+/// of an unknown site; of the log `ReadFailed`, `Header`, and row by row `Fields`, `BadName`, `BadHandle`, `BadNumber`,
+/// `TooManyRegions`, `TooManyKinds`; at the end `CountTooLarge`. Sums above 2^64 - 1 count as 2^64 - 1.
+///
+/// Where the octets of the log are known, the result is the one that these definitions give, unless a read fails or
+/// memory runs out.
+pub fn kinds_run<R: Read + Drop>(
+    alloc: Global,
+    inputs: &KindsInputs,
+    unit: Option<&[u8]>,
+    log: R,
+) -> Result<Vec<u8>, StreamFault>
+    ensures text { IfOk result (λ text. IfSome (R.remaining log)
+        (λ octets. IsKindsText inputs.now (option_map (λ o. o.now) unit.entry)
+        (records_of octets) (Ok text.items))) }
+    ensures fault { IfErr result (λ fault. IsReadFault fault ⊎ IfSome (R.remaining log)
+        (λ octets. IsKindsText inputs.now (option_map (λ o. o.now) unit.entry)
+        (records_of octets) (Err fault))) }
+{
+    let unit = unit_at(unit)?;
+    let files = files_in(alloc, inputs)?;
+    text_of_log(alloc, &files.sites, &files.costs, unit, log)
+}

@@ -1,0 +1,88 @@
+// The files by which rows are joined to kinds.
+
+ghost use Rattle.std.specs.Prelude.{option_map};
+ghost use Rattle.hsp_runs.specs.Memory.{OrNoMemory};
+ghost use Rattle.hsp_stream.specs.KindsFiles.{AreFilesIn, AreWithCosts, AreWithSettings, AreWithValues, are_checked};
+ghost use Rattle.hsp_text.specs.Answers.{Gives};
+
+use hsp_instance::{Sites, check_costs};
+use hsp_lines::Fault;
+use hsp_record::ValueList;
+use hsp_runs::{costs_in, settings_in, sites_of, values_in};
+use hsp_tables::{Costs, Settings};
+use std::alloc::Global;
+
+/// The files that `kinds` joins rows by.
+#[derive(Debug, Drop)]
+pub struct KindsInputs {
+    /// The settings.
+    pub settings: Vec<u8>,
+    /// The value list that the indices of sites are of, where there is one.
+    pub values: Option<Vec<u8>>,
+    /// The table of costs.
+    pub costs: Vec<u8>,
+}
+
+// What tells kinds apart.
+#[derive(Drop)]
+pub(crate) struct Files {
+    pub(crate) sites: Sites,
+    pub(crate) costs: Costs,
+}
+
+// The sites and the costs, after the sites of all costs were checked.
+fn checked(sites: Sites, costs: Costs) -> Result<Files, Fault>
+    ensures { Gives (λ files. files) result (are_checked sites costs) }
+{
+    match check_costs(&sites, &costs) {
+        Ok(()) => Ok(Files { sites, costs }),
+        Err(fault) => Err(Fault::Build(fault)),
+    }
+}
+
+// The files, after the costs were read.
+fn with_costs(
+    alloc: Global,
+    settings: &Settings,
+    values: Option<&ValueList<'_>>,
+    costs: Costs,
+) -> Result<Files, Fault>
+    ensures { OrNoMemory (AreWithCosts settings.now (option_map (λ v. v.now) values.entry) costs)
+        result }
+{
+    let sites = sites_of(alloc, settings, values)?;
+    checked(sites, costs)
+}
+
+// The files, after the values were read.
+fn with_values(
+    alloc: Global,
+    inputs: &KindsInputs,
+    settings: &Settings,
+    values: Option<&ValueList<'_>>,
+) -> Result<Files, Fault>
+    ensures { OrNoMemory (AreWithValues inputs.now settings.now
+        (option_map (λ v. v.now) values.entry)) result }
+{
+    let costs = costs_in(alloc, &inputs.costs)?;
+    with_costs(alloc, settings, values, costs)
+}
+
+// The files, after the settings were read.
+fn with_settings(alloc: Global, inputs: &KindsInputs, settings: &Settings) -> Result<Files, Fault>
+    ensures { OrNoMemory (AreWithSettings inputs.now settings.now) result }
+{
+    let values = values_in(alloc, inputs.values.as_deref())?;
+    with_values(alloc, inputs, settings, values.as_ref())
+}
+
+/// The sites and the costs that the files define.
+///
+/// Faults in this order: `Settings`, `Values`, `Costs`, and `Build` of the sites and then of the first cost whose site
+/// is not there.
+pub(crate) fn files_in(alloc: Global, inputs: &KindsInputs) -> Result<Files, Fault>
+    ensures { OrNoMemory (AreFilesIn inputs.now) result }
+{
+    let settings = settings_in(alloc, &inputs.settings)?;
+    with_settings(alloc, inputs, &settings)
+}

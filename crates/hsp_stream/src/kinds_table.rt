@@ -1,0 +1,163 @@
+// The text of a table of kinds.
+
+ghost use Rattle.std.specs.Prelude.{◌≡◌, ◌<◌, ◌⊎◌, ◌∷◌, ◌++◌, [], Err, IfErr, Ok, OnOk, Some, decimal, length, slice_get};
+ghost use Rattle.std.specs.List.{list_any};
+ghost use Rattle.csv.specs.Writing.{default_writer, escaped, field_text, needs_byte, row_text};
+ghost use Rattle.hsp_text.specs.Answers.{Gives, GivesUnless};
+ghost use Rattle.hsp_kinds.specs.Units.{rounded_up};
+ghost use Rattle.hsp_instance.specs.Instance.{Row};
+ghost use Rattle.hsp_stream.specs.KindsTable.{IsPushed, fields_of_row, in_unit, text_in_units};
+ghost use Rattle.hsp_stream.specs.declared.fault.StreamFault.TheVariants.{OutOfMemory};
+ghost use Rattle.hsp_text.specs.declared.limits.TheConstants.{GREATEST_COUNT};
+
+use crate::fault::{RowFault, StreamFault};
+use hsp_tally::Kinds;
+use hsp_text::limits::GREATEST_COUNT;
+use hsp_text::push_whole;
+use std::alloc::{AllocError, Global};
+
+// How many units hold a count.
+fn rounded_up(unit: u64, count: u64) -> u64
+    requires { 0 < unit }
+    ensures { result ≡ rounded_up unit count }
+{
+    count.div_ceil(unit)
+}
+
+// The count of a row of the table in units, or the fault where it is too large.
+fn in_unit(row: u32, unit: u64, count: u64) -> Result<u64, StreamFault>
+    requires { 0 < unit }
+    ensures { Gives (λ count. count) result (in_unit row unit count) }
+{
+    let units = rounded_up(unit, count);
+    if units > GREATEST_COUNT {
+        let unit = rounded_up(GREATEST_COUNT, count);
+        return Err(StreamFault::Log(RowFault::CountTooLarge { row, unit }));
+    }
+    Ok(units)
+}
+
+// Whether an octet of a field calls for quotes.
+fn calls_for_quotes(octet: u8) -> bool
+    ensures { result ≡ needs_byte default_writer octet }
+{
+    octet == b',' || octet == b'"' || octet == b'\r' || octet == b'\n'
+}
+
+// Whether a field calls for quotes.
+fn needs_quotes(field: &[u8]) -> bool
+    ensures { result ≡ list_any (needs_byte default_writer) field.now }
+{
+    field.iter().any(|octet| calls_for_quotes(*octet))
+}
+
+// Adds an octet of a field between quotes: a quote stands twice.
+#[tactic(auto, using(crate::proofs::KindsText::escaped_octets))]
+fn push_octet(text: &mut Vec<u8>, octet: u8) -> Result<(), AllocError>
+    ensures { OnOk result
+        (text.new.items ≡ text.old.items ++ escaped default_writer (octet ∷ [])) }
+{
+    if octet == b'"' {
+        text.extend_from_slice(b"\"\"")?;
+        return Ok(());
+    }
+    text.push(octet)?;
+    Ok(())
+}
+
+// Adds the octets of a field between quotes.
+fn push_escaped(text: &mut Vec<u8>, field: &[u8]) -> Result<(), AllocError>
+    ensures { OnOk result (text.new.items ≡ text.old.items ++ escaped default_writer field.now) }
+{
+    for octet in field {
+        push_octet(text, *octet)?;
+    }
+    Ok(())
+}
+
+// Adds a field, in quotes where it calls for them.
+#[tactic(auto, using(crate::proofs::KindsText::fields))]
+fn push_field(text: &mut Vec<u8>, field: &[u8]) -> Result<(), AllocError>
+    ensures { OnOk result
+        (text.new.items ≡ text.old.items ++ field_text default_writer field.now) }
+{
+    if !needs_quotes(field) {
+        text.extend_from_slice(field)?;
+        return Ok(());
+    }
+    text.push(b'"')?;
+    push_escaped(text, field)?;
+    text.push(b'"')?;
+    Ok(())
+}
+
+// Adds a whole number as a field.
+fn push_count(alloc: Global, text: &mut Vec<u8>, count: u64) -> Result<(), AllocError>
+    ensures { OnOk result
+        (text.new.items ≡ text.old.items ++ field_text default_writer (decimal count)) }
+{
+    let mut digits = Vec::new(alloc);
+    push_whole(&mut digits, count)?;
+    push_field(text, digits.as_slice())
+}
+
+// Adds the line of a row.
+fn push_row(
+    alloc: Global,
+    text: &mut Vec<u8>,
+    region: &[u8],
+    handle: &[u8],
+    count: u64,
+) -> Result<(), AllocError>
+    ensures { OnOk result (text.new.items ≡ text.old.items ++ row_text default_writer
+        (fields_of_row (record { region = region.now; handle = handle.now; count = count }))) }
+{
+    push_field(text, region)?;
+    text.push(b',')?;
+    push_field(text, handle)?;
+    text.push(b',')?;
+    push_count(alloc, text, count)?;
+    text.push(b'\n')?;
+    Ok(())
+}
+
+// Adds the line of a row of the table, in units.
+fn push_kind(
+    alloc: Global,
+    text: &mut Vec<u8>,
+    kinds: &Kinds<'_>,
+    row: u32,
+    unit: u64,
+) -> Result<(), StreamFault>
+    requires unit { 0 < unit }
+    requires row { row < length kinds.now.rows }
+    ensures pushed { OnOk result ((kind : Row) × (slice_get kinds.now.rows row ≡ Some kind)
+        × IsPushed text.old.items text.new.items kind (in_unit row unit kind.count)) }
+    ensures fault { IfErr result (λ fault. (fault ≡ OutOfMemory)
+        ⊎ ((kind : Row) × (slice_get kinds.now.rows row ≡ Some kind)
+        × (in_unit row unit kind.count ≡ Err fault))) }
+{
+    let (region, handle, count) = kinds.row(row);
+    let count = in_unit(row, unit, count)?;
+    push_row(alloc, text, region, handle, count)?;
+    Ok(())
+}
+
+/// The table of kinds as comma-separated values, with counts in units.
+///
+/// The header is `region,handle,count`. The fault is `CountTooLarge` of the first row whose count is above 1,000,000.
+pub(crate) fn text_of_kinds(
+    alloc: Global,
+    kinds: &Kinds<'_>,
+    unit: u64,
+) -> Result<Vec<u8>, StreamFault>
+    requires { 0 < unit }
+    ensures { GivesUnless OutOfMemory (λ text. text.items) result
+        (text_in_units unit kinds.now.rows) }
+{
+    let mut text = Vec::from_slice(alloc, b"region,handle,count\n")?;
+    for row in 0..kinds.len() {
+        push_kind(alloc, &mut text, kinds, row, unit)?;
+    }
+    Ok(text)
+}

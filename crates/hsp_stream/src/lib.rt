@@ -1,0 +1,36 @@
+// The runs over logs of any length: the table of their kinds, the places of their handles, and answers for as long as
+// a log goes on.
+#![tactic(auto)]
+
+pub mod answer_laws;
+mod answerer;
+mod answering;
+mod bodies;
+mod csv_field;
+mod fault;
+mod fault_text;
+mod given;
+mod handle_rows;
+mod kinds;
+mod kinds_files;
+pub mod kinds_laws;
+mod kinds_log;
+mod kinds_table;
+mod place_lines;
+mod places;
+mod places_desk;
+mod portions;
+mod row_refusal;
+mod speaking;
+mod sums;
+mod teller;
+
+pub use answering::answer_run;
+pub use fault::{RowFault, StreamFault};
+pub use fault_text::{stream_fault_line, stream_status};
+pub use given::StreamSums;
+pub use kinds::kinds_run;
+pub use kinds_files::KindsInputs;
+pub use places::places_run;
+pub use portions::PortionWords;
+pub use sums::stream_sums_line;

@@ -1,0 +1,47 @@
+// The run `places`: the server of each handle of a log, at each site.
+
+ghost use Rattle.std.specs.Prelude.{◌≡◌, [], IfErr, OnOk, Some, option_map};
+ghost use Rattle.hsp_stream.specs.PlacesRun.{ArePlaced, ArePlacedUntil};
+
+use crate::fault::{RowFault, StreamFault};
+use crate::places_desk::PlacesDesk;
+use hsp_runs::sites_in;
+use hsp_talk::{Peer, Stop, talk};
+use std::alloc::Global;
+
+/// Answers each handle of a log by the responsible server at each site, before it waits for more rows.
+///
+/// The header of the log is `handle` or `region,handle`, after a byte order mark if there is one. What is sent has the
+/// header `handle,site,place,server_id`, and for each row a line for each site in the settings' order. A blank row has
+/// no answer.
+///
+/// Faults in this order: those of the settings and values, before anything is read or sent; then of the log `Header`,
+/// also where the log ends without one; then row by row `Fields` and `BadHandle` (`TooLong` where the row has more than
+/// [`hsp_talk::LONGEST_ROW`] octets). What comes before a fault is answered.
+pub fn places_run<P: Peer>(
+    alloc: Global,
+    settings: &[u8],
+    values: Option<&[u8]>,
+    peer: &mut P,
+) -> Result<(), StreamFault>
+    ensures whole { P.talk peer.old ≡ Some [] → OnOk result
+        (ArePlaced settings.now (option_map (λ v. v.now) values.entry) (P.talk peer.new)) }
+    ensures stops { P.talk peer.old ≡ Some [] → IfErr result
+        (ArePlacedUntil settings.now (option_map (λ v. v.now) values.entry) (P.talk peer.new)) }
+{
+    let sites = sites_in(alloc, settings, values)?;
+    let mut desk = PlacesDesk::new(alloc, sites);
+    match talk(alloc, &mut desk, peer) {
+        Ok(()) => {
+            if desk.has_header() {
+                Ok(())
+            } else {
+                Err(StreamFault::Log(RowFault::Header))
+            }
+        }
+        Err(Stop::ReadFailed) => Err(StreamFault::Log(RowFault::ReadFailed)),
+        Err(Stop::WriteFailed) => Err(StreamFault::Log(RowFault::WriteFailed)),
+        Err(Stop::OutOfMemory) => Err(StreamFault::OutOfMemory),
+        Err(Stop::Fault(fault)) => Err(StreamFault::Log(fault)),
+    }
+}

@@ -1,0 +1,48 @@
+// A talk in which the rows of a log are answered.
+
+ghost use Rattle.std.specs.Prelude.{◌≡◌, ◌≢◌, [], IfErr, IsSomeAnd, None, Some};
+ghost use Rattle.hsp_dispatch.specs.Shares.{left_of};
+ghost use Rattle.hsp_stream.specs.AnswerTalk.{EndsBy};
+ghost use Rattle.hsp_stream.specs.TalkFaults.{IsBeforeLog};
+ghost use Rattle.hsp_stream.specs.Saying.{none_said};
+ghost use Rattle.hsp_stream.specs.TalkFaults.{fault_of};
+
+use crate::answerer::{Answerer, NoHeader};
+use crate::fault::{RowFault, StreamFault};
+use crate::given::StreamSums;
+use hsp_talk::{Peer, Stop, talk};
+use std::alloc::Global;
+
+// The fault of a talk that stopped.
+fn fault_of(stop: Stop<NoHeader>) -> StreamFault
+    ensures { result ≡ fault_of stop }
+{
+    match stop {
+        Stop::ReadFailed => StreamFault::Log(RowFault::ReadFailed),
+        Stop::WriteFailed => StreamFault::Log(RowFault::WriteFailed),
+        Stop::OutOfMemory => StreamFault::OutOfMemory,
+        Stop::Fault(NoHeader) => StreamFault::Log(RowFault::Header),
+    }
+}
+
+/// Answers the rows that a peer asks by, until no more come, at a desk that has taken no row.
+pub(crate) fn answer_rows<P: Peer>(
+    alloc: Global,
+    desk: &mut Answerer<'_>,
+    peer: &mut P,
+) -> Result<StreamSums, StreamFault>
+    requires form { desk.old.form ≡ None }
+    requires sums { desk.old.sums ≡ none_said }
+    ensures answered { P.talk peer.old ≡ Some [] → IsSomeAnd (P.talk peer.new) (λ events.
+        EndsBy desk.old.teller.costs desk.old.teller.held.instance
+        (left_of desk.old.teller.held) events result) }
+    ensures log { IfErr result (λ e. IsBeforeLog e → ⊥) }
+{
+    match talk(alloc, desk, peer) {
+        Ok(()) => match desk.ending() {
+            Some(sums) => Ok(sums),
+            None => Err(StreamFault::Log(RowFault::Header)),
+        },
+        Err(stop) => Err(fault_of(stop)),
+    }
+}

@@ -1,0 +1,15 @@
+// The edge of the program for logs of any length: its words, the files behind their paths, tables and answers on
+// standard output, and how it ends.
+#![tactic(auto)]
+
+mod commands;
+mod ending;
+mod failure;
+mod files;
+mod printing;
+mod talking;
+mod texts;
+
+pub use commands::obey;
+pub use ending::{end_with, last_line, status_after};
+pub use failure::StreamFailure;

@@ -1,0 +1,113 @@
+// Logs that are answered in a talk.
+
+ghost use Rattle.std.specs.Prelude.{◌≡◌, IfOk, None, option_map};
+ghost use Rattle.hsp_stream_edge.specs.Talking.{EndsAnswers, EndsPlaces, IsPortion, TalkEnds};
+
+use crate::failure::StreamFailure;
+use crate::files::Sources;
+use hsp_command::{FrontWords, Word};
+use hsp_edge::{OpenFile, OpenLog, Output};
+use hsp_runs::Inputs;
+use hsp_stream::{PortionWords, StreamSums, answer_run, places_run};
+use hsp_talk::{Joined, Peer};
+use std::alloc::{AllocError, Global};
+
+// States the places of the handles that a peer asks for.
+fn state_to<P: Peer>(
+    alloc: Global,
+    sources: &Sources,
+    peer: &mut P,
+) -> Result<Option<StreamSums>, StreamFailure>
+    ensures { EndsPlaces sources.now (P.talk peer.old) (P.talk peer.new) result }
+{
+    match places_run(alloc, &sources.settings, sources.values.as_deref(), peer) {
+        Ok(()) => Ok(None),
+        Err(fault) => Err(StreamFailure::Refused(fault)),
+    }
+}
+
+/// States on `out` the places of the handles of a log.
+pub(crate) fn state_places<F: OpenFile, O: Output>(
+    alloc: Global,
+    sources: &Sources,
+    log: F,
+    out: &mut O,
+) -> Result<Option<StreamSums>, StreamFailure>
+    ensures { TalkEnds (EndsPlaces sources.now None) result }
+{
+    let mut peer = Joined {
+        reader: log,
+        writer: out,
+    };
+    state_to(alloc, sources, &mut peer)
+}
+
+// The octets of a word, if there is one.
+fn octets_of(alloc: Global, word: &Option<Word>) -> Result<Option<Vec<u8>>, AllocError>
+    ensures { IfOk result (λ octets. option_map (λ v. v.items) octets ≡ word.now) }
+{
+    match word {
+        Some(word) => Ok(Some(Vec::from_slice(alloc, word.as_bytes())?)),
+        None => Ok(None),
+    }
+}
+
+/// The words of a portion: the unit, and the number of fronts with that of one of them.
+pub(crate) fn portion_words(
+    alloc: Global,
+    unit: &Option<Word>,
+    front: &Option<FrontWords>,
+) -> Result<PortionWords, AllocError>
+    ensures { IfOk result (IsPortion unit.now front.now) }
+{
+    let unit = octets_of(alloc, unit)?;
+    match front {
+        Some(words) => Ok(PortionWords {
+            unit,
+            fronts: Some(Vec::from_slice(alloc, words.fronts.as_bytes())?),
+            front: Some(Vec::from_slice(alloc, words.front.as_bytes())?),
+        }),
+        None => Ok(PortionWords {
+            unit,
+            fronts: None,
+            front: None,
+        }),
+    }
+}
+
+// Answers the rows that a peer asks by.
+fn answer_to<P: Peer>(
+    alloc: Global,
+    inputs: &Inputs,
+    certificate: &[u8],
+    portion: &PortionWords,
+    peer: &mut P,
+) -> Result<Option<StreamSums>, StreamFailure>
+    ensures { EndsAnswers inputs.now certificate.now portion.now (P.talk peer.old) (P.talk peer.new) result }
+{
+    match answer_run(alloc, inputs, certificate, portion, peer) {
+        Ok(sums) => Ok(Some(sums)),
+        Err(fault) => Err(StreamFailure::Refused(fault)),
+    }
+}
+
+/// Answers on `out` the rows of a log.
+pub(crate) fn answer_log<F: OpenFile, O: Output>(
+    alloc: Global,
+    opened: OpenLog<F>,
+    portion: &PortionWords,
+    out: &mut O,
+) -> Result<Option<StreamSums>, StreamFailure>
+    ensures { TalkEnds (EndsAnswers opened.inputs opened.certificate.items portion.now None) result }
+{
+    let OpenLog {
+        inputs,
+        certificate,
+        log,
+    } = opened;
+    let mut peer = Joined {
+        reader: log,
+        writer: out,
+    };
+    answer_to(alloc, &inputs, &certificate, portion, &mut peer)
+}

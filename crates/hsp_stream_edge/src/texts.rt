@@ -1,0 +1,29 @@
+// The texts that answer a request for help and for the version.
+
+/// What `--help` prints.
+pub const HELP: &[u8] = b"hsplan-stream: tables, places and answers for logs of any length
+
+hsplan-stream kinds --settings F [--values F] --costs F [--unit N] --log F
+    prints a table of demand: one row for each kind of the log's rows.
+    The log has the header region,handle or region,handle,count.
+    With --unit N each count is divided by N and rounded up.
+
+hsplan-stream places --settings F [--values F] --log F
+    prints the server of each handle of the log, at each site.
+    The log has the header handle or region,handle.
+
+hsplan-stream answer --settings F [--values F] --demand F --costs F --capacity F
+                     --plan F --log F [--unit N] [--fronts N --front K]
+    answers each row of the log by the plan, for as long as the log goes on.
+    The log has the header region,handle or region,body.
+    With --fronts N --front K it answers by the share of the front K of N.
+    With --unit N each query of the plan stands for N answers.
+
+hsplan-stream --version
+    prints the version.
+
+A file may be a pipe or /dev/stdin. The manual page has more: man hsplan-stream.
+";
+
+/// What `--version` prints.
+pub const VERSION: &[u8] = b"hsplan-stream 1.2.0\n";

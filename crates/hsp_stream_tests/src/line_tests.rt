@@ -1,0 +1,132 @@
+// The lines of faults and sums, and the statuses.
+
+use crate::same::is_same;
+use hsp_check::Reason;
+use hsp_lines::Fault;
+use hsp_names::HandleFault;
+use hsp_stream::{
+    RowFault, StreamFault, StreamSums, stream_fault_line, stream_status, stream_sums_line,
+};
+use hsp_tables::TableFault;
+use std::alloc::Global;
+use std::process::Abort;
+
+// Each fault has its line and its status. Where a growth is refused, nothing is asked of the line.
+fn all_have_lines(rt: &impl Abort, alloc: Global, cases: &[(StreamFault, &[u8], u8)]) {
+    for (fault, wanted, status) in cases {
+        is_same(rt, stream_status(fault), *status);
+        if let Ok(line) = stream_fault_line(alloc, fault) {
+            is_same(rt, line.as_slice(), *wanted);
+        }
+    }
+}
+
+#[test]
+fn faults_of_words_and_files_have_their_lines(rt: HostRuntime) {
+    let cases: [(StreamFault, &[u8], u8); 6] = [
+        (StreamFault::BadUnit, b"hsplan-stream: BadUnit\n", 1),
+        (StreamFault::BadFront, b"hsplan-stream: BadFront\n", 1),
+        (
+            StreamFault::Input(Fault::BadFronts),
+            b"hsplan-stream: BadFronts\n",
+            1,
+        ),
+        (
+            StreamFault::Input(Fault::Costs(TableFault::BadNumber { row: 3 })),
+            b"hsplan-stream: costs: BadNumber row 3\n",
+            1,
+        ),
+        (
+            StreamFault::Input(Fault::Refused(Reason::Cost)),
+            b"hsplan-stream: check: Cost\n",
+            3,
+        ),
+        (StreamFault::OutOfMemory, b"hsplan-stream: OutOfMemory\n", 4),
+    ];
+    all_have_lines(&rt, rt.alloc(), &cases);
+}
+
+#[test]
+fn faults_of_logs_have_their_lines(rt: HostRuntime) {
+    let cases: [(StreamFault, &[u8], u8); 6] = [
+        (
+            StreamFault::Log(RowFault::ReadFailed),
+            b"hsplan-stream: log: ReadFailed\n",
+            5,
+        ),
+        (
+            StreamFault::Log(RowFault::WriteFailed),
+            b"hsplan-stream: log: WriteFailed\n",
+            5,
+        ),
+        (
+            StreamFault::Log(RowFault::Header),
+            b"hsplan-stream: log: Header\n",
+            1,
+        ),
+        (
+            StreamFault::Log(RowFault::Fields { row: 0 }),
+            b"hsplan-stream: log: Fields row 0\n",
+            1,
+        ),
+        (
+            StreamFault::Log(RowFault::BadHandle {
+                row: 7,
+                fault: HandleFault::NoSlash,
+            }),
+            b"hsplan-stream: log: BadHandle row 7 NoSlash\n",
+            1,
+        ),
+        (
+            StreamFault::Log(RowFault::CountTooLarge { row: 2, unit: 7 }),
+            b"hsplan-stream: log: CountTooLarge row 2 unit 7\n",
+            1,
+        ),
+    ];
+    all_have_lines(&rt, rt.alloc(), &cases);
+}
+
+#[test]
+fn greatest_rows_have_their_lines(rt: HostRuntime) {
+    let cases: [(StreamFault, &[u8], u8); 4] = [
+        (
+            StreamFault::Log(RowFault::BadName { row: u64::MAX }),
+            b"hsplan-stream: log: BadName row 18446744073709551615\n",
+            1,
+        ),
+        (
+            StreamFault::Log(RowFault::BadNumber { row: u64::MAX }),
+            b"hsplan-stream: log: BadNumber row 18446744073709551615\n",
+            1,
+        ),
+        (
+            StreamFault::Log(RowFault::TooManyRegions { row: u64::MAX }),
+            b"hsplan-stream: log: TooManyRegions row 18446744073709551615\n",
+            1,
+        ),
+        (
+            StreamFault::Log(RowFault::TooManyKinds { row: u64::MAX }),
+            b"hsplan-stream: log: TooManyKinds row 18446744073709551615\n",
+            1,
+        ),
+    ];
+    all_have_lines(&rt, rt.alloc(), &cases);
+}
+
+#[test]
+fn sums_have_their_line(rt: HostRuntime) {
+    let sums = StreamSums {
+        assigned: 3,
+        spent: 1,
+        unknown: 0,
+        refused: u64::MAX,
+    };
+    // Where this growth is refused, nothing is asked of the line.
+    if let Ok(line) = stream_sums_line(rt.alloc(), &sums) {
+        is_same(
+            &rt,
+            line.as_slice(),
+            b"assigned 3 spent 1 unknown 0 refused 18446744073709551615\n".as_slice(),
+        );
+    }
+}

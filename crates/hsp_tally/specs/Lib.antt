@@ -1,0 +1,9 @@
+pub mod Finding
+pub mod FirstRows
+pub mod Keys
+pub mod KindKeys
+pub mod KindMaps
+pub mod LentKinds
+pub mod Seen
+pub mod SeenKeys
+pub mod Tally

@@ -1,0 +1,27 @@
+// The program for logs of any length: one command for each run, from its arguments or, without any, from the first line
+// of standard input.
+#![tactic(auto)]
+
+use hsp_edge::{Output, take_words};
+use hsp_stream::StreamSums;
+use hsp_stream_edge::{StreamFailure, end_with, last_line, obey, status_after};
+use std::io;
+use std::process::ExitCode;
+use std::rt::{Env, Files};
+
+// Obeys the command that the words give.
+fn run<R: Env + Files + Input + AllocGlobal, O: Output>(
+    rt: &R,
+    out: &mut O,
+) -> Result<Option<StreamSums>, StreamFailure> {
+    let words = take_words(rt)?;
+    obey(rt.alloc(), rt, words.as_slice(), out)
+}
+
+fn main(rt: HostRuntime) -> ExitCode {
+    let ended = run(&rt, &mut io::writer(&rt));
+    let line = last_line(rt.alloc(), &ended);
+    let errors = rt.stderr();
+    let status = end_with(&mut io::writer(&errors), &line, status_after(&ended));
+    ExitCode::from(status)
+}

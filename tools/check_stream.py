@@ -1,0 +1,437 @@
+#!/usr/bin/env python3
+"""Runs the built program hsplan-stream, beside hsplan, over logs.
+
+    tools/check_stream.py [--program FILE] [--hsplan FILE] [--million N]
+
+What has to be printed is computed by tools/stream_service.py, or stands here:
+
+- worked cases of each command, and each fault with its status;
+- random logs: the table of kinds with and without units, places, and answers by a plan, by each front and in units;
+- a log in parts, whose tables are joined;
+- examples/twelve-sites, planned by rows and by kinds, at the same cost;
+- a co-process over pipes: each row is answered within a second, before the next one is written;
+- a log of a million handles: its table, its plan, and `answer` over the same log, line by line as `hsplan dispatch`
+  answers the log with each handle replaced by its row's; no run takes more than 64 MB;
+- each allocation, each read and each write of some runs refused or failing in turn.
+"""
+from __future__ import annotations
+
+import argparse
+import csv
+import errno
+import io
+import os
+import random
+import subprocess
+import sys
+import tempfile
+import threading
+import time
+from typing import Callable, Iterable, Optional
+
+import check_growth
+import check_io
+import make_examples
+import programs
+import stream_service as service
+
+FILES = "--settings settings.toml --costs costs.csv"
+INPUTS = "--settings settings.toml --demand demand.csv --costs costs.csv --capacity capacity.csv"
+ANSWER = f"answer {INPUTS} --plan plan.txt --log /dev/stdin"
+LIMIT_KB = 64 * 1024
+HELP_BEGINS = b"hsplan-stream: tables, places and answers for logs of any length\n"
+
+Ended = tuple[bytes, bytes, int]
+
+
+class Programs:
+    """The two programs, and the folder in which they run."""
+
+    def __init__(self, stream: str, hsplan: str, folder: str) -> None:
+        self.stream, self.hsplan, self.folder = stream, hsplan, folder
+
+    def run(self, words: str, given: bytes = b"", **more: str) -> Ended:
+        """Runs hsplan-stream with words and standard input. Returns what it printed, and its status."""
+        ended = subprocess.run(
+            [self.stream, *words.split()],
+            input=given,
+            cwd=self.folder,
+            stdout=subprocess.PIPE,
+            stderr=subprocess.PIPE,
+            env=dict(os.environ, **more),
+        )
+        return ended.stdout, ended.stderr, ended.returncode
+
+    def plan(self, folder: str = "", demand: str = "demand.csv") -> bytes:
+        """The text of a plan by hsplan, also kept as plan.txt."""
+        words = ["plan", *INPUTS.replace("demand.csv", demand).split()]
+        text = subprocess.run([self.hsplan, *words], cwd=folder or self.folder, stdout=subprocess.PIPE).stdout
+        with open(os.path.join(folder or self.folder, "plan.txt"), "wb") as file:
+            file.write(text)
+        return text
+
+    def put(self, name: str, octets: bytes) -> None:
+        with open(os.path.join(self.folder, name), "wb") as file:
+            file.write(octets)
+
+
+def fault(what: str, got: object, wanted: object) -> list[str]:
+    """A fault where the two differ."""
+    shown = (str(it)[:600] for it in (wanted, got))
+    return [] if got == wanted else ["{}: wanted {}, got {}".format(what, *shown)]
+
+
+# ---- worked cases
+
+PLACES = "places --settings settings.toml --log /dev/stdin"
+KINDS = f"kinds {FILES} --log /dev/stdin"
+# Words, the log, the wanted standard output (or None), the line on standard error, and the status.
+Case = tuple[str, bytes, Optional[bytes], bytes, int]
+
+
+def refused(words: str, log: bytes, line: str, status: int = 1, printed: bytes = b"") -> Case:
+    return words, log, printed, f"hsplan-stream: {line}\n".encode(), status
+
+
+def many_regions(number: int) -> bytes:
+    """A log of so many regions."""
+    return b"region,handle\n" + b"".join(b"r%d,10/%d\n" % (at, at) for at in range(number))
+
+
+CASES: list[Case] = [
+    ("--version", b"", f"hsplan-stream {programs.version()}\n".encode(), b"", 0),
+    refused("", b"", "Usage", 2),
+    refused("kinds", b"", "Usage", 2),
+    refused(f"{KINDS} --unit 2 --unit 2", b"", "Usage", 2),
+    refused(f"{ANSWER} --fronts 2", b"", "Usage", 2),
+    refused(f"{ANSWER} --front 0", b"", "Usage", 2),
+    refused(f"{KINDS} --unit 0", b"bad\n", "BadUnit"),
+    refused(f"{KINDS} --unit 1000001", b"bad\n", "BadUnit"),
+    refused(f"{ANSWER} --unit 1000001 --fronts 65 --front 0", b"bad\n", "BadUnit"),
+    refused(f"{ANSWER} --fronts 65 --front 70", b"bad\n", "BadFronts"),
+    refused(f"{ANSWER} --fronts 2 --front 2", b"bad\n", "BadFront"),
+    refused(f"{ANSWER} --fronts 2 --front x", b"bad\n", "BadFront"),
+    refused(KINDS.replace("settings.toml", "absent"), b"", "read failed", 5),
+    refused(KINDS.replace("/dev/stdin", "absent"), b"", "read failed", 5),
+    refused(KINDS.replace("/dev/stdin", "."), b"", "log: ReadFailed", 5),
+    refused(KINDS.replace("settings.toml", "costs.csv"), b"", "settings: NotToml"),
+    refused(KINDS.replace("costs.csv", "demand.csv"), b"", "costs: Header"),
+    refused(KINDS.replace("costs.csv", "unknown.csv"), b"bad\n", "build: UnknownSite table costs row 0"),
+    refused(KINDS, b"", "log: Header"),
+    refused(KINDS, b"region,handles\n", "log: Header"),
+    refused(KINDS, b"handle\n", "log: Header"),
+    refused(KINDS, b"region,handle\neu,10/1\neu,10/1,2\n", "log: Fields row 1"),
+    refused(KINDS, b"region,handle,count\neu,10/1\n", "log: Fields row 0"),
+    refused(KINDS, b"region,handle\ne u,10\n", "log: BadName row 0"),
+    refused(KINDS, b"region,handle,count\neu,10,x\n", "log: BadHandle row 0 NoSlash"),
+    refused(KINDS, b"region,handle\n" + b"eu,10/1\n" * 7 + b"eu,10\n", "log: BadHandle row 7 NoSlash"),
+    refused(KINDS, b"region,handle,count\neu,10/1,1000000000001\n", "log: BadNumber row 0"),
+    refused(KINDS, b"region,handle,count\neu,10/1,1\neu,10/1,-1\n", "log: BadNumber row 1"),
+    refused(KINDS, many_regions(65), "log: TooManyRegions row 64"),
+    refused(KINDS, b"region,handle,count\neu,10/1,1000000\neu,10/1,1\n", "log: CountTooLarge row 0 unit 2"),
+    refused(f"{KINDS} --unit 3", b"region,handle,count\neu,10/1,6000001\n", "log: CountTooLarge row 0 unit 7"),
+    (KINDS, b"region,handle\n", b"region,handle,count\n", b"", 0),
+    (KINDS, b"\xef\xbb\xbfregion,handle\r\neu,10/1\r\n", b"region,handle,count\neu,10/1,1\n", b"", 0),
+    (KINDS, b'region,handle\neu,"10/a,""b"""\n', b'region,handle,count\neu,"10/a,""b""",1\n', b"", 0),
+    (KINDS, b"region,handle,count\neu,10/1,0\n", b"region,handle,count\neu,10/1,0\n", b"", 0),
+    (
+        f"{KINDS} --unit 1000000",
+        b"region,handle,count\neu,10/1,1000000000000\n",
+        b"region,handle,count\neu,10/1,1000000\n",
+        b"",
+        0,
+    ),
+    (f"{KINDS} --unit 10", b"region,handle\n" + b"eu,10/1\n" * 11, b"region,handle,count\neu,10/1,2\n", b"", 0),
+    refused(PLACES, b"", "log: Header"),
+    refused(PLACES, b"region,handle,count\n", "log: Header"),
+    refused(PLACES.replace("settings.toml", "costs.csv"), b"", "settings: NotToml"),
+    refused(PLACES, b"handle\n10\n", "log: BadHandle row 0 NoSlash", printed=b"handle,site,place,server_id\n"),
+    refused(PLACES, b"handle\n\n,\n", "log: Fields row 0", printed=b"handle,site,place,server_id\n"),
+    (PLACES, b"handle", b"handle,site,place,server_id\n", b"", 0),
+    refused(ANSWER, b"", "log: Header"),
+    refused(ANSWER, b"region,handle,count\n", "log: Header"),
+    refused(ANSWER.replace("plan.txt", "cut.txt"), b"bad\n", "certificate: Ended"),
+    refused(ANSWER.replace("plan.txt", "short.txt"), b"bad\n", "check: DemandSum", 3),
+    (ANSWER, b"region,handle", b"", b"assigned 0 spent 0 unknown 0 refused 0\n", 0),
+    (
+        ANSWER,
+        b"region,handle\n\neu\neu,10\neu,/x\neu,10/1,\neu," + b"x" * 1_048_576 + b"\neu,10/\xff",
+        b"refused Fields\nrefused BadHandle NoSlash\nrefused BadHandle EmptySegment\nrefused Fields\nrefused TooLong\n"
+        b"refused BadHandle NotUtf8\n",
+        b"assigned 0 spent 0 unknown 0 refused 6\n",
+        0,
+    ),
+    (
+        ANSWER,
+        b"region,body\neu,zz\neu,00\nmars," + b"10/1".hex().encode() + b"\n",
+        b"refused BadBody\n" * 3,
+        b"assigned 0 spent 0 unknown 0 refused 3\n",
+        0,
+    ),
+]
+
+
+def check_cases(it: Programs) -> list[str]:
+    it.put("unknown.csv", b"region,site,cost\neu,delta,1\n")
+    it.put("cut.txt", b"HSPLAN 1\n")
+    it.put("short.txt", b"HSPLAN 1\nSHORTAGE\ndemand 1\ncapacity 0\nrow 0\nEND\n")
+    found = []
+    for words, log, printed, line, status in CASES:
+        got = it.run(words, log)
+        found += fault(f"{words} < {log[:80]!r}", got, (got[0] if printed is None else printed, line, status))
+    for words in ("--help", "kinds --help"):
+        out, line, status = it.run(words)
+        found += fault(words, (out.startswith(HELP_BEGINS), line, status), (True, b"", 0))
+    return found
+
+
+# ---- random logs
+
+
+def log_of(header: str, rows: Iterable[Iterable[object]]) -> bytes:
+    return service.csv_of(header, rows)
+
+
+def check_kinds(it: Programs, draw: random.Random) -> list[str]:
+    """The table of random logs, whole, in units, and in parts."""
+    rows = [(*entry, draw.choice((0, 1, 7, 900))) for entry in service.entries(draw, 3_000)]
+    header = "region,handle,count"
+    found = []
+    for unit in (1, 7, 1_000_000):
+        wanted = log_of(header, service.table_of(rows, unit))
+        found += fault(
+            f"kinds in units of {unit}", it.run(f"{KINDS} --unit {unit}", log_of(header, rows)), (wanted, b"", 0)
+        )
+    ones = [(region, handle, 1) for region, handle, _ in rows]
+    wanted = log_of(header, service.table_of(ones))
+    log = log_of("region,handle", [row[:2] for row in rows])
+    found += fault("kinds of rows that count 1", it.run(KINDS, log), (wanted, b"", 0))
+    parts = [it.run(KINDS, log_of(header, rows[at : at + 700]))[0] for at in range(0, len(rows), 700)]
+    joined = parts[0] + b"".join(part.split(b"\n", 1)[1] for part in parts[1:])
+    return found + fault("kinds in parts", it.run(KINDS, joined), it.run(KINDS, log_of(header, rows)))
+
+
+def check_places(it: Programs, draw: random.Random) -> list[str]:
+    rows = [entry for entry in service.entries(draw, 500) if "\r" not in entry[1]]
+    wanted = log_of("handle,site,place,server_id", (line for _, handle in rows for line in service.places_of(handle)))
+    found = fault("places", it.run(PLACES, log_of("region,handle", rows)), (wanted, b"", 0))
+    return found + fault(
+        "places of handles", it.run(PLACES, log_of("handle", ([it] for _, it in rows))), (wanted, b"", 0)
+    )
+
+
+def check_answers(it: Programs, draw: random.Random) -> list[str]:
+    """Answers to a random log by a plan, in units, and by each front, as the definition gives them."""
+    demand = service.table_of((*entry, draw.choice((0, 3, 40))) for entry in service.entries(draw, 60, 12))
+    service.put_service(it.folder, demand, 200)
+    uses = service.uses_of(it.plan())
+    found = fault("a plan of random rows", bool(uses), True)
+    rows = [entry for entry in service.entries(draw, 4_000) if "\r" not in entry[1]] + [("mars", "10/1")]
+    log = log_of("region,handle", rows)
+    for unit, fronts, front in ((1, 1, 0), (9, 1, 0), (1, 3, 0), (1, 3, 2), (5, 4, 1)):
+        words = f"{ANSWER} --unit {unit} --fronts {fronts} --front {front}"
+        dispatcher = service.Dispatcher(demand, uses, unit, fronts, front)
+        wanted = [dispatcher.answer(*row) for row in rows]
+        kinds = [line.split()[0] for line in wanted]
+        sums = " ".join(f"{word} {kinds.count(word)}" for word in ("assigned", "spent", "unknown", "refused"))
+        printed = "".join(f"{line}\n" for line in wanted).encode()
+        found += fault(words, it.run(words, log), (printed, f"{sums}\n".encode(), 0))
+    return found
+
+
+def check_twelve(it: Programs) -> list[str]:
+    """The plan of examples/twelve-sites costs the same by rows and by kinds."""
+    with tempfile.TemporaryDirectory() as folder:
+        make_examples.write(folder, make_examples.twelve_sites())
+        here = Programs(it.stream, it.hsplan, folder)
+        table, _, status = here.run(f"kinds {FILES} --log demand.csv")
+        here.put("kinds.csv", table)
+        costs = [here.plan(folder, name).splitlines()[2] for name in ("demand.csv", "kinds.csv")]
+    rows = table.count(b"\n") - 1
+    return fault("twelve sites by rows and by kinds", (status, costs, rows), (0, [b"cost 17838403"] * 2, 3428))
+
+
+# ---- a co-process
+
+
+def check_talk(it: Programs, rows: int = 2_000) -> list[str]:
+    """Each row of a co-process is answered within a second, before the next one is written."""
+    running = subprocess.Popen(
+        [it.stream, *ANSWER.split()],
+        cwd=it.folder,
+        stdin=subprocess.PIPE,
+        stdout=subprocess.PIPE,
+        stderr=subprocess.PIPE,
+    )
+    assert running.stdin and running.stdout and running.stderr
+    watch = threading.Timer(60, running.kill)
+    watch.start()
+    running.stdin.write(b"region,handle\n")
+    running.stdin.flush()
+    slowest, begun = 0.0, time.monotonic()
+    for number in range(rows):
+        asked = time.monotonic()
+        running.stdin.write(b"eu,10.1/h%d\n" % (number % 50) if number % 5 else b"eu\n")
+        running.stdin.flush()
+        line = running.stdout.readline()
+        slowest = max(slowest, time.monotonic() - asked)
+        if not line.endswith(b"\n"):
+            running.kill()
+            return [f"the co-process ended at row {number}: {line!r}"]
+    each = (time.monotonic() - begun) / rows
+    running.stdin.close()
+    rest, told, status = running.stdout.read(), running.stderr.read(), running.wait()
+    watch.cancel()
+    print(f"co-process: {rows} rows, each after the answer before, {each * 1e6:.0f} microseconds a row")
+    found = [] if slowest < 1 else [f"a row of the co-process took {slowest:.1f} seconds"]
+    return found + fault("the end of the co-process", (rest, told.startswith(b"assigned "), status), (b"", True, 0))
+
+
+# ---- a million handles
+
+
+def measured(words: list[str], folder: str, given: str, out: str) -> tuple[int, int, float]:
+    """Runs a program over files. Returns its status, its greatest memory in kB, and its seconds of a processor."""
+    with open(given, "rb") as log, open(out, "wb") as printed:
+        running = subprocess.Popen(words, cwd=folder, stdin=log, stdout=printed, stderr=subprocess.DEVNULL)
+        _, status, used = os.wait4(running.pid, 0)
+    running.returncode = status
+    return os.waitstatus_to_exitcode(status), used.ru_maxrss, used.ru_utime + used.ru_stime
+
+
+def replaced(table: bytes, log: str, to: str) -> None:
+    """Writes a log whose handles are replaced by those of their rows in the table."""
+    rows = list(csv.reader(io.StringIO(table.decode())))[1:]
+    named = {service.kind_of(region, handle): handle for region, handle, _ in rows}
+    with open(log, encoding="utf-8") as lines, open(to, "w", encoding="utf-8") as out:
+        out.write(next(lines))
+        for line in lines:
+            region, handle = line.rstrip("\n").split(",")
+            out.write(f"{region},{named[service.kind_of(region, handle)]}\n")
+
+
+def check_million(it: Programs, number: int) -> list[str]:
+    with tempfile.TemporaryDirectory() as folder:
+        path = [os.path.join(folder, it) for it in ("log.csv", "demand.csv", "answers", "named.csv", "dispatched")]
+        service.put_service(folder, [])
+        with open(path[0], "wb") as log:
+            log.writelines(service.many_rows(number))
+        status, memory, seconds = measured([it.stream, *KINDS.split()], folder, path[0], path[1])
+        found = fault("kinds of a million handles", (status, memory < LIMIT_KB), (0, True))
+        with open(path[1], "rb") as file:
+            table = file.read()
+        Programs(it.stream, it.hsplan, folder).plan()
+        replaced(table, path[0], path[3])
+        told = measured([it.stream, *ANSWER.split()], folder, path[0], path[2])
+        found += fault("answers to a million handles", (told[0], told[1] < LIMIT_KB), (0, True))
+        words = ["dispatch", *INPUTS.split(), "--plan", "plan.txt", "--log", "/dev/stdin"]
+        found += fault("dispatch", measured([it.hsplan, *words], folder, path[3], path[4])[0], 0)
+        texts = [open(path[at], "rb").read().splitlines() for at in (2, 4)]
+    found += fault("every row is assigned", sum(line.startswith(b"assigned ") for line in texts[0]), number)
+    # The place is that of the handle itself; a row's handle has the same.
+    found += [] if texts[0] == texts[1] else ["the answers are not those of dispatch to the replaced log"]
+    speeds = f"kinds {number / seconds:,.0f} and answer {number / told[2]:,.0f} rows a second of a processor"
+    kinds = len(table.splitlines()) - 1
+    print(f"{number:,} handles, {kinds} kinds: {speeds}, {max(memory, told[1]):,} kB at most")
+    return found
+
+
+# ---- refused and failing calls
+
+FAILING = [
+    (f"kinds {FILES} --unit 2 --log log.csv", b""),
+    ("places --settings settings.toml --log log.csv", b""),
+    (f"{ANSWER.replace('/dev/stdin', 'log.csv')} --unit 2", b""),
+    ("--help", b""),
+]
+ENDS = {
+    4: [b"hsplan-stream: OutOfMemory\n"],
+    5: [
+        b"hsplan-stream: read failed\n",
+        b"hsplan-stream: write failed\n",
+        b"hsplan-stream: log: ReadFailed\n",
+        b"hsplan-stream: log: WriteFailed\n",
+        b"",
+    ],
+}
+
+
+def is_cut(got: Ended, ordinary: Ended, status: int) -> bool:
+    """Whether a run ended as it would without the failure, or with this status after a beginning of its output."""
+    printed, line, ended = got
+    is_told = line in ENDS[status] or (status == 5 and ordinary[1].startswith(line))
+    return got == ordinary or (ended == status and ordinary[0].startswith(printed) and is_told)
+
+
+def check_refused(it: Programs, room: str) -> tuple[list[str], int]:
+    """The faults of runs in which each allocation is refused in turn."""
+    preloaded, found, tried = check_growth.build(room), [], 0
+    for words, given in FAILING:
+        ordinary, told = it.run(words, given), os.path.join(room, "count")
+        it.run(words, given, LD_PRELOAD=preloaded, REFUSE_GROWTH="0", COUNT_GROWTH=told)
+        count = check_growth.count_in(told)
+        found += [] if count else [f"{words}: no count of allocations"]
+        for number in check_growth.numbers(count or 0, 400):
+            got = it.run(words, given, LD_PRELOAD=preloaded, REFUSE_GROWTH=str(number), COUNT_GROWTH=told)
+            found += [] if is_cut(got, ordinary, 4) else [f"{words}: allocation {number} refused: {got}"]
+            tried += 1
+    return found, tried
+
+
+def check_failing(it: Programs, room: str) -> tuple[list[str], int]:
+    """The faults of runs in which each open, read and write fails in turn."""
+    preloaded, found, tried = check_io.build(room), [], 0
+    for words, given in FAILING:
+        ordinary, told = it.run(words, given), os.path.join(room, "told")
+        it.run(words, given, LD_PRELOAD=preloaded, TELL_IO=told)
+        with open(told, encoding="utf-8") as lines:
+            calls = check_io.calls_of(lines)
+        for call in calls:
+            for kind in (errno.EIO, errno.ENOSPC) if call.name in ("open", "read", "write") else ():
+                got = it.run(words, given, LD_PRELOAD=preloaded, FAIL_IO=f"{call.name} {call.number} {kind}")
+                fine = got != ordinary and is_cut(got, ordinary, 5)
+                found += [] if fine else [f"{words}: {call.name} {call.number} of {call.path} fails: {got}"]
+                tried += 1
+            if call.name == "read":
+                got = it.run(words, given, LD_PRELOAD=preloaded, FAIL_IO=f"read {call.number} {errno.EINTR}")
+                found += [] if is_cut(got, ordinary, 5) else [f"{words}: read {call.number} is interrupted: {got}"]
+                tried += 1
+    return found, tried
+
+
+def check_all(it: Programs, million: int, room: str) -> list[str]:
+    draw = random.Random(49)
+    demand = [(region, f"10.1/h{at}", 5) for region in service.REGIONS for at in range(40)]
+    service.put_service(it.folder, demand)
+    it.plan()
+    it.put("log.csv", log_of("region,handle", [row[:2] for row in demand]))
+    found = check_cases(it) + check_kinds(it, draw) + check_places(it, draw) + check_talk(it)
+    steps: list[Callable[[Programs, str], tuple[list[str], int]]] = [check_refused, check_failing]
+    for step in steps:
+        faults, tried = step(it, room)
+        found += faults + ([] if tried else [f"{step.__name__}: nothing was tried"])
+        print(f"{step.__name__.split('_')[1]} calls: {tried} runs")
+    return found + check_answers(it, draw) + check_twelve(it) + check_million(it, million)
+
+
+def main() -> int:
+    arguments = argparse.ArgumentParser(description="Runs the built program hsplan-stream over logs.")
+    arguments.add_argument("--program", default=programs.built_path("hsplan-stream"))
+    arguments.add_argument("--hsplan", default=programs.built_path("hsplan"))
+    arguments.add_argument("--million", type=int, default=1_000_000, metavar="N", help="handles of the long log")
+    given = arguments.parse_args()
+    absent = [it for it in (given.program, given.hsplan) if not os.access(it, os.X_OK)]
+    if absent:
+        print(f"no program {absent[0]}: run rt ci first")
+        return 1
+    with tempfile.TemporaryDirectory() as room:
+        folder = os.path.join(room, "service")
+        os.mkdir(folder)
+        it = Programs(os.path.abspath(given.program), os.path.abspath(given.hsplan), folder)
+        faults = check_all(it, given.million, room)
+    print("\n".join(faults + [f"stream: {len(CASES)} cases, {len(faults)} faults"]))
+    return 1 if faults else 0
+
+
+if __name__ == "__main__":
+    sys.exit(main())
