@@ -60,10 +60,8 @@ def put_service(folder: str) -> None:
 
 def put_log(folder: str, name: str, handles: int, rows: int) -> str:
     draw = random.Random(handles)
-    lines = (
-        f"region-{draw.randrange(REGIONS)},20.{draw.randrange(10)}.12345/object-{draw.randrange(handles):09}"
-        for _ in range(rows)
-    )
+    numbers = (draw.randrange(handles) for _ in range(rows))
+    lines = (f"region-{draw.randrange(REGIONS)},20.{it % 10}.12345/object-{it:09}" for it in numbers)
     path = os.path.join(folder, name)
     with open(path, "w", encoding="utf-8") as file:
         file.write("region,handle\n")
