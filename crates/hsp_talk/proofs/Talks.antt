@@ -1,9 +1,11 @@
 -- A talk that goes on, turn by turn.
-use Rattle.std.proofs.Common.{◌≡◌, ℕ, Bool, true, false, true≢false, List, [], ◌∷◌, ◌++◌, length, take, Option, Some, None, IsSomeAnd, Result, Ok, Err, OnOk, IfErr, refl, ap, sym, ◌∙◌, subst, append_assoc, append-nil, arith, take-append-drop, drop}
+use Rattle.std.proofs.Common.{◌≡◌, ℕ, Bool, true, false, true≢false, List, [], ◌∷◌, ◌++◌, length, take, Option, Some, None, Result, Ok, Err, OnOk, IfErr, refl, ap, sym, ◌∙◌, subst, append_assoc, append-nil, arith, take-append-drop, drop}
 use Rattle.std.proofs.Math.Seq.{take-append_seam}
 use Rattle.std.specs.List.{concat}
 use Rattle.std.proofs.lemmas.List.Folds.{concat-append}
-use Rattle.hsp_talk.specs.Talk.{AreTaken, Event, GoesOn, HeldToTheEnd, IsPrompt, RefusesRow, SendsSome, StoppedBy, TakesRow, Took, cut, has_ended, last_line, received_in, rows_in, rows_of, sending, sent_in, whole_lines}
+use Rattle.std.specs.Io.KnownBytes.{Appends, Consumes, Keeps}
+use Rattle.hsp_talk.specs.Known.{AreMore, GoesOn, HasNoMore, Known, SendsSome, Went, sending}
+use Rattle.hsp_talk.specs.Talk.{AreTaken, Event, HeldToTheEnd, IsPrompt, RefusesRow, StoppedBy, TakesRow, Took, cut, has_ended, last_line, received_in, rows_in, rows_of, sent_in, whole_lines}
 use Rattle.hsp_talk.specs.Talk.Event.{received, sent}
 use Rattle.hsp_talk.specs.Turns.{AreCut, AreOwed, IsAt, IsRefused, StandsSo, rows_ended_by}
 use Rattle.hsp_talk.specs.Refusals.{stop_by}
@@ -60,6 +62,119 @@ ended_as [] octets = refl
 ended_as (received [] ∷ events) octets = refl
 ended_as (received (octet ∷ more) ∷ events) octets = ended_as events octets
 ended_as (sent more ∷ events) octets = ended_as events octets
+
+-- ---- what is known of a peer
+
+more_then : (a b c : Option (List Event)) (xs ys : List Event) → AreMore a b xs → AreMore b c ys → AreMore a c (xs ++ ys)
+more_then None b c xs ys f g = tt
+more_then (Some a) None c xs ys f g = absurd f
+more_then (Some a) (Some b) None xs ys f g = absurd g
+more_then (Some a) (Some b) (Some c) xs ys f g = g ∙ ap (λ e. e ++ ys) f ∙ append_assoc a xs ys
+
+comes_then : (a b c : Option (List ℕ)) (xs ys : List ℕ) → Consumes a b xs → Consumes b c ys → Consumes a c (xs ++ ys)
+comes_then None b c xs ys f g = tt
+comes_then (Some a) None c xs ys f g = absurd f
+comes_then (Some a) (Some b) None xs ys f g = absurd g
+comes_then (Some a) (Some b) (Some c) xs ys f g = f ∙ ap (λ o. xs ++ o) g ∙ sym (append_assoc xs ys c)
+
+none_received : (octets : List ℕ) → has_ended (received octets ∷ []) ≡ true → octets ≡ []
+none_received [] e = refl
+none_received (x ∷ octets) e = absurd (true≢false (sym e))
+
+received_by : (octets : List ℕ) → received_in (sending octets) ≡ []
+received_by [] = refl
+received_by (x ∷ octets) = refl
+
+never_ended : (octets : List ℕ) → has_ended (sending octets) ≡ false
+never_ended [] = refl
+never_ended (x ∷ octets) = refl
+
+sent_by : (octets : List ℕ) → sent_in (sending octets) ≡ octets
+sent_by [] = refl
+sent_by (x ∷ octets) = append-nil (x ∷ octets)
+
+none_added : (a : Option (List Event)) → AreMore a a []
+none_added None = tt
+none_added (Some a) = sym (append-nil a)
+
+none_came : (a : Option (List ℕ)) → Consumes a a []
+none_came None = tt
+none_came (Some a) = refl
+
+none_went : (a : Option (List ℕ)) → Appends a a []
+none_went None = tt
+none_went (Some a) = sym (append-nil a)
+
+none_left : (xs ys : List ℕ) → [] ≡ xs ++ ys → ys ≡ []
+none_left [] ys e = sym e
+none_left (x ∷ xs) ys e = let many : 0 ≡ length (x ∷ (xs ++ ys)) = ap length e in absurd (omega arith)
+
+-- octets that do not come behind an end do not come later
+none_later : (a b c : Option (List ℕ)) (xs ys : List ℕ) → Consumes a b xs → Consumes b c ys → HasNoMore a b → HasNoMore a c
+none_later None b c xs ys f g end = tt
+none_later (Some a) None c xs ys f g end = absurd f
+none_later (Some a) (Some b) None xs ys f g end = tt
+none_later (Some a) (Some b) (Some c) xs ys f g end = none_left ys c (sym end ∙ g)
+
+none_then : (a b c : Option (List ℕ)) (xs : List ℕ) → Consumes a b xs → HasNoMore b c → HasNoMore a c
+none_then None b c xs f end = tt
+none_then (Some a) None c xs f end = absurd f
+none_then (Some a) (Some b) c xs f end = end
+
+pub goes_out_then : (a b c : Option (List ℕ)) (xs ys : List ℕ) → Appends a b xs → Appends b c ys → Appends a c (xs ++ ys)
+goes_out_then None b c xs ys f g = tt
+goes_out_then (Some a) None c xs ys f g = absurd f
+goes_out_then (Some a) (Some b) None xs ys f g = absurd g
+goes_out_then (Some a) (Some b) (Some c) xs ys f g = g ∙ ap (λ o. o ++ ys) f ∙ append_assoc a xs ys
+
+pub kept_so : (a b c : Option (List ℕ)) (xs : List ℕ) → Appends a b xs → Keeps b c → Appends a c xs
+kept_so None b c xs f g = tt
+kept_so (Some a) None c xs f g = absurd f
+kept_so (Some a) (Some b) None xs f g = absurd g
+kept_so (Some a) (Some b) (Some c) xs f g = g ∙ f
+
+-- a peer of which only the octets are known
+pub octets_come : (old new : Known) (octets : List ℕ) → old.events ≡ None → Consumes old.coming new.coming octets → (octets ≡ [] → HasNoMore old.coming new.coming) →
+    new.written ≡ old.written → new.lent ≡ old.lent → GoesOn old new (received octets ∷ [])
+octets_come old new octets unknown came at_end kept same = record {
+  added = rw unknown tt;
+  came = subst (Consumes old.coming new.coming) (sym (append-nil octets)) came;
+  at_end = λ ended. at_end (none_received octets ended);
+  went = rw kept (none_went old.written);
+  same = same;
+}
+
+pub octets_go : (old new : Known) (octets : List ℕ) → old.events ≡ None → new.coming ≡ old.coming → Appends old.written new.written octets →
+    new.lent ≡ old.lent → GoesOn old new (sending octets)
+octets_go old new octets unknown kept went same = record {
+  added = rw unknown tt;
+  came = rw kept (subst (Consumes old.coming old.coming) (sym (received_by octets)) (none_came old.coming));
+  at_end = λ ended. absurd (true≢false (sym ended ∙ never_ended octets));
+  went = subst (Appends old.written new.written) (sym (sent_by octets)) went;
+  same = same;
+}
+
+pub none_goes : (at : Known) → GoesOn at at []
+none_goes at = record {
+  added = none_added at.events;
+  came = none_came at.coming;
+  at_end = λ ended. absurd (true≢false (sym ended));
+  went = none_went at.written;
+  same = refl;
+}
+
+-- events happen after events
+pub goes_then : (a b c : Known) (xs ys : List Event) → GoesOn a b xs → GoesOn b c ys → GoesOn a c (xs ++ ys)
+goes_then a b c xs ys f g = record {
+  added = more_then a.events b.events c.events xs ys f.added g.added;
+  came = subst (Consumes a.coming c.coming) (sym (received_then xs ys)) (comes_then a.coming b.coming c.coming (received_in xs) (received_in ys) f.came g.came);
+  at_end = λ ended. elim (has_ended xs) as (λ h. has_ended xs ≡ h → HasNoMore a.coming c.coming) [
+    | true ↦ λ t. none_later a.coming b.coming c.coming (received_in xs) (received_in ys) f.came g.came (f.at_end t)
+    | false ↦ λ n. none_then a.coming b.coming c.coming (received_in xs) f.came (g.at_end (sym (ended_then xs ys n) ∙ ended))
+  ] refl;
+  went = subst (Appends a.written c.written) (sym (sent_then xs ys)) (goes_out_then a.written b.written c.written (sent_in xs) (sent_in ys) f.went g.went);
+  same = g.same ∙ f.same;
+}
 
 -- ---- rows
 
@@ -207,116 +322,124 @@ module _ {D : Type 0} (Takes : TakesRow D) (first : D) where
   received_by_all events [] = ap received_in (append-nil events)
   received_by_all events (c ∷ owed) = received_as events (c ∷ owed)
 
-  -- ---- talks that are known
+  -- ---- talks, from what is known before them
 
   -- no more octets come
-  pub talk_ends : (desk at : D) (line owed : List ℕ) (old now new : Option (List Event)) → IsAt Takes first desk line old → GoesOn old now (received [] ∷ []) →
-      AreOwed Takes desk at (rows_ended_by line []) [] owed → GoesOn now new (sending owed) → IsSomeAnd new (HeldToTheEnd Takes first at)
-  talk_ends desk at line owed None now new so read more sends = absurd so
-  talk_ends desk at line owed (Some events) None new so read more sends = absurd read
-  talk_ends desk at line owed (Some events) (Some with_piece) None so read more sends = absurd sends
-  talk_ends desk at line owed (Some events) (Some with_piece) (Some all) so read more sends =
+  pub talk_ends : (desk at : D) (line owed : List ℕ) (start old now new : Known) → IsAt Takes first desk line start old → GoesOn old now (received [] ∷ []) →
+      AreOwed Takes desk at (rows_ended_by line []) [] owed → GoesOn now new (sending owed) → Went start new (HeldToTheEnd Takes first at)
+  talk_ends desk at line owed start old now new (events, goes, so) read more sends =
       let piece = received [] ∷ [] in
       let owing = after_all at (events ++ piece) owed [] (after_read desk at line [] events owed (rows_ended_by line []) [] so (sym (append-nil (rows_ended_by line []))) more) in
-      subst (HeldToTheEnd Takes first at) (sym (sends ∙ ap (λ e. e ++ sending owed) read)) (
-        took at (events ++ piece ++ sending owed) [] [] owing,
-        refl,
-        none_owing at (events ++ piece ++ sending owed) [] owing,
-        ended_by_all (events ++ piece) owed ∙ ended_then events piece so.not_ended,
+      (
+        events ++ piece ++ sending owed,
+        goes_then start now new (events ++ piece) (sending owed) (goes_then start old now events piece goes read) sends,
+        (
+          took at (events ++ piece ++ sending owed) [] [] owing,
+          refl,
+          none_owing at (events ++ piece ++ sending owed) [] owing,
+          ended_by_all (events ++ piece) owed ∙ ended_then events piece so.not_ended,
+        ),
       )
 
   -- the same of a piece that is empty, where nothing was owed
-  pub talk_ends_by : (desk at : D) (line piece before owed : List ℕ) (old now new : Option (List Event)) → piece ≡ [] → before ≡ [] → IsAt Takes first desk line old →
-      GoesOn old now (received piece ∷ []) → AreOwed Takes desk at (rows_ended_by line piece) before owed → GoesOn now new (sending owed) → IsSomeAnd new (HeldToTheEnd Takes first at)
-  talk_ends_by desk at line piece before owed old now new is_end none so read more sends =
-      talk_ends desk at line owed old now new so (subst (λ p. GoesOn old now (received p ∷ [])) is_end read)
+  pub talk_ends_by : (desk at : D) (line piece before owed : List ℕ) (start old now new : Known) → piece ≡ [] → before ≡ [] → IsAt Takes first desk line start old →
+      GoesOn old now (received piece ∷ []) → AreOwed Takes desk at (rows_ended_by line piece) before owed → GoesOn now new (sending owed) → Went start new (HeldToTheEnd Takes first at)
+  talk_ends_by desk at line piece before owed start old now new is_end none so read more sends =
+      talk_ends desk at line owed start old now new so (subst (λ p. GoesOn old now (received p ∷ [])) is_end read)
       (subst (λ o. AreOwed Takes desk at (rows_ended_by line []) o owed) none (subst (λ p. AreOwed Takes desk at (rows_ended_by line p) before owed) is_end more)) sends
 
   -- a turn ends, and the next read may come
-  pub talk_goes_on : (desk at : D) (line piece next owed : List ℕ) (old now new : Option (List Event)) → (length piece ≡ 0 → ⊥) → IsAt Takes first desk line old →
+  pub talk_goes_on : (desk at : D) (line piece next owed : List ℕ) (start old now new : Known) → (length piece ≡ 0 → ⊥) → IsAt Takes first desk line start old →
       GoesOn old now (received piece ∷ []) → AreOwed Takes desk at (rows_ended_by line piece) [] owed → next ≡ cut (last_line line piece) → GoesOn now new (sending owed) →
-      IsAt Takes first at next new
-  talk_goes_on desk at line [] next owed old now new some so read more begun sends = absurd (some refl)
-  talk_goes_on desk at line (c ∷ octets) next owed None now new some so read more begun sends = absurd so
-  talk_goes_on desk at line (c ∷ octets) next owed (Some events) None new some so read more begun sends = absurd read
-  talk_goes_on desk at line (c ∷ octets) next owed (Some events) (Some with_piece) None some so read more begun sends = absurd sends
-  talk_goes_on desk at line (c ∷ octets) next owed (Some events) (Some with_piece) (Some all) some so read more begun sends =
+      IsAt Takes first at next start new
+  talk_goes_on desk at line [] next owed start old now new some so read more begun sends = absurd (some refl)
+  talk_goes_on desk at line (c ∷ octets) next owed start old now new some (events, goes, so) read more begun sends =
       let piece = received (c ∷ octets) ∷ [] in
       let rows = rows_ended_by line (c ∷ octets) in
       let owing = after_all at (events ++ piece) owed [] (after_read desk at line (c ∷ octets) events owed rows [] so (sym (append-nil rows)) more) in
-      subst (StandsSo Takes first at next) (sym (sends ∙ ap (λ e. e ++ sending owed) read)) (record {
-        answers = owing.answers;
-        taken = subst (λ r. AreTaken Takes first r at owing.answers) (sym (owing.came ∙ append-nil owing.rows)) owing.taken;
-        all_sent = none_owing at (events ++ piece ++ sending owed) [] owing;
-        prompt = owing.prompt;
-        not_ended = ended_by_all (events ++ piece) owed ∙ ended_then events piece so.not_ended;
-        begun = begun ∙ last_so line (last_line [] (received_in events)) (c ∷ octets) (ap cut so.begun ∙ cut_twice (last_line [] (received_in events))) ∙ ap cut (sym (last_then [] (received_in events) (c ∷ octets)))
-            ∙ ap (λ o. cut (last_line [] o)) (ap (λ o. received_in events ++ o) (sym (append-nil (c ∷ octets))) ∙ sym (received_then events piece))
-            ∙ ap (λ o. cut (last_line [] o)) (sym (received_by_all (events ++ piece) owed));
-      })
+      (
+        events ++ piece ++ sending owed,
+        goes_then start now new (events ++ piece) (sending owed) (goes_then start old now events piece goes read) sends,
+        record {
+          answers = owing.answers;
+          taken = subst (λ r. AreTaken Takes first r at owing.answers) (sym (owing.came ∙ append-nil owing.rows)) owing.taken;
+          all_sent = none_owing at (events ++ piece ++ sending owed) [] owing;
+          prompt = owing.prompt;
+          not_ended = ended_by_all (events ++ piece) owed ∙ ended_then events piece so.not_ended;
+          begun = begun ∙ last_so line (last_line [] (received_in events)) (c ∷ octets) (ap cut so.begun ∙ cut_twice (last_line [] (received_in events))) ∙ ap cut (sym (last_then [] (received_in events) (c ∷ octets)))
+              ∙ ap (λ o. cut (last_line [] o)) (ap (λ o. received_in events ++ o) (sym (append-nil (c ∷ octets))) ∙ sym (received_then events piece))
+              ∙ ap (λ o. cut (last_line [] o)) (sym (received_by_all (events ++ piece) owed));
+        },
+      )
 
-  pub talk_begins : (talk : Option (List Event)) → talk ≡ Some [] → IsAt Takes first first [] talk
-  talk_begins talk e = subst (IsAt Takes first first []) (sym e) (record {
-    answers = [];
-    taken = refl;
-    all_sent = refl;
-    prompt = λ more before after octets so. absurd (not_within (received octets) before after so);
-    not_ended = refl;
-    begun = sym cut_none;
-  })
+  pub talk_begins : (start : Known) → IsAt Takes first first [] start start
+  talk_begins start = (
+    [],
+    none_goes start,
+    record {
+      answers = [];
+      taken = refl;
+      all_sent = refl;
+      prompt = λ more before after octets so. absurd (not_within (received octets) before after so);
+      not_ended = refl;
+      begun = sym cut_none;
+    },
+  )
 
   module _ {F : Type 0} (Refuses : RefusesRow D F) where
-    -- a read fails
-    pub read_fails : (desk : D) (line : List ℕ) (old new : Option (List Event)) → IsAt Takes first desk line old → GoesOn old new [] →
-        IsSomeAnd new (λ events. StoppedBy Takes Refuses first desk events stop.ReadFailed)
-    read_fails desk line None new so read = absurd so
-    read_fails desk line (Some events) None so read = absurd read
-    read_fails desk line (Some events) (Some all) so read =
-        subst (λ e. StoppedBy Takes Refuses first desk e stop.ReadFailed) (sym (read ∙ append-nil events)) (
-          record {
-            rows = rows_in events;
-            answers = so.answers;
-            later = [];
-            came = sym (append-nil (rows_in events));
-            taken = so.taken;
-            prompt = subst (λ a. IsPrompt a events) (append-nil so.answers) (so.prompt []);
-          },
-          refl,
-          so.all_sent,
-        )
+    -- no further read gives octets
+    pub no_more_turns : (desk : D) (line : List ℕ) (start old : Known) → IsAt Takes first desk line start old →
+        Went start old (λ events. StoppedBy Takes Refuses first desk events stop.ReadFailed)
+    no_more_turns desk line start old (events, goes, so) = (
+      events,
+      goes,
+      (
+        record {
+          rows = rows_in events;
+          answers = so.answers;
+          later = [];
+          came = sym (append-nil (rows_in events));
+          taken = so.taken;
+          prompt = subst (λ a. IsPrompt a events) (append-nil so.answers) (so.prompt []);
+        },
+        refl,
+        so.all_sent,
+      ),
+    )
 
-    pub no_more_turns : (desk : D) (line : List ℕ) (talk : Option (List Event)) → IsAt Takes first desk line talk →
-        IsSomeAnd talk (λ events. StoppedBy Takes Refuses first desk events stop.ReadFailed)
-    no_more_turns desk line None so = absurd so
-    no_more_turns desk line (Some events) so = read_fails desk line (Some events) (Some events) so (sym (append-nil events))
+    -- a read fails
+    pub read_fails : (desk : D) (line : List ℕ) (start old new : Known) → IsAt Takes first desk line start old → GoesOn old new [] →
+        Went start new (λ events. StoppedBy Takes Refuses first desk events stop.ReadFailed)
+    read_fails desk line start old new (events, goes, so) read =
+        no_more_turns desk line start new (events, subst (GoesOn start new) (append-nil events) (goes_then start old new events [] goes read), so)
 
     -- a write fails after some rows were taken
-    pub write_fails : (desk at last : D) (line piece owed : List ℕ) (rows later : List (List ℕ)) (old now new : Option (List Event)) → IsAt Takes first desk line old →
+    pub write_fails : (desk at last : D) (line piece owed : List ℕ) (rows later : List (List ℕ)) (start old now new : Known) → IsAt Takes first desk line start old →
         GoesOn old now (received piece ∷ []) → rows_ended_by line piece ≡ rows ++ later → AreOwed Takes desk at rows [] owed → SendsSome now new owed →
-        IsSomeAnd new (λ events. StoppedBy Takes Refuses first last events stop.WriteFailed)
-    write_fails desk at last line piece owed rows later None now new so read parted more sends = absurd so
-    write_fails desk at last line piece owed rows later (Some events) None new so read parted more sends = absurd read
-    write_fails desk at last line piece owed rows later (Some events) (Some with_piece) None so read parted more sends = absurd sends.1
-    write_fails desk at last line piece owed rows later (Some events) (Some with_piece) (Some all) so read parted more sends =
+        Went start new (λ events. StoppedBy Takes Refuses first last events stop.WriteFailed)
+    write_fails desk at last line piece owed rows later start old now new (events, goes, so) read parted more sends =
         let came = events ++ received piece ∷ [] in
         let gone = take sends.0 owed in
         let left = drop sends.0 owed in
         let owing : Owing at (came ++ sending gone) left later = after_sending at came gone left later
         (subst (λ o. Owing at came o later) (sym (take-append-drop sends.0 owed)) (after_read desk at line piece events owed rows later so parted more)) in
-        subst (λ e. StoppedBy Takes Refuses first last e stop.WriteFailed) (sym (sends.1 ∙ ap (λ e. e ++ sending gone) read))
-        (at, took at (came ++ sending gone) left later owing, left, owing.owing)
+        (
+          came ++ sending gone,
+          goes_then start now new came (sending gone) (goes_then start old now events (received piece ∷ []) goes read) sends.1,
+          (at, took at (came ++ sending gone) left later owing, left, owing.owing),
+        )
 
     -- the same, whether a row was refused or not
-    pub write_fails_after : (desk last : D) (line piece before owed : List ℕ) (taken : Result (Unit {0}) (Refusal F)) (old now new : Option (List Event)) → before ≡ [] →
-        IsAt Takes first desk line old → GoesOn old now (received piece ∷ []) → OnOk taken (AreOwed Takes desk last (rows_ended_by line piece) before owed) →
+    pub write_fails_after : (desk last : D) (line piece before owed : List ℕ) (taken : Result (Unit {0}) (Refusal F)) (start old now new : Known) → before ≡ [] →
+        IsAt Takes first desk line start old → GoesOn old now (received piece ∷ []) → OnOk taken (AreOwed Takes desk last (rows_ended_by line piece) before owed) →
         IfErr taken (AreCut Takes Refuses desk last (rows_ended_by line piece) before owed) → SendsSome now new owed →
-        IsSomeAnd new (λ events. StoppedBy Takes Refuses first last events stop.WriteFailed)
-    write_fails_after desk last line piece before owed (Ok u) old now new none so read more cut sends =
+        Went start new (λ events. StoppedBy Takes Refuses first last events stop.WriteFailed)
+    write_fails_after desk last line piece before owed (Ok u) start old now new none so read more cut sends =
         let rows = rows_ended_by line piece in
-        write_fails desk last last line piece owed rows [] old now new so read (sym (append-nil rows)) (subst (λ o. AreOwed Takes desk last rows o owed) none more) sends
-    write_fails_after desk last line piece before owed (Err by) old now new none so read more cut sends =
+        write_fails desk last last line piece owed rows [] start old now new so read (sym (append-nil rows)) (subst (λ o. AreOwed Takes desk last rows o owed) none more) sends
+    write_fails_after desk last line piece before owed (Err by) start old now new none so read more cut sends =
         let is = subst (λ o. AreCut Takes Refuses desk last (rows_ended_by line piece) o owed by) none cut in
-        write_fails desk is.at last line piece owed is.rows is.later old now new so read is.parted is.taken sends
+        write_fails desk is.at last line piece owed is.rows is.later start old now new so read is.parted is.taken sends
 
     -- a row is refused, or memory runs out
     stopped : (at last : D) (events : List Event) (later : List (List ℕ)) (by : Refusal F) → IsRefused Refuses at later last by → Owing at events [] later →
@@ -325,23 +448,23 @@ module _ {D : Type 0} (Takes : TakesRow D) (first : D) where
         (at, took at events [] later owing, refused.0, refused.1, refused.2, refused.3, none_owing at events later owing)
     stopped at last events later refusal.OutOfMemory refused owing = (at, took at events [] later owing, none_owing at events later owing)
 
-    row_refused : (desk last : D) (line piece owed : List ℕ) (by : Refusal F) (old now new : Option (List Event)) → IsAt Takes first desk line old →
+    row_refused : (desk last : D) (line piece owed : List ℕ) (by : Refusal F) (start old now new : Known) → IsAt Takes first desk line start old →
         GoesOn old now (received piece ∷ []) → AreCut Takes Refuses desk last (rows_ended_by line piece) [] owed by → GoesOn now new (sending owed) →
-        IsSomeAnd new (λ events. StoppedBy Takes Refuses first last events (stop_by by))
-    row_refused desk last line piece owed by None now new so read cut sends = absurd so
-    row_refused desk last line piece owed by (Some events) None new so read cut sends = absurd read
-    row_refused desk last line piece owed by (Some events) (Some with_piece) None so read cut sends = absurd sends
-    row_refused desk last line piece owed by (Some events) (Some with_piece) (Some all) so read cut sends =
+        Went start new (λ events. StoppedBy Takes Refuses first last events (stop_by by))
+    row_refused desk last line piece owed by start old now new (events, goes, so) read cut sends =
         let came = events ++ received piece ∷ [] in
-        subst (λ e. StoppedBy Takes Refuses first last e (stop_by by)) (sym (sends ∙ ap (λ e. e ++ sending owed) read))
-        (stopped cut.at last (came ++ sending owed) cut.later by cut.refused
-        (after_all cut.at came owed cut.later (after_read desk cut.at line piece events owed cut.rows cut.later so cut.parted cut.taken)))
+        (
+          came ++ sending owed,
+          goes_then start now new came (sending owed) (goes_then start old now events (received piece ∷ []) goes read) sends,
+          stopped cut.at last (came ++ sending owed) cut.later by cut.refused
+          (after_all cut.at came owed cut.later (after_read desk cut.at line piece events owed cut.rows cut.later so cut.parted cut.taken)),
+        )
 
     -- the same, where nothing was owed
-    pub row_refused_by : (desk last : D) (line piece before owed : List ℕ) (found by : Refusal F) (old now new : Option (List Event)) → found ≡ by → before ≡ [] →
-        IsAt Takes first desk line old → GoesOn old now (received piece ∷ []) → AreCut Takes Refuses desk last (rows_ended_by line piece) before owed found →
-        GoesOn now new (sending owed) → IsSomeAnd new (λ events. StoppedBy Takes Refuses first last events (stop_by by))
-    row_refused_by desk last line piece before owed found by old now new is none so read cut sends =
+    pub row_refused_by : (desk last : D) (line piece before owed : List ℕ) (found by : Refusal F) (start old now new : Known) → found ≡ by → before ≡ [] →
+        IsAt Takes first desk line start old → GoesOn old now (received piece ∷ []) → AreCut Takes Refuses desk last (rows_ended_by line piece) before owed found →
+        GoesOn now new (sending owed) → Went start new (λ events. StoppedBy Takes Refuses first last events (stop_by by))
+    row_refused_by desk last line piece before owed found by start old now new is none so read cut sends =
         let rows = rows_ended_by line piece in
-        row_refused desk last line piece owed by old now new so read
+        row_refused desk last line piece owed by start old now new so read
         (subst (λ b. AreCut Takes Refuses desk last rows [] owed b) is (subst (λ o. AreCut Takes Refuses desk last rows o owed found) none cut)) sends

@@ -1,5 +1,5 @@
 -- A talk: rows come in, one a line, and every answer goes out before the next read.
-use Rattle.std.specs.Prelude.{◌≡◌, ⊤, ℕ, ◌+◌, ◌==◌, Bool, true, false, List, [], ◌∷◌, ◌++◌, Option, Some, None, if◌then◌else◌, length, take}
+use Rattle.std.specs.Prelude.{◌≡◌, ℕ, ◌+◌, ◌==◌, Bool, true, false, List, [], ◌∷◌, ◌++◌, if◌then◌else◌, length, take}
 use Rattle.std.specs.List.{concat}
 use Rattle.hsp_talk.specs.declared.limits.TheConstants.{LONGEST_ROW}
 use Rattle.hsp_talk.specs.declared.stop.Stop.{Stop}
@@ -62,21 +62,6 @@ has_ended (sent octets ∷ events) = has_ended events
 -- the rows that came in: of the whole lines, and at the end of the last line too
 abbrev pub rows_in : List Event → List (List ℕ)
 rows_in events = rows_of (whole_lines [] (received_in events) ++ (if has_ended events then last_line [] (received_in events) ∷ [] else []))
-
--- a talk that is known goes on by some events
-abbrev pub GoesOn : Option (List Event) → Option (List Event) → List Event → Type 0
-GoesOn None new more = ⊤
-GoesOn (Some old) None more = ⊥
-GoesOn (Some old) (Some new) more = new ≡ old ++ more
-
--- the events by which octets are sent: none where there are no octets
-abbrev pub sending : List ℕ → List Event
-sending [] = []
-sending (octet ∷ octets) = sent (octet ∷ octets) ∷ []
-
--- a send that failed: some of the first octets may be sent
-abbrev pub SendsSome : Option (List Event) → Option (List Event) → List ℕ → Type 0
-SendsSome old new octets = (count : ℕ) × GoesOn old new (sending (take count octets))
 
 -- ---- answers
 

@@ -1,7 +1,8 @@
 -- The turns of a talk: a piece of octets is received, the rows that it ends are taken, and their answers are sent.
-use Rattle.std.specs.Prelude.{◌≡◌, ⊤, ℕ, false, List, [], ◌∷◌, ◌++◌, Option, Some, None}
+use Rattle.std.specs.Prelude.{◌≡◌, ⊤, ℕ, false, List, [], ◌∷◌, ◌++◌}
 use Rattle.std.specs.List.{concat}
 use Rattle.hsp_talk.specs.Talk.{AreTaken, Event, IsPrompt, RefusesRow, TakesRow, cut, has_ended, last_line, received_in, rows_in, rows_of, sent_in, whole_lines}
+use Rattle.hsp_talk.specs.Known.{Known, Went}
 use Rattle.hsp_talk.specs.declared.stop.Refusal.{Refusal}
 use Rattle.hsp_talk.specs.declared.stop.Refusal.TheVariants as refusal
 
@@ -37,7 +38,6 @@ pub record StandsSo {D : Type 0} (Takes : TakesRow D) (first last : D) (line : L
   pub not_ended : has_ended events ≡ false
   pub begun : line ≡ cut (last_line [] (received_in events))
 
--- the same of a talk that is known
-abbrev pub IsAt : {D : Type 0} → TakesRow D → D → D → List ℕ → Option (List Event) → Type 0
-IsAt Takes first last line None = ⊥
-IsAt Takes first last line (Some events) = StandsSo Takes first last line events
+-- the same, by the events since the talk began
+abbrev pub IsAt : {D : Type 0} → TakesRow D → D → D → List ℕ → Known → Known → Type 0
+IsAt Takes first last line old new = Went old new (StandsSo Takes first last line)

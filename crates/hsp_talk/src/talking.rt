@@ -1,19 +1,9 @@
 // The talk.
 
-ghost use Rattle.std.specs.Prelude.{◌≡◌, ◌<◌, ◌≤◌, ◌+◌, ◌++◌, ◌∷◌, [], IfErr, IfOk, IfSome, IsSomeAnd, OnErr, OnOk, Some, length, position};
+ghost use Rattle.std.specs.Prelude.{◌≡◌, ◌<◌, ◌≤◌, ◌+◌, ◌++◌, ◌∷◌, [], IfErr, IfOk, IfSome, OnErr, OnOk, length, position};
 ghost use Rattle.hsp_talk.specs.declared.limits.TheConstants.{LONGEST_ROW};
-ghost use Rattle.hsp_talk.specs.Talk.{
-  GoesOn,
-  HeldToTheEnd,
-  SendsSome,
-  StoppedBy,
-  cut,
-  is_line_feed,
-  last_line,
-  rows_of,
-  sending,
-  whole_lines,
-};
+ghost use Rattle.hsp_talk.specs.Known.{GoesOn, SendsSome, Went, sending};
+ghost use Rattle.hsp_talk.specs.Talk.{HeldToTheEnd, StoppedBy, cut, is_line_feed, last_line, rows_of, whole_lines};
 ghost use Rattle.hsp_talk.specs.Turns.{AreCut, AreOwed, rows_ended_by};
 
 use crate::desk::Desk;
@@ -129,8 +119,9 @@ fn take_piece<D: Desk>(
 fn send_owed<P: Peer>(peer: &mut P, owed: &mut Vec<u8>) -> Result<(), Failed>
     ensures none_owed { OnOk result (owed.new.items ≡ []) }
     ensures sends { OnOk result
-        (GoesOn (P.talk peer.old) (P.talk peer.new) (sending owed.old.items)) }
-    ensures fails { OnErr result (SendsSome (P.talk peer.old) (P.talk peer.new) owed.old.items) }
+        (GoesOn (P.known peer.old) (P.known peer.new) (sending owed.old.items)) }
+    ensures fails { OnErr result
+        (SendsSome (P.known peer.old) (P.known peer.new) owed.old.items) }
 {
     if owed.is_empty() {
         return Ok(());
@@ -156,11 +147,10 @@ pub fn talk<P: Peer, D: Desk>(
     desk: &mut D,
     peer: &mut P,
 ) -> Result<(), Stop<D::Fault>>
-    ensures whole { P.talk peer.old ≡ Some [] → OnOk result
-        (IsSomeAnd (P.talk peer.new) (HeldToTheEnd D.Takes desk.old desk.new)) }
-    ensures stops { P.talk peer.old ≡ Some [] → IfErr result (λ stop.
-        IsSomeAnd (P.talk peer.new) (λ events.
-        StoppedBy D.Takes D.Refuses desk.old desk.new events stop)) }
+    ensures whole { OnOk result (Went (P.known peer.old) (P.known peer.new)
+        (HeldToTheEnd D.Takes desk.old desk.new)) }
+    ensures stops { IfErr result (λ stop. Went (P.known peer.old) (P.known peer.new)
+        (λ events. StoppedBy D.Takes D.Refuses desk.old desk.new events stop)) }
 {
     let mut line = Vec::new(alloc);
     let mut answer = Vec::new(alloc);

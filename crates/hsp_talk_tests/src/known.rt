@@ -1,6 +1,6 @@
 // A peer whose talk is known, so that the theorem of a talk speaks of it.
 
-ghost use Rattle.std.specs.Prelude.{◌≡◌, [], OnOk, Some};
+ghost use Rattle.std.specs.Prelude.{◌≡◌, [], None, OnOk, Some};
 ghost use Rattle.hsp_talk.specs.Talk.{HeldToTheEnd};
 ghost use Rattle.hsp_talk_tests.specs.Known.{events_of};
 
@@ -23,7 +23,12 @@ pub struct KnownPeer<'a> {
 }
 
 impl<'a> Peer for KnownPeer<'a> {
-    ghost talk = { λ peer. Some (events_of peer.turns.items) };
+    ghost known = { λ peer. record {
+      events = Some (events_of peer.turns.items);
+      coming = None;
+      written = None;
+      lent = None;
+    } };
 
     fn receive(&mut self, piece: &mut [u8]) -> Result<usize, Failed> {
         let count = self.text.len().min(piece.len());

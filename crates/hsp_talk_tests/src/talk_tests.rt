@@ -2,6 +2,7 @@ use crate::fakes::{CountingDesk, InterruptedReader, Note};
 use crate::held::{ALL, Limits, goes};
 use crate::known::{KnownPeer, Turn, hold};
 use hsp_talk::{Joined, talk};
+use std::alloc::Global;
 
 #[test]
 fn each_row_is_answered_before_the_next_read(rt: HostRuntime) {
@@ -65,20 +66,35 @@ fn reads_and_writes_fail(rt: HostRuntime) {
     }
 }
 
-#[test]
-fn a_reader_and_a_writer_are_a_peer(rt: HostRuntime) {
+// What is written in a talk with a reader that is interrupted, or None where memory runs out.
+fn answers_written(alloc: Global) -> Option<Vec<u8>> {
     let mut desk = CountingDesk { taken: 0 };
+    let mut written = Vec::new(alloc);
     let mut peer = Joined {
         reader: InterruptedReader {
             text: b"a\nb",
             interrupted: false,
         },
-        writer: Vec::new(rt.alloc()),
+        writer: &mut written,
     };
-    // Where this growth is refused, nothing is asked of the answers.
-    if talk(rt.alloc(), &mut desk, &mut peer).is_ok() {
-        assert_eq!(&rt; peer.writer.as_slice(), b"1 a\n2 b\n".as_slice());
+    match talk(alloc, &mut desk, &mut peer) {
+        Ok(()) => Some(written),
+        Err(_) => None,
     }
+}
+
+#[test]
+fn a_reader_and_a_writer_are_a_peer(rt: HostRuntime) {
+    // Where memory ran out once, it is there again.
+    let written = match answers_written(rt.alloc()) {
+        Some(written) => Some(written),
+        None => answers_written(rt.alloc()),
+    };
+    let written = match &written {
+        Some(written) => written.as_slice(),
+        None => b"none".as_slice(),
+    };
+    assert_eq!(&rt; written, b"1 a\n2 b\n".as_slice());
 }
 
 #[test]

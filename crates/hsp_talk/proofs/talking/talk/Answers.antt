@@ -6,30 +6,30 @@ use Rattle.hsp_talk.proofs.talking.talk.Goals as goal
 
 pub returns-in_default-clause-stops : goal.returns-in_default-clause-stops
 returns-in_default-clause-stops g c =
-    λ known. read_fails g.D.Desk.Takes c.args.desk.now g.D.Desk.Refuses _ c.turns.line.items _ _ (c.turns.invariant.1 known) c.in_default.ensures.fails
+    read_fails g.D.Desk.Takes c.args.desk.now g.D.Desk.Refuses _ c.turns.line.items _ _ _ c.turns.invariant.1 c.in_default.ensures.fails
 
 pub returns-in_default-send_owed-clause-stops : goal.returns-in_default-send_owed-clause-stops
 returns-in_default-send_owed-clause-stops g c =
-    λ known. write_fails_after g.D.Desk.Takes c.args.desk.now g.D.Desk.Refuses c.turns.desk c.take_piece-taken.new.desk c.turns.line.items (take c.in-Ok.count c.receive.new.piece)
-    c.turns.owed.items c.take_piece-taken.new.owed.items c.take_piece-taken.result _ _ _ c.turns.invariant.0 (c.turns.invariant.1 known) c.in-Ok.ensures.receives
+    write_fails_after g.D.Desk.Takes c.args.desk.now g.D.Desk.Refuses c.turns.desk c.take_piece-taken.new.desk c.turns.line.items (take c.in-Ok.count c.receive.new.piece)
+    c.turns.owed.items c.take_piece-taken.new.owed.items c.take_piece-taken.result _ _ _ _ c.turns.invariant.0 c.turns.invariant.1 c.in-Ok.ensures.receives
     c.take_piece-taken.ensures.taken c.take_piece-taken.ensures.cut c.in_default-send_owed.ensures.fails
 
 pub returns-in-Err-clause-stops : goal.returns-in-Err-clause-stops
 returns-in-Err-clause-stops g c =
-    λ known. rw c.stop_for.ensures (row_refused_by g.D.Desk.Takes c.args.desk.now g.D.Desk.Refuses c.turns.desk c.take_piece-taken.new.desk c.turns.line.items
-    (take c.in-Ok.count c.receive.new.piece) c.turns.owed.items c.take_piece-taken.new.owed.items c.in-Err.refusal c.in-Err.refusal _ _ _ refl c.turns.invariant.0
-    (c.turns.invariant.1 known) c.in-Ok.ensures.receives c.in-Err.ensures.cut c.in-Ok-send_owed.ensures.sends)
+    rw c.stop_for.ensures (row_refused_by g.D.Desk.Takes c.args.desk.now g.D.Desk.Refuses c.turns.desk c.take_piece-taken.new.desk c.turns.line.items
+    (take c.in-Ok.count c.receive.new.piece) c.turns.owed.items c.take_piece-taken.new.owed.items c.in-Err.refusal c.in-Err.refusal _ _ _ _ refl c.turns.invariant.0
+    c.turns.invariant.1 c.in-Ok.ensures.receives c.in-Err.ensures.cut c.in-Ok-send_owed.ensures.sends)
 
 pub returns-then-count-eq0-clause-whole : goal.returns-then-count-eq0-clause-whole
 returns-then-count-eq0-clause-whole g c =
-    λ known. talk_ends_by g.D.Desk.Takes c.args.desk.now c.turns.desk c.take_piece-taken.new.desk c.turns.line.items (take c.in-Ok.count c.receive.new.piece) c.turns.owed.items
-    c.take_piece-taken.new.owed.items _ _ _ (ap (λ n. take n c.receive.new.piece) c.if-count-eq0.true) c.turns.invariant.0 (c.turns.invariant.1 known) c.in-Ok.ensures.receives
+    talk_ends_by g.D.Desk.Takes c.args.desk.now c.turns.desk c.take_piece-taken.new.desk c.turns.line.items (take c.in-Ok.count c.receive.new.piece) c.turns.owed.items
+    c.take_piece-taken.new.owed.items _ _ _ _ (ap (λ n. take n c.receive.new.piece) c.if-count-eq0.true) c.turns.invariant.0 c.turns.invariant.1 c.in-Ok.ensures.receives
     c.in_default-taken.ensures.taken c.in-Ok-send_owed.ensures.sends
 
 pub turns-init : goal.turns-init
 turns-init g c = (
   c.new-owed.ensures.items,
-  λ known. rw c.new-line.ensures.items (talk_begins g.D.Desk.Takes c.args.desk.now (g.P.Peer.talk c.args.peer.now) known),
+  rw c.new-line.ensures.items (talk_begins g.D.Desk.Takes c.args.desk.now (g.P.Peer.known c.args.peer.now)),
   rw c.new-line.ensures.items (omega arith),
 )
 
@@ -37,8 +37,8 @@ pub turns-preserved : goal.turns-preserved
 turns-preserved g c =
     let piece = take c.in-Ok.count c.receive.new.piece in (
       c.in-Ok-send_owed.ensures.none_owed,
-      λ known. talk_goes_on g.D.Desk.Takes c.args.desk.now c.turns.desk c.take_piece-taken.new.desk c.turns.line.items piece c.take_piece-taken.new.line.items
-          c.take_piece-taken.new.owed.items _ _ _ (λ none. c.if-count-eq0.false (sym (length-take-le c.in-Ok.count c.receive.new.piece c.in-Ok.ensures.within) ∙ none)) (c.turns.invariant.1 known) c.in-Ok.ensures.receives
+      talk_goes_on g.D.Desk.Takes c.args.desk.now c.turns.desk c.take_piece-taken.new.desk c.turns.line.items piece c.take_piece-taken.new.line.items
+          c.take_piece-taken.new.owed.items _ _ _ _ (λ none. c.if-count-eq0.false (sym (length-take-le c.in-Ok.count c.receive.new.piece c.in-Ok.ensures.within) ∙ none)) c.turns.invariant.1 c.in-Ok.ensures.receives
           (subst (λ o. AreOwed g.D.Desk.Takes c.turns.desk c.take_piece-taken.new.desk (rows_ended_by c.turns.line.items piece) o c.take_piece-taken.new.owed.items) c.turns.invariant.0 c.in_default-taken.ensures.taken)
           c.in_default-taken.ensures.begun c.in-Ok-send_owed.ensures.sends,
       rw c.in_default-taken.ensures.begun (within_cut _),
@@ -46,4 +46,4 @@ turns-preserved g c =
 
 pub returns-clause-stops : goal.returns-clause-stops
 returns-clause-stops g c =
-    λ known. no_more_turns g.D.Desk.Takes c.args.desk.now g.D.Desk.Refuses _ c.turns.line.items _ (c.turns.invariant.1 known)
+    no_more_turns g.D.Desk.Takes c.args.desk.now g.D.Desk.Refuses _ c.turns.line.items _ _ c.turns.invariant.1
