@@ -1,28 +1,26 @@
 -- A printed table is read back as the table.
-use Rattle.std.proofs.Common.{◌≡◌, ◌∙◌, ◌&&◌, ◌+◌, ◌<◌, ◌≤◌, ◌^◌, inl, inr, nat_le, ℕ, zero, suc, Bool, true, false, cond, List, [], ◌∷◌, ◌++◌, Option, Some, None, Ok, Err, codes, length, length-append, map, refl, ap, sym, add-one, arith}
-use Rattle.std.proofs.lemmas.Bool.{and_parts, and_from, cases_Bool, false_from_ne_true, le-leb, true≢false}
+use Rattle.std.proofs.Common.{◌≡◌, ◌∙◌, ◌+◌, ◌<◌, ◌≤◌, nat_le, ℕ, zero, suc, true, false, cond, List, [], ◌∷◌, ◌++◌, Ok, codes, length, length-append, map, refl, ap, sym, add-one, arith}
+use Rattle.std.proofs.lemmas.Bool.{and_parts, and_from, false_from_ne_true, le-leb, true≢false}
 use Rattle.std.proofs.lemmas.List.{length-map}
 use Rattle.std.specs.Cmp.Lexicographic.{bytes_decides}
 use Rattle.std.specs.List.{AllByRecursion, IsDistinct}
-use Rattle.std.specs.Prelude.{Result, decimal}
+use Rattle.std.specs.Prelude.{decimal}
 use Rattle.std.specs.Str.{bytes_eq}
-use Rattle.std.specs.Str.Parse.{digits_value}
 use Rattle.csv.proofs.RoundTrip.{read-write}
 use Rattle.csv.specs.Machine.{next_record}
 use Rattle.csv.specs.Reading.{default_config, records, records_from, strip_bom}
 use Rattle.csv.specs.Writing.{default_writer, escaped, fields_text, is_blank, row_body, row_text}
 use Rattle.csv.specs.declared.parser.State.TheVariants as st
 use Rattle.hsp_csv.specs.Records.{Fields, records_of}
-use Rattle.hsp_instance.specs.Instance.{IsNamed, Row, Site, regions_of}
+use Rattle.hsp_instance.specs.Instance.{IsNamed, Row, Site}
 use Rattle.hsp_instance.proofs.Lists.{map_twice}
 use Rattle.hsp_kinds.specs.Rows.{is_same_kind, places_at, sites_for}
 use Rattle.hsp_tables.specs.Costs.{CostEntry}
-use Rattle.hsp_tables.specs.Demand.{DemandEntry, demand_in, demand_regions, demand_table, same_demand}
+use Rattle.hsp_tables.specs.Demand.{DemandEntry, demand_in, demand_table, same_demand}
 use Rattle.hsp_tables.specs.Table as tables
 use Rattle.hsp_tables.specs.Table.{IsTable, ReadsAsItsRelation, SpellRows}
-use Rattle.hsp_text.specs.Answers.{◌>>=◌}
-use Rattle.hsp_text.specs.Whole.{DigitsSpellTheirNumber, is_whole, whole_within}
-use Rattle.hsp_text.specs.declared.limits.TheConstants.{GREATEST_COUNT, MOST_DEMAND_ROWS, MOST_REGIONS}
+use Rattle.hsp_text.specs.Whole.{DigitsSpellTheirNumber, whole_within}
+use Rattle.hsp_text.specs.declared.limits.TheConstants.{GREATEST_COUNT}
 use Rattle.hsp_tally.proofs.KindTables.{IsKindTable}
 use Rattle.hsp_stream.specs.KindsLaws.{entry_of}
 use Rattle.hsp_stream.specs.KindsTable.{fields_of_row, lines_of, records_of_rows, table_text}

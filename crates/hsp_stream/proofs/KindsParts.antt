@@ -1,5 +1,5 @@
 -- The table of a log in two parts is that of the tables of the parts.
-use Rattle.std.proofs.Common.{◌≡◌, ◌∙◌, ◌+◌, ◌-◌, ◌<◌, ◌≤◌, ◌^◌, inl, inr, nat_le, ℕ, suc, Bool, true, false, cond, List, [], ◌∷◌, ◌++◌, Option, Some, None, Ok, Err, decimal, length, length-append, refl, ap, sym, arith}
+use Rattle.std.proofs.Common.{◌≡◌, ◌∙◌, ◌+◌, ◌-◌, ◌≤◌, ◌^◌, nat_le, ℕ, suc, Bool, true, false, cond, List, [], ◌∷◌, ◌++◌, Option, Some, None, Ok, Err, decimal, length, length-append, refl, ap, sym, arith}
 use Rattle.std.proofs.lemmas.Bool.{le-leb, leb-true}
 use Rattle.std.specs.List.{AllByRecursion, list_any}
 use Rattle.std.specs.Prelude.{Result}
@@ -9,7 +9,6 @@ use Rattle.hsp_instance.specs.Instance.{IsNamed, Row, Site, regions_of}
 use Rattle.hsp_instance.proofs.Lists.{all_append}
 use Rattle.hsp_kinds.specs.Rows.{is_same_kind}
 use Rattle.hsp_kinds.specs.Tables.{LogInParts, counted, counted_all}
-use Rattle.hsp_kinds.specs.Tables as kinds
 use Rattle.hsp_tables.specs.Costs.{CostEntry}
 use Rattle.hsp_text.specs.Answers.{◌>>=◌, or_fault, told_as}
 use Rattle.hsp_text.specs.Name.{is_name}
@@ -24,7 +23,7 @@ use Rattle.hsp_tally.specs.Keys.{with_region}
 use Rattle.hsp_tally.specs.Tally.{IsKept, by_capped, with_counted, with_more}
 use Rattle.hsp_tally.proofs.Capped.{capped_kinds_are_classes, tables_are_capped}
 use Rattle.hsp_tally.proofs.KindCounts.{counted_regions, counted_well}
-use Rattle.hsp_tally.proofs.KindTables.{IsKindTable, counted_is, no_kinds}
+use Rattle.hsp_tally.proofs.KindTables.{counted_is, no_kinds}
 use Rattle.hsp_stream.specs.KindsLaws.{IsLogCount, PartsMakeTheTable, SpellRows, Spells, TableIsOfKinds}
 use Rattle.hsp_stream.specs.KindsLog.{Parts, count_in, count_or, handle_or, kinds_told, name_in, parts_in, row_of, rows_from, with_parts, with_record}
 use Rattle.hsp_stream.specs.KindsTable.{fields_of_row, records_of_rows}

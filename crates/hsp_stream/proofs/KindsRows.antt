@@ -1,17 +1,15 @@
 -- The rows of a log: their fields, and the table with each.
-use Rattle.std.proofs.Common.{◌≡◌, ◌∙◌, ◌≢◌, ◌+◌, ◌<◌, ◌≤◌, ◌⊎◌, inl, inr, ℕ, Bool, true, false, List, [], ◌∷◌, Option, Some, None, Ok, Err, length, refl, ap, sym, arith}
-use Rattle.std.specs.Prelude.{Result}
+use Rattle.std.proofs.Common.{◌≡◌, ◌≢◌, ◌+◌, ◌≤◌, ℕ, true, List, [], ◌∷◌, Option, Some, None, Ok, Err, length, refl, arith}
 use Rattle.csv.specs.Records.{field_at}
 use Rattle.hsp_csv.specs.Records.{Fields}
 use Rattle.hsp_names.specs.Handle as names
 use Rattle.hsp_tables.specs.Costs.{CostEntry}
 use Rattle.hsp_tables.proofs.RecordFields.{field_is_missing, three_fields_are}
-use Rattle.hsp_text.specs.Answers.{◌>>=◌, told_as}
 use Rattle.hsp_text.specs.Name.{is_name}
-use Rattle.hsp_instance.specs.Instance.{IsNamed, Row, Site}
+use Rattle.hsp_instance.specs.Instance.{Row, Site}
 use Rattle.hsp_tally.specs.Tally.{with_counted}
 use Rattle.hsp_tally.specs.declared.fault.KindsFault.{KindsFault}
-use Rattle.hsp_stream.specs.KindsLog.{Parts, count_in, handle_or, kinds_told, name_in, parts_in, row_of, rows_from, with_parts, with_record}
+use Rattle.hsp_stream.specs.KindsLog.{Parts, count_in, kinds_told, parts_in, row_of, rows_from, with_parts, with_record}
 use Rattle.hsp_stream.specs.declared.fault.RowFault.{RowFault}
 use Rattle.hsp_stream.specs.declared.fault.StreamFault.{StreamFault}
 use Rattle.hsp_stream.specs.declared.fault.StreamFault.TheVariants.{Log}

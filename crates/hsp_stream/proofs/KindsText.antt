@@ -1,12 +1,11 @@
 -- The text of a table, piece by piece.
-use Rattle.std.proofs.Common.{◌≡◌, ◌∙◌, ◌+◌, ◌-◌, ◌*◌, ◌/◌, ◌%◌, ◌<◌, ◌≤◌, ◌==◌, ◌≢◌, ne_eqb, ℕ, zero, suc, min, Bool, true, false, cond, List, [], ◌∷◌, ◌++◌, Option, Some, None, Ok, Err, inl, inr, append_assoc, append-nil, codes, drop, get_or, length, take, refl, ap, sym, add-one, arith}
+use Rattle.std.proofs.Common.{◌≡◌, ◌∙◌, ◌+◌, ◌-◌, ◌*◌, ◌/◌, ◌%◌, ◌<◌, ◌≤◌, ℕ, zero, suc, min, List, [], ◌∷◌, ◌++◌, Some, Ok, Err, inl, inr, append_assoc, append-nil, codes, drop, refl, ap, sym, arith}
 use Rattle.std.proofs.Math.Nat.{div-add-mod, div-lt_iff_lt-mul, mod-lt}
 use Rattle.std.proofs.lemmas.Bool.{cases_lt}
-use Rattle.std.proofs.lemmas.List.{take_more}
 use Rattle.std.specs.Int.{div_ceil}
-use Rattle.std.specs.List.{list_any, slice_get}
-use Rattle.std.specs.Prelude.{Result, decimal}
-use Rattle.csv.specs.Writing.{default_writer, escaped, field_text, fields_text, is_blank, needs_byte, row_text}
+use Rattle.std.specs.List.{slice_get}
+use Rattle.std.specs.Prelude.{Result}
+use Rattle.csv.specs.Writing.{default_writer, escaped, field_text, fields_text, is_blank, row_text}
 use Rattle.hsp_csv.specs.Records.{Fields}
 use Rattle.hsp_text.specs.Answers.{◌>>=◌}
 use Rattle.hsp_instance.specs.Instance.{Row}
@@ -46,45 +45,6 @@ reported_unit count unit some = (
       let high : (count + (unit - 1)) / unit < GREATEST_COUNT + 1 = (div-lt_iff_lt-mul some).1 (omega arith) in
       omega arith,
 )
-
--- ---- fields
-
-pub escaped-append : (a b : List ℕ) → escaped default_writer (a ++ b) ≡ escaped default_writer a ++ escaped default_writer b
-unfolding escaped
-escaped-append [] b = refl
-escaped-append (x ∷ a) b = chosen (x == 34) (escaped-append a b)
-  where
-    chosen : (t : Bool) → escaped default_writer (a ++ b) ≡ escaped default_writer a ++ escaped default_writer b
-        → cond t (34 ∷ x ∷ escaped default_writer (a ++ b)) (x ∷ escaped default_writer (a ++ b)) ≡ cond t (34 ∷ x ∷ escaped default_writer a) (x ∷ escaped default_writer a) ++ escaped default_writer b
-    chosen true e = ap (λ t. 34 ∷ x ∷ t) e
-    chosen false e = ap (λ t. x ∷ t) e
-
-pub escaped_quote : (x : ℕ) → x ≡ 34 → escaped default_writer (x ∷ []) ≡ 34 ∷ 34 ∷ []
-unfolding escaped
-escaped_quote x is = rw is refl
-
-pub escaped_other : (x : ℕ) → x ≢ 34 → escaped default_writer (x ∷ []) ≡ x ∷ []
-unfolding escaped
-escaped_other x other = let is : (x == 34) ≡ false = ne_eqb x 34 other in rw is refl
-
-pub escaped_none : (text : List ℕ) → text ≡ text ++ escaped default_writer []
-unfolding escaped
-escaped_none text = sym (append-nil text)
-
-pub ruleset escaped_octets = (escaped_quote, escaped_other)
-
--- an octet more
-pub escaped_next : (field : List ℕ) (i : ℕ) → i < length field → escaped default_writer (take (i + 1) field) ≡ escaped default_writer (take i field) ++ escaped default_writer (get_or field i 0 ∷ [])
-escaped_next field i less = ap (escaped default_writer) (take_more field i 0 less) ∙ escaped-append (take i field) (get_or field i 0 ∷ [])
-
--- a field without and with quotes
-pub plain_field : (field : List ℕ) → list_any (needs_byte default_writer) field ≡ false → field_text default_writer field ≡ field
-plain_field field none = rw none refl
-
-pub quoted_field : (field : List ℕ) → list_any (needs_byte default_writer) field ≡ true → field_text default_writer field ≡ 34 ∷ (escaped default_writer field ++ 34 ∷ [])
-quoted_field field some = rw some refl
-
-pub ruleset fields = (plain_field, quoted_field)
 
 -- ---- lines
 

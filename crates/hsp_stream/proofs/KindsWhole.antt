@@ -1,13 +1,12 @@
 -- The table of a log is one of kinds, and so is the table in units.
-use Rattle.std.proofs.Common.{◌≡◌, ◌∙◌, ◌+◌, ◌≤◌, inl, inr, nat_lt, not, ℕ, Bool, true, false, cond, List, [], ◌∷◌, ◌++◌, Option, Some, None, Ok, Err, append_assoc, append-nil, length, map, refl, ap, sym, arith}
+use Rattle.std.proofs.Common.{◌≡◌, ◌∙◌, ◌+◌, ◌≤◌, nat_lt, not, ℕ, Bool, true, false, cond, List, [], ◌∷◌, ◌++◌, Ok, Err, append_assoc, append-nil, length, map, refl, ap, sym}
 use Rattle.std.proofs.lemmas.Bool.{ltb-false}
 use Rattle.std.proofs.lemmas.List.{length-map, map-append}
 use Rattle.std.specs.List.{AllByRecursion, IsDistinct}
 use Rattle.std.specs.Prelude.{Result}
-use Rattle.hsp_csv.specs.Header.{same_fields}
 use Rattle.hsp_csv.specs.Records.{Fields, records_of}
 use Rattle.hsp_instance.specs.Instance.{IsNamed, Row, Site, regions_of}
-use Rattle.hsp_instance.proofs.Lists.{all_map, all_push, map_twice}
+use Rattle.hsp_instance.proofs.Lists.{all_push, map_twice}
 use Rattle.hsp_kinds.specs.Rows.{is_same_kind}
 use Rattle.hsp_kinds.specs.Units.{rounded_up}
 use Rattle.hsp_names.specs.Handle as names

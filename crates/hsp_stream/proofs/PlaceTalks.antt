@@ -1,6 +1,7 @@
 -- Talks of the run that states the servers of handles.
-use Rattle.std.proofs.Common.{◌≡◌, ◌⊎◌, inl, inr, true, false, List, Option, Some, None, IsSomeAnd, is_some, subst}
+use Rattle.std.proofs.Common.{◌≡◌, inl, inr, true, false, List, is_some, subst}
 use Rattle.hsp_instance.specs.Instance.{Site}
+use Rattle.hsp_talk.specs.Known.{Known, Went}
 use Rattle.hsp_talk.specs.Talk.{Event, HeldToTheEnd, StoppedBy}
 use Rattle.hsp_talk.specs.declared.stop.Stop.{Stop}
 use Rattle.hsp_talk.specs.declared.stop.Stop.TheVariants as stop
@@ -11,21 +12,21 @@ use Rattle.hsp_stream.specs.declared.fault.RowFault.TheVariants as row
 
 module _ (sites : List Site) (first last : PlacesState) (start : first ≡ at_start sites) where
   -- all rows were answered after a header
-  pub all_answered : (talk : Option (List Event)) → is_some last.form ≡ true → IsSomeAnd talk (HeldToTheEnd TakesHandle first last) → IsSomeAnd talk (AreAnswered sites)
-  all_answered None has so = absurd so
-  all_answered (Some events) has so = (last, subst (λ f. HeldToTheEnd TakesHandle f last events) start so, has)
+  pub all_answered : (old new : Known) → is_some last.form ≡ true → Went old new (HeldToTheEnd TakesHandle first last) → Went old new (AreAnswered sites)
+  all_answered old new has (events, goes, so) = (events, goes, (last, subst (λ f. HeldToTheEnd TakesHandle f last events) start so, has))
 
   -- no header came
-  pub no_header : (talk : Option (List Event)) → is_some last.form ≡ false → IsSomeAnd talk (HeldToTheEnd TakesHandle first last) → IsSomeAnd talk (IsStoppedBy sites row.Header)
-  no_header None none so = absurd so
-  no_header (Some events) none so = inr (last, subst (λ f. HeldToTheEnd TakesHandle f last events) start so, none)
+  pub no_header : (old new : Known) → is_some last.form ≡ false → Went old new (HeldToTheEnd TakesHandle first last) → Went old new (IsStoppedBy sites row.Header)
+  no_header old new none (events, goes, so) = (events, goes, inr (last, subst (λ f. HeldToTheEnd TakesHandle f last events) start so, none))
 
   -- the talk stopped
-  pub has_stopped : (talk : Option (List Event)) (found by : Stop RowFault) (Q : List Event → Type 0) → found ≡ by → ((events : List Event) → HasStopped sites by events → Q events)
-      → IsSomeAnd talk (λ events. StoppedBy TakesHandle RefusesHandle first last events found) → IsSomeAnd talk Q
-  has_stopped None found by Q is shows so = absurd so
-  has_stopped (Some events) found by Q is shows so =
-      shows events (last, subst (λ s. StoppedBy TakesHandle RefusesHandle (at_start sites) last events s) is (subst (λ f. StoppedBy TakesHandle RefusesHandle f last events found) start so))
+  pub has_stopped : (old new : Known) (found by : Stop RowFault) (Q : List Event → Type 0) → found ≡ by → ((events : List Event) → HasStopped sites by events → Q events)
+      → Went old new (λ events. StoppedBy TakesHandle RefusesHandle first last events found) → Went old new Q
+  has_stopped old new found by Q is shows (events, goes, so) = (
+    events,
+    goes,
+    shows events (last, subst (λ s. StoppedBy TakesHandle RefusesHandle (at_start sites) last events s) is (subst (λ f. StoppedBy TakesHandle RefusesHandle f last events found) start so)),
+  )
 
 -- a row was refused by a fault
 pub by_fault : (sites : List Site) (fault : RowFault) (events : List Event) → HasStopped sites (stop.Fault fault) events → IsStoppedBy sites fault events

@@ -15,7 +15,9 @@ use Rattle.hsp_dispatch.proofs.Resting.{answer_after, answers_more, rest_none, r
 use Rattle.hsp_talk.specs.Talk.{AreTaken}
 use Rattle.hsp_stream.specs.Asking.{AreAsked, Asked, AsksAt}
 use Rattle.hsp_stream.specs.Asking.Asked.{bad, nothing, query}
-use Rattle.hsp_stream.specs.Saying.{IsAmong, Said, capped, is_answered, is_refused, none_said, said, said_line, said_of, sums_said, with_given}
+use Rattle.hsp_tally.specs.Tally.{capped}
+use Rattle.hsp_stream.specs.Saying.{IsAmong, Said, is_answered, is_refused, none_said, said, said_line, said_of, sums_said, with_given}
+use Rattle.hsp_tally.specs.Tally.{capped}
 use Rattle.hsp_stream.specs.Saying.Said.{answered, refused, silent}
 use Rattle.hsp_stream.specs.Telling.{Answering, AreAnswered, IsGiven, TakesRow, Telling, entries_in, entry_for, said_by}
 use Rattle.hsp_stream.specs.declared.given.Given.{Given}

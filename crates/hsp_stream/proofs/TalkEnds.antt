@@ -1,5 +1,5 @@
 -- Talks at a desk that answers rows.
-use Rattle.std.proofs.Common.{◌≡◌, ◌≢◌, ◌∙◌, ℕ, List, [], map, Option, None, Some, Result, Ok, Err, IfErr, IsSomeAnd, refl, ap}
+use Rattle.std.proofs.Common.{◌≡◌, ◌≢◌, ◌∙◌, ℕ, List, [], map, Option, None, Some, Result, Ok, Err, IfErr, refl, ap}
 use Rattle.hsp_tables.specs.Costs.{CostEntry}
 use Rattle.hsp_instance.specs.Instance.{Instance}
 use Rattle.hsp_check.specs.Plan.{Plan}
@@ -9,6 +9,7 @@ use Rattle.hsp_dispatch.specs.declared.answer.Answer.{Answer}
 use Rattle.hsp_dispatch.specs.declared.form.Form.{Form}
 use Rattle.hsp_dispatch.proofs.OverCalls.{same_answers}
 use Rattle.hsp_dispatch.proofs.Resting.{rest_same}
+use Rattle.hsp_talk.specs.Known.{Known, Went}
 use Rattle.hsp_talk.specs.Talk.{Event, HeldToTheEnd, StoppedBy, Took}
 use Rattle.hsp_talk.specs.declared.stop.Stop.{Stop}
 use Rattle.hsp_talk.specs.declared.stop.Stop.TheVariants as stop
@@ -45,34 +46,34 @@ module _ (first : Answering) (form : first.form ≡ None) (none : first.sums ≡
   Ends events answer = EndsBy first.teller.costs first.teller.held.instance (left_of first.teller.held) events answer
 
   -- the talk ended behind a header
-  pub ended : (last : Answering) (sums : StreamSums) (new : Option (List Event)) → last.form ≢ None → sums ≡ last.sums
-      → IsSomeAnd new (HeldToTheEnd TakesRow first last) → IsSomeAnd new (λ events. Ends events (Ok sums))
-  ended last sums None some same held = absurd held
-  ended last sums (Some events) some same held = by last.form refl
+  pub ended : (last : Answering) (sums : StreamSums) (old new : Known) → last.form ≢ None → sums ≡ last.sums
+      → Went old new (HeldToTheEnd TakesRow first last) → Went old new (λ events. Ends events (Ok sums))
+  ended last sums old new some same (events, goes, held) = (events, goes, by last.form refl)
     where
       by : (stated : Option Form) → last.form ≡ stated → Ends events (Ok sums)
       by None e = absurd (some e)
       by (Some own) e = (own, so_far last events (Some own) sums e same held.0, held.1, held.2, held.3)
 
   -- the talk ended without a header
-  pub ended_early : (last : Answering) (new : Option (List Event)) → last.form ≡ None → IsSomeAnd new (HeldToTheEnd TakesRow first last)
-      → IsSomeAnd new (λ events. Ends events (Err (Log Header)))
-  ended_early last None lacking held = absurd held
-  ended_early last (Some events) lacking held =
+  pub ended_early : (last : Answering) (old new : Known) → last.form ≡ None → Went old new (HeldToTheEnd TakesRow first last)
+      → Went old new (λ events. Ends events (Err (Log Header)))
+  ended_early last old new lacking (events, goes, held) =
       let lacks : LacksHeader events held.0.later = rw held.1 held.3 in
-      (last.sums, so_far last events None last.sums lacking refl held.0, lacks, held.2)
+      (events, goes, (last.sums, so_far last events None last.sums lacking refl held.0, lacks, held.2))
 
   -- the talk stopped
-  pub stopped : (last : Answering) (new : Option (List Event)) (why : Stop NoHeader) → IsSomeAnd new (λ events. StoppedBy TakesRow RefusesRow first last events why)
-      → IsSomeAnd new (λ events. Ends events (Err (fault_of why)))
-  stopped last None why by = absurd by
-  stopped last (Some events) stop.ReadFailed by = (last.form, last.sums, so_far last events last.form last.sums refl refl by.0, (by.1, by.2))
-  stopped last (Some events) stop.WriteFailed by = (by.0.form, by.0.sums, so_far by.0 events by.0.form by.0.sums refl refl by.1, (by.2, by.3))
-  stopped last (Some events) stop.OutOfMemory by = (by.0.form, by.0.sums, so_far by.0 events by.0.form by.0.sums refl refl by.1, by.2)
-  stopped last (Some events) (stop.Fault fault) by =
+  stops : (last : Answering) (events : List Event) (why : Stop NoHeader) → StoppedBy TakesRow RefusesRow first last events why → Ends events (Err (fault_of why))
+  stops last events stop.ReadFailed by = (last.form, last.sums, so_far last events last.form last.sums refl refl by.0, (by.1, by.2))
+  stops last events stop.WriteFailed by = (by.0.form, by.0.sums, so_far by.0 events by.0.form by.0.sums refl refl by.1, (by.2, by.3))
+  stops last events stop.OutOfMemory by = (by.0.form, by.0.sums, so_far by.0 events by.0.form by.0.sums refl refl by.1, by.2)
+  stops last events (stop.Fault fault) by =
       let refused = by.5 in
       let lacks : LacksHeader events by.1.later = rw by.4 refused.1 in
       (by.0.sums, so_far by.0 events None by.0.sums refused.0 refl by.1, lacks, by.6)
+
+  pub stopped : (last : Answering) (old new : Known) (why : Stop NoHeader) → Went old new (λ events. StoppedBy TakesRow RefusesRow first last events why)
+      → Went old new (λ events. Ends events (Err (fault_of why)))
+  stopped last old new why (events, goes, by) = (events, goes, stops last events why by)
 
 -- ---- plans that send alike
 
@@ -115,10 +116,9 @@ module _ (costs : List CostEntry) (it : Instance) (x y : Plan) (same : IsSame x 
   ends_same events (Ok sums) by = (by.0, some_same (Some by.0) sums events by.1, by.2, by.3, by.4)
   ends_same events (Err fault) by = stops_same events fault by
 
-pub log_ends : (costs : List CostEntry) (it own : Instance) (x y : Plan) (answer : Result StreamSums StreamFault) (new : Option (List Event)) → own ≡ it → IsSame x y
-    → IsSomeAnd new (λ events. EndsBy costs own x events answer) → IsSomeAnd new (λ events. EndsBy costs it y events answer)
-log_ends costs it own x y answer None same_it same ends = absurd ends
-log_ends costs it own x y answer (Some events) same_it same ends = rw (← same_it) (ends_same costs own x y same events answer ends)
+pub log_ends : (costs : List CostEntry) (it own : Instance) (x y : Plan) (answer : Result StreamSums StreamFault) (old new : Known) → own ≡ it → IsSame x y
+    → Went old new (λ events. EndsBy costs own x events answer) → Went old new (λ events. EndsBy costs it y events answer)
+log_ends costs it own x y answer old new same_it same (events, goes, ends) = (events, goes, rw (← same_it) (ends_same costs own x y same events answer ends))
 
 -- no fault of a talk comes before the log
 pub untouched_so : {A : Type 0} (Same : Type 0) (ended : Result A StreamFault) → IfErr ended (λ e. IsBeforeLog e → ⊥) → IfErr ended (λ e. IsBeforeLog e → Same)

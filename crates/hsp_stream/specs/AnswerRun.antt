@@ -1,5 +1,5 @@
 -- The run that answers the rows of a log by a portion of the plan of a certificate.
-use Rattle.std.specs.Prelude.{◌≡◌, ◌⊎◌, ℕ, List, [], Option, Some, IsSomeAnd, Result, Ok, Err}
+use Rattle.std.specs.Prelude.{◌≡◌, ◌⊎◌, ℕ, List, Result, Ok, Err}
 use Rattle.hsp_tables.specs.Costs.{CostEntry}
 use Rattle.hsp_instance.specs.Instance.{Instance}
 use Rattle.hsp_cert.specs.Certificate.{Claim}
@@ -14,7 +14,7 @@ use Rattle.hsp_runs.specs.Accepted.{IsAcceptedOf}
 use Rattle.hsp_runs.specs.Instance.{ReadsCosts}
 use Rattle.hsp_runs.specs.declared.accepted.Accepted.{Accepted}
 use Rattle.hsp_runs.specs.declared.inputs.Inputs.{Inputs}
-use Rattle.hsp_talk.specs.Talk.{Event}
+use Rattle.hsp_talk.specs.Known.{Known, Went}
 use Rattle.hsp_stream.specs.AnswerTalk.{EndsBy}
 use Rattle.hsp_stream.specs.Faults.{input_told}
 use Rattle.hsp_stream.specs.Words.{portion_at}
@@ -23,13 +23,13 @@ use Rattle.hsp_stream.specs.declared.fault.StreamFault.TheVariants.{Input, OutOf
 use Rattle.hsp_stream.specs.declared.given.StreamSums.{StreamSums}
 use Rattle.hsp_stream.specs.declared.portions.PortionWords.{PortionWords}
 
--- what is known of a talk before a run and after it, and what the run returns
+-- what is known of a peer before a run and after it, and what the run returns
 pub record Run : Type 0 where
-  pub before : Option (List Event)
-  pub after : Option (List Event)
+  pub before : Known
+  pub after : Known
   pub answer : Result StreamSums StreamFault
 
-abbrev pub run_of : Option (List Event) → Option (List Event) → Result StreamSums StreamFault → Run
+abbrev pub run_of : Known → Known → Result StreamSums StreamFault → Run
 run_of before after answer = record { before = before; after = after; answer = answer }
 
 -- there is a fault before the log: nothing was read or sent
@@ -38,7 +38,7 @@ Refuses fault run = (run.after ≡ run.before) × (run.answer ≡ Err fault)
 
 -- the log is answered by a plan, or memory ran out before it was read
 abbrev pub EndsLog : List CostEntry → Instance → Plan → Run → Type 0
-EndsLog costs it x run = Refuses OutOfMemory run ⊎ (run.before ≡ Some [] → IsSomeAnd run.after (λ events. EndsBy costs it x events run.answer))
+EndsLog costs it x run = Refuses OutOfMemory run ⊎ Went run.before run.after (λ events. EndsBy costs it x events run.answer)
 
 -- the log is answered by a portion of a plan, and not by a shortage
 abbrev pub AnswersAs : Portion → List CostEntry → Instance → Claim → Run → Type 0

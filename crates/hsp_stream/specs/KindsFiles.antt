@@ -1,5 +1,5 @@
 -- The sites and the costs by which rows are joined to kinds, or the first fault of the files that define them.
-use Rattle.std.specs.Prelude.{◌≡◌, ℕ, List, Option, option_map, Result, Ok}
+use Rattle.std.specs.Prelude.{◌≡◌, List, Option, option_map, Result, Ok}
 use Rattle.hsp_record.specs.Values.{HandleValue}
 use Rattle.hsp_tables.specs.Costs.{CostEntry}
 use Rattle.hsp_tables.specs.Settings.{SettingsEntries}

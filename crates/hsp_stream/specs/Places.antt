@@ -1,5 +1,5 @@
 -- What a desk answers that states the servers of the handles of a log.
-use Rattle.std.specs.Prelude.{◌≡◌, ◌+◌, ◌-◌, ◌^◌, ◌&&◌, ⊤, Bool, true, false, ℕ, List, [], codes, length, min, nat_lt, Option, None, Some, IsSome, IsSomeAnd, Result, Ok, Err, if◌then◌else◌}
+use Rattle.std.specs.Prelude.{◌≡◌, ◌+◌, ◌-◌, ◌^◌, ◌&&◌, ⊤, ℕ, List, [], codes, length, min, nat_lt, Option, None, Some, Result, Ok, Err, if◌then◌else◌}
 use Rattle.std.specs.Str.{bytes_eq}
 use Rattle.csv.specs.Reading.{strip_bom}
 use Rattle.hsp_text.specs.Answers.{◌>>=◌, or_fault, told_as}

@@ -1,7 +1,8 @@
 -- A run that states the servers of the handles of a log.
-use Rattle.std.specs.Prelude.{◌≡◌, ◌⊎◌, true, false, ℕ, List, [], is_some, Option, IsSomeAnd, Ok, Err}
+use Rattle.std.specs.Prelude.{◌≡◌, ◌⊎◌, true, false, ℕ, List, is_some, Option, Ok, Err}
 use Rattle.hsp_instance.specs.Instance.{Site}
 use Rattle.hsp_runs.specs.Readings.{AreSitesIn}
+use Rattle.hsp_talk.specs.Known.{Known, Went}
 use Rattle.hsp_talk.specs.Talk.{Event, HeldToTheEnd, StoppedBy}
 use Rattle.hsp_talk.specs.declared.stop.Stop.{Stop}
 use Rattle.hsp_talk.specs.declared.stop.Stop.TheVariants as stop
@@ -19,9 +20,9 @@ AreTakenAll sites last events = HeldToTheEnd TakesHandle (at_start sites) last e
 abbrev pub AreAnswered : List Site → List Event → Type 0
 AreAnswered sites events = (last : PlacesState) × AreTakenAll sites last events × (is_some last.form ≡ true)
 
--- the same, by settings and values
-abbrev pub ArePlaced : List ℕ → Option (List ℕ) → Option (List Event) → Type 0
-ArePlaced settings values talk = (sites : List Site) × AreSitesIn settings values (Ok sites) × IsSomeAnd talk (AreAnswered sites)
+-- the same, by settings and values, and by what is known of the peer before the run and after it
+abbrev pub ArePlaced : List ℕ → Option (List ℕ) → Known → Known → Type 0
+ArePlaced settings values old new = (sites : List Site) × AreSitesIn settings values (Ok sites) × Went old new (AreAnswered sites)
 
 -- why a talk stopped, by the fault of the run
 abbrev pub HasStopped : List Site → Stop RowFault → List Event → Type 0
@@ -36,10 +37,10 @@ IsStoppedBy sites row.Header events =
 IsStoppedBy sites fault events = HasStopped sites (stop.Fault fault) events
 
 -- The run has a fault. That of the settings or values comes before anything is received or sent.
-abbrev pub ArePlacedUntil : List ℕ → Option (List ℕ) → Option (List Event) → StreamFault → Type 0
-ArePlacedUntil settings values talk (fault.Input e) = AreSitesIn settings values (Err e) × IsSomeAnd talk (λ events. events ≡ [])
-ArePlacedUntil settings values talk (fault.Log e) = (sites : List Site) × AreSitesIn settings values (Ok sites) × IsSomeAnd talk (IsStoppedBy sites e)
-ArePlacedUntil settings values talk fault.OutOfMemory =
-    IsSomeAnd talk (λ events. events ≡ []) ⊎ ((sites : List Site) × AreSitesIn settings values (Ok sites) × IsSomeAnd talk (HasStopped sites stop.OutOfMemory))
-ArePlacedUntil settings values talk fault.BadUnit = ⊥
-ArePlacedUntil settings values talk fault.BadFront = ⊥
+abbrev pub ArePlacedUntil : List ℕ → Option (List ℕ) → Known → Known → StreamFault → Type 0
+ArePlacedUntil settings values old new (fault.Input e) = AreSitesIn settings values (Err e) × (new ≡ old)
+ArePlacedUntil settings values old new (fault.Log e) = (sites : List Site) × AreSitesIn settings values (Ok sites) × Went old new (IsStoppedBy sites e)
+ArePlacedUntil settings values old new fault.OutOfMemory =
+    (new ≡ old) ⊎ ((sites : List Site) × AreSitesIn settings values (Ok sites) × Went old new (HasStopped sites stop.OutOfMemory))
+ArePlacedUntil settings values old new fault.BadUnit = ⊥
+ArePlacedUntil settings values old new fault.BadFront = ⊥

@@ -1,5 +1,5 @@
 -- What rows are answered, by the answers to their queries: lines and sums.
-use Rattle.std.specs.Prelude.{◌<◌, ◌+◌, ◌-◌, ◌^◌, ⊤, Bool, true, false, ℕ, List, [], ◌∷◌, ◌++◌, codes, count_by, min, Option, None, Some}
+use Rattle.std.specs.Prelude.{◌<◌, ◌+◌, ⊤, Bool, true, false, ℕ, List, [], ◌∷◌, ◌++◌, codes, count_by, Option, None, Some}
 use Rattle.std.specs.List.{slice_get}
 use Rattle.hsp_instance.specs.Instance.{Instance}
 use Rattle.hsp_lines.specs.FaultText.{handle_words}
@@ -14,6 +14,7 @@ use Rattle.hsp_stream.specs.declared.given.Given.TheVariants as given
 use Rattle.hsp_stream.specs.declared.given.StreamSums.{StreamSums}
 use Rattle.hsp_stream.specs.declared.row_refusal.RowRefusal.{RowRefusal}
 use Rattle.hsp_stream.specs.declared.row_refusal.RowRefusal.TheVariants.{BadBody, BadHandle, Fields, TooLong}
+use Rattle.hsp_tally.specs.Tally.{capped}
 
 -- ---- what is said
 
@@ -51,10 +52,6 @@ said_line it (answered answer) = line_of it answer
 said_line it (refused refusal) = refused_line refusal
 
 -- ---- sums
-
--- a sum as it is kept: at most 2^64 - 1
-abbrev pub capped : ℕ → ℕ
-capped n = min n (2 ^ 64 - 1)
 
 abbrev pub is_answered : (Answer → Bool) → Said → Bool
 is_answered kind silent = false

@@ -34,7 +34,7 @@ fn answer_portion<P: Peer>(
     requires portion { IsPortion portion }
     ensures answered { EndsLog costs.now accepted.now.instance
         (portion_of portion (plan_of accepted.now.certificate))
-        (run_of (P.talk peer.old) (P.talk peer.new) result) }
+        (run_of (P.known peer.old) (P.known peer.new) result) }
     ensures untouched { IfErr result (λ e. IsBeforeLog e → peer.new ≡ peer.old) }
 {
     let dispatcher = Dispatcher::by_portion(
@@ -61,7 +61,7 @@ fn answer_costs<P: Peer>(
     ensures answered { (costs : List CostEntry) × ReadsCosts inputs.now.costs.items (Ok costs)
         × EndsLog costs accepted.now.instance
         (portion_of portion (plan_of accepted.now.certificate))
-        (run_of (P.talk peer.old) (P.talk peer.new) result) }
+        (run_of (P.known peer.old) (P.known peer.new) result) }
     ensures untouched { IfErr result (λ e. IsBeforeLog e → peer.new ≡ peer.old) }
 {
     match costs_in(alloc, &inputs.costs) {
@@ -82,7 +82,7 @@ fn answer_accepted<P: Peer>(
     requires costs { HasCosts inputs.now }
     requires portion { IsPortion portion }
     ensures answered { AnswersWhere portion inputs.now (Ok accepted.now)
-        (run_of (P.talk peer.old) (P.talk peer.new) result) }
+        (run_of (P.known peer.old) (P.known peer.new) result) }
     ensures untouched { IfErr result (λ e. IsBeforeLog e → peer.new ≡ peer.old) }
 {
     match accepted.plan() {
@@ -101,7 +101,7 @@ fn answer_inputs<P: Peer>(
 ) -> Result<StreamSums, StreamFault>
     requires { IsPortion portion }
     ensures answered { AnswersPortion inputs.now certificate.now
-        (run_of (P.talk peer.old) (P.talk peer.new) result) (Ok portion) }
+        (run_of (P.known peer.old) (P.known peer.new) result) (Ok portion) }
     ensures untouched { IfErr result (λ e. IsBeforeLog e → peer.new ≡ peer.old) }
 {
     match accepted_in(alloc, inputs, certificate) {
@@ -129,8 +129,8 @@ pub fn answer_run<P: Peer>(
     peer: &mut P,
 ) -> Result<StreamSums, StreamFault>
     ensures answered { IsAnswered portion.now inputs.now certificate.now
-        (run_of (P.talk peer.old) (P.talk peer.new) result) }
-    // Where the fault comes before the log, the peer is as it was, also one whose talk no one can know.
+        (run_of (P.known peer.old) (P.known peer.new) result) }
+    // Where the fault comes before the log, the peer is as it was, also one of which nothing is known.
     ensures untouched { IfErr result (λ e. IsBeforeLog e → peer.new ≡ peer.old) }
 {
     match portion_in(portion) {

@@ -30,14 +30,16 @@ fn put_word(out: &mut Vec<u8>, word: &[u8]) -> Result<(), AllocError>
 }
 
 fn put_bad_handle(out: &mut Vec<u8>, row: u64, fault: &HandleFault) -> Result<(), AllocError>
-    ensures { OnOk result (out.new.items ≡ out.old.items ++ row_words (row_fault.BadHandle row fault.now)) }
+    ensures { OnOk result
+        (out.new.items ≡ out.old.items ++ row_words (row_fault.BadHandle row fault.now)) }
 {
     put_numbered(out, b"BadHandle", b"row", row)?;
     put_word(out, handle_words(fault))
 }
 
 fn put_count(out: &mut Vec<u8>, row: u32, unit: u64) -> Result<(), AllocError>
-    ensures { OnOk result (out.new.items ≡ out.old.items ++ row_words (row_fault.CountTooLarge row unit)) }
+    ensures { OnOk result
+        (out.new.items ≡ out.old.items ++ row_words (row_fault.CountTooLarge row unit)) }
 {
     put_numbered(out, b"CountTooLarge", b"row", u64::from(row))?;
     put_numbered(out, b"", b"unit", unit)

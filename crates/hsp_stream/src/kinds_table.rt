@@ -1,8 +1,7 @@
 // The text of a table of kinds.
 
-ghost use Rattle.std.specs.Prelude.{◌≡◌, ◌<◌, ◌⊎◌, ◌∷◌, ◌++◌, [], Err, IfErr, Ok, OnOk, Some, decimal, length, slice_get};
-ghost use Rattle.std.specs.List.{list_any};
-ghost use Rattle.csv.specs.Writing.{default_writer, escaped, field_text, needs_byte, row_text};
+ghost use Rattle.std.specs.Prelude.{◌≡◌, ◌<◌, ◌⊎◌, ◌++◌, Err, IfErr, Ok, OnOk, Some, decimal, length, slice_get};
+ghost use Rattle.csv.specs.Writing.{default_writer, field_text, row_text};
 ghost use Rattle.hsp_text.specs.Answers.{Gives, GivesUnless};
 ghost use Rattle.hsp_kinds.specs.Units.{rounded_up};
 ghost use Rattle.hsp_instance.specs.Instance.{Row};
@@ -10,6 +9,7 @@ ghost use Rattle.hsp_stream.specs.KindsTable.{IsPushed, fields_of_row, in_unit, 
 ghost use Rattle.hsp_stream.specs.declared.fault.StreamFault.TheVariants.{OutOfMemory};
 ghost use Rattle.hsp_text.specs.declared.limits.TheConstants.{GREATEST_COUNT};
 
+use crate::csv_field::push_field;
 use crate::fault::{RowFault, StreamFault};
 use hsp_tally::Kinds;
 use hsp_text::limits::GREATEST_COUNT;
@@ -35,60 +35,6 @@ fn in_unit(row: u32, unit: u64, count: u64) -> Result<u64, StreamFault>
         return Err(StreamFault::Log(RowFault::CountTooLarge { row, unit }));
     }
     Ok(units)
-}
-
-// Whether an octet of a field calls for quotes.
-fn calls_for_quotes(octet: u8) -> bool
-    ensures { result ≡ needs_byte default_writer octet }
-{
-    octet == b',' || octet == b'"' || octet == b'\r' || octet == b'\n'
-}
-
-// Whether a field calls for quotes.
-fn needs_quotes(field: &[u8]) -> bool
-    ensures { result ≡ list_any (needs_byte default_writer) field.now }
-{
-    field.iter().any(|octet| calls_for_quotes(*octet))
-}
-
-// Adds an octet of a field between quotes: a quote stands twice.
-#[tactic(auto, using(crate::proofs::KindsText::escaped_octets))]
-fn push_octet(text: &mut Vec<u8>, octet: u8) -> Result<(), AllocError>
-    ensures { OnOk result
-        (text.new.items ≡ text.old.items ++ escaped default_writer (octet ∷ [])) }
-{
-    if octet == b'"' {
-        text.extend_from_slice(b"\"\"")?;
-        return Ok(());
-    }
-    text.push(octet)?;
-    Ok(())
-}
-
-// Adds the octets of a field between quotes.
-fn push_escaped(text: &mut Vec<u8>, field: &[u8]) -> Result<(), AllocError>
-    ensures { OnOk result (text.new.items ≡ text.old.items ++ escaped default_writer field.now) }
-{
-    for octet in field {
-        push_octet(text, *octet)?;
-    }
-    Ok(())
-}
-
-// Adds a field, in quotes where it calls for them.
-#[tactic(auto, using(crate::proofs::KindsText::fields))]
-fn push_field(text: &mut Vec<u8>, field: &[u8]) -> Result<(), AllocError>
-    ensures { OnOk result
-        (text.new.items ≡ text.old.items ++ field_text default_writer field.now) }
-{
-    if !needs_quotes(field) {
-        text.extend_from_slice(field)?;
-        return Ok(());
-    }
-    text.push(b'"')?;
-    push_escaped(text, field)?;
-    text.push(b'"')?;
-    Ok(())
 }
 
 // Adds a whole number as a field.

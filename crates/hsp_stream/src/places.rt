@@ -1,6 +1,6 @@
 // The run `places`: the server of each handle of a log, at each site.
 
-ghost use Rattle.std.specs.Prelude.{◌≡◌, [], IfErr, OnOk, Some, option_map};
+ghost use Rattle.std.specs.Prelude.{IfErr, OnOk, option_map};
 ghost use Rattle.hsp_stream.specs.PlacesRun.{ArePlaced, ArePlacedUntil};
 
 use crate::fault::{RowFault, StreamFault};
@@ -24,10 +24,11 @@ pub fn places_run<P: Peer>(
     values: Option<&[u8]>,
     peer: &mut P,
 ) -> Result<(), StreamFault>
-    ensures whole { P.talk peer.old ≡ Some [] → OnOk result
-        (ArePlaced settings.now (option_map (λ v. v.now) values.entry) (P.talk peer.new)) }
-    ensures stops { P.talk peer.old ≡ Some [] → IfErr result
-        (ArePlacedUntil settings.now (option_map (λ v. v.now) values.entry) (P.talk peer.new)) }
+    ensures whole { OnOk result (ArePlaced settings.now (option_map (λ v. v.now) values.entry)
+        (P.known peer.old) (P.known peer.new)) }
+    ensures stops { IfErr result
+        (ArePlacedUntil settings.now (option_map (λ v. v.now) values.entry)
+        (P.known peer.old) (P.known peer.new)) }
 {
     let sites = sites_in(alloc, settings, values)?;
     let mut desk = PlacesDesk::new(alloc, sites);

@@ -1,7 +1,8 @@
 // A talk in which the rows of a log are answered.
 
-ghost use Rattle.std.specs.Prelude.{◌≡◌, ◌≢◌, [], IfErr, IsSomeAnd, None, Some};
+ghost use Rattle.std.specs.Prelude.{◌≡◌, ◌≢◌, IfErr, None};
 ghost use Rattle.hsp_dispatch.specs.Shares.{left_of};
+ghost use Rattle.hsp_talk.specs.Known.{Went};
 ghost use Rattle.hsp_stream.specs.AnswerTalk.{EndsBy};
 ghost use Rattle.hsp_stream.specs.TalkFaults.{IsBeforeLog};
 ghost use Rattle.hsp_stream.specs.Saying.{none_said};
@@ -33,7 +34,7 @@ pub(crate) fn answer_rows<P: Peer>(
 ) -> Result<StreamSums, StreamFault>
     requires form { desk.old.form ≡ None }
     requires sums { desk.old.sums ≡ none_said }
-    ensures answered { P.talk peer.old ≡ Some [] → IsSomeAnd (P.talk peer.new) (λ events.
+    ensures answered { Went (P.known peer.old) (P.known peer.new) (λ events.
         EndsBy desk.old.teller.costs desk.old.teller.held.instance
         (left_of desk.old.teller.held) events result) }
     ensures log { IfErr result (λ e. IsBeforeLog e → ⊥) }

@@ -17,7 +17,7 @@ use Rattle.hsp_stream_edge.specs.Ending.{Ended}
 use Rattle.hsp_stream_edge.specs.Failing.{command_failure, file_failure}
 use Rattle.hsp_stream_edge.specs.Files.{AreKindsHeld, AreSourcesHeld, KindsFail, SourcesFail}
 use Rattle.hsp_stream_edge.specs.Printing.{PrintsTable, PrintsText}
-use Rattle.hsp_stream_edge.specs.Talking.{EndsAnswers, EndsPlaces, IsPortion, TalkEnds}
+use Rattle.hsp_stream_edge.specs.Talking.{EndsAnswers, EndsPlaces, IsPortion, TalksOver}
 use Rattle.hsp_stream_edge.specs.declared.files.Sources.{Sources}
 use Rattle.hsp_stream_edge.specs.declared.failure.StreamFailure.TheVariants.{Memory}
 use Rattle.hsp_stream_edge.specs.declared.texts.TheConstants.{HELP, VERSION}
@@ -33,18 +33,19 @@ PrintsKinds disk MayFail settings values costs unit log old new ended =
     ⊎ ((inputs : KindsInputs) × (left : Option (List ℕ)) × AreKindsHeld disk settings values costs inputs × HoldsRest disk log left
     × PrintsTable MayFail inputs unit left old new ended)
 
--- the places of a log's handles are stated, in a talk with the machine, which is not known
+-- the places of a log's handles are stated
 abbrev pub StatesPlaces : Disk → List ℕ → Option (List ℕ) → List ℕ → Option (List ℕ) → Option (List ℕ) → Ended → Type 0
 StatesPlaces disk settings values log old new ended =
     LacksFile (SourcesFail disk settings values ⊎ disk.fails log) old new ended
-    ⊎ ((sources : Sources) × AreSourcesHeld disk settings values sources × TalkEnds (EndsPlaces sources None) ended)
+    ⊎ ((sources : Sources) × (left : Option (List ℕ)) × AreSourcesHeld disk settings values sources × HoldsRest disk log left
+    × TalksOver left old new (EndsPlaces sources ended))
 
--- a log is answered, in a talk with the machine
+-- a log is answered
 abbrev pub AnswersLog : Disk → InputFiles → List ℕ → List ℕ → Option (List ℕ) → Option FrontWords → Option (List ℕ) → Option (List ℕ) → Ended → Type 0
 AnswersLog disk files plan log unit front old new ended =
     LacksFile (DispatchFails disk files plan log) old new ended ⊎ ((new ≡ old) × (ended ≡ Err Memory))
     ⊎ ((it : Opened) × (words : PortionWords) × AreOpened disk files plan log it × IsPortion unit front words
-    × TalkEnds (EndsAnswers it.inputs it.certificate words None) ended)
+    × TalksOver it.log old new (EndsAnswers it.inputs it.certificate words ended))
 
 -- an order is carried out on an output, whose writes may fail or not
 abbrev pub CarriesOut : Disk → Type 0 → StreamOrder → Option (List ℕ) → Option (List ℕ) → Ended → Type 0

@@ -1,8 +1,9 @@
 -- Logs that are answered in a talk.
-use Rattle.std.specs.Prelude.{◌≡◌, ℕ, List, [], Option, None, Some, Ok, Err, option_map}
+use Rattle.std.specs.Prelude.{◌≡◌, ℕ, List, Option, None, Some, Ok, Err, option_map}
+use Rattle.std.specs.Borrow.{GName}
 use Rattle.hsp_command.specs.declared.stream_order.FrontWords.{FrontWords}
 use Rattle.hsp_runs.specs.declared.inputs.Inputs.{Inputs}
-use Rattle.hsp_talk.specs.Talk.{Event}
+use Rattle.hsp_talk.specs.Known.{Known}
 use Rattle.hsp_stream.specs.AnswerRun.{IsAnswered, run_of}
 use Rattle.hsp_stream.specs.PlacesRun.{ArePlaced, ArePlacedUntil}
 use Rattle.hsp_stream.specs.declared.portions.PortionWords.{PortionWords}
@@ -16,20 +17,24 @@ pub record IsPortion (unit : Option (List ℕ)) (front : Option FrontWords) (wor
   pub fronts_are : option_map (λ v. v.items) words.fronts ≡ option_map (λ (it : FrontWords). it.fronts) front
   pub front_is : option_map (λ v. v.items) words.front ≡ option_map (λ (it : FrontWords). it.front) front
 
--- places were stated, by what is known of the talk before and after, or the run's fault is returned
-abbrev pub EndsPlaces : Sources → Option (List Event) → Option (List Event) → Ended → Type 0
-EndsPlaces sources old new (Ok None) = old ≡ Some [] → ArePlaced sources.settings.items (option_map (λ v. v.items) sources.values) new
-EndsPlaces sources old new (Ok (Some sums)) = ⊥
-EndsPlaces sources old new (Err (Refused fault)) = old ≡ Some [] → ArePlacedUntil sources.settings.items (option_map (λ v. v.items) sources.values) new fault
-EndsPlaces sources old new (Err failure) = ⊥
+-- what is known of a reader and a writer that is lent
+abbrev pub octets_known : Option (List ℕ) → Option (List ℕ) → GName → Known
+octets_known coming written name = record { events = None; coming = coming; written = written; lent = Some name }
+
+-- what holds of a peer before a talk and after it: of a reader that has some octets left, and of a writer
+abbrev pub TalksOver : Option (List ℕ) → Option (List ℕ) → Option (List ℕ) → (Known → Known → Type 0) → Type 0
+TalksOver left old new Holds = (rest : Option (List ℕ)) × (name : GName) × Holds (octets_known left old name) (octets_known rest new name)
+
+-- places were stated, or the run's fault is returned
+abbrev pub EndsPlaces : Sources → Ended → Known → Known → Type 0
+EndsPlaces sources (Ok None) old new = ArePlaced sources.settings.items (option_map (λ v. v.items) sources.values) old new
+EndsPlaces sources (Ok (Some sums)) old new = ⊥
+EndsPlaces sources (Err (Refused fault)) old new = ArePlacedUntil sources.settings.items (option_map (λ v. v.items) sources.values) old new fault
+EndsPlaces sources (Err failure) old new = ⊥
 
 -- a log was answered, and its sums are returned, or the run's fault
-abbrev pub EndsAnswers : Inputs → List ℕ → PortionWords → Option (List Event) → Option (List Event) → Ended → Type 0
-EndsAnswers inputs octets words old new (Ok (Some sums)) = IsAnswered words inputs octets (run_of old new (Ok sums))
-EndsAnswers inputs octets words old new (Ok None) = ⊥
-EndsAnswers inputs octets words old new (Err (Refused fault)) = IsAnswered words inputs octets (run_of old new (Err fault))
-EndsAnswers inputs octets words old new (Err failure) = ⊥
-
--- the talk ended so, whatever is known of it then
-abbrev pub TalkEnds : (Option (List Event) → Ended → Type 0) → Ended → Type 0
-TalkEnds Ends ended = (talk : Option (List Event)) × Ends talk ended
+abbrev pub EndsAnswers : Inputs → List ℕ → PortionWords → Ended → Known → Known → Type 0
+EndsAnswers inputs octets words (Ok (Some sums)) old new = IsAnswered words inputs octets (run_of old new (Ok sums))
+EndsAnswers inputs octets words (Ok None) old new = ⊥
+EndsAnswers inputs octets words (Err (Refused fault)) old new = IsAnswered words inputs octets (run_of old new (Err fault))
+EndsAnswers inputs octets words (Err failure) old new = ⊥

@@ -64,7 +64,8 @@ fn write_line<E: Output>(errors: &mut E, line: &[u8], status: u8) -> u8
 /// Returns the status that the program ends with. Before that it writes the last line on `errors`, where there is one
 /// or, where memory ran out for it, that it ran out.
 pub fn end_with<E: Output>(errors: &mut E, line: &Result<Vec<u8>, AllocError>, status: u8) -> u8
-    ensures ends { Ends E.may_fail line.now status (E.contents errors.old) (E.contents errors.new) result }
+    ensures ends { Ends E.may_fail line.now status (E.contents errors.old)
+        (E.contents errors.new) result }
     // Nothing was written, or what was written is handed on, unless a write failed.
     ensures handed { IsHandedOrUntouched E.may_fail errors.old errors.new (E.contents errors.new)
         (E.handed errors.new) result }

@@ -1,7 +1,7 @@
 // Logs that are answered in a talk.
 
-ghost use Rattle.std.specs.Prelude.{◌≡◌, IfOk, None, option_map};
-ghost use Rattle.hsp_stream_edge.specs.Talking.{EndsAnswers, EndsPlaces, IsPortion, TalkEnds};
+ghost use Rattle.std.specs.Prelude.{◌≡◌, IfOk, option_map};
+ghost use Rattle.hsp_stream_edge.specs.Talking.{EndsAnswers, EndsPlaces, IsPortion, TalksOver, octets_known};
 
 use crate::failure::StreamFailure;
 use crate::files::Sources;
@@ -18,12 +18,28 @@ fn state_to<P: Peer>(
     sources: &Sources,
     peer: &mut P,
 ) -> Result<Option<StreamSums>, StreamFailure>
-    ensures { EndsPlaces sources.now (P.talk peer.old) (P.talk peer.new) result }
+    ensures { EndsPlaces sources.now result (P.known peer.old) (P.known peer.new) }
 {
     match places_run(alloc, &sources.settings, sources.values.as_deref(), peer) {
         Ok(()) => Ok(None),
         Err(fault) => Err(StreamFailure::Refused(fault)),
     }
+}
+
+// The same of a reader and a writer.
+fn state_joined<F: OpenFile, O: Output>(
+    alloc: Global,
+    sources: &Sources,
+    peer: &mut Joined<'_, F, O>,
+) -> Result<Option<StreamSums>, StreamFailure>
+    ensures same_reference { peer.new.writer.ghost_name ≡ peer.old.writer.ghost_name }
+    ensures ends { EndsPlaces sources.now result
+        (octets_known (F.remaining peer.old.reader) (O.contents peer.old.writer.now)
+        peer.old.writer.ghost_name)
+        (octets_known (F.remaining peer.new.reader) (O.contents peer.new.writer.now)
+        peer.new.writer.ghost_name) }
+{
+    state_to(alloc, sources, peer)
 }
 
 /// States on `out` the places of the handles of a log.
@@ -33,13 +49,14 @@ pub(crate) fn state_places<F: OpenFile, O: Output>(
     log: F,
     out: &mut O,
 ) -> Result<Option<StreamSums>, StreamFailure>
-    ensures { TalkEnds (EndsPlaces sources.now None) result }
+    ensures { TalksOver (F.remaining log) (O.contents out.old) (O.contents out.new)
+        (EndsPlaces sources.now result) }
 {
     let mut peer = Joined {
         reader: log,
         writer: out,
     };
-    state_to(alloc, sources, &mut peer)
+    state_joined(alloc, sources, &mut peer)
 }
 
 // The octets of a word, if there is one.
@@ -83,12 +100,31 @@ fn answer_to<P: Peer>(
     portion: &PortionWords,
     peer: &mut P,
 ) -> Result<Option<StreamSums>, StreamFailure>
-    ensures { EndsAnswers inputs.now certificate.now portion.now (P.talk peer.old) (P.talk peer.new) result }
+    ensures { EndsAnswers inputs.now certificate.now portion.now result
+        (P.known peer.old) (P.known peer.new) }
 {
     match answer_run(alloc, inputs, certificate, portion, peer) {
         Ok(sums) => Ok(Some(sums)),
         Err(fault) => Err(StreamFailure::Refused(fault)),
     }
+}
+
+// The same of a reader and a writer.
+fn answer_joined<F: OpenFile, O: Output>(
+    alloc: Global,
+    inputs: &Inputs,
+    certificate: &[u8],
+    portion: &PortionWords,
+    peer: &mut Joined<'_, F, O>,
+) -> Result<Option<StreamSums>, StreamFailure>
+    ensures same_reference { peer.new.writer.ghost_name ≡ peer.old.writer.ghost_name }
+    ensures ends { EndsAnswers inputs.now certificate.now portion.now result
+        (octets_known (F.remaining peer.old.reader) (O.contents peer.old.writer.now)
+        peer.old.writer.ghost_name)
+        (octets_known (F.remaining peer.new.reader) (O.contents peer.new.writer.now)
+        peer.new.writer.ghost_name) }
+{
+    answer_to(alloc, inputs, certificate, portion, peer)
 }
 
 /// Answers on `out` the rows of a log.
@@ -98,7 +134,8 @@ pub(crate) fn answer_log<F: OpenFile, O: Output>(
     portion: &PortionWords,
     out: &mut O,
 ) -> Result<Option<StreamSums>, StreamFailure>
-    ensures { TalkEnds (EndsAnswers opened.inputs opened.certificate.items portion.now None) result }
+    ensures { TalksOver (F.remaining opened.log) (O.contents out.old) (O.contents out.new)
+        (EndsAnswers opened.inputs opened.certificate.items portion.now result) }
 {
     let OpenLog {
         inputs,
@@ -109,5 +146,5 @@ pub(crate) fn answer_log<F: OpenFile, O: Output>(
         reader: log,
         writer: out,
     };
-    answer_to(alloc, &inputs, &certificate, portion, &mut peer)
+    answer_joined(alloc, &inputs, &certificate, portion, &mut peer)
 }

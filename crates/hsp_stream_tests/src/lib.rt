@@ -1,7 +1,11 @@
-// Tests of the run that states places, of the lines that are printed, and of what the runs over logs of any length
-// stand on: rows that are lines, rows that were seen.
+// Tests of the runs over logs of any length: tables of kinds, places, and answers by a portion of a plan. Then of the
+// lines that are printed, and of what the runs stand on: rows that are lines, rows that were seen.
 #![tactic(auto)]
 
+#[cfg(test)]
+mod answer_tests;
+#[cfg(test)]
+mod kinds_tests;
 #[cfg(test)]
 mod line_tests;
 #[cfg(test)]

@@ -1,7 +1,4 @@
 // The run that states places, from the octets of its files and logs to what it prints.
-//
-// Of two servers the local names 1, 3 and 7 are at place 1, and 2, 4 and 9 at place 0. Of three servers 3 is at place 0,
-// 2 at place 1, and 1, 4, 7 and 9 are at place 2.
 
 use crate::same::is_same;
 use crate::worked::SETTINGS;
@@ -15,12 +12,13 @@ use std::process::Abort;
 
 // What the run over places sends, and how it ends.
 fn places_once(alloc: Global, settings: &[u8], log: &[u8]) -> (Result<(), StreamFault>, Vec<u8>) {
+    let mut sent = Vec::new(alloc);
     let mut peer = Joined {
         reader: log,
-        writer: Vec::new(alloc),
+        writer: &mut sent,
     };
     let ended = places_run(alloc, settings, None, &mut peer);
-    (ended, peer.writer)
+    (ended, sent)
 }
 
 // Where a growth is refused, the second run finds memory.

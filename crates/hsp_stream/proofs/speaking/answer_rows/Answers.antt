@@ -2,15 +2,15 @@ use Rattle.hsp_stream.proofs.TalkEnds.{ended, ended_early, stopped}
 use Rattle.hsp_stream.proofs.speaking.answer_rows.Goals as goal
 
 pub returns-in-Some-clause-answered : goal.returns-in-Some-clause-answered
-returns-in-Some-clause-answered g c = λ known.
-    ended c.args.desk.now c.requires.form c.requires.sums c.talk.new.desk c.in-Some.sums (g.P.Peer.talk c.talk.new.peer) c.in-Some.ensures.0
-    c.in-Some.ensures.1 (c.in-Ok.ensures.whole known)
+returns-in-Some-clause-answered g c =
+    ended c.args.desk.now c.requires.form c.requires.sums c.talk.new.desk c.in-Some.sums (g.P.Peer.known c.args.peer.now) (g.P.Peer.known c.talk.new.peer) c.in-Some.ensures.0
+    c.in-Some.ensures.1 c.in-Ok.ensures.whole
 
 pub returns-in-None-clause-answered : goal.returns-in-None-clause-answered
-returns-in-None-clause-answered g c = λ known.
-    ended_early c.args.desk.now c.requires.form c.requires.sums c.talk.new.desk (g.P.Peer.talk c.talk.new.peer) c.in-None.ensures (c.in-Ok.ensures.whole known)
+returns-in-None-clause-answered g c =
+    ended_early c.args.desk.now c.requires.form c.requires.sums c.talk.new.desk (g.P.Peer.known c.args.peer.now) (g.P.Peer.known c.talk.new.peer) c.in-None.ensures c.in-Ok.ensures.whole
 
 pub returns-in-Err-clause-answered : goal.returns-in-Err-clause-answered
-returns-in-Err-clause-answered g c = λ known.
+returns-in-Err-clause-answered g c =
     rw c.fault_of.ensures
-    (stopped c.args.desk.now c.requires.form c.requires.sums c.talk.new.desk (g.P.Peer.talk c.talk.new.peer) c.in-Err.stop (c.in-Err.ensures.stops known))
+    (stopped c.args.desk.now c.requires.form c.requires.sums c.talk.new.desk (g.P.Peer.known c.args.peer.now) (g.P.Peer.known c.talk.new.peer) c.in-Err.stop c.in-Err.ensures.stops)

@@ -11,7 +11,8 @@ returns-in_ok-log-in-Kinds g c =
 pub returns-in_ok-log-in-Places : goal.returns-in_ok-log-in-Places
 returns-in_ok-log-in-Places g c =
     let sources = c.in_ok-sources-in-Places in
-    rw c.in-Places.is (inr (sources.sources, sources.ensures.held, c.state_places.ensures))
+    let log = c.in_ok-log-in-Places in
+    rw c.in-Places.is (inr (sources.sources, g.S.File.Read.remaining log.log, sources.ensures.held, log.ensures.held, c.state_places.ensures))
 
 pub returns-in_ok-portion-in-Answer : goal.returns-in_ok-portion-in-Answer
 returns-in_ok-portion-in-Answer g c =
