@@ -1,0 +1,140 @@
+"""The queries of a log: which region asks for which handle.
+
+hsplan judges every handle. A line that gives no query is passed over and counted, with the reason.
+"""
+
+from __future__ import annotations
+
+import itertools
+from collections.abc import Callable, Iterable, Iterator
+from dataclasses import dataclass, field, replace
+
+from hsp.forms import NAMES, ODD, Form, Odd, Remembered, Take, likeliest
+from hsp.logs import Skipped, numbered
+from hsp.programs import Desk
+from hsp.regions import Seek
+from hsp.sitejson import Unfit
+
+BATCH = 1 << 14
+SEEN_FIRST = 100
+REFUSED = "refused "
+
+Query = tuple[bytes, bytes]
+
+
+def field_of(octets: bytes) -> bytes:
+    """A field of comma-separated values."""
+    if b'"' in octets or b"," in octets or b"\n" in octets or b"\r" in octets:
+        return b'"' + octets.replace(b'"', b'""') + b'"'
+    return octets
+
+
+class Judge:
+    """What hsplan says of handles. It is asked once for each while that is remembered."""
+
+    def __init__(self, desk: Desk, most: int = 1 << 26) -> None:
+        self._desk, self._most, self._octets = desk, most, 0
+        self._known: set[bytes] = set()
+        self._faults: dict[bytes, str] = {}
+
+    def faults(self, handles: Iterable[bytes]) -> dict[bytes, str]:
+        """Of these handles those that are none, with the reason."""
+        asked = set(handles)
+        if self._octets > self._most:
+            self._known.clear()
+            self._faults.clear()
+            self._octets = 0
+        fresh = list(asked - self._known)
+        if fresh:
+            log = b"region,handle\n" + b"".join(b"any,%b\n" % field_of(it) for it in fresh)
+            for handle, answer in zip(fresh, self._desk.answers_without_sites(log, len(fresh))):
+                if answer.startswith(REFUSED):
+                    self._faults[handle] = "no handle: " + answer.removeprefix(REFUSED)
+            self._known.update(fresh)
+            self._octets += sum(map(len, fresh))
+        return {it: self._faults[it] for it in asked & self._faults.keys()} if self._faults else {}
+
+
+@dataclass
+class Reading:
+    """What the reading of logs needs, and what it counts."""
+
+    form: Form
+    seek: Seek
+    judge: Judge
+    skipped: Skipped = field(default_factory=Skipped)
+    lines: int = 0
+    progress: Callable[[str, int], None] = lambda path, lines: None
+
+
+@dataclass
+class _Batch:
+    """Queries that still have to be judged, and the lines that they stand in."""
+
+    rows: list[Query] = field(default_factory=list)
+    places: list[tuple[int, bytes]] = field(default_factory=list)
+
+
+def _taker(path: str, form: Form, first: list[tuple[int, bytes]]) -> tuple[Form, Take]:
+    """How the lines of a log are taken, by its first lines where no form is named."""
+    lines = [it for _, it in first]
+    chosen: Form | None = form
+    if form.name == "auto" and not form.pattern:
+        chosen = likeliest((replace(form, name=it) for it in NAMES), lines)
+        if not chosen:
+            raise Unfit(f"{path}: line {first[0][0]}: a log of no known form; name one by --format, or give --regex")
+    assert chosen
+    try:
+        return chosen, chosen.take(lines[0])
+    except Odd:
+        wanted = f"{chosen.client} and {chosen.path or chosen.handle}"
+        raise Unfit(f"{path}: line {first[0][0]}: no header with {wanted}") from None
+
+
+def queries(path: str, reading: Reading) -> Iterator[Query]:
+    """Region and handle of each query of a log, in their order."""
+    lines = numbered(path, reading.skipped)
+    first = list(itertools.islice(lines, SEEN_FIRST))
+    if not first:
+        return
+    form, take = _taker(path, reading.form, first)
+    regions, skip = Remembered(reading.seek), reading.skipped.add
+    batch, count = _Batch(), 0
+    rest = itertools.chain(first, lines)
+    if form.name == "csv" and not form.pattern:
+        next(rest)
+    for number, line in rest:
+        count += 1
+        try:
+            address, handle = take(line)
+        except Odd:
+            skip(ODD, path, number, line)
+            continue
+        if handle.__class__ is str:
+            skip(str(handle), path, number, line)
+            continue
+        region = regions[address]
+        if region.__class__ is str:
+            skip(str(region), path, number, line)
+            continue
+        batch.rows.append((region, handle))  # type: ignore[arg-type]
+        batch.places.append((number, line[:99]))
+        if len(batch.rows) == BATCH:
+            yield from _judged(path, reading, batch)
+            batch = _Batch()
+            reading.progress(path, reading.lines + count)
+    yield from _judged(path, reading, batch)
+    reading.lines += count
+
+
+def _judged(path: str, reading: Reading, batch: _Batch) -> Iterator[Query]:
+    """The queries whose handles hsplan takes."""
+    faults = reading.judge.faults(handle for _, handle in batch.rows)
+    if not faults:
+        yield from batch.rows
+        return
+    for row, (number, line) in zip(batch.rows, batch.places):
+        if row[1] in faults:
+            reading.skipped.add(faults[row[1]], path, number, line)
+        else:
+            yield row
