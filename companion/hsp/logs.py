@@ -44,7 +44,7 @@ class Skipped:
         return sum(self.counts.values())
 
 
-def opened(path: str) -> IO[bytes]:
+def opened(path: str) -> io.BufferedReader:
     """A log, unpacked where its first octets are those of gzip, bzip2 or xz. The path `-` is standard input."""
     plain: Any = sys.stdin.buffer if path == "-" else open(path, "rb")
     file = plain if isinstance(plain, io.BufferedReader) else io.BufferedReader(plain)
@@ -53,16 +53,16 @@ def opened(path: str) -> IO[bytes]:
         raise Unfit(f"{path}: line 1: this text is in UTF-16; turn it into UTF-8 first")
     for mark, unpack in PACKED.items():
         if head.startswith(mark):
-            return cast(IO[bytes], unpack(file))
+            return cast(io.BufferedReader, unpack(file))
     return file
 
 
 def _blocks(path: str, numbers: list[int]) -> Iterator[bytes]:
-    """The blocks of a log. `numbers` holds the number of the line that a fault stands in."""
+    """The blocks of a log. `numbers` holds the number of the line that the next block goes on with."""
     with opened(path) as file:
         while True:
             try:
-                block = file.read(BLOCK)
+                block = file.read1(BLOCK)
             except DAMAGE as error:
                 raise Unfit(f"{path}: line {numbers[0]}: it can't be unpacked further: {error}") from None
             except OSError as error:
