@@ -165,7 +165,7 @@ def counted(logs: tuple[str, ...], reading: Reading, tally: Tally, into: Any) ->
     for path in logs:
         for chunk in tally.add(queries(path, reading)):
             if into:
-                into.write(b"".join(b"%b,%b\n" % (region, field_of(handle)) for region, handle in chunk))
+                into.write(b"".join(b"%b,%b\n" % (field_of(region), field_of(handle)) for region, handle in chunk))
     if sys.stderr.isatty():
         click.echo("\r\033[K", err=True, nl=False)
     if not tally.asked:
@@ -177,7 +177,8 @@ def summary(logs: tuple[str, ...], reading: Reading, tally: Tally) -> str:
     handles = f" for {some(tally.handles, 'handle')}" if tally.handles is not None else ""
     regions = some(len(tally.regions), "region")
     asked = some(tally.asked, "query", "queries")
-    return f"{some(len(logs), 'log')}, {some(reading.lines, 'line')}: {asked} of {regions}{handles}"
+    lines = some(tally.asked + reading.skipped.sum, "line")
+    return f"{some(len(logs), 'log')}, {lines}: {asked} of {regions}{handles}"
 
 
 @click.command()
@@ -220,6 +221,7 @@ def demand(logs: tuple[str, ...], regions: str, into: str | None, kept: str | No
     with growing(kept) if kept else contextlib.nullcontext() as file:
         counted(logs, reading, tally, file)
         text, is_joined = tally.demand(inputs, given["unit"])
+        lacking = tally.without_costs(inputs) if inputs else []
         if output:
             replace_all({output: text})
         else:
@@ -227,8 +229,8 @@ def demand(logs: tuple[str, ...], regions: str, into: str | None, kept: str | No
     lines = [summary(logs, reading, tally), *skipped_lines(reading)]
     kinds = ", each for the handles that have the same servers" if is_joined else ""
     lines.append(f"{output or 'the table'} has {some(text.count(10) - 1, 'row')}{kinds}")
-    if inputs and not is_joined and tally.without_costs(inputs):
-        lines.append(f"{inputs.costs} has no cost yet of {listed(tally.without_costs(inputs))}")
+    if inputs and lacking:
+        lines.append(f"{inputs.costs} has no cost yet of {listed(lacking)}")
     for line in lines:
         click.echo(line, err=output is None)
 

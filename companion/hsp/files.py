@@ -10,6 +10,15 @@ from typing import IO
 from hsp.programs import Missing
 
 
+@contextlib.contextmanager
+def _named(path: str) -> Iterator[None]:
+    """Gives a fault of a write the name of its file."""
+    try:
+        yield
+    except OSError as fault:
+        raise OSError(fault.errno, fault.strerror, fault.filename or path) from None
+
+
 def create(folder: str, texts: Mapping[str, str]) -> list[str]:
     """Writes new files into a folder, and returns their paths. It overwrites nothing."""
     paths = {os.path.normpath(os.path.join(folder, name)): text for name, text in texts.items()}
@@ -20,7 +29,7 @@ def create(folder: str, texts: Mapping[str, str]) -> list[str]:
     written: list[str] = []
     try:
         for path, text in paths.items():
-            with open(path, "x", encoding="utf-8") as file:
+            with _named(path), open(path, "x", encoding="utf-8") as file:
                 written.append(path)
                 file.write(text)
     except BaseException:
@@ -35,7 +44,7 @@ def replace_all(contents: Mapping[str, bytes]) -> None:
     parts = {path: f"{path}.part" for path in contents}
     try:
         for path, octets in contents.items():
-            with open(parts[path], "wb") as file:
+            with _named(path), open(parts[path], "wb") as file:
                 file.write(octets)
         for path, part in parts.items():
             os.replace(part, path)
@@ -50,7 +59,7 @@ def growing(path: str) -> Iterator[IO[bytes]]:
     """A file that is written piece by piece. It has its name only when it is whole."""
     part = f"{path}.part"
     try:
-        with open(part, "wb") as file:
+        with _named(path), open(part, "wb") as file:
             yield file
         os.replace(part, path)
     finally:
