@@ -18,6 +18,7 @@ from hsp.sitejson import Unfit
 BATCH = 1 << 14
 SEEN_FIRST = 100
 REFUSED = "refused "
+BAD_HANDLE = "BadHandle "
 
 Query = tuple[bytes, bytes]
 
@@ -49,7 +50,8 @@ class Judge:
             log = b"region,handle\n" + b"".join(b"any,%b\n" % field_of(it) for it in fresh)
             for handle, answer in zip(fresh, self._desk.answers_without_sites(log, len(fresh))):
                 if answer.startswith(REFUSED):
-                    self._faults[handle] = "no handle: " + answer.removeprefix(REFUSED)
+                    why = answer.removeprefix(REFUSED).removeprefix(BAD_HANDLE)
+                    self._faults[handle] = f"not a handle ({why})"
             self._known.update(fresh)
             self._octets += sum(map(len, fresh))
         return {it: self._faults[it] for it in asked & self._faults.keys()} if self._faults else {}

@@ -178,10 +178,10 @@ def noisy(tmp_path: Path) -> tuple[Path, list[Asked], dict[str, int]]:
     """A proxy's log with lines that are no queries, of which the script knows how many there are."""
     rows = asked(1000, 9)
     noise = {
-        '10.1.2.3 - - [x] "GET /favicon.ico HTTP/1.1" 200 -': "no handle: BadHandle NoSlash",
-        '10.1.2.3 - - [x] "GET /.a/b HTTP/1.1" 200 -': "no handle: BadHandle EmptySegment",
-        '10.1.2.3 - - [x] "GET /20.1/%FF HTTP/1.1" 200 -': "no handle: BadHandle NotUtf8",
-        f'10.1.2.3 - - [x] "GET /20.1/{"x" * 5000} HTTP/1.1" 200 -': "no handle: BadHandle TooLong",
+        '10.1.2.3 - - [x] "GET /favicon.ico HTTP/1.1" 200 -': "not a handle (NoSlash)",
+        '10.1.2.3 - - [x] "GET /.a/b HTTP/1.1" 200 -': "not a handle (EmptySegment)",
+        '10.1.2.3 - - [x] "GET /20.1/%FF HTTP/1.1" 200 -': "not a handle (NotUtf8)",
+        f'10.1.2.3 - - [x] "GET /20.1/{"x" * 5000} HTTP/1.1" 200 -': "not a handle (TooLong)",
         '10.1.2.3 - - [x] "GET /20.1/a%0Ab HTTP/1.1" 200 -': "a line end in the handle",
         '10.1.2.3 - - [x] "POST /20.1/a HTTP/1.1" 200 -': "another request than GET or HEAD",
         '203.0.113.9 - - [x] "GET /20.1/a HTTP/1.1" 200 -': "no region for the client's address",
