@@ -120,7 +120,7 @@ def form_of(given: dict[str, Any]) -> Form:
         if "client" not in groups or ("handle" in groups) == ("path" in groups):
             wanted = "it needs the groups (?P<client>..), and either (?P<handle>..) or (?P<path>..)"
             raise click.BadParameter(wanted, param_hint="--regex")
-    prefixes = frozenset(it.upper().encode() for it in given["prefix"])
+    prefixes = frozenset(it.rstrip("/").upper().encode() for it in given["prefix"])
     return Form(given["format"], given["client"], given["handle"], given["path"] or "", pattern, prefixes)
 
 
