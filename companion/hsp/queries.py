@@ -6,6 +6,7 @@ hsplan judges every handle. A line that gives no query is passed over and counte
 from __future__ import annotations
 
 import itertools
+import re
 from collections.abc import Callable, Iterable, Iterator
 from dataclasses import dataclass, field, replace
 
@@ -23,11 +24,12 @@ BAD_HANDLE = "BadHandle "
 Query = tuple[bytes, bytes]
 
 
+_is_odd = re.compile(rb'[",\r\n]').search
+
+
 def field_of(octets: bytes) -> bytes:
     """A field of comma-separated values."""
-    if b'"' in octets or b"," in octets or b"\n" in octets or b"\r" in octets:
-        return b'"' + octets.replace(b'"', b'""') + b'"'
-    return octets
+    return b'"%b"' % octets.replace(b'"', b'""') if _is_odd(octets) else octets
 
 
 class Judge:

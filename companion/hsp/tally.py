@@ -24,10 +24,15 @@ CHUNK = 1 << 16
 MOST_PAIRS = 1 << 20
 
 
-def _rows(counts: Counter[Query]) -> Iterator[bytes]:
-    """The rows of a demand, those with the most queries first."""
-    for (region, handle), count in sorted(counts.items(), key=lambda it: (-it[1], it[0])):
+def _rows(counts: Iterable[tuple[Query, int]]) -> Iterator[bytes]:
+    """The rows of a demand."""
+    for (region, handle), count in counts:
         yield b"%b,%b,%d\n" % (field_of(region), field_of(handle), count)
+
+
+def _most_first(counts: Counter[Query]) -> list[tuple[Query, int]]:
+    """Those with the most queries first, so that the same counts have the same table."""
+    return sorted(counts.items(), key=lambda it: (-it[1], it[0]))
 
 
 class Tally:
@@ -51,11 +56,11 @@ class Tally:
             yield chunk
 
     def _spill(self) -> None:
-        """Puts the counts into a file, since a table is a log of `kinds`."""
+        """Puts the counts into a file in their order, since a table is a log of `kinds`."""
         self.regions.update(region for region, _ in self._counts)
         self._spilled = self._spilled or self._desk.put(HEADER, ".csv")
         with open(self._spilled, "ab") as file:
-            file.writelines(_rows(self._counts))
+            file.writelines(_rows(self._counts.items()))
         self._counts.clear()
 
     @property
@@ -69,7 +74,7 @@ class Tally:
         rows = len(self._counts)
         large = max(self._counts.values(), default=0) > MOST_COUNT
         if not self._spilled and rows <= MOST_ROWS and not large and unit is None:
-            text = HEADER + b"".join(_rows(self._counts))
+            text = HEADER + b"".join(_rows(_most_first(self._counts)))
             self._accepted(text)
             return text, False
         if not inputs:
