@@ -13,6 +13,7 @@ from typing import Any
 import click
 
 from hsp import skeleton
+from hsp.faults import Unfit
 from hsp.files import create, growing, replace_all
 from hsp.forms import NAMES as FORMS
 from hsp.forms import Form
@@ -23,7 +24,6 @@ from hsp.queries import Judge, Reading, field_of, queries
 from hsp.regions import regions_in
 from hsp.service import NAMES, VALUES
 from hsp.sitefiles import Files, Found
-from hsp.sitejson import Unfit
 from hsp.tally import Tally
 
 FOLDER = click.Path(exists=True, file_okay=False)
@@ -79,8 +79,9 @@ def gathered(paths: tuple[str, ...], names: tuple[str, ...], files: Files) -> li
 def sites(paths: tuple[str, ...], into: str | None, names: tuple[str, ...], capacity: int) -> None:
     """Turns site information into the settings of a service.
 
-    A FILE is a handle proxy's answer in JSON, a server's siteinfo.json or siteinfo.bin, a record in hexadecimal digits
-    or base64, or a value list; - is standard input. Without --into the blocks are printed, and no file is written.
+    A FILE is a handle proxy's answer in JSON, a server's siteinfo.json or siteinfo.bin, a record in hexadecimal
+    digits or base64, or a value list; - is standard input. Without --into the blocks are printed, and no file is
+    written.
     """
     desk = Desk()
     files = Files(desk)
@@ -126,14 +127,14 @@ def form_of(given: dict[str, Any]) -> Form:
 
 def shown_progress() -> Callable[[str, int], None]:
     """Shows on a terminal how many lines were read, twice a second."""
-    begun = last = time.monotonic()
+    begun, last = time.monotonic(), 0.0
 
     def show(path: str, lines: int) -> None:
         nonlocal last
         now = time.monotonic()
         if now - last > 0.5:
             last = now
-            speed = lines / (now - begun)
+            speed = lines / max(now - begun, 0.001)
             click.echo(f"\r{path}: {lines:,} lines, {speed:,.0f} a second\033[K", err=True, nl=False)
 
     return show

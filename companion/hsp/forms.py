@@ -29,7 +29,8 @@ REQUEST = re.compile(rb"(?:GET|HEAD) +(?:https?://[^/ ]*)?(/[^ ]*)(?: HTTP/\d(?:
 METHOD = re.compile(rb"[A-Z]+ ")
 QUOTED = re.compile(rb'[^"\\]*(?:\\.[^"\\]*)*"')
 ESCAPED = re.compile(rb"\\(?:x([0-9A-Fa-f]{2})|(.))", re.DOTALL)
-OF_PROXY = re.compile(rb"/+(?:api/handles/+)?(?:hdl:|doi:)?", re.IGNORECASE)
+# What a proxy's address and path have before the handle.
+BEFORE_HANDLE = re.compile(rb"(?:https?://[^/]*)?/*(?:api/handles/+)?(?:hdl:|doi:)?", re.IGNORECASE)
 
 
 class Odd(Exception):
@@ -74,7 +75,8 @@ class Form:
     def handle_of_path(self, path: bytes) -> bytes | str:
         """The handle that a path of a proxy asks for: without the query, and percent-decoded."""
         plain = path.partition(b"?")[0]
-        return self.handle_of(unquote_to_bytes(OF_PROXY.sub(b"", plain, count=1)))
+        before = BEFORE_HANDLE.match(plain)
+        return self.handle_of(unquote_to_bytes(plain[before.end() if before else 0 :]))
 
     def handle_of_request(self, request: bytes) -> bytes | str:
         if b"\\" in request:

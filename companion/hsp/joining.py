@@ -8,12 +8,12 @@ import os
 import tomllib
 from dataclasses import dataclass, field
 
-from hsp.numbers import listed, some
+from hsp.faults import Unfit
+from hsp.numbers import some
 from hsp.programs import Desk, Inputs, table_of
 from hsp.records import OPTIONS
 from hsp.service import NAMES, VALUES, dotted, sites_of
 from hsp.sitefiles import Found
-from hsp.sitejson import Unfit
 
 CAPACITY_HEAD = "site,server_id,capacity"
 
@@ -49,7 +49,7 @@ def _octets(path: str) -> bytes:
 
 @dataclass
 class Joined:
-    """The files of a folder with some more sites, and the sites that were not added because they are there already."""
+    """The files of a folder with some more sites, and the sites that were there already."""
 
     contents: dict[str, bytes]
     added: list[Found] = field(default_factory=list)
@@ -119,6 +119,3 @@ def _read_back(folder: str, settings: bytes, added: list[Found], desk: Desk) -> 
             raise Unfit(
                 f"{it.file}: hsplan reads {it.name} otherwise from the settings: please report this with the file"
             )
-
-
-__all__ = ["Joined", "block", "capacity_rows", "joined", "lines_of", "listed"]

@@ -11,7 +11,8 @@ import zlib
 from collections.abc import Callable, Iterator
 from typing import IO, Any, cast
 
-from hsp.sitejson import Unfit, shown
+from hsp.faults import Unfit, shown
+
 
 BLOCK = 1 << 20
 # A longer line is no query: a handle has at most 4,096 octets, and servers take no longer requests.

@@ -227,7 +227,7 @@ class Desk:
         return [*inputs.words(), "--plan", self.plan(inputs)[1]]
 
     def answers_without_sites(self, log: bytes, rows: int) -> list[str]:
-        """What is answered to each of so many rows of a log where there is no site: `refused` and why, or `unknown`."""
+        """What each of so many rows of a log is answered where there is no site: `refused` and why, or `unknown`."""
         path = self.put(log, ".csv")
         answers = asked("hsplan-stream", "answer", *self._bare, "--log", path).splitlines()
         os.unlink(path)

@@ -10,12 +10,13 @@ import re
 from collections.abc import Callable, Iterable, Iterator
 from dataclasses import dataclass, field, replace
 
+from hsp.faults import Unfit
 from hsp.forms import NAMES, ODD, Form, Odd, Remembered, Take, likeliest
 from hsp.logs import Skipped, numbered
 from hsp.programs import Desk
 from hsp.regions import Seek
-from hsp.sitejson import Unfit
 
+NAME_IT = "name one by --format, its fields by --client and --handle or --path, or give --regex"
 BATCH = 1 << 14
 SEEN_FIRST = 100
 REFUSED = "refused "
@@ -86,7 +87,7 @@ def _taker(path: str, form: Form, first: list[tuple[int, bytes]]) -> tuple[Form,
     if form.name == "auto" and not form.pattern:
         chosen = likeliest((replace(form, name=it) for it in NAMES), lines)
         if not chosen:
-            raise Unfit(f"{path}: line {first[0][0]}: a log of no known form; name one by --format, or give --regex")
+            raise Unfit(f"{path}: line {first[0][0]}: a log of no known form; {NAME_IT}")
     assert chosen
     try:
         return chosen, chosen.take(lines[0])

@@ -11,8 +11,8 @@ from bisect import bisect_right
 from collections.abc import Callable, Iterable
 from typing import Any
 
+from hsp.faults import Unfit, shown
 from hsp.programs import Missing
-from hsp.sitejson import Unfit, shown
 
 # The region of an address, or the reason why it has none.
 Seek = Callable[[bytes], "bytes | str"]

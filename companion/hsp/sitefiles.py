@@ -6,6 +6,7 @@ hsplan judges every record. A record that was made of JSON has to come back from
 from __future__ import annotations
 
 import binascii
+import itertools
 import json
 import os
 import re
@@ -13,14 +14,17 @@ from collections.abc import Iterator
 from dataclasses import dataclass
 from typing import Any
 
+from hsp.faults import Unfit, shown
 from hsp.programs import Desk, Refused
 from hsp.records import counted
 from hsp.service import Site, site_of
-from hsp.sitejson import Notes, Part, Unfit, from_base64, record_of, shown
+from hsp.sitejson import Notes, Part, from_base64, record_of
 
 KINDS = ("HS_SITE", "HS_SITE.6")
 MARKER = counted(b"HS_SITE")
 NO_SUCH_HANDLE = 100
+# So many values of a list are looked at; a service has at most 32 sites.
+MOST_VALUES = 1000
 
 
 @dataclass(frozen=True)
@@ -93,9 +97,9 @@ class Files:
         return list(self._of_list(file, octets))
 
     def _of_list(self, file: str, octets: bytes) -> Iterator[Found]:
-        """The sites of a value list. Their octets are looked for, and hsplan has to find the same behind their index."""
+        """The sites of a value list. Octets that look like a site are one where hsplan finds it by its index."""
         path = self.desk.put(octets, ".values") if MARKER in octets else ""
-        for match in re.finditer(re.escape(MARKER), octets):
+        for match in itertools.islice(re.finditer(re.escape(MARKER), octets), MOST_VALUES):
             index = int.from_bytes(octets[max(0, match.start() - 4) : match.start()], "big")
             begin = match.end() + 4
             record = octets[begin : begin + int.from_bytes(octets[match.end() : begin], "big")]

@@ -1,6 +1,6 @@
 """The JSON of a site, as a handle proxy answers it and as a handle server keeps it, turned into the site's record.
 
-Keys and interfaces aren't read by a plan. One that a record can't hold is left out, and named by its path in the JSON.
+A plan doesn't read keys and interfaces. One that a record can't hold is left out, and named by its path in the JSON.
 """
 
 from __future__ import annotations
@@ -12,8 +12,7 @@ import re
 from collections.abc import Iterator
 from typing import Any
 
-import click
-
+from hsp.faults import Unfit, shown
 from hsp.records import Interface, ServerRecord, SiteRecord, counted, whole
 
 PROTOCOLS = {"UDP": 0, "TCP": 1, "HTTP": 2, "HTTPS": 3}
@@ -25,15 +24,6 @@ ADMINISTRATION, RESOLUTION = 1, 2
 SITE_FIELDS = (
     "version protocolVersion serialNumber primarySite multiPrimary hashOption hashFilter attributes servers".split()
 )
-
-
-class Unfit(click.ClickException):
-    """A file holds what this command can't use. Ends hsp with one line and status 1."""
-
-    exit_code = 1
-
-    def show(self, file: Any = None) -> None:
-        click.echo(f"hsp: {self.message}", err=True)
 
 
 class Notes:
@@ -93,12 +83,6 @@ class Part:
             return str(self.value).encode()
         except UnicodeEncodeError:
             raise self.unfit("this text has half a character") from None
-
-
-def shown(value: Any) -> str:
-    """The beginning of a value, in one line of plain characters."""
-    text = ascii(value)
-    return text if len(text) <= 60 else f"{text[:57]}..."
 
 
 def from_base64(text: str) -> bytes:

@@ -11,11 +11,11 @@ import re
 from collections import Counter
 from collections.abc import Iterable, Iterator
 
+from hsp.faults import Unfit
 from hsp.numbers import listed, some
 from hsp.programs import Desk, Inputs, Refused
 from hsp.queries import Query, field_of
 from hsp.service import table
-from hsp.sitejson import Unfit
 
 HEADER = b"region,handle,count\n"
 MOST_ROWS, MOST_COUNT = 8192, 1_000_000
@@ -80,8 +80,8 @@ class Tally:
         if not inputs:
             what = f"{some(rows, 'row')}" if not self._spilled else f"more than {self._most:,} rows"
             raise Unfit(
-                f"{what} of demand; hsplan takes {MOST_ROWS:,}, with counts up to {MOST_COUNT:,}. Give --into DIR with "
-                "settings.toml and costs.csv, so that rows of one kind are joined"
+                f"{what} of demand; hsplan takes {MOST_ROWS:,}, with counts up to {MOST_COUNT:,}. "
+                "Give --into DIR with settings.toml and costs.csv, so that rows of one kind are joined"
             )
         self._all_have_costs(inputs)
         self._spill()
@@ -97,8 +97,8 @@ class Tally:
         lacking = self.without_costs(inputs)
         if lacking:
             raise Unfit(
-                f"{inputs.costs}: no cost of {listed(lacking)}. Put in the costs first: rows are joined by the sites that "
-                "their regions may use"
+                f"{inputs.costs}: no cost of {listed(lacking)}. Put in the costs first: "
+                "rows are joined by the sites that their regions may use"
             )
 
     def without_costs(self, inputs: Inputs) -> list[str]:

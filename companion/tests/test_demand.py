@@ -10,6 +10,7 @@ import ipaddress
 import json
 import lzma
 import os
+import pty
 import random
 import re
 import subprocess
@@ -242,6 +243,20 @@ def test_escapes_of_a_proxy_log_are_undone(tmp_path: Path) -> None:
     (tmp_path / "log").write_text("\n".join(lines), encoding="utf-8")
     result = invoke("demand", tmp_path / "log", "--regions", regions_file(tmp_path))
     assert counts_of(result.stdout) == {("eu", "20.1/é"): 1, ("eu", '20.1/a"b'): 2, ("eu", "20.1/a\\b"): 1}
+
+
+def test_paths_of_proxies(tmp_path: Path) -> None:
+    paths = [
+        "20.1/a/b",
+        "/20.1/a/b",
+        "https://hdl.example/20.1/a%2Fb?x",
+        "//api/handles/20.1/a/b",
+        "/doi:20.1/a/b",
+        "/HDL:20.1/a/b",
+    ]
+    (tmp_path / "log").write_text("client,url\n" + "".join(f"10.1.2.3,{it}\n" for it in paths))
+    words = ("demand", tmp_path / "log", "--regions", regions_file(tmp_path), "--path", "url")
+    assert counts_of(invoke(*words).stdout) == {("eu", "20.1/a/b"): len(paths)}
 
 
 def random_networks(draw: random.Random) -> dict[str, str]:
@@ -548,6 +563,49 @@ def test_words_that_are_no_command(tmp_path: Path) -> None:
     assert "would be read and written" in invoke(*words, "--log", tmp_path / "log", status=1).stderr
     assert "No such file" in invoke("demand", tmp_path / "absent", "--regions", regions, status=5).stderr
     assert "no header with client and handle" in invoke(*words, "--format", "csv", status=1).stderr
+
+
+def test_a_database_needs_its_package(tmp_path: Path, monkeypatch: pytest.MonkeyPatch) -> None:
+    (tmp_path / "base.mmdb").write_bytes(maxmind.database({"10.0.0.0/8": {"continent": {"code": "EU"}}}))
+    monkeypatch.setitem(sys.modules, "maxminddb", None)
+    line = invoke("demand", tmp_path / "log", "--regions", tmp_path / "base.mmdb", status=5).stderr
+    assert line.endswith("base.mmdb: Python has no maxminddb to read it: install it (Debian: python3-maxminddb)\n")
+
+
+def test_a_hundred_thousand_lines_take_less_than_a_second_of_the_processor(tmp_path: Path) -> None:
+    rows = asked(LINES, 21) * 20
+    (tmp_path / "log").write_text("\n".join(map(server_line, rows)), encoding="utf-8")
+    seek = regions_in(regions_file(tmp_path), "", None)
+    before = sum(os.times()[:4])
+    tally = Tally(Desk())
+    for _ in tally.add(queries(str(tmp_path / "log"), Reading(Form(), seek, Judge(Desk())))):
+        pass
+    assert tally.asked == 20 * LINES
+    assert sum(os.times()[:4]) - before < 2
+
+
+def test_progress_is_shown_on_a_terminal(tmp_path: Path) -> None:
+    rows = asked(LINES, 22) * 4
+    (tmp_path / "log").write_text("\n".join(map(server_line, rows)), encoding="utf-8")
+    words = [
+        sys.executable,
+        "-m",
+        "hsp",
+        "demand",
+        str(tmp_path / "log"),
+        "--regions",
+        regions_file(tmp_path),
+        "-o",
+        "out.csv",
+    ]
+    own, its = pty.openpty()
+    environment = {**os.environ, "PYTHONPATH": str(TOP / "companion")}
+    done = subprocess.run(words, stdout=subprocess.PIPE, stderr=its, env=environment, cwd=tmp_path)
+    os.close(its)
+    shown = os.read(own, 1 << 16).decode()
+    os.close(own)
+    assert re.match(rf"\r{tmp_path}/log: \d+,\d+ lines, [\d,]+ a second", shown) and shown.endswith("\r\x1b[K")
+    assert done.stdout.decode().splitlines()[-1].startswith("out.csv has ")
 
 
 def test_standard_input_is_a_log(tmp_path: Path) -> None:

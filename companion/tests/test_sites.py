@@ -8,6 +8,7 @@ import json
 import os
 import random
 import subprocess
+import sys
 from pathlib import Path
 from typing import Any
 
@@ -20,7 +21,7 @@ from hsp.cli import main
 from hsp.programs import Desk
 from hsp.service import read_service
 
-from conftest import Hsp
+from conftest import TOP, Hsp
 
 ADDRESSES = make_examples.TWO_SITES
 PARIS = make_examples.site_octets("paris", 7, ADDRESSES["paris"])
@@ -418,6 +419,16 @@ def test_the_example_plans_at_once(hsp: Hsp, tmp_path: Path) -> None:
         ("north", 2, "c0000202"),
         ("south", 1, "c6336401"),
     ]
+
+
+def test_a_full_disk_leaves_nothing_half_written(tmp_path: Path) -> None:
+    """A limit on the size of files stands for the full disk."""
+    folder = tmp_path / "mine"
+    script = f"ulimit -f 1; {sys.executable} -m hsp new {folder}"
+    environment = {**os.environ, "PYTHONPATH": str(TOP / "companion")}
+    done = subprocess.run(["bash", "-c", script], capture_output=True, text=True, env=environment)
+    assert (done.returncode, done.stderr) == (5, f"hsp: {folder}/README.txt: File too large\n")
+    assert os.listdir(folder) == []
 
 
 def test_files_are_written_together_or_not_at_all(tmp_path: Path) -> None:
