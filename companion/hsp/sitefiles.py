@@ -148,7 +148,7 @@ class Files:
         told = part.fields()
         kind = told["type"].value if "type" in told else None
         if kind not in KINDS:
-            notes.leave(part.path or "the top", f"a value of the type {shown(kind)}")
+            notes.leave(part.path, f"a value of the type {shown(kind)}")
             return
         if "data" not in told:
             raise part.unfit("no data")

@@ -34,8 +34,12 @@ class Notes:
         self.left: list[str] = []
         self.taken: list[str] = []
 
+    def at(self, path: str) -> str:
+        """A place in the file, as it is reported."""
+        return f"{self.file}: {path}" if path else self.file
+
     def leave(self, path: str, why: str) -> None:
-        self.left.append(f"{self.file}: {path}: {why}")
+        self.left.append(f"{self.at(path)}: {why}")
 
 
 class Part:
@@ -45,7 +49,7 @@ class Part:
         self.value, self.path, self.notes = value, path, notes
 
     def unfit(self, why: str) -> Unfit:
-        return Unfit(f"{self.notes.file}: {self.path or 'the top'}: {why}")
+        return Unfit(f"{self.notes.at(self.path)}: {why}")
 
     def fields(self, *known: str) -> dict[str, Part]:
         """The fields of an object but those that are null. Fields that aren't known are left out."""
@@ -163,7 +167,7 @@ def server_of(part: Part) -> ServerRecord:
 
 def option_of(part: Part) -> int:
     """The hash option: its number, or its name as handle servers and RFC 3651 write it."""
-    name = re.sub(r"^(HASH_TYPE_|HASH_)?(BY_)?", "", str(part.value).upper())
+    name = re.sub(r"^(HASH_TYPE_|HASH_)?(BY_)?", "", re.sub(r"[- ]", "_", str(part.value).upper()))
     if name in OPTION_WORDS:
         return OPTION_WORDS[name]
     number = part.number(1)
@@ -191,9 +195,7 @@ def record_of(part: Part) -> SiteRecord:
     if "servers" not in told or told["servers"].value == []:
         raise part.unfit("no servers")
     if "hashOption" not in told:
-        part.notes.taken.append(
-            f"{part.notes.file}: {part.path or 'the top'}: no hashOption, taken for the whole handle"
-        )
+        part.notes.taken.append(f"{part.notes.at(part.path)}: no hashOption, taken for the whole handle")
     primary, multi = (it in told and told[it].flag() for it in ("primarySite", "multiPrimary"))
     return SiteRecord(
         version=told["version"].number(2) if "version" in told else 1,

@@ -142,7 +142,7 @@ def test_absent_fields_and_addresses_of_both_kinds(tmp_path: Path) -> None:
         + "ffffffff" "20010db8000000000000000000000012" + rest
         + "00000001" "000000000000000000000000c0000203" + rest
     )  # fmt: skip
-    assert notes == f"{tmp_path}/site.json: the top: no hashOption, taken for the whole handle\n"
+    assert notes == f"{tmp_path}/site.json: no hashOption, taken for the whole handle\n"
 
 
 def test_interfaces_flags_and_options(tmp_path: Path) -> None:
@@ -164,7 +164,13 @@ def test_interfaces_flags_and_options(tmp_path: Path) -> None:
         "00000000" "00000004" "0200" "00000a51" "0101" "00000a51" "0303" "000020fb" "0002" "00001f40"
     )  # fmt: skip
     assert notes == ""
-    for option, number in (("HASH_TYPE_BY_PREFIX", 0), ("HASH_BY_LOCAL", 1), ("2", 2), ("by_na", 0)):
+    for option, number in (
+        ("HASH_TYPE_BY_PREFIX", 0),
+        ("HASH_BY_LOCAL", 1),
+        ("2", 2),
+        ("by_na", 0),
+        ("hash-by-all", 2),
+    ):
         assert octets_of(tmp_path, {**site, "hashOption": option})[0][7] == number
 
 
