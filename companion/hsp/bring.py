@@ -13,11 +13,11 @@ from typing import Any
 import click
 
 from hsp import skeleton
-from hsp.faults import Unfit
+from hsp.faults import Unfit, printable
 from hsp.files import create, growing, replace_all
 from hsp.forms import NAMES as FORMS
 from hsp.forms import Form
-from hsp.joining import block, capacity_rows, joined, lines_of
+from hsp.joining import block, capacity_rows, joined, lines_of, read_back
 from hsp.numbers import listed, some
 from hsp.programs import Desk, Inputs
 from hsp.queries import Judge, Reading, field_of, queries
@@ -39,8 +39,8 @@ def new(folder: str, example: bool) -> None:
     No file is overwritten.
     """
     paths = create(folder, skeleton.example() if example else skeleton.empty())
-    click.echo(f"{folder} has {listed([os.path.basename(it) for it in paths], 9)}")
-    click.echo(f"next: hsp plan {folder}" if example else f"next: hsp sites FILE.. --into {folder}")
+    click.echo(printable(f"{folder} has {listed([os.path.basename(it) for it in paths], 9)}"))
+    click.echo(printable(f"next: hsp plan {folder}" if example else f"next: hsp sites FILE.. --into {folder}"))
 
 
 def octets_of(path: str) -> bytes:
@@ -61,6 +61,8 @@ def gathered(paths: tuple[str, ...], names: tuple[str, ...], files: Files) -> li
                 files.left.append(f"{path}: the record of {twin.name} once more")
             else:
                 found.append(it)
+    if any(printable(it) != it for it in names):
+        raise Unfit("a name isn't text")
     if len(names) > len(found):
         raise Unfit(f"{some(len(names), 'name')} for {some(len(found), 'site')}")
     named = [Found(it.file, name, it.octets, it.fields) for it, name in zip(found, names)] + found[len(names) :]
@@ -88,25 +90,26 @@ def sites(paths: tuple[str, ...], into: str | None, names: tuple[str, ...], capa
     found = gathered(paths, names, files)
     notes = files.taken + [f"left out: {it}" for it in files.left]
     if into is None:
+        read_back("".join(map(block, found)).encode(), found, desk)
         for it in found:
             rows = "".join(f"# {site},{server},{room}\n" for site, server, room in capacity_rows(it, capacity))
             click.echo(f"{block(it)}# its rows of capacity.csv:\n{rows}", nl=False)
         for line in notes:
-            click.echo(line, err=True)
+            click.echo(printable(line), err=True)
         return
     result = joined(into, found, capacity, desk)
     notes += [f"left out: {it.file}: its record is in the settings already" for it in result.known]
     if result.added:
         replace_all(result.contents)
     for line in [line for it in result.added for line in lines_of(it)] + notes:
-        click.echo(line)
+        click.echo(printable(line))
     if not result.added:
         click.echo("nothing is added")
         return
     servers = sum(len(it.site().servers) for it in result.added)
     room = f"with the capacity {capacity:,}" + ("" if capacity else ": put in what each takes")
     where = " and ".join(result.contents)
-    click.echo(f"{some(len(result.added), 'site')} added to {where}; {some(servers, 'server')} {room}")
+    click.echo(printable(f"{some(len(result.added), 'site')} added to {where}; {some(servers, 'server')} {room}"))
 
 
 def form_of(given: dict[str, Any]) -> Form:
@@ -114,14 +117,14 @@ def form_of(given: dict[str, Any]) -> Form:
     pattern = None
     if given["regex"]:
         try:
-            pattern = re.compile(given["regex"].encode())
+            pattern = re.compile(os.fsencode(given["regex"]))
         except re.error as error:
             raise click.BadParameter(str(error), param_hint="--regex") from None
         groups = pattern.groupindex
         if "client" not in groups or ("handle" in groups) == ("path" in groups):
             wanted = "it needs the groups (?P<client>..), and either (?P<handle>..) or (?P<path>..)"
             raise click.BadParameter(wanted, param_hint="--regex")
-    prefixes = frozenset(it.rstrip("/").upper().encode() for it in given["prefix"])
+    prefixes = frozenset(os.fsencode(it.rstrip("/").upper()) for it in given["prefix"])
     return Form(given["format"], given["client"], given["handle"], given["path"] or "", pattern, prefixes)
 
 
@@ -233,7 +236,7 @@ def demand(logs: tuple[str, ...], regions: str, into: str | None, kept: str | No
     if inputs and lacking:
         lines.append(f"{inputs.costs} has no cost yet of {listed(lacking)}")
     for line in lines:
-        click.echo(line, err=output is None)
+        click.echo(printable(line), err=output is None)
 
 
 __all__ = ["demand", "new", "sites"]

@@ -16,7 +16,15 @@ class Unfit(click.ClickException):
         click.echo(f"hsp: {self.message}", err=True)
 
 
+def printable(line: str) -> str:
+    """The line with octets of file names that are no text written as such."""
+    return line.encode("utf-8", "backslashreplace").decode()
+
+
 def shown(value: Any) -> str:
     """The beginning of a value, in one line of plain characters."""
-    text = ascii(value)
+    try:
+        text = ascii(value)
+    except RecursionError:
+        text = "what is nested too deep"
     return text if len(text) <= 60 else f"{text[:57]}..."

@@ -4,6 +4,7 @@ from __future__ import annotations
 
 import csv
 import io
+import json
 import os
 import tomllib
 from dataclasses import dataclass, field
@@ -23,7 +24,8 @@ def block(found: Found) -> str:
     site = found.site()
     servers = ", ".join(f"{it.id} at {dotted(it.address)}" for it in site.servers)
     option = OPTIONS[site.option] if site.option < len(OPTIONS) else f"option {site.option}"
-    return f'[[site]]\n# by {option}; servers: {servers}\nname = "{found.name}"\nrecord = "{found.octets.hex()}"\n'
+    name = json.dumps(found.name)
+    return f'[[site]]\n# by {option}; servers: {servers}\nname = {name}\nrecord = "{found.octets.hex()}"\n'
 
 
 def capacity_rows(found: Found, capacity: int) -> list[tuple[str, int, int]]:
@@ -60,7 +62,7 @@ def _settings_in(path: str, octets: bytes) -> dict[str, str | None]:
     """The record of each site of the settings by its name, in lower case."""
     try:
         told = tomllib.loads(octets.decode("utf-8-sig"))
-    except (tomllib.TOMLDecodeError, UnicodeDecodeError) as error:
+    except (tomllib.TOMLDecodeError, UnicodeDecodeError, RecursionError) as error:
         raise Unfit(f"{path}: not TOML: {error}") from None
     sites = told.get("site", [])
     if not isinstance(sites, list) or not all(isinstance(it, dict) for it in sites):
@@ -102,14 +104,14 @@ def joined(folder: str, sites: list[Found], capacity: int, desk: Desk) -> Joined
     texts[capacities] += tail if texts[capacities] else fresh
     gap = b"\n" if texts[settings] else b""
     texts[settings] += gap + "\n".join(block(it) for it in result.added).encode() if result.added else b""
-    _read_back(folder, texts[settings], result.added, desk)
+    values = os.path.join(folder, VALUES)
+    read_back(texts[settings], result.added, desk, values if os.path.isfile(values) else None)
     return result
 
 
-def _read_back(folder: str, settings: bytes, added: list[Found], desk: Desk) -> None:
+def read_back(settings: bytes, added: list[Found], desk: Desk, values: str | None = None) -> None:
     """Compares the sites of settings, as hsplan reads them, with those that were added."""
-    values = os.path.join(folder, VALUES)
-    inputs = Inputs(desk.put(settings, ".toml"), "", "", "", values if os.path.isfile(values) else None)
+    inputs = Inputs(desk.put(settings, ".toml"), "", "", "", values)
     desk.places(inputs, ["0.NA/0"])
     read = {it.name: it for it in sites_of(desk, inputs, tomllib.loads(settings.decode("utf-8-sig")))}
     for it in added:

@@ -6,6 +6,7 @@ from __future__ import annotations
 import csv
 import importlib
 import io
+import os
 import socket
 from bisect import bisect_right
 from collections.abc import Callable, Iterable
@@ -173,7 +174,7 @@ def regions_in(path: str, by: str, elsewhere: str | None) -> Seek:
     """How regions are found by a file: a table of networks or a database."""
     with open(path, "rb") as file:
         octets = file.read()
-    own = elsewhere.encode() if elsewhere else None
+    own = os.fsencode(elsewhere) if elsewhere else None
     if DATABASE_MARK in octets[-(1 << 17) :]:
         return Database(path, by, own).seek
     return Networks(path, octets, own).seek

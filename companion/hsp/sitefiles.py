@@ -52,7 +52,10 @@ class Files:
     def read(self, path: str, octets: bytes) -> list[Found]:
         """The sites in the octets of a file."""
         notes = Notes(path)
-        found = list(self._sites(notes, octets))
+        try:
+            found = list(self._sites(notes, octets))
+        except RecursionError:
+            raise Unfit(f"{path}: its JSON is nested too deep") from None
         if not found:
             raise Unfit(f"{path}: no site is in it")
         self.left += notes.left

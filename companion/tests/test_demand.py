@@ -7,6 +7,7 @@ import csv
 import gzip
 import io
 import ipaddress
+import itertools
 import json
 import lzma
 import os
@@ -364,6 +365,7 @@ def test_regions_of_a_maxmind_database(tmp_path: Path) -> None:
         (b'network,region\n10.0.0.0/8,"eu\n', "line 2: "),
         (b"network,region\n10.0.0.0/8,a b\n", "hsplan refuses this demand: demand: BadName row 0"),
     ],
+    ids=itertools.count(),
 )
 def test_tables_of_networks_that_are_refused(tmp_path: Path, table: bytes, says: str) -> None:
     (tmp_path / "networks.csv").write_bytes(table)
@@ -393,6 +395,7 @@ def test_tables_of_networks_that_are_refused(tmp_path: Path, table: bytes, says:
         (lzma.compress(PLAIN)[:20] + b"\xff" * 60, "it can't be unpacked further"),
         (b'203.0.113.1 - - [x] "GET /20.1/a HTTP/1.1" 302 -\n', "1  no region for the client's address; first "),
     ],
+    ids=itertools.count(),
 )
 def test_logs_without_a_query_are_refused_in_one_line(tmp_path: Path, octets: bytes, says: str) -> None:
     (tmp_path / "log").write_bytes(octets)
@@ -606,6 +609,27 @@ def test_progress_is_shown_on_a_terminal(tmp_path: Path) -> None:
     os.close(own)
     assert re.match(rf"\r{tmp_path}/log: \d+,\d+ lines, [\d,]+ a second", shown) and shown.endswith("\r\x1b[K")
     assert done.stdout.decode().splitlines()[-1].startswith("out.csv has ")
+
+
+def test_names_that_are_no_text(tmp_path: Path) -> None:
+    """File names and words may be any octets."""
+    folder = os.fsencode(tmp_path) + b"/\xff"
+    regions = regions_file(tmp_path).encode()
+    environment = {**os.environ, "PYTHONPATH": str(TOP / "companion"), "LC_ALL": "C.UTF-8", "PYTHONUTF8": "0"}
+    hsp = [os.fsencode(it) for it in (sys.executable, "-m", "hsp")]
+    runs = [
+        ([b"new", folder], 0),
+        ([b"demand", folder + b"/log", b"--regions", regions, b"--into", folder], 5),
+        ([b"demand", regions, b"--regions", regions, b"--regex", b"(?P<client>1\\S+)/(?P<handle>\xff)"], 1),
+        ([b"demand", folder + b".log", b"--regions", regions, b"--into", folder], 0),
+        ([b"demand", folder + b".log", b"--regions", regions, b"--elsewhere", b"\xff", b"--prefix", b"\xff"], 1),
+        ([b"sites", folder + b".log", b"--into", folder], 1),
+    ]
+    with open(folder + b".log", "w") as file:
+        file.write(server_line(Asked("10.1.2.3", "eu", "20.1/a")))
+    for words, status in runs:
+        done = subprocess.run(hsp + words, capture_output=True, env=environment)
+        assert done.returncode == status and b"Traceback" not in done.stderr, (words, done)
 
 
 def test_standard_input_is_a_log(tmp_path: Path) -> None:

@@ -4,6 +4,7 @@ from __future__ import annotations
 
 import base64
 import hashlib
+import itertools
 import json
 import os
 import random
@@ -132,7 +133,7 @@ def test_absent_fields_and_addresses_of_both_kinds(tmp_path: Path) -> None:
     servers = [
         server_json(),
         server_json(serverId=4294967295, address="2001:db8::12"),
-        server_json(address="::ffff:192.0.2.3"),
+        server_json(serverId=2, address="::ffff:192.0.2.3"),
     ]
     octets, notes = octets_of(tmp_path, {"servers": servers, "attributes": None})
     rest = "00000000" "00000000"
@@ -140,7 +141,7 @@ def test_absent_fields_and_addresses_of_both_kinds(tmp_path: Path) -> None:
         "0001" "020a" "0001" "00" "02" "00000000" "00000000" "00000003"
         "00000001" "000000000000000000000000c0000201" + rest
         + "ffffffff" "20010db8000000000000000000000012" + rest
-        + "00000001" "000000000000000000000000c0000203" + rest
+        + "00000002" "000000000000000000000000c0000203" + rest
     )  # fmt: skip
     assert notes == f"{tmp_path}/site.json: no hashOption, taken for the whole handle\n"
 
@@ -220,9 +221,10 @@ def test_keys_of_all_forms(tmp_path: Path) -> None:
 def test_what_is_left_out_is_named_by_its_path(tmp_path: Path) -> None:
     servers = [
         server_json(publicKey={"format": "key", "value": {"kty": "EC", "x": "AA"}}),
-        server_json(publicKey={"format": "base64", "value": "!!"}, rank=3),
+        server_json(serverId=2, publicKey={"format": "base64", "value": "!!"}, rank=3),
         server_json(
-            interfaces=[{"query": True, "protocol": "QUIC", "port": 1}, {"protocol": "TCP", "port": 1, "tls": 1}]
+            serverId=3,
+            interfaces=[{"query": True, "protocol": "QUIC", "port": 1}, {"protocol": "TCP", "port": 1, "tls": 1}],
         ),
     ]
     path = tmp_path / "answer.json"
@@ -247,7 +249,7 @@ def test_what_is_left_out_is_named_by_its_path(tmp_path: Path) -> None:
 @pytest.mark.parametrize(
     "octets, says",
     [
-        (b"", "no known form|neither JSON"),
+        (b"", "neither JSON"),
         (b"{", "not whole JSON"),
         (b"[" * 100000, "not whole JSON"),
         (b'{"responseCode":100,"handle":"0.NA/1"}', "the code 100 \\(no such handle\\)"),
@@ -255,6 +257,8 @@ def test_what_is_left_out_is_named_by_its_path(tmp_path: Path) -> None:
         (answer(ADMIN), "its values are of the types 'HS_ADMIN'"),
         (b"<html></html>", "a page, not JSON"),
         (b"[]", "no site is in it"),
+        (b"[" * 700 + b"]" * 700, "nested too deep|no site is in it"),
+        (b'{"servers":' + b"[" * 700 + b"]" * 700 + b"}", "isn't an object"),
         (b'{"a":1}', "neither values of a handle nor servers of a site"),
         (b'{"servers":[]}', "no servers"),
         (b'{"servers":[{"serverId":1}]}', "servers\\[0\\]: no address"),
@@ -269,6 +273,7 @@ def test_what_is_left_out_is_named_by_its_path(tmp_path: Path) -> None:
         (PARIS.hex().encode()[:-2], "hsplan says Truncated"),
         (b"\xff" * 500, "hsplan says"),
     ],
+    ids=itertools.count(),
 )
 def test_what_is_no_site_is_refused_in_one_line(tmp_path: Path, octets: bytes, says: str) -> None:
     path = tmp_path / "given"
@@ -384,6 +389,11 @@ def test_names_are_of_one_site_each(tmp_path: Path) -> None:
     assert "2 names for 1 site" in invoke("sites", both[0], "--name", "a", "--name", "b", status=1).stderr
     names = [it for it in invoke("sites", *both, "--name", "a").stdout.splitlines() if it.startswith("name")]
     assert names == ['name = "a"', 'name = "reston"']
+    for odd in ('a"b', "a\nb", "a b", "\udcff", ""):
+        for words in (["--into", tmp_path], []):
+            line = invoke("sites", both[0], "--name", odd, *words, status=1).stderr
+            assert line.startswith(("hsp: hsplan refuses these files: ", "hsp: a name isn't text")), line
+            assert line.count("\n") == 1
     assert "SiteTwice" in invoke("sites", both[0], "--into", two_of_a_name(tmp_path), status=1).stderr
 
 
