@@ -72,14 +72,6 @@ class Reading:
     progress: Callable[[str, int], None] = lambda path, lines: None
 
 
-@dataclass
-class _Batch:
-    """Queries that still have to be judged, and the lines that they stand in."""
-
-    rows: list[Query] = field(default_factory=list)
-    places: list[tuple[int, bytes]] = field(default_factory=list)
-
-
 def _taker(path: str, form: Form, first: list[tuple[int, bytes]]) -> tuple[Form, Take]:
     """How the lines of a log are taken, by its first lines where no form is named."""
     lines = [it for _, it in first]
@@ -104,7 +96,9 @@ def queries(path: str, reading: Reading) -> Iterator[Query]:
         return
     form, take = _taker(path, reading.form, first)
     regions, skip = Remembered(reading.seek), reading.skipped.add
-    batch, count = _Batch(), 0
+    rows: list[Query] = []
+    places: list[tuple[int, bytes]] = []
+    count = 0
     rest = itertools.chain(first, lines)
     if form.name == "csv" and not form.pattern:
         next(rest)
@@ -122,23 +116,27 @@ def queries(path: str, reading: Reading) -> Iterator[Query]:
         if region.__class__ is str:
             skip(str(region), path, number, line)
             continue
-        batch.rows.append((region, handle))  # type: ignore[arg-type]
-        batch.places.append((number, line[:99]))
-        if len(batch.rows) == BATCH:
-            yield from _judged(path, reading, batch)
-            batch = _Batch()
+        rows.append((region, handle))  # type: ignore[arg-type]
+        places.append((number, line[:99]))
+        if len(rows) == BATCH:
+            yield from _judged(path, reading, rows, places)
+            rows, places = [], []
             reading.progress(path, reading.lines + count)
-    yield from _judged(path, reading, batch)
+    yield from _judged(path, reading, rows, places)
     reading.lines += count
 
 
-def _judged(path: str, reading: Reading, batch: _Batch) -> Iterator[Query]:
-    """The queries whose handles hsplan takes."""
-    faults = reading.judge.faults(handle for _, handle in batch.rows)
-    if not faults:
-        yield from batch.rows
-        return
-    for row, (number, line) in zip(batch.rows, batch.places):
+def _judged(path: str, reading: Reading, rows: list[Query], places: list[tuple[int, bytes]]) -> Iterable[Query]:
+    """The queries whose handles hsplan takes. The places are the numbers and the beginnings of their lines."""
+    faults = reading.judge.faults(handle for _, handle in rows)
+    return _without(path, reading, faults, zip(rows, places)) if faults else rows
+
+
+def _without(
+    path: str, reading: Reading, faults: dict[bytes, str], placed: Iterable[tuple[Query, tuple[int, bytes]]]
+) -> Iterator[Query]:
+    """The queries but those whose handles have a fault."""
+    for row, (number, line) in placed:
         if row[1] in faults:
             reading.skipped.add(faults[row[1]], path, number, line)
         else:

@@ -20,6 +20,11 @@ from hsp.service import table
 HEADER = b"region,handle,count\n"
 MOST_ROWS, MOST_COUNT = 8192, 1_000_000
 CHUNK = 1 << 16
+REMEDIES = {
+    "BadName": "a region's name has ASCII letters, digits, -, _ and . only, at most 64 of them",
+    "TooManyRegions": "join networks to at most 64 regions",
+    "TooManyKinds": "give costs to only the three or four sites that a region really uses",
+}
 # So many pairs are counted in memory, before they are put into a file.
 MOST_PAIRS = 1 << 20
 
@@ -117,11 +122,17 @@ class Tally:
             row = re.search(r"row ([0-9]+)", fault.line)
             line = demand.split(b"\n")[int(row[1]) + 1] if row else b""
             where = f" in the row {line.decode('utf-8', 'replace')!r}" if line else ""
-            raise Unfit(f"hsplan refuses this demand: {fault.line}{where}") from None
+            raise Unfit(f"hsplan refuses this demand: {fault.line}{where}{_remedy(fault)}") from None
+
+
+def _remedy(fault: Refused) -> str:
+    """What an operator does about a fault of a demand, where it is one of these."""
+    found = next((remedy for word, remedy in REMEDIES.items() if word in fault.line), "")
+    return f"; {found}" if found else ""
 
 
 def _advice(fault: Refused) -> str:
     unit = re.search(r"CountTooLarge.* unit ([0-9]+)", fault.line)
     if unit:
         return f"a row of the demand has more than {MOST_COUNT:,} queries; give --unit {unit[1]} or a larger one"
-    return f"hsplan-stream can't join the rows: {fault.line}"
+    return f"hsplan-stream can't join the rows: {fault.line}{_remedy(fault)}"

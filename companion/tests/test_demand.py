@@ -25,6 +25,7 @@ from urllib.parse import quote
 import pytest
 from click.testing import CliRunner
 
+import make_examples
 import maxmind
 from hsp.cli import main
 from hsp.forms import Form
@@ -534,6 +535,32 @@ def test_a_count_that_is_too_large_needs_a_unit(tmp_path: Path) -> None:
     with pytest.raises(Exception, match="more than 1,000,000 queries; give --unit 2 or a larger one"):
         tally.demand(inputs_of(folder), None)
     assert tally.demand(inputs_of(folder), 2)[0] == b"region,handle,count\neu,20.1/a,500500\n"
+
+
+def test_more_regions_than_hsplan_takes(tmp_path: Path) -> None:
+    (tmp_path / "networks.csv").write_text(
+        "network,region\n" + "".join(f"10.{it}.0.0/16,r{it}\n" for it in range(65))
+    )
+    lines = [server_line(Asked(f"10.{it}.0.1", "", "20.1/a")) for it in range(65)]
+    for number, status in ((64, 0), (65, 1)):
+        (tmp_path / "log").write_text("\n".join(lines[:number]))
+        result = invoke("demand", tmp_path / "log", "--regions", tmp_path / "networks.csv", status=status)
+        assert ("; join networks to at most 64 regions\n" in result.stderr) == (number == 65)
+
+
+def test_more_kinds_than_hsplan_takes(tmp_path: Path) -> None:
+    """Sites of 5, 7, 8 and 9 servers have 2,520 kinds in a region, so that four regions have too many."""
+    folder = service(tmp_path)
+    sizes = (5, 7, 8, 9)
+    octets = [make_examples.site_octets("s", 1, ["192.0.2.1"] * size) for size in sizes]
+    blocks = [f'[[site]]\nname = "s{size}"\nrecord = "{it.hex()}"\n' for size, it in zip(sizes, octets)]
+    (folder / "settings.toml").write_text("".join(blocks))
+    costs = [f"{region},s{size},1\n" for region in NETWORKS.values() for size in sizes]
+    (folder / "costs.csv").write_text("region,site,cost\n" + "".join(sorted(set(costs))))
+    rows = [Asked(CLIENTS[at % 4], "", f"20.1/{at // 4}") for at in range(60_000)]
+    (tmp_path / "log").write_text("\n".join(map(server_line, rows)))
+    words = ("demand", tmp_path / "log", "--regions", regions_file(tmp_path), "--into", folder)
+    assert "; give costs to only the three or four sites" in invoke(*words, status=1).stderr
 
 
 def test_a_plan_of_the_demand_answers_the_whole_log(hsp: Hsp, tmp_path: Path) -> None:
