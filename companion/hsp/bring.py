@@ -90,7 +90,7 @@ def sites(paths: tuple[str, ...], into: str | None, names: tuple[str, ...], capa
     found = gathered(paths, names, files)
     notes = files.taken + [f"left out: {it}" for it in files.left]
     if into is None:
-        read_back("".join(map(block, found)).encode(), found, desk)
+        read_back("".join(map(block, found)).encode(), 0, found, desk)
         for it in found:
             rows = "".join(f"# {site},{server},{room}\n" for site, server, room in capacity_rows(it, capacity))
             click.echo(f"{block(it)}# its rows of capacity.csv:\n{rows}", nl=False)

@@ -6,12 +6,13 @@ import csv
 import io
 import json
 import os
+import re
 import tomllib
 from dataclasses import dataclass, field
 
 from hsp.faults import Unfit
 from hsp.numbers import some
-from hsp.programs import Desk, Inputs, table_of
+from hsp.programs import Desk, Inputs, Refused, table_of
 from hsp.records import OPTIONS
 from hsp.service import NAMES, VALUES, dotted, sites_of
 from hsp.sitefiles import Found
@@ -58,8 +59,8 @@ class Joined:
     known: list[Found] = field(default_factory=list)
 
 
-def _settings_in(path: str, octets: bytes) -> dict[str, str | None]:
-    """The record of each site of the settings by its name, in lower case."""
+def _settings_in(path: str, octets: bytes) -> list[tuple[str, str | None]]:
+    """The name of each site of the settings, and its record in lower case."""
     try:
         told = tomllib.loads(octets.decode("utf-8-sig"))
     except (tomllib.TOMLDecodeError, UnicodeDecodeError, RecursionError) as error:
@@ -67,7 +68,7 @@ def _settings_in(path: str, octets: bytes) -> dict[str, str | None]:
     sites = told.get("site", [])
     if not isinstance(sites, list) or not all(isinstance(it, dict) for it in sites):
         raise Unfit(f"{path}: site isn't a list of tables; each site begins with [[site]]")
-    return {str(it.get("name")): str(it["record"]).lower() if "record" in it else None for it in sites}
+    return [(str(it.get("name")), str(it["record"]).lower() if "record" in it else None) for it in sites]
 
 
 def _servers_in(path: str, octets: bytes) -> set[tuple[str, str]]:
@@ -85,7 +86,8 @@ def joined(folder: str, sites: list[Found], capacity: int, desk: Desk) -> Joined
     """Adds sites to the texts of a folder's settings and capacities. hsplan reads back what comes out."""
     settings, capacities = (os.path.normpath(os.path.join(folder, NAMES[it])) for it in ("settings", "capacity"))
     texts = {path: _octets(path) for path in (settings, capacities)}
-    there = _settings_in(settings, texts[settings])
+    before = _settings_in(settings, texts[settings])
+    there = dict(before)
     result = Joined(texts)
     for it in sites:
         if it.octets.hex() in there.values():
@@ -100,24 +102,31 @@ def joined(folder: str, sites: list[Found], capacity: int, desk: Desk) -> Joined
     taken = _servers_in(capacities, texts[capacities])
     rows = [row for it in result.added for row in capacity_rows(it, capacity)]
     fresh = table_of(CAPACITY_HEAD, (it for it in rows if (it[0], str(it[1])) not in taken)).encode()
-    head, _, tail = fresh.partition(b"\n")
-    texts[capacities] += tail if texts[capacities] else fresh
+    texts[capacities] += fresh.partition(b"\n")[2] if texts[capacities] else fresh
     gap = b"\n" if texts[settings] else b""
     texts[settings] += gap + "\n".join(block(it) for it in result.added).encode() if result.added else b""
     values = os.path.join(folder, VALUES)
-    read_back(texts[settings], result.added, desk, values if os.path.isfile(values) else None)
+    read_back(texts[settings], len(before), result.added, desk, values if os.path.isfile(values) else None)
     return result
 
 
-def read_back(settings: bytes, added: list[Found], desk: Desk, values: str | None = None) -> None:
-    """Compares the sites of settings, as hsplan reads them, with those that were added."""
+def read_back(settings: bytes, before: int, added: list[Found], desk: Desk, values: str | None = None) -> None:
+    """Compares the sites that were added behind others with what hsplan reads from the settings."""
     inputs = Inputs(desk.put(settings, ".toml"), "", "", "", values)
-    desk.places(inputs, ["0.NA/0"])
+    try:
+        desk.places(inputs, ["0.NA/0"])
+    except Refused as fault:
+        match = re.search(r" site ([0-9]+)", fault.line)
+        number = int(match[1]) - before if match else -1
+        if not 0 <= number < len(added):
+            raise
+        own = added[number]
+        raise Unfit(f"{own.file}: hsplan refuses {ascii(own.name)}: {fault.line}") from None
     read = {it.name: it for it in sites_of(desk, inputs, tomllib.loads(settings.decode("utf-8-sig")))}
     for it in added:
-        own, found = it.site(), read[it.name]
-        same = [(a.id, a.address) for a in own.servers] == [(a.id, a.address) for a in found.servers]
-        if not same or own.option != found.option:
+        wanted, found = it.site(), read[it.name]
+        same = [(a.id, a.address) for a in wanted.servers] == [(a.id, a.address) for a in found.servers]
+        if not same or wanted.option != found.option:
             raise Unfit(
                 f"{it.file}: hsplan reads {it.name} otherwise from the settings: please report this with the file"
             )

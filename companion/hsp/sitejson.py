@@ -83,6 +83,8 @@ class Part:
         return self.value
 
     def text(self) -> bytes:
+        if isinstance(self.value, (dict, list, bool)):
+            raise self.unfit(f"{shown(self.value)} isn't text")
         try:
             return str(self.value).encode()
         except UnicodeEncodeError:

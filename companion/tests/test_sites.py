@@ -267,6 +267,14 @@ def test_what_is_left_out_is_named_by_its_path(tmp_path: Path) -> None:
         (b'{"servers":[{"serverId":true,"address":"192.0.2.1"}]}', "isn't a whole number up to"),
         (b'{"servers":[{"serverId":1,"address":"192.0.2.1"}],"hashOption":3}', "isn't 0, 1 or 2"),
         (b'{"servers":{"a":1}}', "isn't a list"),
+        (b'{"servers":[{"serverId":1,"address":"::1"}],"hashFilter":{"a":1}}', "hashFilter: {'a': 1} isn't text"),
+        (b'{"servers":[{"serverId":1,"address":"::1","interfaces":[{"port":-1}]}]}', "interfaces[0].port: -1 isn't"),
+        (b'{"servers":[{"serverId":1,"address":"::1"}],"protocolVersion":"2"}', "isn't a version such as 2.11"),
+        (b'{"servers":[{"serverId":1,"address":"::1"}],"primarySite":"yes"}', "is neither true nor false"),
+        (
+            b'{"servers":[{"serverId":1,"address":"::1"},{"serverId":1,"address":"::2"}]}',
+            "refuses 'given': build: ServerIdTwice",
+        ),
         (b'{"servers":[{"serverId":1,"address":"::1"}],"attributes":[{"name":"\\ud800"}]}', "half a character"),
         (PARIS[:-1], "hsplan says Truncated"),
         (PARIS + b"\0", "hsplan says Trailing"),
@@ -392,7 +400,8 @@ def test_names_are_of_one_site_each(tmp_path: Path) -> None:
     for odd in ('a"b', "a\nb", "a b", "\udcff", ""):
         for words in (["--into", tmp_path], []):
             line = invoke("sites", both[0], "--name", odd, *words, status=1).stderr
-            assert line.startswith(("hsp: hsplan refuses these files: ", "hsp: a name isn't text")), line
+            says = (f"hsp: {both[0]}: hsplan refuses ", "hsp: hsplan refuses these files: ", "hsp: a name isn't text")
+            assert line.startswith(says), line
             assert line.count("\n") == 1
     assert "SiteTwice" in invoke("sites", both[0], "--into", two_of_a_name(tmp_path), status=1).stderr
 
