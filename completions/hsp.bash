@@ -6,6 +6,11 @@ _hsp_options() {
         plan) echo "$files --all --output --no-save --csv --json" ;;
         view) echo "$files --before --title --output" ;;
         whatif) echo "$files --server --from --to --points --step --csv --chart" ;;
+        new) echo "--example --help" ;;
+        sites) echo "--into --name --capacity --help" ;;
+        demand)
+            echo "--regions --into --output --log --format --regex --client --handle --path --prefix --elsewhere" \
+                "--by --unit --help" ;;
     esac
 }
 
@@ -13,8 +18,12 @@ _hsp() {
     local current=${COMP_WORDS[COMP_CWORD]} before=${COMP_WORDS[COMP_CWORD - 1]}
     COMPREPLY=()
     if [ "$COMP_CWORD" -eq 1 ]; then
-        COMPREPLY=($(compgen -W "plan view whatif --help --version" -- "$current"))
+        COMPREPLY=($(compgen -W "demand new plan sites view whatif --help --version" -- "$current"))
+    elif [[ $before == --format ]]; then
+        COMPREPLY=($(compgen -W "auto server proxy json csv" -- "$current"))
     elif [[ " --unit --title --server --from --to --points --step " == *" $before "* ]]; then
+        COMPREPLY=()
+    elif [[ " --name --regex --client --handle --path --prefix --elsewhere --by " == *" $before "* ]]; then
         COMPREPLY=()
     elif [[ $current == -* ]]; then
         COMPREPLY=($(compgen -W "$(_hsp_options "${COMP_WORDS[1]}")" -- "$current"))

@@ -38,12 +38,21 @@ CASES = [
     ("hsplan-stream places --settings set", ["settings.toml"]),
     ("hsplan-stream answer --fr", ["--front", "--fronts"]),
     ("hsplan-stream answer --demand dem", ["demand.csv"]),
-    ("hsp ", ["--help", "--version", "plan", "view", "whatif"]),
+    ("hsp ", ["--help", "--version", "demand", "new", "plan", "sites", "view", "whatif"]),
     ("hsp wh", ["whatif"]),
     ("hsp plan --no", ["--no-save"]),
     ("hsp plan --bef", []),
     ("hsp view --bef", ["--before"]),
     ("hsp whatif --settings set", ["settings.toml"]),
+    ("hsp ne", ["new"]),
+    ("hsp new --ex", ["--example"]),
+    ("hsp new --cap", []),
+    ("hsp sites --cap", ["--capacity"]),
+    ("hsp sites sett", ["settings.toml"]),
+    ("hsp demand --reg", ["--regex", "--regions"]),
+    ("hsp demand --format ser", ["server"]),
+    ("hsp demand --regions dem", ["demand.csv"]),
+    ("hsp demand --sett", []),
 ]
 
 

@@ -1,18 +1,21 @@
 #!/usr/bin/env python3
 """Writes the inputs of the examples.
 
-Those of examples/two-sites are kept with the sources. Those of examples/twelve-sites are large, and go into its
-folder out/. A number that is not written here is drawn from a digest of a word and of what the number is for. So each
+Those of examples/two-sites and examples/bring-in are kept with the sources. Those of examples/twelve-sites are large,
+and go into its folder out/. A number that is not written here is drawn from a digest of a word and of what the number is for. So each
 run writes the same octets.
 
-    tools/make_examples.py            writes both
-    tools/make_examples.py --check    writes nothing, and compares examples/two-sites with what it would write there
+    tools/make_examples.py            writes all
+    tools/make_examples.py --check    writes nothing, and compares the kept ones with what it would write there
 """
 import argparse
+import base64
 import hashlib
+import json
 import math
 import os
 import sys
+import urllib.parse
 
 TOP = os.path.dirname(os.path.dirname(os.path.abspath(__file__)))
 BY_HANDLE = 2
@@ -136,6 +139,67 @@ def two_sites():
     }
 
 
+PROTOCOLS = ["UDP", "TCP", "HTTP"]
+# Networks of users. One lies within another, and one is of IPv6.
+NETWORKS = [
+    ("192.0.2.0/24", "eu"), ("192.0.2.128/26", "asia"), ("198.51.100.0/24", "us"), ("203.0.113.0/24", "asia"), ("2001:db8::/32", "eu"),
+]
+CLIENTS = {
+    "eu": ["192.0.2.7", "192.0.2.201", "2001:db8::7"], "us": ["198.51.100.7", "198.51.100.90"], "asia": ["203.0.113.7", "192.0.2.130"],
+}
+NO_QUERIES = ["GET /favicon.ico", "GET /", "POST /20.500.1234/film-5", "GET /static"]
+
+
+def server_told(name, server_id, address):
+    """A server as a handle proxy answers it."""
+    key = {"format": "base64", "value": base64.b64encode(key_of(name, server_id)).decode()}
+    interfaces = [{"query": True, "admin": True, "protocol": PROTOCOLS[protocol], "port": port} for _, protocol, port in INTERFACES]
+    return {"serverId": server_id, "address": address, "publicKey": key, "interfaces": interfaces}
+
+
+def site_told(name, serial, addresses):
+    head = {"version": 1, "protocolVersion": "2.11", "serialNumber": serial, "primarySite": False, "multiPrimary": False}
+    attributes = [{"name": "desc", "value": name.title()}]
+    return {**head, "attributes": attributes, "servers": [server_told(name, at + 1, it) for at, it in enumerate(addresses)]}
+
+
+def answer_told(index, name, serial, addresses):
+    """A handle proxy's answer for a handle that has the site and its administrator."""
+    site = {"index": index, "type": "HS_SITE", "data": {"format": "site", "value": site_told(name, serial, addresses)}}
+    admin = {"handle": "0.NA/20.500.1234", "index": 200, "permissions": "011111110011"}
+    values = [site, {"index": 100, "type": "HS_ADMIN", "data": {"format": "admin", "value": admin}}]
+    rest = {"ttl": 86400, "timestamp": "2026-11-26T08:00:00Z"}
+    told = {"responseCode": 1, "handle": "0.NA/20.500.1234", "values": [{**it, **rest} for it in values]}
+    return (json.dumps(told, indent=1) + "\n").encode()
+
+
+def access_line(at, client, request, status):
+    seconds = at * 6
+    time = f"26/Nov/2026:09:{seconds // 60:02}:{seconds % 60:02} +0000"
+    return f'{client} - - [{time}] "{request} HTTP/1.1" {status} - "-" "curl/7.88.1"\n'
+
+
+def access_log(number):
+    """The log of a handle proxy, in which each tenth line is no query that a handle server would see."""
+    lines = []
+    for at, (region, handle) in enumerate(log_rows(two_demand(), number, "bring-in")):
+        client = CLIENTS[region][drawn(len(CLIENTS[region]), "client", at)]
+        query = ["", "?noredirect", "?auth=true"][drawn(3, "query", at)]
+        odd = NO_QUERIES[drawn(len(NO_QUERIES), "odd", at)]
+        path = urllib.parse.quote(handle) if drawn(2, "quoted", at) else handle.replace("-", "%2D")
+        lines.append(access_line(at, client, odd if at % 10 == 9 else f"GET /{path}{query}", 200 if at % 10 == 9 else 302))
+    return "".join(lines).encode()
+
+
+def bring_in():
+    return {
+        "paris.json": answer_told(3, "paris", 7, TWO_SITES["paris"]),
+        "reston.json": answer_told(4, "reston", 8, TWO_SITES["reston"]),
+        "networks.csv": table("network,region", NETWORKS),
+        "access.log": access_log(600),
+    }
+
+
 # Degrees of latitude and longitude.
 TWELVE_SITES = {
     "paris": (49, 2), "reston": (39, -77), "tokyo": (36, 140), "sydney": (-34, 151), "saopaulo": (-24, -47), "capetown": (-34, 18),
@@ -212,13 +276,15 @@ def differing(folder, files):
 
 def main():
     arguments = argparse.ArgumentParser(description="Writes the inputs of the examples.")
-    arguments.add_argument("--check", action="store_true", help="compare examples/two-sites with what would be written, and write nothing")
-    small = two_sites()
+    arguments.add_argument("--check", action="store_true", help="compare the kept examples with what would be written, and write nothing")
+    kept = {"examples/two-sites": two_sites(), "examples/bring-in": bring_in()}
     if arguments.parse_args().check:
-        faults = differing("examples/two-sites", small)
-        print("\n".join(faults + [f"examples: {len(small)} files of two-sites compared, {len(faults)} faults"]))
+        faults = [fault for folder, files in kept.items() for fault in differing(folder, files)]
+        compared = " and ".join(f"{len(files)} files of {os.path.basename(folder)}" for folder, files in kept.items())
+        print("\n".join(faults + [f"examples: {compared} compared, {len(faults)} faults"]))
         return 1 if faults else 0
-    write("examples/two-sites", small)
+    for folder, files in kept.items():
+        write(folder, files)
     write("examples/twelve-sites/out", twelve_sites())
     return 0
 

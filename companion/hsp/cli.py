@@ -13,7 +13,7 @@ from typing import Any, TypeVar
 
 import click
 
-from hsp import __version__
+from hsp import __version__, bring
 from hsp.numbers import some
 from hsp.plans import Planned, Reference, cheapest, least_purchase, planned, shortage, with_gains, with_purchase
 from hsp.charts import drawn
@@ -330,6 +330,10 @@ def whatif(
             click.echo(line)
     if chart:
         write(chart, drawn(service, cases, step))
+
+
+for brought in (bring.new, bring.sites, bring.demand):
+    main.add_command(brought)
 
 
 __all__ = ["main"]

@@ -213,3 +213,29 @@ class Desk:
         printed = asked("hsplan-stream", "places", *inputs.of_sites(), "--log", log)
         rows = list(csv.reader(io.StringIO(printed, newline="")))[1:]
         return {(handle, site): int(place) for handle, site, place, _ in rows}
+
+    def without_sites(self, demand: bytes = b"") -> Inputs:
+        """The inputs of a service that has no site and no cost, with the rows of a demand."""
+        tables = [self.put_table(it, []) for it in ("region,site,cost", "site,server_id,capacity")]
+        table = demand or b"region,handle,count\n"
+        return Inputs(self.put(b"", ".toml"), self.put(table, ".csv"), *tables)
+
+    @functools.cached_property
+    def _bare(self) -> list[str]:
+        """The options of a service without sites, and of its plan."""
+        inputs = self.without_sites()
+        return [*inputs.words(), "--plan", self.plan(inputs)[1]]
+
+    def answers_without_sites(self, log: bytes, rows: int) -> list[str]:
+        """What each of so many rows of a log is answered where there is no site: `refused` and why, or `unknown`."""
+        path = self.put(log, ".csv")
+        answers = asked("hsplan-stream", "answer", *self._bare, "--log", path).splitlines()
+        os.unlink(path)
+        if len(answers) != rows:
+            raise Missing(f"hsplan-stream answered {len(answers)} of {rows} rows: please report this with your log")
+        return answers
+
+    def kinds(self, inputs: Inputs, log: str, unit: int | None) -> str:
+        """The demand of a log, with a row for each kind of its rows."""
+        words = ["--unit", str(unit)] if unit else []
+        return asked("hsplan-stream", "kinds", *inputs.of_sites(), "--costs", inputs.costs, *words, "--log", log)

@@ -163,7 +163,7 @@ def titles_in(folder: str, title: str | None, cost: str | None) -> Titles:
     return Titles(own_title, own_cost, plain.get("time", ""))
 
 
-def _site_of(name: str, fields: str, first: int) -> Site:
+def site_of(name: str, fields: str, first: int) -> Site:
     """A site by the fields of its record, whose servers are numbered from `first` on."""
     option = 0
     servers: list[Server] = []
@@ -185,7 +185,7 @@ def sites_of(desk: Desk, inputs: Inputs, settings: dict[str, Any]) -> list[Site]
             fields = desk.site(bytes.fromhex(it["record"]))
         else:
             fields = desk.site_of_value(inputs.values or "", it["index"])
-        sites.append(_site_of(it["name"], fields, first))
+        sites.append(site_of(it["name"], fields, first))
         first += len(sites[-1].servers)
     return sites
 
@@ -214,4 +214,17 @@ def read_service(
     )
 
 
-__all__ = ["Refused", "Row", "Server", "Service", "Site", "Titles", "dotted", "inputs_in", "read_service", "table"]
+__all__ = [
+    "Refused",
+    "Row",
+    "Server",
+    "Service",
+    "Site",
+    "Titles",
+    "dotted",
+    "inputs_in",
+    "read_service",
+    "site_of",
+    "sites_of",
+    "table",
+]

@@ -1,0 +1,242 @@
+"""The commands that bring a service in: `new`, `sites` and `demand`."""
+
+from __future__ import annotations
+
+import contextlib
+import os
+import re
+import sys
+import time
+from collections.abc import Callable
+from typing import Any
+
+import click
+
+from hsp import skeleton
+from hsp.faults import Unfit, printable
+from hsp.files import create, growing, replace_all
+from hsp.forms import NAMES as FORMS
+from hsp.forms import Form
+from hsp.joining import block, capacity_rows, joined, lines_of, read_back
+from hsp.numbers import listed, some
+from hsp.programs import Desk, Inputs
+from hsp.queries import Judge, Reading, field_of, queries
+from hsp.regions import regions_in
+from hsp.service import NAMES, VALUES
+from hsp.sitefiles import Files, Found
+from hsp.tally import Tally
+
+FOLDER = click.Path(exists=True, file_okay=False)
+LOG_HEADER = b"region,handle\n"
+
+
+@click.command()
+@click.argument("folder", metavar="DIR", type=click.Path(file_okay=False))
+@click.option("--example", is_flag=True, help="a small service that plans at once")
+def new(folder: str, example: bool) -> None:
+    """Writes the files of a new service, which say what goes into them.
+
+    No file is overwritten.
+    """
+    paths = create(folder, skeleton.example() if example else skeleton.empty())
+    click.echo(printable(f"{folder} has {listed([os.path.basename(it) for it in paths], 9)}"))
+    click.echo(printable(f"next: hsp plan {folder}" if example else f"next: hsp sites FILE.. --into {folder}"))
+
+
+def octets_of(path: str) -> bytes:
+    """The octets of a file, or of standard input where it is `-`."""
+    if path == "-":
+        return sys.stdin.buffer.read()
+    with open(path, "rb") as file:
+        return file.read()
+
+
+def gathered(paths: tuple[str, ...], names: tuple[str, ...], files: Files) -> list[Found]:
+    """The sites of all files under the given names. A record that came before is left out."""
+    found: list[Found] = []
+    for path in paths:
+        for it in files.read(path, octets_of(path)):
+            twin = next((other for other in found if other.octets == it.octets), None)
+            if twin:
+                files.left.append(f"{path}: the record of {twin.name} once more")
+            else:
+                found.append(it)
+    if any(printable(it) != it for it in names):
+        raise Unfit("a name isn't text")
+    if len(names) > len(found):
+        raise Unfit(f"{some(len(names), 'name')} for {some(len(found), 'site')}")
+    named = [Found(it.file, name, it.octets, it.fields) for it, name in zip(found, names)] + found[len(names) :]
+    if len({it.name for it in named}) < len(named):
+        raise Unfit("two sites have the same name; give each its own --name")
+    return named
+
+
+@click.command()
+@click.argument("paths", metavar="FILE..", nargs=-1, required=True)
+@click.option("--into", metavar="DIR", type=FOLDER, help="the folder that they are added to")
+@click.option("--name", "names", metavar="NAME", multiple=True, help="of the first site, the second, and so on")
+@click.option(
+    "--capacity", default=0, show_default=True, type=click.IntRange(0, 1_000_000_000), help="of each server"
+)
+def sites(paths: tuple[str, ...], into: str | None, names: tuple[str, ...], capacity: int) -> None:
+    """Turns site information into the settings of a service.
+
+    A FILE is a handle proxy's answer in JSON, a server's siteinfo.json or siteinfo.bin, a record in hexadecimal
+    digits or base64, or a value list; - is standard input. Without --into the blocks are printed, and no file is
+    written.
+    """
+    desk = Desk()
+    files = Files(desk)
+    found = gathered(paths, names, files)
+    notes = files.taken + [f"left out: {it}" for it in files.left]
+    if into is None:
+        read_back("".join(map(block, found)).encode(), 0, found, desk)
+        for it in found:
+            rows = "".join(f"# {site},{server},{room}\n" for site, server, room in capacity_rows(it, capacity))
+            click.echo(f"{block(it)}# its rows of capacity.csv:\n{rows}", nl=False)
+        for line in notes:
+            click.echo(printable(line), err=True)
+        return
+    result = joined(into, found, capacity, desk)
+    notes += [f"left out: {it.file}: its record is in the settings already" for it in result.known]
+    if result.added:
+        replace_all(result.contents)
+    for line in [line for it in result.added for line in lines_of(it)] + notes:
+        click.echo(printable(line))
+    if not result.added:
+        click.echo("nothing is added")
+        return
+    servers = sum(len(it.site().servers) for it in result.added)
+    room = f"with the capacity {capacity:,}" + ("" if capacity else ": put in what each takes")
+    where = " and ".join(result.contents)
+    click.echo(printable(f"{some(len(result.added), 'site')} added to {where}; {some(servers, 'server')} {room}"))
+
+
+def form_of(given: dict[str, Any]) -> Form:
+    """The form of the logs by the options."""
+    pattern = None
+    if given["regex"]:
+        try:
+            pattern = re.compile(os.fsencode(given["regex"]))
+        except re.error as error:
+            raise click.BadParameter(str(error), param_hint="--regex") from None
+        groups = pattern.groupindex
+        if "client" not in groups or ("handle" in groups) == ("path" in groups):
+            wanted = "it needs the groups (?P<client>..), and either (?P<handle>..) or (?P<path>..)"
+            raise click.BadParameter(wanted, param_hint="--regex")
+    prefixes = frozenset(os.fsencode(it.rstrip("/").upper()) for it in given["prefix"])
+    return Form(given["format"], given["client"], given["handle"], given["path"] or "", pattern, prefixes)
+
+
+def shown_progress() -> Callable[[str, int], None]:
+    """Shows on a terminal how many lines were read, twice a second."""
+    begun, last = time.monotonic(), 0.0
+
+    def show(path: str, lines: int) -> None:
+        nonlocal last
+        now = time.monotonic()
+        if now - last > 0.5:
+            last = now
+            speed = lines / max(now - begun, 0.001)
+            click.echo(f"\r{path}: {lines:,} lines, {speed:,.0f} a second\033[K", err=True, nl=False)
+
+    return show
+
+
+def skipped_lines(reading: Reading) -> list[str]:
+    """How many lines were passed over, why, and where the first one of each reason stands."""
+    if not reading.skipped.counts:
+        return []
+    counts = sorted(reading.skipped.counts.items(), key=lambda it: (-it[1], it[0]))
+    lines = [f"  {count:,}  {reason}; first {reading.skipped.first[reason]}" for reason, count in counts]
+    return [f"skipped {some(reading.skipped.sum, 'line')}", *lines]
+
+
+def service_of(folder: str | None) -> Inputs | None:
+    """The sites and the costs of a folder, where both are there."""
+    if folder is None:
+        return None
+    settings, costs = (os.path.normpath(os.path.join(folder, NAMES[it])) for it in ("settings", "costs"))
+    values = os.path.join(folder, VALUES)
+    there = os.path.isfile(settings) and os.path.isfile(costs)
+    return Inputs(settings, "", costs, "", values if os.path.isfile(values) else None) if there else None
+
+
+def counted(logs: tuple[str, ...], reading: Reading, tally: Tally, into: Any) -> None:
+    """Counts the queries of all logs. Writes them into a file, too, where one is given."""
+    if into:
+        into.write(LOG_HEADER)
+    for path in logs:
+        for chunk in tally.add(queries(path, reading)):
+            if into:
+                into.write(b"".join(b"%b,%b\n" % (field_of(region), field_of(handle)) for region, handle in chunk))
+    if sys.stderr.isatty():
+        click.echo("\r\033[K", err=True, nl=False)
+    if not tally.asked:
+        first = (skipped_lines(reading) + ["", "they have no line"])[1].strip()
+        raise Unfit(f"no query is in {listed(logs)}: {first}")
+
+
+def summary(logs: tuple[str, ...], reading: Reading, tally: Tally) -> str:
+    handles = f" for {some(tally.handles, 'handle')}" if tally.handles is not None else ""
+    regions = some(len(tally.regions), "region")
+    asked = some(tally.asked, "query", "queries")
+    lines = some(tally.asked + reading.skipped.sum, "line")
+    return f"{some(len(logs), 'log')}, {lines}: {asked} of {regions}{handles}"
+
+
+@click.command()
+@click.argument("logs", metavar="LOG..", nargs=-1, required=True, type=click.Path(dir_okay=False, allow_dash=True))
+@click.option("--regions", metavar="FILE", required=True, help="a table network,region, or a MaxMind database")
+@click.option("--into", metavar="DIR", type=FOLDER, help="the folder whose demand.csv is written")
+@click.option("-o", "--output", metavar="FILE", help="the table, in place of DIR/demand.csv")
+@click.option("--log", "kept", metavar="FILE", help="also the queries, as a log for hsplan dispatch")
+@click.option("--format", type=click.Choice(["auto", *FORMS]), default="auto", show_default=True, help="of the logs")
+@click.option(
+    "--regex", metavar="PATTERN", help="lines of another form: (?P<client>..) and (?P<handle>..) or (?P<path>..)"
+)
+@click.option(
+    "--client", metavar="NAME", default="client", show_default=True, help="the field with the client's address"
+)
+@click.option("--handle", metavar="NAME", default="handle", show_default=True, help="the field with the handle")
+@click.option("--path", metavar="NAME", help="the field with the path of a request, in place of a handle")
+@click.option("--prefix", metavar="PREFIX", multiple=True, help="count only handles of this prefix")
+@click.option("--elsewhere", metavar="REGION", help="of clients that have no region")
+@click.option("--by", metavar="FIELD", default="continent.code", show_default=True, help="of a MaxMind database")
+@click.option(
+    "--unit", type=click.IntRange(1, 1_000_000), metavar="N", help="count in units of N queries, rounded up"
+)
+def demand(logs: tuple[str, ...], regions: str, into: str | None, kept: str | None, **given: Any) -> None:
+    """Counts the queries of access logs by region and handle.
+
+    A LOG may be packed by gzip, bzip2 or xz; - is standard input. Its form is that of a handle server (server), of an
+    HTTP proxy (proxy), JSON lines (json) or a table (csv). Without --into and -o the table is printed.
+    """
+    desk = Desk()
+    output = given["output"] or (os.path.normpath(os.path.join(into, NAMES["demand"])) if into else None)
+    sources = {os.path.realpath(it) for it in (*logs, regions)}
+    for path in filter(None, (output, kept)):
+        if os.path.realpath(path) in sources:
+            raise Unfit(f"{path}: it would be read and written")
+    reading = Reading(form_of(given), regions_in(regions, given["by"], given["elsewhere"]), Judge(desk))
+    if sys.stderr.isatty():
+        reading.progress = shown_progress()
+    tally, inputs = Tally(desk), service_of(into)
+    with growing(kept) if kept else contextlib.nullcontext() as file:
+        counted(logs, reading, tally, file)
+        text, is_joined = tally.demand(inputs, given["unit"])
+        lacking = tally.without_costs(inputs) if inputs else []
+        if output:
+            replace_all({output: text})
+        else:
+            click.echo(text, nl=False)
+    lines = [summary(logs, reading, tally), *skipped_lines(reading)]
+    kinds = ", each for the handles that have the same servers" if is_joined else ""
+    lines.append(f"{output or 'the table'} has {some(text.count(10) - 1, 'row')}{kinds}")
+    if inputs and lacking:
+        lines.append(f"{inputs.costs} has no cost yet of {listed(lacking)}")
+    for line in lines:
+        click.echo(printable(line), err=output is None)
+
+
+__all__ = ["demand", "new", "sites"]

@@ -1,0 +1,30 @@
+"""Inputs that a command can't use: one line, and status 1."""
+
+from __future__ import annotations
+
+from typing import Any
+
+import click
+
+
+class Unfit(click.ClickException):
+    """A file holds what this command can't use."""
+
+    exit_code = 1
+
+    def show(self, file: Any = None) -> None:
+        click.echo(f"hsp: {self.message}", err=True)
+
+
+def printable(line: str) -> str:
+    """The line with octets of file names that are no text written as such."""
+    return line.encode("utf-8", "backslashreplace").decode()
+
+
+def shown(value: Any) -> str:
+    """The beginning of a value, in one line of plain characters."""
+    try:
+        text = ascii(value)
+    except RecursionError:
+        text = "what is nested too deep"
+    return text if len(text) <= 60 else f"{text[:57]}..."

@@ -1,0 +1,180 @@
+"""From a client's address to its region: by a table of networks, of which the longest prefix counts, or by a MaxMind
+database."""
+
+from __future__ import annotations
+
+import csv
+import importlib
+import io
+import os
+import socket
+from bisect import bisect_right
+from collections.abc import Callable, Iterable
+from typing import Any
+
+from hsp.faults import Unfit, shown
+from hsp.programs import Missing
+
+# The region of an address, or the reason why it has none.
+Seek = Callable[[bytes], "bytes | str"]
+
+NO_ADDRESS, NO_REGION = "the client isn't an IP address", "no region for the client's address"
+MAPPED = b"\0" * 10 + b"\xff\xff"
+DATABASE_MARK = b"\xab\xcd\xefMaxMind.com"
+BITS = {4: 32, 6: 128}
+
+
+def packed(address: bytes) -> bytes | None:
+    """The octets of an address, 4 also for IPv4 within IPv6, or none where it is no address."""
+    try:
+        if b":" not in address:
+            return socket.inet_pton(socket.AF_INET, address.decode("ascii"))
+        plain = address.strip(b"[]").partition(b"%")[0]
+        octets = socket.inet_pton(socket.AF_INET6, plain.decode("ascii"))
+    except (OSError, ValueError):
+        return None
+    return octets[12:] if octets.startswith(MAPPED) else octets
+
+
+Network = tuple[int, int, bytes]
+
+
+def ranges(networks: Iterable[Network], bits: int) -> tuple[list[int], list[bytes | None]]:
+    """Where ranges without overlap begin, and their regions, of networks by first address, prefix and region."""
+    starts: list[int] = [0]
+    regions: list[bytes | None] = [None]
+    inside: list[tuple[int, bytes]] = []
+
+    def begin(at: int, region: bytes | None) -> None:
+        if starts[-1] == at:
+            regions[-1] = region
+        elif regions[-1] != region:
+            starts.append(at)
+            regions.append(region)
+
+    def close(before: int) -> None:
+        while inside and inside[-1][0] <= before:
+            end = inside.pop()[0]
+            while inside and inside[-1][0] == end:
+                inside.pop()
+            begin(end, inside[-1][1] if inside else None)
+
+    for first, prefix, region in sorted(networks):
+        close(first)
+        begin(first, region)
+        inside.append((first + (1 << (bits - prefix)), region))
+    close(1 << bits)
+    return starts, regions
+
+
+class Networks:
+    """A table of networks."""
+
+    def __init__(self, path: str, octets: bytes, elsewhere: bytes | None) -> None:
+        self.elsewhere = elsewhere
+        found: dict[int, dict[tuple[int, int], bytes]] = {4: {}, 6: {}}
+        for line, network, region in self._rows(path, octets):
+            family, first, prefix = _network(path, line, network)
+            if found[family].setdefault((first, prefix), region) != region:
+                raise Unfit(f"{path}: line {line}: {network} has another region above")
+        self._ranges = {
+            family: ranges(((*key, region) for key, region in it.items()), BITS[family])
+            for family, it in found.items()
+        }
+
+    @staticmethod
+    def _rows(path: str, octets: bytes) -> Iterable[tuple[int, str, bytes]]:
+        reader = csv.reader(io.StringIO(_text(path, octets), newline=""), strict=True)
+        try:
+            header = next(reader, None)
+            if header != ["network", "region"]:
+                raise Unfit(f"{path}: line 1: the header isn't network,region")
+            for row in reader:
+                if row and len(row) != 2:
+                    raise Unfit(f"{path}: line {reader.line_num}: {len(row)} fields in place of network,region")
+                if row and not row[1]:
+                    raise Unfit(f"{path}: line {reader.line_num}: no region")
+                if row:
+                    yield reader.line_num, row[0].strip(), row[1].encode()
+        except csv.Error as error:
+            raise Unfit(f"{path}: line {reader.line_num}: {error}") from None
+
+    def seek(self, address: bytes) -> bytes | str:
+        octets = packed(address)
+        if octets is None:
+            return NO_ADDRESS
+        starts, regions = self._ranges[4 if len(octets) == 4 else 6]
+        found = regions[bisect_right(starts, int.from_bytes(octets, "big")) - 1] or self.elsewhere
+        return NO_REGION if found is None else found
+
+
+def _text(path: str, octets: bytes) -> str:
+    try:
+        return octets.decode("utf-8-sig")
+    except UnicodeDecodeError as error:
+        raise Unfit(f"{path}: line {octets.count(10, 0, error.start) + 1}: not UTF-8") from None
+
+
+def _network(path: str, line: int, text: str) -> tuple[int, int, int]:
+    """The family, the first address and the prefix of a network. An address is a network of its own."""
+    address, slash, length = text.partition("/")
+    family, first, own = 4, None, None
+    try:
+        octets = socket.inet_pton(socket.AF_INET6 if ":" in address else socket.AF_INET, address)
+        own = 8 * len(octets)
+        prefix = int(length) if slash and length.isdecimal() and length.isascii() else -1 if slash else own
+        if octets.startswith(MAPPED) and len(octets) == 16 and prefix >= 96:
+            octets, prefix, own = octets[12:], prefix - 96, 32
+        family, first = (4, octets) if own == 32 else (6, octets)
+    except (OSError, ValueError):
+        prefix = -1
+    number = int.from_bytes(first or b"", "big")
+    if own is None or not 0 <= prefix <= own:
+        raise Unfit(f"{path}: line {line}: {shown(text)} isn't a network such as 192.0.2.0/24")
+    if number & ((1 << (own - prefix)) - 1):
+        raise Unfit(f"{path}: line {line}: {shown(text)} begins in the middle of a network of this length")
+    return family, number, prefix
+
+
+class Database:
+    """A MaxMind database. `by` is the path of the field that is the region, such as `country.iso_code`."""
+
+    def __init__(self, path: str, by: str, elsewhere: bytes | None) -> None:
+        self.path, self.by, self.elsewhere = path, by.split("."), elsewhere
+        try:
+            module: Any = importlib.import_module("maxminddb")
+        except ImportError:
+            raise Missing(
+                f"{path}: Python has no maxminddb to read it: install it (Debian: python3-maxminddb)"
+            ) from None
+        self._damaged: Any = (module.InvalidDatabaseError, UnicodeDecodeError, IndexError)
+        try:
+            self._reader: Any = module.open_database(path)
+        except self._damaged as error:
+            raise Unfit(f"{path}: not a MaxMind database: {error}") from None
+
+    def seek(self, address: bytes) -> bytes | str:
+        octets = packed(address)
+        if octets is None:
+            return NO_ADDRESS
+        family = socket.AF_INET if len(octets) == 4 else socket.AF_INET6
+        try:
+            told = self._reader.get(socket.inet_ntop(family, octets))
+        except self._damaged as error:
+            raise Unfit(f"{self.path}: damaged: {error}") from None
+        except ValueError:
+            told = None  # an address of IPv6 in a database of IPv4
+        for name in self.by:
+            told = told.get(name) if isinstance(told, dict) else None
+        found = told.encode() if isinstance(told, str) else self.elsewhere
+        return NO_REGION if found is None else found
+
+
+def regions_in(path: str, by: str, elsewhere: str | None) -> Seek:
+    """How regions are found by a file: a table of networks or a database."""
+    with open(path, "rb") as file:
+        octets = file.read()
+    own = os.fsencode(elsewhere) if elsewhere else None
+    if DATABASE_MARK in octets[-(1 << 17) :]:
+        return Database(path, by, own).seek
+    return Networks(path, octets, own).seek

@@ -1,0 +1,138 @@
+"""Queries are counted by region and handle, and become a table of demand.
+
+A table that is longer than hsplan takes is joined by `hsplan-stream kinds`. So are counts that are too large for it.
+"""
+
+from __future__ import annotations
+
+import csv
+import itertools
+import re
+from collections import Counter
+from collections.abc import Iterable, Iterator
+
+from hsp.faults import Unfit
+from hsp.numbers import listed, some
+from hsp.programs import Desk, Inputs, Refused
+from hsp.queries import Query, field_of
+from hsp.service import table
+
+HEADER = b"region,handle,count\n"
+MOST_ROWS, MOST_COUNT = 8192, 1_000_000
+CHUNK = 1 << 16
+REMEDIES = {
+    "BadName": "a region's name has ASCII letters, digits, -, _ and . only, at most 64 of them",
+    "TooManyRegions": "join networks to at most 64 regions",
+    "TooManyKinds": "give costs to only the three or four sites that a region really uses",
+}
+# So many pairs are counted in memory, before they are put into a file.
+MOST_PAIRS = 1 << 20
+
+
+def _rows(counts: Iterable[tuple[Query, int]]) -> Iterator[bytes]:
+    """The rows of a demand."""
+    for (region, handle), count in counts:
+        yield b"%b,%b,%d\n" % (field_of(region), field_of(handle), count)
+
+
+def _most_first(counts: Counter[Query]) -> list[tuple[Query, int]]:
+    """Those with the most queries first, so that the same counts have the same table."""
+    return sorted(counts.items(), key=lambda it: (-it[1], it[0]))
+
+
+class Tally:
+    """How often each region asks for each handle."""
+
+    def __init__(self, desk: Desk, most: int = MOST_PAIRS) -> None:
+        self._desk, self._most = desk, most
+        self._counts: Counter[Query] = Counter()
+        self._spilled: str | None = None
+        self.asked = 0
+        self.regions: set[bytes] = set()
+
+    def add(self, queries: Iterable[Query]) -> Iterator[list[Query]]:
+        """Counts queries, and passes them on in pieces."""
+        rows = iter(queries)
+        while chunk := list(itertools.islice(rows, CHUNK)):
+            self._counts.update(chunk)
+            self.asked += len(chunk)
+            if len(self._counts) > self._most:
+                self._spill()
+            yield chunk
+
+    def _spill(self) -> None:
+        """Puts the counts into a file in their order, since a table is a log of `kinds`."""
+        self.regions.update(region for region, _ in self._counts)
+        self._spilled = self._spilled or self._desk.put(HEADER, ".csv")
+        with open(self._spilled, "ab") as file:
+            file.writelines(_rows(self._counts.items()))
+        self._counts.clear()
+
+    @property
+    def handles(self) -> int | None:
+        """How many handles there are, where all are still in memory."""
+        return None if self._spilled else len({handle for _, handle in self._counts})
+
+    def demand(self, inputs: Inputs | None, unit: int | None) -> tuple[bytes, bool]:
+        """The table of demand, and whether rows of one kind were joined. `inputs` are those of the service."""
+        self.regions.update(region for region, _ in self._counts)
+        rows = len(self._counts)
+        large = max(self._counts.values(), default=0) > MOST_COUNT
+        if not self._spilled and rows <= MOST_ROWS and not large and unit is None:
+            text = HEADER + b"".join(_rows(_most_first(self._counts)))
+            self._accepted(text)
+            return text, False
+        if not inputs:
+            what = f"{some(rows, 'row')}" if not self._spilled else f"more than {self._most:,} rows"
+            raise Unfit(
+                f"{what} of demand; hsplan takes {MOST_ROWS:,}, with counts up to {MOST_COUNT:,}. "
+                "Give --into DIR with settings.toml and costs.csv, so that rows of one kind are joined"
+            )
+        self._all_have_costs(inputs)
+        self._spill()
+        try:
+            joined = self._desk.kinds(inputs, self._spilled or "", unit).encode()
+        except Refused as fault:
+            raise Unfit(_advice(fault)) from None
+        self._accepted(joined)
+        return joined, True
+
+    def _all_have_costs(self, inputs: Inputs) -> None:
+        """Rows are joined by the sites that their regions may use, so these have to be known."""
+        lacking = self.without_costs(inputs)
+        if lacking:
+            raise Unfit(
+                f"{inputs.costs}: no cost of {listed(lacking)}. Put in the costs first: "
+                "rows are joined by the sites that their regions may use"
+            )
+
+    def without_costs(self, inputs: Inputs) -> list[str]:
+        """The regions that have no cost for any site."""
+        try:
+            paying = {row[0].encode() for row in table(inputs.costs)}
+        except (csv.Error, UnicodeDecodeError) as error:
+            raise Unfit(f"{inputs.costs}: not a table: {error}") from None
+        return sorted(it.decode("utf-8", "replace") for it in self.regions - paying)
+
+    def _accepted(self, demand: bytes) -> None:
+        """Has hsplan read a table of demand before it is written."""
+        try:
+            self._desk.plan(self._desk.without_sites(demand))
+        except Refused as fault:
+            row = re.search(r"row ([0-9]+)", fault.line)
+            line = demand.split(b"\n")[int(row[1]) + 1] if row else b""
+            where = f" in the row {line.decode('utf-8', 'replace')!r}" if line else ""
+            raise Unfit(f"hsplan refuses this demand: {fault.line}{where}{_remedy(fault)}") from None
+
+
+def _remedy(fault: Refused) -> str:
+    """What an operator does about a fault of a demand, where it is one of these."""
+    found = next((remedy for word, remedy in REMEDIES.items() if word in fault.line), "")
+    return f"; {found}" if found else ""
+
+
+def _advice(fault: Refused) -> str:
+    unit = re.search(r"CountTooLarge.* unit ([0-9]+)", fault.line)
+    if unit:
+        return f"a row of the demand has more than {MOST_COUNT:,} queries; give --unit {unit[1]} or a larger one"
+    return f"hsplan-stream can't join the rows: {fault.line}{_remedy(fault)}"

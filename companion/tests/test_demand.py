@@ -1,0 +1,674 @@
+"""hsp demand: logs of every form, regions against Python's `ipaddress`, and what is passed over."""
+
+from __future__ import annotations
+
+import bz2
+import csv
+import gzip
+import io
+import ipaddress
+import itertools
+import json
+import lzma
+import os
+import pty
+import random
+import re
+import subprocess
+import sys
+from collections import Counter
+from collections.abc import Callable
+from pathlib import Path
+from typing import NamedTuple
+from urllib.parse import quote
+
+import pytest
+from click.testing import CliRunner
+
+import make_examples
+import maxmind
+from hsp.cli import main
+from hsp.forms import Form
+from hsp.logs import LONGEST, Skipped, numbered
+from hsp.programs import Desk, Inputs
+from hsp.queries import Judge, Reading, queries
+from hsp.regions import Database, Networks, Seek, regions_in
+from hsp.tally import Tally
+
+from conftest import TOP, Hsp
+from test_sites import invoke
+
+LINES = 10_000
+NETWORKS = {
+    "10.0.0.0/8": "eu",
+    "10.128.0.0/9": "us",
+    "10.200.7.0/24": "asia",
+    "192.0.2.7": "lab",
+    "2001:db8::/32": "eu",
+    "2001:db8:5::/48": "asia",
+}
+# Handles with what the forms have to quote, to escape or to decode.
+ODD_HANDLES = ["20.500.1/a b", '20.500.1/a,"b"', "20.500.1/été", "20.500.1/50%", "20.500.1/q?x#y", "20.500.1/\\x41"]
+HANDLES = [f"20.500.1234/item-{number}" for number in range(300)] + ODD_HANDLES
+
+
+class Asked(NamedTuple):
+    """A query that a log is written of."""
+
+    client: str
+    region: str
+    handle: str
+
+
+def region_of(address: str) -> str | None:
+    """The region by the longest prefix, as `ipaddress` has it."""
+    own = ipaddress.ip_address(address)
+    if own.version == 6 and own.ipv4_mapped:
+        own = own.ipv4_mapped
+    fitting = [(it.prefixlen, region) for it, region in PARSED if it.version == own.version and own in it]
+    return max(fitting)[1] if fitting else None
+
+
+PARSED = [(ipaddress.ip_network(it), region) for it, region in NETWORKS.items()]
+CLIENTS = ["10.1.2.3", "10.200.1.1", "10.200.7.9", "192.0.2.7", "2001:db8::1", "2001:db8:5::1", "::ffff:10.200.7.1"]
+
+
+def asked(number: int, seed: int) -> list[Asked]:
+    draw = random.Random(seed)
+    found = []
+    for _ in range(number):
+        client = draw.choice(CLIENTS)
+        handle = HANDLES[min(int(draw.paretovariate(0.4)), len(HANDLES)) - 1]
+        found.append(Asked(client, str(region_of(client)), handle))
+    return found
+
+
+def server_line(it: Asked) -> str:
+    return f'{it.client} UDP:HDL "2026-11-26 10:00:00.123+0000" 1 1 3ms {it.handle}'
+
+
+def proxy_line(it: Asked) -> str:
+    path = quote(it.handle, safe="/:")
+    agent = '"Mozilla/5.0 (X11) \\"x\\""'
+    return f'{it.client} - - [26/Nov/2026:10:00:00 +0000] "GET /{path}?noredirect&x=/a HTTP/1.1" 302 - "-" {agent}'
+
+
+def csv_line(*fields: str) -> str:
+    out = io.StringIO()
+    csv.writer(out, lineterminator="").writerow(fields)
+    return out.getvalue()
+
+
+FORMS: dict[str, tuple[list[str], Callable[[Asked], str], list[str]]] = {
+    "server": ([], server_line, []),
+    "proxy": ([], proxy_line, []),
+    "csv": (["time,client,handle"], lambda it: csv_line("1", it.client, it.handle), []),
+    "table of paths": (
+        ["url,ip"],
+        lambda it: csv_line("/" + quote(it.handle), it.client),
+        ["--format", "csv", "--client", "ip", "--path", "url"],
+    ),
+    "json": ([], lambda it: json.dumps({"status": 302, "handle": it.handle, "client": it.client}), []),
+    "json of paths": (
+        [],
+        lambda it: json.dumps({"remote_addr": it.client, "uri": f"/api/handles/{quote(it.handle)}?type=URL"}),
+        ["--format", "json", "--client", "remote_addr", "--path", "uri"],
+    ),
+    "regex": (
+        [],
+        lambda it: f"10:00 <{it.client}> asks '{it.handle}' 3 ms",
+        ["--regex", r"^\d\d:\d\d <(?P<client>[^>]+)> asks '(?P<handle>.+)' \d+ ms$"],
+    ),
+    "regex of paths": (
+        [],
+        lambda it: f"host:443 {it.client} GET /hdl:{quote(it.handle)} 302",
+        ["--regex", r"^\S+ (?P<client>\S+) GET (?P<path>\S+)"],
+    ),
+}
+
+
+# A log that is packed and then damaged.
+PLAIN = "".join(f"{server_line(it)}\n" for it in asked(999, 20)).encode()
+
+
+def regions_file(tmp_path: Path) -> str:
+    path = tmp_path / "networks.csv"
+    path.write_text("network,region\n" + "".join(f"{it},{region}\n" for it, region in NETWORKS.items()))
+    return str(path)
+
+
+def counts_of(table: str) -> dict[tuple[str, str], int]:
+    rows = list(csv.reader(io.StringIO(table, newline="")))
+    assert rows[0] == ["region", "handle", "count"]
+    return {(region, handle): int(count) for region, handle, count in rows[1:]}
+
+
+def wanted(queries_of: list[Asked]) -> dict[tuple[str, str], int]:
+    return dict(Counter((it.region, it.handle) for it in queries_of))
+
+
+@pytest.mark.parametrize("name", FORMS)
+def test_each_form_has_the_counts_that_were_written(tmp_path: Path, name: str) -> None:
+    head, line, options = FORMS[name]
+    rows = asked(LINES, 7)
+    (tmp_path / "log").write_text("\n".join(head + [line(it) for it in rows]) + "\n", encoding="utf-8")
+    result = invoke("demand", tmp_path / "log", "--regions", regions_file(tmp_path), *options)
+    assert counts_of(result.stdout) == wanted(rows)
+    handles = len({it.handle for it in rows})
+    first = result.stderr.splitlines()[0]
+    assert first == f"1 log, 10,000 lines: 10,000 queries of 4 regions for {handles} handles"
+    assert "skipped" not in result.stderr
+
+
+@pytest.mark.parametrize("ending", ["\n", "\r\n"])
+def test_packed_logs_and_line_ends(tmp_path: Path, ending: str) -> None:
+    rows = asked(400, 8)
+    octets = ("\ufeff" + ending.join(map(server_line, rows)) + ending * 2).encode()
+    packed = {
+        "a.gz": gzip.compress(octets),
+        "b.bz2": bz2.compress(octets),
+        "c.xz": lzma.compress(octets),
+        "d": octets,
+    }
+    packed["twice.gz"] = gzip.compress(octets) + gzip.compress(octets[3:])
+    for name, it in packed.items():
+        (tmp_path / name).write_bytes(it)
+    result = invoke("demand", *(tmp_path / it for it in packed), "--regions", regions_file(tmp_path))
+    assert counts_of(result.stdout) == {key: 6 * count for key, count in wanted(rows).items()}
+
+
+def noisy(tmp_path: Path) -> tuple[Path, list[Asked], dict[str, int]]:
+    """A proxy's log with lines that are no queries, of which the script knows how many there are."""
+    rows = asked(1000, 9)
+    noise = {
+        '10.1.2.3 - - [x] "GET /favicon.ico HTTP/1.1" 200 -': "not a handle (NoSlash)",
+        '10.1.2.3 - - [x] "GET /.a/b HTTP/1.1" 200 -': "not a handle (EmptySegment)",
+        '10.1.2.3 - - [x] "GET /20.1/%FF HTTP/1.1" 200 -': "not a handle (NotUtf8)",
+        f'10.1.2.3 - - [x] "GET /20.1/{"x" * 5000} HTTP/1.1" 200 -': "not a handle (TooLong)",
+        '10.1.2.3 - - [x] "GET /20.1/a%0Ab HTTP/1.1" 200 -': "a line end in the handle",
+        '10.1.2.3 - - [x] "POST /20.1/a HTTP/1.1" 200 -': "another request than GET or HEAD",
+        '203.0.113.9 - - [x] "GET /20.1/a HTTP/1.1" 200 -': "no region for the client's address",
+        'host.example - - [x] "GET /20.1/a HTTP/1.1" 200 -': "the client isn't an IP address",
+        "\x00\x01\x02": "not a line of this form",
+        '10.1.2.3 - - [x] "GET /20.1/a': "not a line of this form",
+        '10.1.2.3 - - [x] "-" 408 -': "not a line of this form",
+        '10.1.2.3 - - [x] "' + "y" * (LONGEST + 1): f"longer than {LONGEST:,} octets",
+    }
+    lines, counts = [proxy_line(it) for it in rows], Counter[str]()
+    draw = random.Random(10)
+    for line, reason in noise.items():
+        times = draw.randint(1, 9)
+        counts[reason] += times
+        for _ in range(times):
+            lines.insert(draw.randrange(900), line)
+    path = tmp_path / "noisy.log"
+    path.write_text("\n".join(lines) + "\n", encoding="utf-8")
+    return path, rows, dict(counts)
+
+
+def test_what_is_skipped_is_counted_with_its_first_line(tmp_path: Path) -> None:
+    path, rows, counts = noisy(tmp_path)
+    words = ("demand", path, "--regions", regions_file(tmp_path), "--format", "proxy")
+    result = invoke(*words)
+    assert counts_of(result.stdout) == wanted(rows)
+    found = re.findall(r"^  ([\d,]+)  (.*?); first (.*?):(\d+): (.*)$", result.stderr, re.M)
+    assert {reason: int(count) for count, reason, *_ in found} == counts
+    lines = path.read_bytes().split(b"\n")
+    for _, reason, file, number, shown in found:
+        assert file == str(path)
+        assert ascii(lines[int(number) - 1].decode())[:40] == shown[:40], reason
+    elsewhere = counts_of(invoke(*words, "--elsewhere", "far").stdout)
+    assert elsewhere == {**wanted(rows), ("far", "20.1/a"): counts["no region for the client's address"]}
+    only = invoke(*words, "--prefix", "20.500.1234")
+    assert counts_of(only.stdout) == {
+        key: it for key, it in wanted(rows).items() if key[1].startswith("20.500.1234/")
+    }
+    assert "a handle of another prefix" in only.stderr
+
+
+def test_operations_of_a_handle_server_that_are_no_resolutions(tmp_path: Path) -> None:
+    rows = asked(50, 11)
+    lines = [server_line(it) for it in rows] + [server_line(rows[0]).replace(" 1 1 3ms ", " 101 1 3ms ")] * 3
+    (tmp_path / "log").write_text("\n".join(lines), encoding="utf-8")
+    result = invoke("demand", tmp_path / "log", "--regions", regions_file(tmp_path))
+    assert counts_of(result.stdout) == wanted(rows)
+    assert "  3  another operation than a resolution; first " in result.stderr
+
+
+def test_escapes_of_a_proxy_log_are_undone(tmp_path: Path) -> None:
+    lines = [
+        '10.1.2.3 - - [x] "GET /20.1/\\xc3\\xa9 HTTP/1.1" 302 -',
+        '10.1.2.3 - - [x] "GET /20.1/a\\"b HTTP/1.1" 302 -',
+        '10.1.2.3 - - [x] "GET http://hdl.example/20.1/a%22b HTTP/1.1" 302 -',
+        '10.1.2.3 - - [x] "HEAD /20.1/a\\\\b?c" 302 -',
+    ]
+    (tmp_path / "log").write_text("\n".join(lines), encoding="utf-8")
+    result = invoke("demand", tmp_path / "log", "--regions", regions_file(tmp_path))
+    assert counts_of(result.stdout) == {("eu", "20.1/é"): 1, ("eu", '20.1/a"b'): 2, ("eu", "20.1/a\\b"): 1}
+
+
+def test_paths_of_proxies(tmp_path: Path) -> None:
+    paths = [
+        "20.1/a/b",
+        "/20.1/a/b",
+        "https://hdl.example/20.1/a%2Fb?x",
+        "//api/handles/20.1/a/b",
+        "/doi:20.1/a/b",
+        "/HDL:20.1/a/b",
+    ]
+    (tmp_path / "log").write_text("client,url\n" + "".join(f"10.1.2.3,{it}\n" for it in paths))
+    words = ("demand", tmp_path / "log", "--regions", regions_file(tmp_path), "--path", "url")
+    assert counts_of(invoke(*words).stdout) == {("eu", "20.1/a/b"): len(paths)}
+
+
+def random_networks(draw: random.Random) -> dict[str, str]:
+    """Networks of both kinds, many of them inside others."""
+    found = {}
+    for number in range(600):
+        version = draw.choice((4, 6))
+        bits = 32 if version == 4 else 128
+        base = draw.choice((0, 10 << 24, 255 << 24)) if version == 4 else draw.choice((0, 0x20010DB8 << 96))
+        prefix = draw.choice((0 if version == 4 else 20, 8, 9, 12, 16, 23, 24, 30, bits - 1, bits))
+        first = (base + draw.getrandbits(bits - 8)) >> (bits - prefix) << (bits - prefix)
+        kind = ipaddress.IPv4Network if version == 4 else ipaddress.IPv6Network
+        found[str(kind((first, prefix)))] = f"r{number % 60}"
+    return found
+
+
+def random_addresses(draw: random.Random, networks: dict[str, str]) -> list[str]:
+    """Addresses in networks, just beside them, and anywhere."""
+    found = []
+    for it in networks:
+        network = ipaddress.ip_network(it)
+        most = (1 << network.max_prefixlen) - 1
+        first, last = int(network.network_address), int(network.broadcast_address)
+        for number in (
+            first,
+            last,
+            max(0, first - 1),
+            min(most, last + 1),
+            draw.randint(first, last),
+            draw.randint(0, most),
+        ):
+            kind = ipaddress.IPv4Address if network.version == 4 else ipaddress.IPv6Address
+            found.append(str(kind(number)))
+    return found
+
+
+def longest(parsed: list[tuple[ipaddress.IPv4Network | ipaddress.IPv6Network, str]], address: str) -> str | None:
+    own = ipaddress.ip_address(address)
+    if own.version == 6 and own.ipv4_mapped:
+        own = own.ipv4_mapped
+    fitting = [(it.prefixlen, region) for it, region in parsed if it.version == own.version and own in it]
+    return max(fitting)[1] if fitting else None
+
+
+def test_regions_are_those_of_ipaddress(tmp_path: Path) -> None:
+    draw = random.Random(12)
+    networks = random_networks(draw)
+    rows = list(networks.items())
+    draw.shuffle(rows)
+    table = "network,region\r\n" + "".join(f'"{it}",{region}\r\n' for it, region in rows)
+    own = Networks("t", table.encode(), None)
+    parsed = [(ipaddress.ip_network(it), region) for it, region in networks.items()]
+    addresses = random_addresses(draw, networks)
+    assert len(addresses) == 6 * len(networks) > 2000
+    kinds = set()
+    for it in addresses:
+        region, found = longest(parsed, it), own.seek(it.encode())
+        assert found == (region.encode() if region else "no region for the client's address"), it
+        kinds.add(region is None)
+    assert kinds == {True, False} and "0.0.0.0/0" in networks
+    for it in addresses[:200]:
+        if ":" not in it:
+            assert own.seek(f"::ffff:{it}".encode()) == own.seek(it.encode())
+    assert own.seek(b"[2001:db8::1%eth0]") == own.seek(b"2001:db8::1")
+    for odd in (b"", b"-", b"10.1", b"10.1.2.3.4", b"\xff", b"host", b"::g", b"10.1.2.256"):
+        assert own.seek(odd) == "the client isn't an IP address"
+
+
+def test_regions_of_a_maxmind_database(tmp_path: Path) -> None:
+    pytest.importorskip("maxminddb")
+    told = {
+        it: {"continent": {"code": region.upper()}, "country": {"iso_code": region}}
+        for it, region in NETWORKS.items()
+    }
+    path = tmp_path / "base.mmdb"
+    path.write_bytes(maxmind.database({**told, "198.51.100.0/24": {"continent": {}}}))
+    base = Database(str(path), "country.iso_code", None)
+    table = regions_in(regions_file(tmp_path), "", None)
+    draw = random.Random(13)
+    for it in random_addresses(draw, NETWORKS) + CLIENTS + ["198.51.100.1"]:
+        assert base.seek(it.encode()) == table(it.encode()), it
+    rows = asked(300, 14)
+    (tmp_path / "log").write_text("\n".join(map(server_line, rows)), encoding="utf-8")
+    result = invoke("demand", tmp_path / "log", "--regions", path)
+    assert counts_of(result.stdout) == {(key[0].upper(), key[1]): it for key, it in wanted(rows).items()}
+    octets = path.read_bytes()
+    for cut in (octets[: len(octets) // 2] + octets[-300:], octets[:-40], b"\xff" * 300 + octets[-260:]):
+        path.write_bytes(cut)
+        result = invoke("demand", tmp_path / "log", "--regions", path, status=1)
+        assert result.stderr.startswith("hsp: ") and result.stderr.count("\n") == 1
+
+
+@pytest.mark.parametrize(
+    "table, says",
+    [
+        (b"", "line 1: the header isn't network,region"),
+        (b"region,network\n", "line 1: the header isn't network,region"),
+        (b"network,region\n10.0.0.0/8\n", "line 2: 1 fields in place of network,region"),
+        (b"network,region\n\n10.0.0.0/33,eu\n", "line 3: '10.0.0.0/33' isn't a network such as"),
+        (b"network,region\n10.0.0.0/x,eu\n", "isn't a network such as"),
+        (b"network,region\n10.0.0.1/8,eu\n", "begins in the middle of a network of this length"),
+        (b"network,region\n10.0.0.0/8,eu\n10.0.0.0/8,us\n", "line 3: 10.0.0.0/8 has another region above"),
+        (b"network,region\n10.0.0.0/8,\n", "line 2: no region"),
+        (b"network,region\n10.0.0.0/8,e\xff\n", "line 2: not UTF-8"),
+        (b'network,region\n10.0.0.0/8,"eu\n', "line 2: "),
+        (b"network,region\n10.0.0.0/8,a b\n", "hsplan refuses this demand: demand: BadName row 0"),
+    ],
+    ids=itertools.count(),
+)
+def test_tables_of_networks_that_are_refused(tmp_path: Path, table: bytes, says: str) -> None:
+    (tmp_path / "networks.csv").write_bytes(table)
+    (tmp_path / "log").write_text(server_line(Asked("10.1.2.3", "", "20.1/a")))
+    words = ("demand", tmp_path / "log", "--regions", tmp_path / "networks.csv", "-o", tmp_path / "out")
+    line = invoke(*words, status=1).stderr
+    assert says in line and line.count("\n") == 1
+    assert sorted(os.listdir(tmp_path)) == ["log", "networks.csv"]
+
+
+@pytest.mark.parametrize(
+    "octets, says",
+    [
+        (b"", "they have no line"),
+        (b"\n\r\n", "they have no line"),
+        (b"\xff\xfeh\0i\0", "line 1: this text is in UTF-16"),
+        (b"hello\nworld\n", "line 1: a log of no known form"),
+        (bytes(range(256)) * 9, "a log of no known form"),
+        (b"time,address\n1,2\n", "a log of no known form"),
+        (gzip.compress(PLAIN)[:-9], "it can't be unpacked further"),
+        (gzip.compress(PLAIN)[:-8] + b"\0" * 8, "it can't be unpacked further"),
+        (gzip.compress(PLAIN)[:12], "line 1: it can't be unpacked further"),
+        (b"\x1f\x8b" + b"\0" * 30, "line 1: it can't be unpacked further"),
+        (bz2.compress(PLAIN)[:-9], "it can't be unpacked further"),
+        (bz2.compress(PLAIN)[:10] + b"\0" * 60, "it can't be unpacked further"),
+        (lzma.compress(PLAIN)[:-30], "it can't be unpacked further"),
+        (lzma.compress(PLAIN)[:20] + b"\xff" * 60, "it can't be unpacked further"),
+        (b'203.0.113.1 - - [x] "GET /20.1/a HTTP/1.1" 302 -\n', "1  no region for the client's address; first "),
+    ],
+    ids=itertools.count(),
+)
+def test_logs_without_a_query_are_refused_in_one_line(tmp_path: Path, octets: bytes, says: str) -> None:
+    (tmp_path / "log").write_bytes(octets)
+    (tmp_path / "demand.csv").write_text("mine")
+    words = ("demand", tmp_path / "log", "--regions", regions_file(tmp_path), "--into", tmp_path)
+    result = invoke(*words, "--log", tmp_path / "kept.csv", status=1)
+    assert says in result.stderr and result.stderr.count("\n") == 1 and result.stdout == ""
+    assert (tmp_path / "demand.csv").read_text() == "mine"
+    assert sorted(os.listdir(tmp_path)) == ["demand.csv", "log", "networks.csv"]
+
+
+def test_a_cut_log_names_the_line_that_it_ends_in(tmp_path: Path) -> None:
+    draw = random.Random(15)
+    lines = [server_line(Asked("10.1.2.3", "eu", f"20.1/{draw.random()}")) + "\n" for _ in range(5000)]
+    whole = gzip.compress("".join(lines).encode())
+    (tmp_path / "cut.gz").write_bytes(whole[: len(whole) // 2])
+    result = invoke("demand", tmp_path / "cut.gz", "--regions", regions_file(tmp_path), status=1)
+    unpacked = subprocess.run(["gzip", "-dc", str(tmp_path / "cut.gz")], capture_output=True).stdout
+    assert f"cut.gz: line {unpacked.count(10) + 1}: " in result.stderr
+
+
+def test_random_octets_in_logs_end_well(tmp_path: Path) -> None:
+    draw = random.Random(16)
+    regions = regions_file(tmp_path)
+    found = set()
+    for number in range(80):
+        head, line, options = FORMS[draw.choice(list(FORMS))]
+        octets = bytearray("\n".join(head + [line(it) for it in asked(30, number)]).encode())
+        for _ in range(draw.randint(1, 40)):
+            at = draw.randrange(len(octets))
+            octets[at : at + draw.randint(0, 3)] = draw.choice(
+                (b"", b"\xff", b'"', b"\n", b"\0", b"\\", b"%", b"{", b"," * 9)
+            )
+        (tmp_path / "log").write_bytes(octets)
+        words = ["demand", str(tmp_path / "log"), "--regions", regions, *options]
+        result = CliRunner(mix_stderr=False).invoke(main, words)
+        assert result.exception is None or isinstance(result.exception, SystemExit), repr(result.exception)
+        assert result.exit_code == 0 or result.stderr.count("\n") == 1
+        found.add(result.exit_code)
+    assert found <= {0, 1} and 0 in found
+
+
+def test_lines_of_any_length_have_their_numbers(tmp_path: Path) -> None:
+    draw = random.Random(17)
+    sizes = [draw.choice((0, 1, 50, LONGEST, LONGEST + 1, 1 << 20, 3 << 20)) for _ in range(60)]
+    (tmp_path / "log").write_bytes(b"\n".join(b"x" * it for it in sizes))
+    skipped = Skipped()
+    found = [(number, len(line)) for number, line in numbered(str(tmp_path / "log"), skipped)]
+    assert found == [(at, it) for at, it in enumerate(sizes, 1) if 0 < it <= LONGEST]
+    assert skipped.sum == sum(it > LONGEST for it in sizes)
+
+
+def service(tmp_path: Path) -> Path:
+    """A folder with the sites of an example, and costs of the regions of these logs."""
+    folder = tmp_path / "service"
+    folder.mkdir()
+    text = (TOP / "examples" / "two-sites" / "settings.toml").read_text()
+    (folder / "settings.toml").write_text(text)
+    costs = [
+        (region, site, 10 + 7 * at) for at, region in enumerate(("eu", "us", "asia")) for site in ("paris", "reston")
+    ]
+    (folder / "costs.csv").write_text("region,site,cost\n" + "".join(f"{a},{b},{c}\n" for a, b, c in costs))
+    capacity = [
+        (site, at, 10**9) for site, servers in (("paris", 2), ("reston", 3)) for at in range(1, servers + 1)
+    ]
+    (folder / "capacity.csv").write_text(
+        "site,server_id,capacity\n" + "".join(f"{a},{b},{c}\n" for a, b, c in capacity)
+    )
+    return folder
+
+
+def many(tmp_path: Path) -> tuple[Path, Counter[str]]:
+    """A log of 20,000 handles, each asked for once."""
+    rows = [Asked(CLIENTS[number % 3], "", f"20.500.1234/n{number}") for number in range(20_000)]
+    path = tmp_path / "many.log"
+    path.write_text("\n".join(map(server_line, rows)), encoding="utf-8")
+    return path, Counter(str(region_of(it.client)) for it in rows)
+
+
+def test_any_number_of_handles_is_joined_by_kinds(tmp_path: Path) -> None:
+    path, counts = many(tmp_path)
+    folder = service(tmp_path)
+    words = ("demand", path, "--regions", regions_file(tmp_path))
+    assert "20,000 rows of demand; hsplan takes 8,192" in invoke(*words, status=1).stderr
+    result = invoke(*words, "--into", folder, "--log", folder / "log.csv")
+    table = counts_of((folder / "demand.csv").read_text())
+    assert len(table) == 3 * 6  # by whole handle, sites of 2 and 3 servers have 6 kinds in each region
+    sums: Counter[str] = Counter()
+    for (region, _), count in table.items():
+        sums[region] += count
+    assert sums == counts
+    assert "has 18 rows, each for the handles that have the same servers" in result.stdout
+    log = (folder / "log.csv").read_text().splitlines()
+    assert log[0] == "region,handle" and log[2] == "us,20.500.1234/n1" and len(log) == 20_001
+    desk = Desk()
+    direct = desk.kinds(inputs_of(folder), str(folder / "log.csv"), None)
+    assert direct == (folder / "demand.csv").read_text()
+    (folder / "costs.csv").write_text("region,site,cost\neu,paris,1\n")
+    assert "no cost of asia and us. Put in the costs first" in invoke(*words, "--into", folder, status=1).stderr
+
+
+def inputs_of(folder: Path) -> Inputs:
+    return Inputs(*(str(folder / f"{it}") for it in ("settings.toml", "demand.csv", "costs.csv", "capacity.csv")))
+
+
+def test_counts_beyond_memory_give_the_same_table(tmp_path: Path) -> None:
+    path, _ = many(tmp_path)
+    inputs = inputs_of(service(tmp_path))
+    seek = regions_in(regions_file(tmp_path), "", None)
+    tables = []
+    for most in (100, 1 << 20):
+        desk = Desk()
+        reading, tally = Reading(Form(), seek, Judge(desk, 1000)), Tally(desk, most)
+        for _ in tally.add(queries(str(path), reading)):
+            pass
+        text, is_joined = tally.demand(inputs, None)
+        assert is_joined and (tally.handles is None)
+        assert tally.asked == 20_000 and tally.regions == {b"eu", b"us", b"asia"}
+        tables.append(text)
+    assert tables[0] == tables[1]
+
+
+def test_a_count_that_is_too_large_needs_a_unit(tmp_path: Path) -> None:
+    folder = service(tmp_path)
+    (tmp_path / "few.csv").write_text("client,handle\n" + "10.1.2.3,20.1/a\n" * 1001)
+    words = ("demand", tmp_path / "few.csv", "--regions", regions_file(tmp_path), "--into", folder)
+    invoke(*words, "--unit", "10")
+    assert (folder / "demand.csv").read_text() == "region,handle,count\neu,20.1/a,101\n"
+    desk = Desk()
+    tally = Tally(desk)
+    for _ in range(1001):
+        for _ in tally.add([(b"eu", b"20.1/a")] * 1000):
+            pass
+    with pytest.raises(Exception, match="1 row of demand; hsplan takes 8,192, with counts up to 1,000,000"):
+        tally.demand(None, None)
+    with pytest.raises(Exception, match="more than 1,000,000 queries; give --unit 2 or a larger one"):
+        tally.demand(inputs_of(folder), None)
+    assert tally.demand(inputs_of(folder), 2)[0] == b"region,handle,count\neu,20.1/a,500500\n"
+
+
+def test_more_regions_than_hsplan_takes(tmp_path: Path) -> None:
+    (tmp_path / "networks.csv").write_text(
+        "network,region\n" + "".join(f"10.{it}.0.0/16,r{it}\n" for it in range(65))
+    )
+    lines = [server_line(Asked(f"10.{it}.0.1", "", "20.1/a")) for it in range(65)]
+    for number, status in ((64, 0), (65, 1)):
+        (tmp_path / "log").write_text("\n".join(lines[:number]))
+        result = invoke("demand", tmp_path / "log", "--regions", tmp_path / "networks.csv", status=status)
+        assert ("; join networks to at most 64 regions\n" in result.stderr) == (number == 65)
+
+
+def test_more_kinds_than_hsplan_takes(tmp_path: Path) -> None:
+    """Sites of 5, 7, 8 and 9 servers have 2,520 kinds in a region, so that four regions have too many."""
+    folder = service(tmp_path)
+    sizes = (5, 7, 8, 9)
+    octets = [make_examples.site_octets("s", 1, ["192.0.2.1"] * size) for size in sizes]
+    blocks = [f'[[site]]\nname = "s{size}"\nrecord = "{it.hex()}"\n' for size, it in zip(sizes, octets)]
+    (folder / "settings.toml").write_text("".join(blocks))
+    costs = [f"{region},s{size},1\n" for region in NETWORKS.values() for size in sizes]
+    (folder / "costs.csv").write_text("region,site,cost\n" + "".join(sorted(set(costs))))
+    rows = [Asked(CLIENTS[at % 4], "", f"20.1/{at // 4}") for at in range(60_000)]
+    (tmp_path / "log").write_text("\n".join(map(server_line, rows)))
+    words = ("demand", tmp_path / "log", "--regions", regions_file(tmp_path), "--into", folder)
+    assert "; give costs to only the three or four sites" in invoke(*words, status=1).stderr
+
+
+def test_a_plan_of_the_demand_answers_the_whole_log(hsp: Hsp, tmp_path: Path) -> None:
+    folder = service(tmp_path)
+    rows = [it for it in asked(LINES, 18) if it.region != "lab"]
+    (tmp_path / "log").write_text("\n".join(map(proxy_line, rows)), encoding="utf-8")
+    log = folder / "log.csv"
+    hsp(
+        "demand", str(tmp_path / "log"), "--regions", regions_file(tmp_path), "--into", str(folder), "--log", str(log)
+    )
+    hsp("plan", str(folder))
+    files = [
+        it
+        for name in ("settings.toml", "demand.csv", "costs.csv", "capacity.csv")
+        for it in (f"--{name.split('.')[0]}", str(folder / name))
+    ]
+    words = [os.environ["HSPLAN"], "dispatch", *files, "--plan", str(folder / "plan.txt"), "--log", str(log)]
+    done = subprocess.run(words, capture_output=True, text=True, check=True)
+    assert done.stderr == f"assigned {len(rows)} spent 0 unknown 0\n"
+    assert done.stdout.count("\n") == len(rows)
+
+
+def test_words_that_are_no_command(tmp_path: Path) -> None:
+    regions = regions_file(tmp_path)
+    (tmp_path / "log").write_text(server_line(Asked("10.1.2.3", "eu", "20.1/a")))
+    words = ("demand", tmp_path / "log", "--regions", regions)
+    assert "missing ), unterminated subpattern" in invoke(*words, "--regex", "(", status=2).stderr
+    assert "(?P<client>..)" in invoke(*words, "--regex", "(?P<handle>x)", status=2).stderr
+    assert "would be read and written" in invoke(*words, "-o", regions, status=1).stderr
+    assert "would be read and written" in invoke(*words, "--log", tmp_path / "log", status=1).stderr
+    assert "No such file" in invoke("demand", tmp_path / "absent", "--regions", regions, status=5).stderr
+    assert "no header with client and handle" in invoke(*words, "--format", "csv", status=1).stderr
+
+
+def test_a_database_needs_its_package(tmp_path: Path, monkeypatch: pytest.MonkeyPatch) -> None:
+    (tmp_path / "base.mmdb").write_bytes(maxmind.database({"10.0.0.0/8": {"continent": {"code": "EU"}}}))
+    monkeypatch.setitem(sys.modules, "maxminddb", None)
+    line = invoke("demand", tmp_path / "log", "--regions", tmp_path / "base.mmdb", status=5).stderr
+    assert line.endswith("base.mmdb: Python has no maxminddb to read it: install it (Debian: python3-maxminddb)\n")
+
+
+def processor_seconds(path: Path, seek: Seek) -> float:
+    """The seconds of the processor that counting a log takes, those of hsplan-stream among them."""
+    before = sum(os.times()[:4])
+    tally = Tally(Desk())
+    for _ in tally.add(queries(str(path), Reading(Form(), seek, Judge(Desk())))):
+        pass
+    assert tally.asked == 20 * LINES
+    return sum(os.times()[:4]) - before
+
+
+def test_a_hundred_thousand_lines_take_less_than_a_second_of_the_processor(tmp_path: Path) -> None:
+    """The best of three runs counts, since other work on the machine makes a run longer."""
+    (tmp_path / "log").write_text("\n".join(map(server_line, asked(LINES, 21) * 20)), encoding="utf-8")
+    seek = regions_in(regions_file(tmp_path), "", None)
+    assert any(processor_seconds(tmp_path / "log", seek) < 2 for _ in range(3))
+
+
+def test_progress_is_shown_on_a_terminal(tmp_path: Path) -> None:
+    rows = asked(LINES, 22) * 4
+    (tmp_path / "log").write_text("\n".join(map(server_line, rows)), encoding="utf-8")
+    words = [
+        sys.executable,
+        "-m",
+        "hsp",
+        "demand",
+        str(tmp_path / "log"),
+        "--regions",
+        regions_file(tmp_path),
+        "-o",
+        "out.csv",
+    ]
+    own, its = pty.openpty()
+    environment = {**os.environ, "PYTHONPATH": str(TOP / "companion")}
+    done = subprocess.run(words, stdout=subprocess.PIPE, stderr=its, env=environment, cwd=tmp_path)
+    os.close(its)
+    shown = os.read(own, 1 << 16).decode()
+    os.close(own)
+    assert re.match(rf"\r{tmp_path}/log: \d+,\d+ lines, [\d,]+ a second", shown) and shown.endswith("\r\x1b[K")
+    assert done.stdout.decode().splitlines()[-1].startswith("out.csv has ")
+
+
+def test_names_that_are_no_text(tmp_path: Path) -> None:
+    """File names and words may be any octets."""
+    folder = os.fsencode(tmp_path) + b"/\xff"
+    regions = regions_file(tmp_path).encode()
+    environment = {**os.environ, "PYTHONPATH": str(TOP / "companion"), "LC_ALL": "C.UTF-8", "PYTHONUTF8": "0"}
+    hsp = [os.fsencode(it) for it in (sys.executable, "-m", "hsp")]
+    runs = [
+        ([b"new", folder], 0),
+        ([b"demand", folder + b"/log", b"--regions", regions, b"--into", folder], 5),
+        ([b"demand", regions, b"--regions", regions, b"--regex", b"(?P<client>1\\S+)/(?P<handle>\xff)"], 1),
+        ([b"demand", folder + b".log", b"--regions", regions, b"--into", folder], 0),
+        ([b"demand", folder + b".log", b"--regions", regions, b"--elsewhere", b"\xff", b"--prefix", b"\xff"], 1),
+        ([b"sites", folder + b".log", b"--into", folder], 1),
+    ]
+    with open(folder + b".log", "w") as file:
+        file.write(server_line(Asked("10.1.2.3", "eu", "20.1/a")))
+    for words, status in runs:
+        done = subprocess.run(hsp + words, capture_output=True, env=environment)
+        assert done.returncode == status and b"Traceback" not in done.stderr, (words, done)
+
+
+def test_standard_input_is_a_log(tmp_path: Path) -> None:
+    rows = asked(100, 19)
+    text = "\n".join(map(server_line, rows)).encode()
+    words = [sys.executable, "-m", "hsp", "demand", "-", "--regions", regions_file(tmp_path)]
+    environment = {**os.environ, "PYTHONPATH": str(TOP / "companion")}
+    for octets in (text, gzip.compress(text)):
+        done = subprocess.run(words, input=octets, capture_output=True, env=environment)
+        assert counts_of(done.stdout.decode()) == wanted(rows), done.stderr
