@@ -1,5 +1,5 @@
 -- A run gives back the writer that it was lent.
-use Rattle.std.proofs.Common.{◌≡◌, ◌⊎◌, inl, inr, ℕ, List, None, Option, Some, Result, Ok, Err, ap}
+use Rattle.std.proofs.Common.{◌≡◌, inl, inr, ℕ, List, None, Option, Some, Result, Ok, Err, ap, subst, sym}
 use Rattle.std.specs.Borrow.{GName}
 use Rattle.hsp_cert.specs.Certificate.{Claim}
 use Rattle.hsp_cert.specs.Certificate.Claim.{best, short}
@@ -17,7 +17,7 @@ use Rattle.hsp_stream.specs.declared.fault.StreamFault.{StreamFault}
 use Rattle.hsp_stream.specs.declared.fault.StreamFault.TheVariants as fault
 use Rattle.hsp_stream.specs.declared.portions.PortionWords.{PortionWords}
 use Rattle.hsp_stream_edge.specs.Ending.{Ended}
-use Rattle.hsp_stream_edge.specs.Talking.{EndsAnswers, EndsPlaces}
+use Rattle.hsp_stream_edge.specs.Talking.{EndsAnswers, EndsPlaces, octets_known}
 use Rattle.hsp_stream_edge.specs.declared.failure.StreamFailure.TheVariants.{Usage, Memory, Read, Write, Refused}
 use Rattle.hsp_stream_edge.specs.declared.files.Sources.{Sources}
 
@@ -82,3 +82,10 @@ answers_keep inputs octets words (Err Write) old new so = absurd so
 -- a name that is known is the same
 pub same_name : (a b : GName) → Some a ≡ Some b → a ≡ b
 same_name a b e = cc e
+
+-- what holds of a writer that is lent holds of the writer that is given back
+pub given_back : {W : Type 0} (contents : W → Option (List ℕ)) (Holds : Known → Type 0) (left : Option (List ℕ)) (writer last : W) (before after : GName) →
+    (before ≡ after → writer ≡ last) → after ≡ before → Holds (octets_known left (contents last) after) → Holds (octets_known left (contents writer) before)
+given_back contents Holds left writer last before after back same so =
+    subst (λ (w : Option (List ℕ)). Holds (octets_known left w before)) (sym (ap contents (back (sym same))))
+    (subst (λ (name : GName). Holds (octets_known left (contents last) name)) same so)

@@ -1,5 +1,5 @@
 -- What a command does: for which words, and from which files.
-use Rattle.std.specs.Prelude.{◌≡◌, ◌⊎◌, ℕ, List, Option, None, Result, Ok, Err}
+use Rattle.std.specs.Prelude.{◌≡◌, ◌⊎◌, ℕ, List, Option, Result, Ok, Err}
 use Rattle.hsp_command.specs.StreamOrders.{IsStreamOrdered}
 use Rattle.hsp_command.specs.declared.fault.CommandFault.{CommandFault}
 use Rattle.hsp_command.specs.declared.order.InputFiles.{InputFiles}
@@ -45,7 +45,7 @@ abbrev pub AnswersLog : Disk → InputFiles → List ℕ → List ℕ → Option
 AnswersLog disk files plan log unit front old new ended =
     LacksFile (DispatchFails disk files plan log) old new ended ⊎ ((new ≡ old) × (ended ≡ Err Memory))
     ⊎ ((it : Opened) × (words : PortionWords) × AreOpened disk files plan log it × IsPortion unit front words
-    × TalksOver it.log old new (EndsAnswers it.inputs it.certificate words ended))
+    × TalksOver it.left old new (EndsAnswers it.inputs it.certificate words ended))
 
 -- an order is carried out on an output, whose writes may fail or not
 abbrev pub CarriesOut : Disk → Type 0 → StreamOrder → Option (List ℕ) → Option (List ℕ) → Ended → Type 0

@@ -56,7 +56,13 @@ pub(crate) fn state_places<F: OpenFile, O: Output>(
         reader: log,
         writer: out,
     };
-    state_joined(alloc, sources, &mut peer)
+    let ended = state_joined(alloc, sources, &mut peer);
+    // The writer is given back here, so that it is known what it holds.
+    let Joined {
+        reader: _read,
+        writer: _given_back,
+    } = peer;
+    ended
 }
 
 // The octets of a word, if there is one.
@@ -146,5 +152,11 @@ pub(crate) fn answer_log<F: OpenFile, O: Output>(
         reader: log,
         writer: out,
     };
-    answer_joined(alloc, &inputs, &certificate, portion, &mut peer)
+    let ended = answer_joined(alloc, &inputs, &certificate, portion, &mut peer);
+    // The writer is given back here, so that it is known what it holds.
+    let Joined {
+        reader: _read,
+        writer: _given_back,
+    } = peer;
+    ended
 }

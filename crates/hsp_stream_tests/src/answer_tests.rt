@@ -83,13 +83,7 @@ fn answers(
 }
 
 // The run has the fault, and sends nothing.
-fn has_fault(
-    rt: &impl Abort,
-    alloc: Global,
-    plan: &[u8],
-    words: Words<'_>,
-    wanted: StreamFault,
-) {
+fn has_fault(rt: &impl Abort, alloc: Global, plan: &[u8], words: Words<'_>, wanted: StreamFault) {
     let (ended, sent) = answer_of(alloc, plan, words, b"bad\n");
     is_same(rt, sent.as_slice(), b"".as_slice());
     is_same(rt, ended, Err(wanted));
@@ -121,7 +115,11 @@ fn other_rows_are_unknown_or_refused(rt: HostRuntime) {
             b"unknown\nunknown\nrefused BadHandle NoSlash\nrefused Fields\nassigned E 1 3\n",
             [1, 0, 2, 2],
         ),
-        (b"\n\nregion,body\nr1,zz\n", b"refused BadBody\n", [0, 0, 0, 1]),
+        (
+            b"\n\nregion,body\nr1,zz\n",
+            b"refused BadBody\n",
+            [0, 0, 0, 1],
+        ),
     ];
     for (log, sent, sums) in cases {
         answers(&rt, rt.alloc(), WHOLE, log, (sent, sums));
@@ -134,7 +132,8 @@ fn a_query_of_the_plan_stands_for_a_unit(rt: HostRuntime) {
         unit: Some(b"2"),
         front: None,
     };
-    let log = b"region,handle\nr1,10/1\nr1,10/1\nr1,10/1\nr1,10/1\nr1,10/1\nr2,10/2\nr2,10/2\nr2,10/2\n";
+    let log =
+        b"region,handle\nr1,10/1\nr1,10/1\nr1,10/1\nr1,10/1\nr1,10/1\nr2,10/2\nr2,10/2\nr2,10/2\n";
     answers(
         &rt,
         rt.alloc(),

@@ -135,8 +135,14 @@ fn the_first_fault_of_the_log_is_found(rt: HostRuntime) {
     let cases: [(&[u8], RowFault); 6] = [
         (b"", RowFault::Header),
         (b"handle\n", RowFault::Header),
-        (b"region,handle\nr1,10/1\nr1\nr 1,10\n", RowFault::Fields { row: 1 }),
-        (b"region,handle,count\nr 1,10,x\n", RowFault::BadName { row: 0 }),
+        (
+            b"region,handle\nr1,10/1\nr1\nr 1,10\n",
+            RowFault::Fields { row: 1 },
+        ),
+        (
+            b"region,handle,count\nr 1,10,x\n",
+            RowFault::BadName { row: 0 },
+        ),
         (
             b"region,handle,count\nr1,10,x\n",
             RowFault::BadHandle {
@@ -158,7 +164,14 @@ fn the_first_fault_of_the_log_is_found(rt: HostRuntime) {
 fn a_count_may_be_too_large(rt: HostRuntime) {
     let log: &[u8] = b"region,handle,count\nr2,10/1,1\nr1,10/1,6000000\nr1,10/7,1\n";
     let wanted = RowFault::CountTooLarge { row: 1, unit: 7 };
-    has_fault(&rt, rt.alloc(), COSTS, Some(b"6"), log, StreamFault::Log(wanted));
+    has_fault(
+        &rt,
+        rt.alloc(),
+        COSTS,
+        Some(b"6"),
+        log,
+        StreamFault::Log(wanted),
+    );
     has_table(
         &rt,
         rt.alloc(),

@@ -34,7 +34,6 @@ fn a_row_of_more_than_256_octets_is_not_kept(rt: HostRuntime) {
     is_same(&rt, seen.find(b"r1", &long), None);
 }
 
-
 // Whether the row was seen before it was counted and after it, how many kinds there are then, and the count of the first
 // kind, if it is that of 10/1. None where memory ran out.
 type Counted = Option<(bool, bool, u32, Option<u64>)>;
@@ -77,9 +76,15 @@ fn rows_found(alloc: Global) -> Option<[Option<u32>; 3]> {
     let accepted = accepted_in(alloc, &inputs, PLAN).ok()?;
     let costs = costs_in(alloc, COSTS).ok()?;
     let mut finder = RowFinder::new(alloc, &accepted.instance, &costs).ok()?;
-    let own = finder.find(alloc, b"r1", HandleRef::parse(b"10/4").ok()?).ok()?;
-    let alike = finder.find(alloc, b"r1", HandleRef::parse(b"10/9").ok()?).ok()?;
-    let other = finder.find(alloc, b"r1", HandleRef::parse(b"10/3").ok()?).ok()?;
+    let own = finder
+        .find(alloc, b"r1", HandleRef::parse(b"10/4").ok()?)
+        .ok()?;
+    let alike = finder
+        .find(alloc, b"r1", HandleRef::parse(b"10/9").ok()?)
+        .ok()?;
+    let other = finder
+        .find(alloc, b"r1", HandleRef::parse(b"10/3").ok()?)
+        .ok()?;
     Some([own, alike, other])
 }
 

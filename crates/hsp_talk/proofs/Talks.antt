@@ -329,8 +329,7 @@ module _ {D : Type 0} (Takes : TakesRow D) (first : D) where
       AreOwed Takes desk at (rows_ended_by line []) [] owed → GoesOn now new (sending owed) → Went start new (HeldToTheEnd Takes first at)
   talk_ends desk at line owed start old now new (events, goes, so) read more sends =
       let piece = received [] ∷ [] in
-      let owing = after_all at (events ++ piece) owed [] (after_read desk at line [] events owed (rows_ended_by line []) [] so (sym (append-nil (rows_ended_by line []))) more) in
-      (
+      let owing = after_all at (events ++ piece) owed [] (after_read desk at line [] events owed (rows_ended_by line []) [] so (sym (append-nil (rows_ended_by line []))) more) in (
         events ++ piece ++ sending owed,
         goes_then start now new (events ++ piece) (sending owed) (goes_then start old now events piece goes read) sends,
         (
@@ -356,8 +355,7 @@ module _ {D : Type 0} (Takes : TakesRow D) (first : D) where
   talk_goes_on desk at line (c ∷ octets) next owed start old now new some (events, goes, so) read more begun sends =
       let piece = received (c ∷ octets) ∷ [] in
       let rows = rows_ended_by line (c ∷ octets) in
-      let owing = after_all at (events ++ piece) owed [] (after_read desk at line (c ∷ octets) events owed rows [] so (sym (append-nil rows)) more) in
-      (
+      let owing = after_all at (events ++ piece) owed [] (after_read desk at line (c ∷ octets) events owed rows [] so (sym (append-nil rows)) more) in (
         events ++ piece ++ sending owed,
         goes_then start now new (events ++ piece) (sending owed) (goes_then start old now events piece goes read) sends,
         record {
@@ -422,8 +420,7 @@ module _ {D : Type 0} (Takes : TakesRow D) (first : D) where
         let gone = take sends.0 owed in
         let left = drop sends.0 owed in
         let owing : Owing at (came ++ sending gone) left later = after_sending at came gone left later
-        (subst (λ o. Owing at came o later) (sym (take-append-drop sends.0 owed)) (after_read desk at line piece events owed rows later so parted more)) in
-        (
+        (subst (λ o. Owing at came o later) (sym (take-append-drop sends.0 owed)) (after_read desk at line piece events owed rows later so parted more)) in (
           came ++ sending gone,
           goes_then start now new came (sending gone) (goes_then start old now events (received piece ∷ []) goes read) sends.1,
           (at, took at (came ++ sending gone) left later owing, left, owing.owing),
@@ -452,12 +449,11 @@ module _ {D : Type 0} (Takes : TakesRow D) (first : D) where
         GoesOn old now (received piece ∷ []) → AreCut Takes Refuses desk last (rows_ended_by line piece) [] owed by → GoesOn now new (sending owed) →
         Went start new (λ events. StoppedBy Takes Refuses first last events (stop_by by))
     row_refused desk last line piece owed by start old now new (events, goes, so) read cut sends =
-        let came = events ++ received piece ∷ [] in
-        (
+        let came = events ++ received piece ∷ [] in (
           came ++ sending owed,
           goes_then start now new came (sending owed) (goes_then start old now events (received piece ∷ []) goes read) sends,
           stopped cut.at last (came ++ sending owed) cut.later by cut.refused
-          (after_all cut.at came owed cut.later (after_read desk cut.at line piece events owed cut.rows cut.later so cut.parted cut.taken)),
+              (after_all cut.at came owed cut.later (after_read desk cut.at line piece events owed cut.rows cut.later so cut.parted cut.taken)),
         )
 
     -- the same, where nothing was owed

@@ -1,4 +1,3 @@
-use Rattle.std.proofs.Common.{ap}
 use Rattle.hsp_stream_edge.proofs.Lent.{answers_keep, same_name}
 use Rattle.hsp_stream_edge.proofs.talking.answer_joined.Goals as goal
 

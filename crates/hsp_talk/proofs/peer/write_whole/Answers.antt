@@ -28,7 +28,7 @@ loop-again-preserved g c =
             written = rw w.at-is (longer _ _ _ c.args.octets.now c.loop-again.at w.in-Ok.count before.written wrote.bytes);
           }
       | in-Err+else-ne w ↦ record {
-          within = rw w.at-is before.within;
-          written = rw w.at-is (kept_so _ _ _ (take c.loop-again.at c.args.octets.now) before.written w.in-Err.ensures.bytes);
-        }
+        within = rw w.at-is before.within;
+        written = rw w.at-is (kept_so _ _ _ (take c.loop-again.at c.args.octets.now) before.written w.in-Err.ensures.bytes);
+      }
     ]
