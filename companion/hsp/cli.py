@@ -128,7 +128,7 @@ def sound(
     if found.warnings:
         titles = listed(dict.fromkeys(it.message for it in found.warnings), 2)
         click.echo(f"hsp: {some(len(found.warnings), 'warning')}: {titles} (hsp doctor {folder})", err=True)
-    return read_service(folder, desk, given, title, cost)
+    return read_service(folder, desk, found.given, title, cost)
 
 
 def shares_of(plan: Planned) -> list[tuple[str, str, int, float]]:

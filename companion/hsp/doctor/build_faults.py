@@ -46,7 +46,11 @@ def unknown_site(question: Question, said: Said) -> Explained | None:
         return None
     at = spot.header.index("site")
     name, names = spot.row.fields[at], names_in(question)
-    if (said.table, tuple(spot.row.fields)) in question.left_out or name in _left_out_sites(question):
+    if (
+        (said.table, tuple(spot.row.fields)) in question.left_out
+        or name in _left_out_sites(question)
+        or question.lacks_site
+    ):
         return Explained(None, [spot.without()])
     meant = near(name, names)
     tables = [it for it in ("costs", "capacity") if it in question.files]

@@ -3,24 +3,27 @@
 from __future__ import annotations
 
 import os
-from dataclasses import dataclass
+import re
+import tomllib
+from dataclasses import dataclass, field
 
 from hsp.doctor.doubts import doubts
 from hsp.doctor.faults import Diagnosis, diagnosed, draft_of, of_words
-from hsp.doctor.findings import ERROR, Finding
+from hsp.doctor.findings import ERROR, Finding, Place, Words, found, read_text
 from hsp.doctor.question import Question
 from hsp.programs import Desk
-from hsp.service import NAMES, VALUES, Service, read_service
+from hsp.service import NAMES, TITLES, VALUES, Service, read_service
 
 
 @dataclass(frozen=True)
 class Examined:
-    """What was found, hsplan's status, and the service where it has no fault."""
+    """What was found, hsplan's status, and the service where it has no fault; `given` are files that can be read again."""
 
     findings: list[Finding]
     status: int
     is_cut_short: bool = False
     service: Service | None = None
+    given: dict[str, str | None] = field(default_factory=dict)
 
     @property
     def errors(self) -> list[Finding]:
@@ -31,11 +34,11 @@ class Examined:
         return [it for it in self.findings if it.severity != ERROR]
 
 
-def status_of(found: Diagnosis) -> int:
+def status_of(result: Diagnosis) -> int:
     """hsplan's status for faults; 1 in place of a verdict on a certificate."""
-    if not found.findings:
+    if not result.findings:
         return 0
-    return found.status if found.status in (1, 2, 4, 5) else 1
+    return result.status if result.status in (1, 2, 4, 5) else 1
 
 
 def examined(folder: str, desk: Desk, given: dict[str, str | None]) -> Examined:
@@ -46,14 +49,41 @@ def examined(folder: str, desk: Desk, given: dict[str, str | None]) -> Examined:
     if values:
         paths["values"] = values
     question = Question(desk, "plan", {kind: draft_of(desk, path) for kind, path in paths.items()})
-    found = diagnosed(question)
-    if found.findings:
-        return Examined(found.findings, status_of(found), found.is_cut_short)
-    service = read_service(folder, desk, given)
-    return Examined(list(doubts(service, desk)), 0, False, service)
+    result = diagnosed(question)
+    findings = result.findings + titles_faults(folder)
+    if findings:
+        return Examined(findings, status_of(result) or 1, result.is_cut_short)
+    copies = {kind: question.path(kind) for kind, it in question.files.items() if it.lines is not None}
+    readable = {**given, **copies}
+    service = read_service(folder, desk, readable)
+    return Examined(list(doubts(service, desk)), 0, False, service, readable)
+
+
+def titles_faults(folder: str) -> list[Finding]:
+    """What is wrong with hsp.toml, which hsplan doesn't read."""
+    path = os.path.normpath(os.path.join(folder, TITLES))
+    if not os.path.isfile(path):
+        return []
+    text = read_text(path)
+    try:
+        tomllib.loads(text.octets.decode("utf-8"))
+    except UnicodeDecodeError:
+        words = Words(
+            f"{TITLES} isn't UTF-8", f"iconv -f windows-1252 -t utf-8 {path} > utf8.toml", "a letter of Latin-1"
+        )
+        return [found(path, Place(), words)]
+    except tomllib.TOMLDecodeError as fault:
+        told = re.search(r"line (\d+)", str(fault))
+        number = (
+            int(told[1]) if told else next((it for it, line in enumerate(text.lines, 1) if line.count('"') % 2), 1)
+        )
+        why = re.sub(r" \(at .*\)", "", str(fault)).lower()
+        words = Words(f"{TITLES} isn't TOML", 'write lines as title = "Films", cost = "ms", time = "an hour"', why)
+        return [found(path, text.whole(number), words)]
+    return []
 
 
 def examined_words(words: list[str], desk: Desk) -> Examined:
     """What is wrong with the words of a command, and with its files."""
-    found = of_words(desk, words)
-    return Examined(found.findings, status_of(found), found.is_cut_short)
+    result = of_words(desk, words)
+    return Examined(result.findings, status_of(result), result.is_cut_short)

@@ -121,14 +121,16 @@ def cause_of(text: Text, wanted: list[str]) -> Cause:
     found_one = _of_whole(text, wanted) or _of_names(text, wanted)
     if found_one:
         return found_one
-    if len(first.split(",")) == len(want.split(",")):
+    meant = near(first, wanted, 0.65)
+    if meant:
+        return Cause("a header that is misspelt", f"write {meant}", "\n".join([meant, *text.lines[1:]]))
+    if len(first.split(",")) == len(want.split(",")) and re.search(r"[0-9/]", first):
         return Cause("the header is missing", f"put {want} above the first line", f"{want}\n{plain}", 1)
     for number, line in enumerate(text.lines[:20]):
         if line in wanted:
             rest = "\n".join([""] * number + text.lines[number:])
             return Cause("lines above the header", f"take out what stands above {want}", rest)
-    meant = near(first, wanted, 0.7)
-    return Cause("other columns, or another file", f"write {meant or want} as the first line", None)
+    return Cause("other columns, or another file", f"write {want} as the first line, and such rows below it", None)
 
 
 def header_fault(question: Question, kind: str, said: Said) -> Explained:

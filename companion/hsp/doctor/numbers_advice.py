@@ -63,6 +63,10 @@ def advice(text: str, name: str) -> Advice:
     if re.fullmatch(r"0|[1-9][0-9]*", bare) and bare != text:
         return Advice("a blank, or a sign that isn't seen, beside the digits", f"write {bare}, without it", bare)
     if re.fullmatch(r"0|[1-9][0-9]*", bare):
+        if name in ("server_id", "front"):
+            return Advice(
+                f"a {name} is at most 4,294,967,295", "write the number that it has, as hsplan site prints it"
+            )
         what = "costs" if name == "cost" else "counts and capacities"
         limits = {"cost": "1,000,000", "count": "1,000,000", "capacity": "1,000,000,000"}
         limit = limits.get(name, "the limit")

@@ -45,14 +45,22 @@ def _lines_of(it: Finding, others: list[Finding]) -> Iterator[str]:
     if it.why:
         yield f"  {dim('why')}  {it.why}"
     yield f"  {dim('do')}   {it.remedy}"
-    lines = listed([str(other.line) for other in others if other.line], 8)
-    if others:
-        verb = "more of this kind"
-        yield f"  {dim('and')}  {len(others)} {verb}" + (
-            f", in line{'s' if len(others) > 1 else ''} {lines}" if lines else ""
-        )
+    yield from _others(it, others)
     if it.said:
         yield dim(f"  hsplan says {it.said}")
+
+
+def _others(it: Finding, others: list[Finding]) -> Iterator[str]:
+    """How many more there are of a kind, and in which lines; or what each is, where they have no line of their own."""
+    numbers = list(dict.fromkeys(str(other.line) for other in others if other.line not in (0, it.line)))
+    if others and not numbers:
+        for other in others[:8]:
+            yield f"  {dim('and')}  {other.message}"
+        if len(others) > 8:
+            yield f"  {dim('and')}  {len(others) - 8} more of this kind"
+    elif others:
+        plural = "s" if len(numbers) > 1 else ""
+        yield f"  {dim('and')}  {len(others)} more of this kind, in line{plural} {listed(numbers, 8)}"
 
 
 def grouped(findings: Iterable[Finding]) -> list[list[Finding]]:

@@ -85,6 +85,8 @@ class Question:
     program: str = "hsplan"
     absent: frozenset[str] = frozenset()
     left_out: tuple[tuple[str, tuple[str, ...]], ...] = ()
+    # A copy lacks a site whose name isn't known, so that rows may name it.
+    lacks_site: bool = False
 
     def arguments(self) -> list[str]:
         """The words of the command."""

@@ -39,6 +39,8 @@ def without_block(question: Question, kind: str, number: int) -> Question | None
     block = own[number]
     name = listed_in(question.text("settings"), kind)[number].get("name")
     question = question.with_line("settings", block.first, "", block.last)
+    if kind == "site" and (not isinstance(name, str) or slug(name) != name):
+        question = replace(question, lacks_site=True)
     for table, column in (("costs", "site"), ("capacity", "site")):
         if kind == "site" and table in question.files:
             question = without_rows(question, table, column, str(name))
@@ -307,6 +309,7 @@ def bad_host(question: Question, said: Said) -> Explained:
         words = Words(f"the address {quoted(address)} isn't 32 hexadecimal digits", told.remedy, told.why)
         ways = [with_value(question, "host", number, "address", f'"{octets}"')] if octets else []
     elif limit is None:
+        key = "limit"
         words = Words(
             "a host without a limit",
             "write limit = and how many queries the machine takes",

@@ -13,7 +13,7 @@ from hsp.doctor.findings import Finding, Place, Words, found, quoted
 from hsp.doctor.numbers_advice import advice
 from hsp.doctor.question import Question, Said
 from hsp.doctor.rows import HEADERS, Row, Table, joined, near, spans_of
-from hsp.numbers import listed
+from hsp.numbers import listed, some
 from hsp.programs import run
 
 
@@ -98,14 +98,16 @@ def bad_number(spot: Spot, said: str) -> Explained:
         told.why,
         kind=f"BadNumber {name} {told.why}",
     )
-    if not re.search(r"[0-9]", fields[at]) and any(re.fullmatch(r"[0-9]+", it) for it in fields[:at]):
+    others = [field for number, field in enumerate(fields) if number not in numeric]
+    if not re.search(r"[0-9]", fields[at]) and any(re.fullmatch(r"[0-9]+", field) for field in others):
         words = Words(
             words.message,
             f"put the columns in the order {','.join(spot.header)}",
             "digits stand in another column, so the columns may be in another order",
             kind=words.kind,
         )
-    mended = [spot.with_field(at, it) for it in dict.fromkeys((told.mended, "1"))] + [spot.without()]
+    mended = [spot.with_field(at, it) for it in dict.fromkeys((told.mended, "1"))]
+    mended = ([] if name == "server_id" else mended) + [spot.without()]
     return Explained(found(spot.path, spot.place(at), words, said), mended)
 
 
@@ -245,18 +247,21 @@ def _too_many(spot: Spot) -> tuple[Words, str]:
 def _too_few(spot: Spot) -> tuple[Words, str]:
     fields, order = spot.row.fields, ",".join(spot.header)
     whole = spot.question.text(spot.kind).line(spot.row.first)
+    if whole.lstrip().startswith(("#", "//")):
+        return Words("", "take the line out", "a comment; tables have none"), ""
     for sign, name in ((";", "semicolons"), ("\t", "tabs"), ("|", "bars")):
         if whole.count(sign) >= len(spot.header) - 1:
             text = whole.replace(sign, ",")
             return Words("", f"write {text[:60]}", f"{name} in place of commas"), text
+    text = re.sub("[;|\t]", ",", whole)
+    if text != whole and len(spans_of(text)) == len(spot.header):
+        return Words("", f"write {text[:60]}", "another separator than a comma"), text
     if whole.count('"') % 2:
         text = whole.replace('"', "")
         return Words("", f"close the quote, or write {text[:60]}", "a quote that isn't closed"), text
     if len(whole.split()) == len(spot.header):
         text = ",".join(it.strip(",;") for it in whole.split())
         return Words("", f"write {text[:60]}", "blanks in place of commas"), text
-    if whole.lstrip().startswith(("#", "//")):
-        return Words("", "take the line out", "a comment; tables have none"), ""
     if len(fields) == 1:
         remedy = f"take the line out, or write all of {order}"
         return Words("", remedy, "not a row: a note, or a line that was cut"), ""
@@ -268,7 +273,7 @@ def bad_fields(spot: Spot, said: str) -> Explained:
     fields, order = spot.row.fields, ",".join(spot.header)
     many = len(fields) > len(spot.header)
     told, text = _too_many(spot) if many else _too_few(spot)
-    message = f"{len(fields)} fields in place of {len(spot.header)} ({order})"
+    message = f"{some(len(fields), 'field')} in place of {len(spot.header)} ({order})"
     words = Words(message, told.remedy, told.why, kind=f"Fields {told.why}")
     place = spot.line()
     line = spot.question.files[spot.kind].original.line(spot.original.first)
@@ -294,6 +299,8 @@ def row_twice(spot: Spot, said: str) -> Explained:
             int(it[2]) for it in (first.fields, fields) if len(it) > 2 and re.fullmatch(r"[0-9]{1,18}", it[2])
         )
         remedy = f"write one row for both, with the sum {total}"
+        if first.fields == fields:
+            remedy = f"take one of them out; or write one row with the sum {total}, if both were counted"
     elif first and first.fields != fields:
         remedy = f"keep the right one: line {line} says {first.fields[-1]}, this line {fields[-1]}"
     words = Words(f"{key} stand twice", remedy, why, mark, f"RowTwice {why}")

@@ -7,7 +7,7 @@ import tomllib
 from collections.abc import Iterator
 from typing import NamedTuple
 
-from hsp.doctor.findings import Place, Text, Words, found
+from hsp.doctor.findings import Place, Text, Words, encoded, found
 from hsp.doctor.question import Question, Said
 from hsp.doctor.rows import near
 from hsp.doctor.table_faults import Explained
@@ -199,7 +199,7 @@ def not_toml(question: Question, said: Said) -> Explained:
     if reason == "utf-8":
         line = text.line(number)
         at = next((it for it, sign in enumerate(line) if "\udc80" <= sign <= "\udcff"), 0)
-        mended = "".join("?" if "\udc80" <= sign <= "\udcff" else sign for sign in line)
+        mended = encoded(line).decode("cp1252", "replace")
         slip = Slip(
             "a letter of Latin-1 or Windows-1252",
             f"iconv -f windows-1252 -t utf-8 {text.path} > utf8.toml",
@@ -212,9 +212,10 @@ def not_toml(question: Question, said: Said) -> Explained:
         number = _best(text, options)
         slip = slip_of(text, number, reason)
         words = Words(f"the settings aren't TOML: {slip.why}", slip.remedy, "", kind=f"NotToml {slip.why}")
+    if draft.original.line(draft.number(number)) != text.line(number):
+        blank = [] if not text.line(number).strip() else [question.with_line("settings", number, "")]
+        return Explained(None, [*blank, question.with_stand_in("settings")])
     place = slip.place
-    if draft.original.line(number) != text.line(number):
-        place = draft.original.whole(number)
     ways = [slip.line, ""] if slip.line != "" else [""]
     mended_ones = [question.with_line("settings", number, it) for it in ways if it != text.line(number)]
     return Explained(found(text.path, place, words, said.line), [*mended_ones, question.with_stand_in("settings")])
