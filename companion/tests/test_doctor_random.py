@@ -7,7 +7,11 @@ import os
 import random
 import shutil
 import subprocess
+from collections.abc import Callable
+from concurrent.futures import ThreadPoolExecutor
 from pathlib import Path
+
+import pytest
 
 from hsp.doctor import Examined, examined
 from hsp.doctor.printing import json_of, lines
@@ -80,17 +84,16 @@ def run(folder: Path) -> Examined:
     return found
 
 
-def test_lines_that_are_broken_at_random(tmp_path: Path) -> None:
-    draw = random.Random(51)
-    for number in range(FOLDERS):
-        folder = tmp_path / str(number)
-        break_folder(folder, draw)
-        check(folder, run(folder))
-
-
-def test_octets_that_are_torn_at_random(tmp_path: Path) -> None:
-    draw = random.Random(52)
-    for number in range(FOLDERS):
-        folder = tmp_path / str(number)
-        tear_folder(folder, draw)
-        check(folder, run(folder))
+@pytest.mark.parametrize("seed, spoil", [(51, break_folder), (52, tear_folder)])
+def test_folders_that_are_broken_at_random(
+    tmp_path: Path, seed: int, spoil: Callable[[Path, random.Random], None]
+) -> None:
+    draw = random.Random(seed)
+    folders = [tmp_path / str(number) for number in range(FOLDERS)]
+    for folder in folders:
+        spoil(folder, draw)
+    with ThreadPoolExecutor(2) as pool:
+        found = list(pool.map(run, folders))
+    for folder, it in zip(folders, found):
+        check(folder, it)
+    assert {it.status for it in found} == {0, 1, 5} if spoil is break_folder else {0, 1}

@@ -224,7 +224,11 @@ def question_of(desk: Desk, line: Line) -> Question:
     """The question that the words of a line ask."""
     options, others = split(line)
     form = FORMS[line.command]
-    files = {it.name: draft_of(desk, it.value or "") for it in options if it.name in FILES and it.value is not None}
+    values: dict[str, str] = {}
+    for it in options:
+        if it.name in FILES and it.value is not None:
+            values.setdefault(it.name, it.value)
+    files = {name: draft_of(desk, value) for name, value in values.items()}
     rest = tuple(f"--{it.name}={it.value}" for it in options if it.name not in FILES)
     if form.last == "file" and others:
         files["file"] = draft_of(desk, others[0].text)

@@ -85,8 +85,9 @@ def _of_names(text: Text, wanted: list[str]) -> Cause | None:
     mended = "\n".join([want, *text.lines[1:]])
     if first.casefold() in wanted or ",".join(names).casefold() in wanted:
         return Cause("another case of letters", f"write {want}", mended)
-    if sorted(names) == sorted(want.split(",")):
-        return Cause("the columns are in another order", f"put the columns in the order {want}, in each row")
+    for other in wanted:
+        if sorted(names) == sorted(other.split(",")):
+            return Cause("the columns are in another order", f"put the columns in the order {other}, in each row")
     for kind, header in HEADERS.items():
         if names == header:
             return Cause(f"this is a table of {kind}", f"give the right file: its first line is {want}")

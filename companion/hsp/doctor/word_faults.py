@@ -49,8 +49,9 @@ def command_fault(line: Line) -> Finding | None:
             "the first word is the command",
         )
         return at_word(line, first, words)
-    meant = near(command, own, 0.5)
-    remedy = f"write {meant}" if meant else f"write one of {', '.join(own)}"
+    meant = near(command, own, 0.6) or near(command, FORMS, 0.6)
+    remedy = f"write {meant}" if meant in own else f"write {FORMS[meant].program} {meant}" if meant else ""
+    remedy = remedy or f"write one of {', '.join(own)}"
     return at_word(
         line, first, Words(f"no command {quoted(command)}", remedy, "", f"did you mean {meant}?" if meant else "")
     )
@@ -136,7 +137,7 @@ def _missing(line: Line, form: Form, options: list[Option]) -> Iterator[Finding]
             ),
         )
     if line.command == "locate":
-        yield from _locate(line, names)
+        yield from _locate(line, names | set(misspelt))
     if line.command == "answer" and ("fronts" in names) != ("front" in names):
         absent = "front" if "fronts" in names else "fronts"
         yield at_word(
