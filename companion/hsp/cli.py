@@ -120,15 +120,15 @@ def sound(
     folder: str, desk: Desk, given: dict[str, str | None], title: str | None = None, cost: str | None = None
 ) -> Service:
     """Reads a folder in which hsplan has no fault; otherwise prints the faults, and ends. Warnings are one line."""
-    found = examined(folder, desk, given)
-    if found.errors:
+    found = examined(folder, desk, given, title, cost)
+    if not found.service:
         for line in list(finding_lines(found.errors))[:-1]:
             click.echo(line, err=True)
         sys.exit(found.status)
     if found.warnings:
         titles = listed(dict.fromkeys(it.message for it in found.warnings), 2)
         click.echo(f"hsp: {some(len(found.warnings), 'warning')}: {titles} (hsp doctor {folder})", err=True)
-    return read_service(folder, desk, found.given, title, cost)
+    return found.service
 
 
 def shares_of(plan: Planned) -> list[tuple[str, str, int, float]]:

@@ -6,7 +6,7 @@ import os
 import re
 import unicodedata
 from collections import defaultdict
-from collections.abc import Iterator
+from collections.abc import Iterable, Iterator
 from dataclasses import dataclass, field
 from urllib.parse import unquote
 
@@ -114,64 +114,69 @@ def twins(it: Read) -> None:
             it.of_row(it.demand, row, 1, words)
 
 
-def regions(it: Read) -> None:
-    """Regions that only one of the tables has, and pairs without a cost."""
-    asking: dict[str, Row] = {}
-    paying: dict[str, Row] = {}
-    for table, firsts in ((it.demand, asking), (it.costs, paying)):
-        for row in table.rows:
-            firsts.setdefault(row.fields[0], row)
+def firsts(table: Table) -> dict[str, Row]:
+    """The first row of each region."""
+    found_rows: dict[str, Row] = {}
+    for row in table.rows:
+        found_rows.setdefault(row.fields[0], row)
+    return found_rows
+
+
+def priceless(it: Read) -> None:
+    """Regions that ask and have no cost."""
+    asking, paying = firsts(it.demand), firsts(it.costs)
     costs = os.path.basename(it.costs.text.path)
     for region, row in asking.items():
-        if region not in paying:
-            meant = near(region, set(paying) - set(asking)) or near(region, paying, 0.8)
-            number = sum(other.fields[0] == region for other in it.demand.rows)
-            remedy = f"write {meant} in both tables" if meant else f"add rows {region},SITE,COST to {costs}"
-            why = f"no site may serve its {some(number, 'row')}, so the plan is a shortage"
-            mark = f"{costs} has {meant}" if meant else ""
-            it.of_row(
-                it.demand,
-                row,
-                0,
-                Words(f"region {quoted(region)} has no cost for any site", remedy, why, mark, f"priceless {region}"),
-            )
-    missing = {
-        near(region, set(paying) - set(asking)) or near(region, paying, 0.8)
-        for region in asking
-        if region not in paying
-    }
+        if region in paying:
+            continue
+        meant = namesake(region, asking, paying)
+        number = sum(other.fields[0] == region for other in it.demand.rows)
+        words = Words(
+            f"region {quoted(region)} has no cost for any site",
+            f"write {meant} in both tables" if meant else f"add rows {region},SITE,COST to {costs}",
+            f"no site may serve its {some(number, 'row')}, so the plan is a shortage",
+            f"{costs} has {meant}" if meant else "",
+            f"priceless {region}",
+        )
+        it.of_row(it.demand, row, 0, words)
+
+
+def namesake(region: str, asking: Iterable[str], paying: Iterable[str]) -> str:
+    """The region of the costs that a region of the demand was likely meant to be."""
+    return near(region, set(paying) - set(asking)) or near(region, paying, 0.8)
+
+
+def idle(it: Read) -> None:
+    """Regions that have costs and ask for nothing, but for those that another spelling explains."""
+    asking, paying = firsts(it.demand), firsts(it.costs)
+    explained = {namesake(region, asking, paying) for region in asking if region not in paying}
     for region, row in paying.items():
-        if region not in asking and region not in missing:
-            meant = near(region, asking, 0.75)
-            remedy = (
-                f"write {meant}, if that is meant" if meant else "take its rows out, or leave them for a later demand"
-            )
-            it.of_row(
-                it.costs,
-                row,
-                0,
-                Words(
-                    f"region {quoted(region)} has costs and asks for nothing",
-                    remedy,
-                    "its costs are never used",
-                    "",
-                    "idle region",
-                ),
-            )
-    pairs = {(row.fields[0], row.fields[1]) for row in it.costs.rows}
+        if region in asking or region in explained or not asking:
+            continue
+        meant = near(region, asking, 0.75)
+        remedy = (
+            f"write {meant}, if that is meant" if meant else "take its rows out, or leave them for a later demand"
+        )
+        message = f"region {quoted(region)} has costs and asks for nothing"
+        it.of_row(it.costs, row, 0, Words(message, remedy, "its costs are never used", "", "idle region"))
+
+
+def pairs(it: Read) -> None:
+    """Pairs of region and site without a cost, where a region has costs for half of the sites or more."""
+    asking, paying = firsts(it.demand), firsts(it.costs)
+    there = {(row.fields[0], row.fields[1]) for row in it.costs.rows}
     for region in (own for own in asking if own in paying):
-        lacking = [site.name for site in it.service.sites if (region, site.name) not in pairs]
-        if lacking and len(lacking) * 2 <= len(it.service.sites):
-            why = f"{region} may never use {listed(lacking, 6)}"
-            remedy = (
-                f"add {listed([f'{region},{site},COST' for site in lacking], 3)}; or leave it so, if that is meant"
-            )
-            place = it.costs.place(paying[region], 0)
-            it.doubt(
-                it.costs.text,
-                place,
-                Words(f"region {quoted(region)} has no cost for {listed(lacking, 6)}", remedy, why, "", "pair"),
-            )
+        lacking = [site.name for site in it.service.sites if (region, site.name) not in there]
+        if not lacking or len(lacking) * 2 > len(it.service.sites):
+            continue
+        rows = listed([f"{region},{site},COST" for site in lacking], 3)
+        words = Words(
+            f"region {quoted(region)} has no cost for {listed(lacking, 6)}",
+            f"add {rows}; or leave it so, if that is meant",
+            f"{region} may never use {listed(lacking, 6)}",
+            kind="pair",
+        )
+        it.of_row(it.costs, paying[region], 0, words)
 
 
 def hosts(it: Read) -> None:
@@ -352,7 +357,7 @@ def doubts(service: Service, desk: Desk) -> Iterator[Finding]:
     inputs = service.inputs
     demand, costs, capacity = (Table(read_text(own)) for own in (inputs.demand, inputs.costs, inputs.capacity))
     it = Read(service, demand, costs, capacity, read_text(inputs.settings))
-    for look in (sites, hosts, handles, twins, regions, zeros, units, unused):
+    for look in (sites, hosts, handles, twins, priceless, idle, pairs, zeros, units, unused):
         look(it)
     old_plan(it, desk)
     yield from it.findings

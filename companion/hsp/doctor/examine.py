@@ -5,25 +5,23 @@ from __future__ import annotations
 import os
 import re
 import tomllib
-from dataclasses import dataclass, field
+from dataclasses import dataclass
 
 from hsp.doctor.doubts import doubts
-from hsp.doctor.faults import Diagnosis, diagnosed, draft_of, of_words
 from hsp.doctor.findings import ERROR, Finding, Place, Words, found, read_text
-from hsp.doctor.question import Question
-from hsp.programs import Desk
+from hsp.doctor.question import Diagnosis, Question, draft_of
+from hsp.programs import Desk, Missing, Refused
 from hsp.service import NAMES, TITLES, VALUES, Service, read_service
 
 
 @dataclass(frozen=True)
 class Examined:
-    """What was found, hsplan's status, and the service where it has no fault; `given` are files that can be read again."""
+    """What was found, hsplan's status, and the service where it has no fault."""
 
     findings: list[Finding]
     status: int
     is_cut_short: bool = False
     service: Service | None = None
-    given: dict[str, str | None] = field(default_factory=dict)
 
     @property
     def errors(self) -> list[Finding]:
@@ -41,7 +39,9 @@ def status_of(result: Diagnosis) -> int:
     return result.status if result.status in (1, 2, 4, 5) else 1
 
 
-def examined(folder: str, desk: Desk, given: dict[str, str | None]) -> Examined:
+def examined(
+    folder: str, desk: Desk, given: dict[str, str | None], title: str | None = None, cost: str | None = None
+) -> Examined:
     """What is wrong with a folder, or what is doubtful where nothing is wrong."""
     paths = {kind: given.get(kind) or os.path.normpath(os.path.join(folder, name)) for kind, name in NAMES.items()}
     beside = os.path.join(folder, VALUES)
@@ -49,14 +49,23 @@ def examined(folder: str, desk: Desk, given: dict[str, str | None]) -> Examined:
     if values:
         paths["values"] = values
     question = Question(desk, "plan", {kind: draft_of(desk, path) for kind, path in paths.items()})
+    copies = {kind: question.path(kind) for kind, it in question.files.items() if it.lines is not None}
+    try:
+        service = read_service(folder, desk, {**given, **copies}, title, cost)
+    except (Refused, Missing) as fault:
+        return _refused(question, folder, fault)
+    return Examined(list(doubts(service, desk)), 0, False, service)
+
+
+def _refused(question: Question, folder: str, fault: Exception) -> Examined:
+    """All faults of a folder. What explains them is loaded only where there are some."""
+    from hsp.doctor.faults import diagnosed
+
     result = diagnosed(question)
     findings = result.findings + titles_faults(folder)
-    if findings:
-        return Examined(findings, status_of(result) or 1, result.is_cut_short)
-    copies = {kind: question.path(kind) for kind, it in question.files.items() if it.lines is not None}
-    readable = {**given, **copies}
-    service = read_service(folder, desk, readable)
-    return Examined(list(doubts(service, desk)), 0, False, service, readable)
+    if not findings:
+        raise fault
+    return Examined(findings, status_of(result) or 1, result.is_cut_short)
 
 
 def titles_faults(folder: str) -> list[Finding]:
@@ -85,5 +94,7 @@ def titles_faults(folder: str) -> list[Finding]:
 
 def examined_words(words: list[str], desk: Desk) -> Examined:
     """What is wrong with the words of a command, and with its files."""
+    from hsp.doctor.faults import of_words
+
     result = of_words(desk, words)
     return Examined(result.findings, status_of(result), result.is_cut_short)

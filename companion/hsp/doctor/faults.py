@@ -2,12 +2,9 @@
 
 from __future__ import annotations
 
-import os
-import shutil
-import stat
 import subprocess
 from collections.abc import Callable
-from dataclasses import dataclass, replace
+from dataclasses import replace
 
 from hsp.doctor import (
     answer_faults,
@@ -20,8 +17,8 @@ from hsp.doctor import (
 )
 from hsp.doctor.commands import FILES, FORMS, Line, line_of, split
 from hsp.doctor.file_faults import file_finding
-from hsp.doctor.findings import Finding, Place, Text, Words, found, read_text
-from hsp.doctor.question import ORDER, Draft, Question, Said
+from hsp.doctor.findings import Finding, Place, Words, found
+from hsp.doctor.question import ORDER, Diagnosis, Question, Said, draft_of
 from hsp.doctor.table_faults import Explained, row_fault
 from hsp.programs import Desk, program, run
 
@@ -52,15 +49,6 @@ OF_BUILD: dict[str, Way] = {
     "ServerIdTwice": record_faults.site_record,
     "TooManyServers": record_faults.site_record,
 }
-
-
-@dataclass
-class Diagnosis:
-    """All faults that were found, hsplan's status for the files as they are, and whether there may be more."""
-
-    findings: list[Finding]
-    status: int
-    is_cut_short: bool = False
 
 
 def _of_table(question: Question, said: Said) -> Explained | None:
@@ -199,25 +187,6 @@ def without_answers(question: Question) -> Question:
     if "values" in question.absent:
         files.pop("values", None)
     return replace(question, program="hsplan", command="plan", files=files, options=(), words=())
-
-
-def draft_of(desk: Desk, path: str) -> Draft:
-    """A file as it is read. A pipe can be read once, so it is copied first."""
-    if not os.path.isfile(path):
-        try:
-            is_pipe = stat.S_ISFIFO(os.stat(path).st_mode) or stat.S_ISCHR(os.stat(path).st_mode)
-        except (OSError, ValueError):
-            is_pipe = False
-        if is_pipe and path != "/dev/null":
-            copy = desk.put(b"")
-            with open(path, "rb") as source, open(copy, "wb") as target:
-                shutil.copyfileobj(source, target)
-            text = read_text(copy)
-            return Draft(Text(path, text.octets), tuple(text.lines))
-    try:
-        return Draft(read_text(path))
-    except (OSError, ValueError):
-        return Draft(Text(path, b""))
 
 
 def question_of(desk: Desk, line: Line) -> Question:

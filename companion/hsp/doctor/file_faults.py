@@ -35,6 +35,11 @@ def unreadable(path: str, kind: str) -> Words | None:
         )
     except ValueError:
         return Words("no such file", "mend the path", "a sign in the name that no file has")
+    return _of_kind(path, kind, mode)
+
+
+def _of_kind(path: str, kind: str, mode: int) -> Words | None:
+    """What is wrong with a file that is there: a folder, too large, or closed to this user."""
     if stat.S_ISDIR(mode):
         name = CONVENTIONS.get(kind, "the file")
         return Words(

@@ -2,11 +2,14 @@
 
 from __future__ import annotations
 
+import os
 import re
+import shutil
+import stat
 import subprocess
 from dataclasses import dataclass, field, replace
 
-from hsp.doctor.findings import Text, encoded
+from hsp.doctor.findings import Finding, Text, encoded, read_text
 from hsp.programs import Desk, program
 
 # The files in the order in which hsplan reads them.
@@ -59,6 +62,15 @@ class Said:
     detail: str = ""
     table: str = ""
     numbers: dict[str, int] = field(default_factory=dict)
+
+
+@dataclass
+class Diagnosis:
+    """All faults that were found, hsplan's status for the files as they are, and whether there may be more."""
+
+    findings: list[Finding]
+    status: int
+    is_cut_short: bool = False
 
 
 def said_of(status: int, line: str) -> Said:
@@ -142,3 +154,22 @@ class Question:
         if done.returncode in (0, 3) and not line.startswith(f"{self.program}: "):
             return Said(0, "")
         return said_of(done.returncode, line.removeprefix(f"{self.program}: "))
+
+
+def draft_of(desk: Desk, path: str) -> Draft:
+    """A file as it is read. A pipe can be read once, so it is copied first."""
+    if not os.path.isfile(path):
+        try:
+            is_pipe = stat.S_ISFIFO(os.stat(path).st_mode) or stat.S_ISCHR(os.stat(path).st_mode)
+        except (OSError, ValueError):
+            is_pipe = False
+        if is_pipe and path != "/dev/null":
+            copy = desk.put(b"")
+            with open(path, "rb") as source, open(copy, "wb") as target:
+                shutil.copyfileobj(source, target)
+            text = read_text(copy)
+            return Draft(Text(path, text.octets), tuple(text.lines))
+    try:
+        return Draft(read_text(path))
+    except (OSError, ValueError):
+        return Draft(Text(path, b""))

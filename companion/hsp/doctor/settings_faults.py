@@ -142,41 +142,41 @@ def record_words(record: str, folder: str) -> Words:
     return Words("", "write the octets as hexadecimal digits, as hsp sites prints them", "other signs than digits")
 
 
+def _source_words(name: str, site: dict[str, Any], folder: str) -> Words:
+    """What is wrong with the record or the index of a site."""
+    record, index = site.get("record"), site.get("index")
+    if (record is None) == (index is None):
+        what = "both record and index" if record is not None else "neither record nor index"
+        remedy = "keep one of the two"
+        if record is None:
+            remedy = "write record = and the digits; hsp sites prints the block"
+        return Words(f"site '{name}' has {what}", remedy, "a site has a record, or the index of one in a value list")
+    if isinstance(record, str):
+        told = record_words(record, folder)
+        return Words(f"the record of '{name}' isn't hexadecimal digits", told.remedy, told.why)
+    if record is not None:
+        return Words(f"the record of '{name}' isn't a text", "put quotes about the digits", "a record is a text")
+    why = "an index is a whole number up to 4,294,967,295, without quotes"
+    return Words(
+        f"the index of '{name}' isn't a whole number", "write the index of the site's value, as index = 3", why
+    )
+
+
 def bad_site(question: Question, said: Said) -> Explained:
     """A site that isn't as it should be."""
     text, number = question.text("settings"), said.numbers.get("site", 0)
-    data = data_of(text) or {}
     sites = listed_in(text, "site")
     site = sites[number] if number < len(sites) else {}
-    if not isinstance(data.get("site"), list):
+    if not isinstance((data_of(text) or {}).get("site"), list):
         return _one_table(question, said, "site")
-    name = site.get("name")
+    name, record = site.get("name"), site.get("record")
     if not isinstance(name, str) or slug(name) != name or not name:
         return _bad_site_name(question, said, number, name)
-    record, index = site.get("record"), site.get("index")
-    key = "record" if record is not None else "index"
-    message = f"site '{name}': {key} isn't as it should be"
-    if (record is None) == (index is None):
-        both = record is not None
-        why = "both record and index" if both else "neither record nor index"
-        remedy = "keep one of the two" if both else "write record = and the digits; hsp sites prints the block"
-        words = Words(f"site '{name}' has {why}", remedy, "a site has a record, or the index of one in a value list")
-    elif isinstance(record, str):
-        told = record_words(record, os.path.dirname(text.path))
-        words = Words(f"the record of '{name}' isn't hexadecimal digits", told.remedy, told.why)
-    elif record is not None:
-        words = Words(message, "put quotes about the digits", "the record is a text")
-    else:
-        words = Words(
-            message,
-            "write the index of the site's value, as index = 3",
-            "an index is a whole number up to 4,294,967,295, without quotes",
-        )
-    place = place_in(question, "site", number, key)
-    if isinstance(record, str) and "among the digits" in words.why and '"' in place.text:
-        wrong = re.search(r"[^0-9A-Fa-f]", record)
-        at = place.text.find(record) + (wrong.start() if wrong else 0)
-        place = Place(place.line, at + 1, 1, place.text)
+    words = _source_words(name, site, os.path.dirname(text.path))
+    place = place_in(question, "site", number, "record" if record is not None else "index")
+    wrong = re.search(r"[^0-9A-Fa-f]", record) if isinstance(record, str) else None
+    if wrong and isinstance(record, str) and "among the digits" in words.why and record in place.text:
+        place = Place(place.line, place.text.find(record) + wrong.start() + 1, 1, place.text)
     bare = re.sub(r"^0[xX]|[\s:]", "", record) if isinstance(record, str) else ""
     ways = mends(
         with_value(question, "site", number, "record", f'"{bare}"') if bare else None,
@@ -288,49 +288,40 @@ def _address_words(address: str) -> tuple[Words, str]:
     return Words("", "copy the address of a server as hsplan site prints it", why), ""
 
 
+def _host_words(host: dict[str, Any]) -> tuple[str, Words, str]:
+    """The key of a host that isn't as it should be, what is said of it, and a value in its place."""
+    address, limit = host.get("address"), host.get("limit")
+    has = "a host has address and limit"
+    if not isinstance(address, str):
+        remedy = 'write address = "..", as hsplan site prints it of its servers'
+        return "address", Words("a host without an address", remedy, has), ""
+    if not re.fullmatch(r"[0-9A-Fa-f]{32}", address):
+        told, octets = _address_words(address)
+        message = f"the address {quoted(address)} isn't 32 hexadecimal digits"
+        return "address", Words(message, told.remedy, told.why), f'"{octets}"' if octets else ""
+    if limit is None:
+        remedy = "write limit = and how many queries the machine takes"
+        return "limit", Words("a host without a limit", remedy, has), ""
+    digits = re.sub(r"[^0-9]", "", str(limit).split(".")[0])
+    is_plain = digits and len(digits) < 12 and not str(limit).startswith("-")
+    remedy = f"write limit = {digits}" if is_plain else "write a whole number from 0 to 1000000000000"
+    message = f"the limit {quoted(str(limit))} isn't a whole number within its bounds"
+    return "limit", Words(message, remedy, "a limit has only digits, without quotes, up to 10^12"), "1000000"
+
+
 def bad_host(question: Question, said: Said) -> Explained:
     """A host that isn't as it should be."""
     text, number = question.text("settings"), said.numbers.get("host", 0)
     if not isinstance((data_of(text) or {}).get("host"), list):
         return _one_table(question, said, "host")
     hosts = listed_in(text, "host")
-    host = hosts[number] if number < len(hosts) else {}
-    address, limit = host.get("address"), host.get("limit")
-    ways: list[Question | None] = []
-    key = "address"
-    if not isinstance(address, str):
-        words = Words(
-            "a host without an address",
-            'write address = "..", as hsplan site prints it of its servers',
-            "a host has address and limit",
-        )
-    elif not re.fullmatch(r"[0-9A-Fa-f]{32}", address):
-        told, octets = _address_words(address)
-        words = Words(f"the address {quoted(address)} isn't 32 hexadecimal digits", told.remedy, told.why)
-        ways = [with_value(question, "host", number, "address", f'"{octets}"')] if octets else []
-    elif limit is None:
-        key = "limit"
-        words = Words(
-            "a host without a limit",
-            "write limit = and how many queries the machine takes",
-            "a host has address and limit",
-        )
-    else:
-        key = "limit"
-        digits = re.sub(r"[^0-9]", "", str(limit).split(".")[0])
-        whole = (
-            f"write limit = {digits}"
-            if digits and len(digits) < 12 and not str(limit).startswith("-")
-            else "write a whole number from 0 to 1000000000000"
-        )
-        words = Words(
-            f"the limit {quoted(str(limit))} isn't a whole number within its bounds",
-            whole,
-            "a limit has only digits, without quotes, up to 10^12",
-        )
-        ways = [with_value(question, "host", number, "limit", "1000000")]
-    ways += [without_block(question, "host", number), question.with_stand_in("settings")]
-    return Explained(found(text.path, place_in(question, "host", number, key), words, said.line), mends(*ways))
+    key, words, value = _host_words(hosts[number] if number < len(hosts) else {})
+    ways = mends(
+        with_value(question, "host", number, key, value) if value else None,
+        without_block(question, "host", number),
+        question.with_stand_in("settings"),
+    )
+    return Explained(found(text.path, place_in(question, "host", number, key), words, said.line), ways)
 
 
 def host_twice(question: Question, said: Said) -> Explained:

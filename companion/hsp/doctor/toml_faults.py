@@ -104,45 +104,31 @@ def shorter(text: str) -> str:
 
 def slip_of(text: Text, number: int, reason: str) -> Slip:
     """What is likely wrong with a line that a reader of TOML refuses."""
-    line, bare = text.line(number), text.line(number).strip()
     if "overwrite" in reason or "twice" in reason or "already" in reason:
-        head = _head_slip(text, number)
-        if head:
-            return head
-        return Slip(
-            "the key stands twice in its block", "keep one; or put [[site]] above the second", "", text.whole(number)
-        )
-    it = _sign_slip(text, number) or _head_slip(text, number) or _value_slip(text, number)
-    if it:
-        return it
-    if bare.startswith(("{", "}", '"')) and number <= 2:
-        return Slip(
-            "this is JSON, not TOML", "hsp sites makes the blocks from a proxy's JSON", "", text.whole(number)
-        )
-    if bare in ("region,handle,count", "region,site,cost", "site,server_id,capacity"):
-        return Slip("this is a table, not settings", "give the right file for --settings", "", text.whole(number))
-    if bare.startswith(("//", ";", "--", "%")):
-        return Slip(
-            "a note; TOML has them behind '#'",
-            f"write # {bare.lstrip('/;-% ')}"[:60],
-            "# " + bare,
-            text.whole(number),
-        )
-    if re.match(r"[\w .,-]+$", bare) and not HEX.fullmatch(bare):
-        return Slip(
-            "a line that is neither 'key = value' nor [[site]]",
-            f"write # {bare}"[:60] + ", or take it out",
-            "# " + bare,
-            text.whole(number),
-        )
-    if re.fullmatch(r"[0-9A-Fa-f\s]+\"?", bare):
-        return Slip("a line of a record that was cut in two", "join it with the line above", "", text.whole(number))
-    return Slip(
-        "a line that is neither 'key = value' nor [[site]]",
-        "put # in front of a note, or mend the line",
-        "",
-        text.whole(number),
+        twice = "keep one; or put [[site]] above the second"
+        slip = Slip("the key stands twice in its block", twice, "", text.whole(number))
+        return _head_slip(text, number) or slip
+    return (
+        _sign_slip(text, number) or _head_slip(text, number) or _value_slip(text, number) or _line_slip(text, number)
     )
+
+
+def _line_slip(text: Text, number: int) -> Slip:
+    """A line that is no key and no head of a block."""
+    bare, whole = text.line(number).strip(), text.whole(number)
+    if bare.startswith(("{", "}", '"')) and number <= 2:
+        return Slip("this is JSON, not TOML", "hsp sites makes the blocks from a proxy's JSON", "", whole)
+    if bare in ("region,handle,count", "region,site,cost", "site,server_id,capacity"):
+        return Slip("this is a table, not settings", "give the right file for --settings", "", whole)
+    if bare.startswith(("//", ";", "--", "%")):
+        remedy = f"write # {bare.lstrip('/;-% ')}"[:60]
+        return Slip("a note; TOML has them behind '#'", remedy, "# " + bare, whole)
+    why = "a line that is neither 'key = value' nor [[site]]"
+    if re.match(r"[\w .,-]+$", bare) and not HEX.fullmatch(bare):
+        return Slip(why, f"write # {bare}"[:60] + ", or take it out", "# " + bare, whole)
+    if re.fullmatch(r"[0-9A-Fa-f\s]+\"?", bare):
+        return Slip("a line of a record that was cut in two", "join it with the line above", "", whole)
+    return Slip(why, "put # in front of a note, or mend the line", "", whole)
 
 
 def _candidates(text: Text) -> Iterator[tuple[int, str]]:
@@ -171,54 +157,55 @@ def decoded_lines(text: Text, octet: int) -> int:
     return len(re.split(rb"\r\n|\n|\r", text.octets[:octet]))
 
 
+def _other_form(question: Question, said: Said) -> Explained | None:
+    """Settings in UTF-16, or with the line ends of an old Mac."""
+    draft = question.files["settings"]
+    octets, path = draft.text.octets, draft.text.path
+    if octets[:2] in (b"\xff\xfe", b"\xfe\xff"):
+        remedy = f"iconv -f utf-16 -t utf-8 {path} > utf8.toml"
+        words = Words("the settings aren't UTF-8", remedy, "a file in UTF-16")
+        text = octets.decode("utf-16", "replace")
+    elif b"\r" in octets and b"\n" not in octets:
+        remedy = rf"tr '\r' '\n' < {path} > plain.toml"
+        words = Words("the settings have line ends of an old Mac", remedy, "lone carriage returns")
+        text = "\n".join(draft.text.lines)
+    else:
+        return None
+    mended = question.with_file("settings", draft.with_text(text))
+    finding = found(path, Place(1, 1, 1, ""), words, said.line)
+    return Explained(finding, [mended, question.with_stand_in("settings")])
+
+
+def _latin(text: Text, number: int) -> tuple[Slip, Words]:
+    """A line with octets that aren't UTF-8."""
+    line = text.line(number)
+    at = next((it for it, sign in enumerate(line) if "\udc80" <= sign <= "\udcff"), 0)
+    mended = encoded(line).decode("cp1252", "replace")
+    remedy = f"iconv -f windows-1252 -t utf-8 {text.path} > utf8.toml"
+    slip = Slip("a letter of Latin-1 or Windows-1252", remedy, mended, text.part(number, at, 1))
+    return slip, Words("the settings aren't UTF-8", slip.remedy, slip.why)
+
+
 def not_toml(question: Question, said: Said) -> Explained:
     """Settings that aren't TOML: the line, and the same with this line mended or left out."""
+    other = _other_form(question, said)
+    if other:
+        return other
     draft = question.files["settings"]
     text = draft.text
-    if text.octets[:2] in (b"\xff\xfe", b"\xfe\xff"):
-        words = Words(
-            "the settings aren't UTF-8", f"iconv -f utf-16 -t utf-8 {text.path} > utf8.toml", "a file in UTF-16"
-        )
-        plain = draft.with_text(text.octets.decode("utf-16", "replace"))
-        return Explained(
-            found(text.path, Place(1, 0, 0, ""), words, said.line),
-            [question.with_file("settings", plain), question.with_stand_in("settings")],
-        )
-    if not re.search(rb"\r?\n", text.octets) and b"\r" in text.octets:
-        words = Words(
-            "the settings have line ends of an old Mac",
-            rf"tr '\r' '\n' < {text.path} > plain.toml",
-            "lone carriage returns",
-        )
-        plain = draft.with_text("\n".join(text.lines))
-        return Explained(
-            found(text.path, Place(1, 0, 0, ""), words, said.line),
-            [question.with_file("settings", plain), question.with_stand_in("settings")],
-        )
     number, reason = next(_candidates(text))
     if reason == "utf-8":
-        line = text.line(number)
-        at = next((it for it, sign in enumerate(line) if "\udc80" <= sign <= "\udcff"), 0)
-        mended = encoded(line).decode("cp1252", "replace")
-        slip = Slip(
-            "a letter of Latin-1 or Windows-1252",
-            f"iconv -f windows-1252 -t utf-8 {text.path} > utf8.toml",
-            mended,
-            text.part(number, at, 1),
-        )
-        words = Words("the settings aren't UTF-8", slip.remedy, slip.why)
+        slip, words = _latin(text, number)
     else:
-        options = list(dict.fromkeys(it for it, _ in _candidates(text)))
-        number = _best(text, options)
+        number = _best(text, list(dict.fromkeys(it for it, _ in _candidates(text))))
         slip = slip_of(text, number, reason)
         words = Words(f"the settings aren't TOML: {slip.why}", slip.remedy, "", kind=f"NotToml {slip.why}")
     if draft.original.line(draft.number(number)) != text.line(number):
-        blank = [] if not text.line(number).strip() else [question.with_line("settings", number, "")]
+        blank = [question.with_line("settings", number, "")] if text.line(number).strip() else []
         return Explained(None, [*blank, question.with_stand_in("settings")])
-    place = slip.place
-    ways = [slip.line, ""] if slip.line != "" else [""]
-    mended_ones = [question.with_line("settings", number, it) for it in ways if it != text.line(number)]
-    return Explained(found(text.path, place, words, said.line), [*mended_ones, question.with_stand_in("settings")])
+    ways = [it for it in dict.fromkeys((slip.line, "")) if it != text.line(number)]
+    mended = [question.with_line("settings", number, it) for it in ways]
+    return Explained(found(text.path, slip.place, words, said.line), [*mended, question.with_stand_in("settings")])
 
 
 def _best(text: Text, numbers: list[int]) -> int:
