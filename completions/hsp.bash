@@ -5,6 +5,7 @@ _hsp_options() {
     case $1 in
         plan) echo "$files --all --output --no-save --csv --json" ;;
         view) echo "$files --before --title --output" ;;
+        doctor) echo "${files/ --unit/} --strict --json" ;;
         whatif) echo "$files --server --from --to --points --step --csv --chart" ;;
     esac
 }
@@ -13,7 +14,7 @@ _hsp() {
     local current=${COMP_WORDS[COMP_CWORD]} before=${COMP_WORDS[COMP_CWORD - 1]}
     COMPREPLY=()
     if [ "$COMP_CWORD" -eq 1 ]; then
-        COMPREPLY=($(compgen -W "plan view whatif --help --version" -- "$current"))
+        COMPREPLY=($(compgen -W "doctor plan view whatif --help --version" -- "$current"))
     elif [[ " --unit --title --server --from --to --points --step " == *" $before "* ]]; then
         COMPREPLY=()
     elif [[ $current == -* ]]; then

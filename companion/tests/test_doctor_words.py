@@ -174,10 +174,9 @@ COMMANDS = {
 }
 
 
-@pytest.mark.parametrize("command, file, old, new, line, remedy, said", LATER)
-def test_faults_of_plans_logs_and_records(
-    folder: Path, command: str, file: str, old: bytes, new: bytes, line: int, remedy: str, said: str
-) -> None:
+@pytest.mark.parametrize("case", LATER, ids=lambda it: f"{it[0]}: {it[-1]}")
+def test_faults_of_plans_logs_and_records(folder: Path, case: tuple[str, str, bytes, bytes, int, str, str]) -> None:
+    command, file, old, new, line, remedy, said = case
     edited(folder / file, old, new)
     first = told(COMMANDS[command], 1)[0]
     named = "plan.txt" if said.startswith(("check", "no ")) else file

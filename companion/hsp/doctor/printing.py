@@ -16,7 +16,7 @@ def _window(text: str, column: int) -> tuple[str, int]:
     """What is shown of a long line, and where the column stands in it."""
     if len(text) <= WIDE:
         return text, column
-    start = max(0, column - 40)
+    start = max(0, min(column - 40, len(text) + 6 - WIDE))
     before = "\u2026" if start else ""
     after = "\u2026" if start + WIDE - 6 < len(text) else ""
     return before + text[start : start + WIDE - 6] + after, column - start + len(before)
