@@ -114,6 +114,11 @@ MISTAKES: dict[str, tuple[str, Edit, int, int, str]] = {
     "a log that isn't added up": (DEMAND, more("eu,20.500.1234/report-2024,25\n"), 38, 1, "sum 500"),
     "a region with a blank": (DEMAND, sub("eu,", "eu ,"), 2, 1, "write eu"),
     "a region with an accent": (COSTS, sub("us,paris", "\u00e9t\u00e9,paris"), 4, 1, "write ete"),
+    "a header among the rows": (DEMAND, more("region,handle,count\n"), 38, 1, "take the line out"),
+    "a row of sums": (DEMAND, more("total,,6282\n"), 38, 7, "take the line out"),
+    "a mark of a merge": (DEMAND, more("<<<<<<< HEAD\n"), 38, 1, "one side"),
+    "blanks in all rows": (DEMAND, lambda it: it[:20] + it[20:].replace(",", ", "), 2, 29, "sed 's/, */,/g'"),
+    "an address in place of an identifier": (CAPACITY, sub("paris,1,", "paris,192.0.2.11,"), 2, 7, "identifier"),
     # handles
     "only a prefix": (DEMAND, sub("20.500.1234/report-2024", "20.500.1234"), 2, 4, "suffix"),
     "only a suffix": (DEMAND, sub("20.500.1234/report-2024", "report-2024"), 2, 4, "prefix"),
@@ -170,7 +175,17 @@ MISTAKES: dict[str, tuple[str, Edit, int, int, str]] = {
     "the name of a file": (SETTINGS, record(lambda _: "paris.site"), 3, 10, "hsp sites paris.site"),
     "a letter among the digits": (SETTINGS, record(lambda it: it[:20] + "O" + it[21:]), 3, 31, "copy it again"),
     "base64": (SETTINGS, record(lambda _: "AAECCwAHAAIAAAAAAAAAAQ=="), 3, 10, "hexadecimal"),
+    "blanks among the digits": (SETTINGS, record(lambda it: re.sub("(..)", r"\1 ", it)), 3, 10, "take the blanks"),
+    "a record in two lines": (SETTINGS, record(lambda it: it[:80] + "\n" + it[80:]), 3, 10, "join the lines"),
+    "a record in three lines between three quotes": (
+        SETTINGS,
+        lambda it: re.sub(r'"([0-9a-f]{80})([0-9a-f]+)"', r'"""\1\n\2"""', it, count=1),
+        3,
+        10,
+        "in one line",
+    ),
     # records
+    "a record twice": (SETTINGS, record(lambda it: it + it), 3, 651, "first 640 digits"),
     "a cut record": (SETTINGS, record(lambda it: it[:-2]), 3, 643, "copy the whole record"),
     "octets behind a record": (SETTINGS, record(lambda it: it + "00"), 3, 651, "cut them off"),
     "a server that isn't counted": (
@@ -237,8 +252,25 @@ def test_a_mistake_has_its_place_and_its_remedy(example: Example, name: str) -> 
     assert first.said and first.severity == ERROR and first.end > first.column
 
 
-def test_there_are_enough_mistakes() -> None:
-    assert len(MISTAKES) >= 60
+ONE_FINDING = ("a header among the rows", "a record in two lines", "a record in three lines between three quotes")
+
+
+@pytest.mark.parametrize("name", ONE_FINDING)
+def test_one_mistake_is_one_finding(example: Example, name: str) -> None:
+    file, edit, *_ = MISTAKES[name]
+    assert len(broken(example("two-sites"), file, edit).findings) == 1
+
+
+def test_two_faults_of_one_block(example: Example) -> None:
+    folder = example("two-sites")
+    text = (folder / HOSTS).read_text().replace("limit = 2000\n", "")
+    (folder / SETTINGS).write_text(text.replace('"000000000000000000000000c6336416"', '"198.51.100.22"'))
+    found = examined(str(folder), Desk(), {}).errors
+    assert [(it.line, it.said) for it in found] == [(8, "settings: BadHost host 0"), (7, "settings: BadHost host 0")]
+    (folder / SETTINGS).write_text(
+        'title = "mine"\nunit = "ms"\n' + (TOP / "examples/two-sites/settings.toml").read_text()
+    )
+    assert [it.line for it in examined(str(folder), Desk(), {}).errors] == [1, 2]
 
 
 def at(finding: Finding) -> tuple[str, int, int]:
@@ -335,7 +367,10 @@ def test_files_that_cannot_be_read(hsp: Hsp, example: Example, tmp_path: Path) -
     assert "error: a folder, not a file" in lines and f"--> {folder}/capacity.csv" in lines
     empty = tmp_path / "empty"
     empty.mkdir()
-    assert hsp("doctor", str(empty), status=5).stdout.count("hsp new makes a folder with all of them") == 4
+    assert "hsp new makes such a folder" in hsp("doctor", str(empty), status=5).stdout
+    (empty / "mine").mkdir()
+    (empty / "mine" / SETTINGS).write_text("")
+    assert f"  do   hsp doctor {empty}/mine\n" in hsp("doctor", str(empty), status=5).stdout
 
 
 @pytest.mark.parametrize(

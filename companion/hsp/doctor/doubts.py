@@ -133,7 +133,7 @@ def priceless(it: Read) -> None:
         number = sum(other.fields[0] == region for other in it.demand.rows)
         words = Words(
             f"region {quoted(region)} has no cost for any site",
-            f"write {meant} in both tables" if meant else f"add rows {region},SITE,COST to {costs}",
+            f"write {meant} here, or {region} in {costs}" if meant else f"add rows {region},SITE,COST to {costs}",
             f"no site may serve its {some(number, 'row')}, so the plan is a shortage",
             f"{costs} has {meant}" if meant else "",
             f"priceless {region}",
@@ -158,7 +158,8 @@ def idle(it: Read) -> None:
             f"write {meant}, if that is meant" if meant else "take its rows out, or leave them for a later demand"
         )
         message = f"region {quoted(region)} has costs and asks for nothing"
-        it.of_row(it.costs, row, 0, Words(message, remedy, "its costs are never used", "", "idle region"))
+        mark = f"did you mean {meant}?" if meant else ""
+        it.of_row(it.costs, row, 0, Words(message, remedy, "its costs are never used", mark, "idle region"))
 
 
 def pairs(it: Read) -> None:

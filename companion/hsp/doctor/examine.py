@@ -10,6 +10,7 @@ from dataclasses import dataclass
 from hsp.doctor.doubts import doubts
 from hsp.doctor.findings import ERROR, Finding, Place, Words, found, read_text
 from hsp.doctor.question import Diagnosis, Question, draft_of
+from hsp.numbers import listed
 from hsp.programs import Desk, Missing, Refused
 from hsp.service import NAMES, TITLES, VALUES, Service, read_service
 
@@ -48,6 +49,8 @@ def examined(
     values = given.get("values") or (os.path.normpath(beside) if os.path.isfile(beside) else None)
     if values:
         paths["values"] = values
+    if not any(map(os.path.exists, paths.values())):
+        return Examined([_no_service(folder)], 5)
     question = Question(desk, "plan", {kind: draft_of(desk, path) for kind, path in paths.items()})
     copies = {kind: question.path(kind) for kind, it in question.files.items() if it.lines is not None}
     try:
@@ -66,6 +69,21 @@ def _refused(question: Question, folder: str, fault: Exception) -> Examined:
     if not findings:
         raise fault
     return Examined(findings, status_of(result) or 1, result.is_cut_short)
+
+
+def _no_service(folder: str) -> Finding:
+    """A folder with none of the files, and a folder in it that has them."""
+    inside = sorted(it.name for it in os.scandir(folder) if it.is_dir() and not it.name.startswith("."))
+    there = [it for it in inside if os.path.exists(os.path.join(folder, it, NAMES["settings"]))]
+    message = f"none of {listed(NAMES.values())} is here"
+    if there:
+        near = os.path.normpath(os.path.join(folder, there[0]))
+        words = Words(
+            message, f"hsp doctor {near}", f"{listed(there)} in it {'has' if len(there) == 1 else 'have'} settings"
+        )
+    else:
+        words = Words(message, "give the folder that has them; hsp new makes such a folder", "another folder?")
+    return found(folder, Place(), words, "read failed")
 
 
 def titles_faults(folder: str) -> list[Finding]:

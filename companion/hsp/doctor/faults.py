@@ -120,13 +120,22 @@ def _files_first(question: Question, line: str) -> tuple[Question, list[Finding]
     return question, findings
 
 
-def _next(question: Question, said: Said, it: Explained) -> tuple[Question, Said] | None:
+def _is_another(it: Explained, then: Explained) -> bool:
+    """Whether two explanations of one line of hsplan speak of different things."""
+    return it.finding and then.finding and it.finding.message != then.finding.message or False
+
+
+def _next(question: Question, said: Said, it: Explained, line: Line | None) -> tuple[Question, Said] | None:
     """The first mended question whose answer is another one."""
     for mended in it.mended:
         then = mended.ask()
         if then.line == said.line:
-            # The next row or block may have the same number, and the same fault.
-            if said.word == "NotToml" or mended.size() < question.size():
+            # The next row or block may have the same number and fault, and a block may have two faults.
+            if (
+                said.word == "NotToml"
+                or mended.size() < question.size()
+                or _is_another(it, explained(mended, then, line))
+            ):
                 return mended, then
         elif not (it.is_whole_row and _is_same_row(said, then)):
             return mended, then
@@ -169,9 +178,9 @@ def diagnosed(question: Question, line: Line | None = None) -> Diagnosis:
         if not said.line or _is_consequence(question, said):
             return result
         it = explained(question, said, line)
-        if it.finding:
+        if it.finding and it.finding not in result.findings:
             result.findings.append(it.finding)
-        then = _next(question, said, it)
+        then = _next(question, said, it, line)
         if not then:
             return result
         question, said = then

@@ -136,7 +136,7 @@ class Question:
 
     def size(self) -> int:
         """How many lines with a text the files have."""
-        return sum(bool(line.strip()) for it in self.files.values() if it.lines is not None for line in it.lines)
+        return sum(bool(line.strip()) for it in self.files.values() for line in it.lines or it.original.lines)
 
     def ask(self) -> Said:
         """What hsplan says. Its answer is the status only, since answers to a log may be long."""

@@ -63,12 +63,14 @@ def octets_words(octets: bytes, path: str, desk: Desk) -> Words | None:
         head = b"TOML" if stripped[:2] == b"[[" else b"JSON"
         if head == b"TOML":
             return Words("", "give the file of a record, not the settings", "these are settings")
-        return Words("", f"hsp sites {path} makes a record of it", "JSON in place of octets")
+        return Words("", f"hsp sites {path or 'FILE'} makes a record of it", "JSON in place of octets")
     bare = re.sub(rb"^0[xX]|\s", b"", stripped)
+    if not path and re.fullmatch(rb"[0-9A-Fa-f]+", bare):
+        return Words("", f"write {bare[:16].decode()}.. in place of them", "these are the digits of digits")
     if re.fullmatch(rb"[0-9A-Fa-f]+", bare):
         return Words("", f"xxd -r -p {path} > octets.site", "hexadecimal digits in place of octets")
     if re.fullmatch(rb"[A-Za-z0-9+/\s]+=*", stripped) and len(stripped) > 20:
-        return Words("", f"base64 -d {path} > octets.site", "base64 in place of octets")
+        return Words("", f"base64 -d {path or 'FILE'} > octets.site", "base64 in place of octets")
     if stripped.isascii() and re.fullmatch(rb"[\x20-\x7e\r\n\t]+", stripped):
         return Words("", "give the octets of the record, as siteinfo.bin has them", "a text in place of octets")
     values = run("hsplan", "site", "--index=1", desk.put(octets, ".values"))
@@ -106,10 +108,9 @@ def record_words(octets: bytes, said: Said, path: str, desk: Desk) -> tuple[Word
     if said.detail == "Trailing" or said.word == "Trailing":
         ending = octets[at:].strip(b"\r\n") == b""
         why = "a line end behind the record" if ending else f"{some(left, 'octet')} behind the last server"
-        return (
-            Words("", f"cut them off: head -c {at} FILE" if not ending else f"cut it off: head -c {at} {path}", why),
-            octets[:at],
-        )
+        why = "the record stands twice" if octets[at:] == octets[:at] else why
+        remedy = f"cut {'it' if ending else 'them'} off: head -c {at} {path} > record.site"
+        return Words("", remedy if path else f"cut them off: keep the first {2 * at:,} digits", why), octets[:at]
     why = f"{some(left, 'octet')} from octet {at} on are too few for the field that begins there"
     return Words("", "copy the whole record again: it was cut, or an octet is lost; or another layout", why), b""
 
@@ -125,7 +126,7 @@ def bad_record(question: Question, said: Said) -> Explained:
     if not isinstance(record, str):
         return _bad_value(question, said, number, str(name))
     octets = bytes.fromhex(record)
-    told, octets_then = record_words(octets, said, "FILE", question.desk)
+    told, octets_then = record_words(octets, said, "", question.desk)
     start = place.text.find(record)
     if start >= 0 and "at" in said.numbers:
         column = min(start + 2 * said.numbers["at"], max(start, start + len(record) - 2))

@@ -28,6 +28,10 @@ def with_value(question: Question, kind: str, number: int, key: str, value: str)
     text = question.text("settings")
     place = value_of(text, kind, number, key)
     line = place.text[: place.column - 1] + value + place.text[place.end - 1 :]
+    fence = place.text[place.column - 1 :][:3]
+    if fence in ('"' * 3, "'" * 3) and fence not in place.text[place.column + 2 :]:
+        last = next((it for it in range(place.line + 1, len(text.lines) + 1) if fence in text.line(it)), place.line)
+        return question.with_line("settings", place.line, place.text[: place.column - 1] + value, last)
     return question.with_line("settings", place.line, line)
 
 
@@ -118,6 +122,8 @@ def _unknown(question: Question, said: Said, where: tuple[str, int], key: str) -
 def record_words(record: str, folder: str) -> Words:
     """What is wrong with a record that isn't octets in hexadecimal digits."""
     bare = re.sub(r"[\s:]", "", record)
+    if "\n" in record:
+        return Words("", "write the digits in one line, between two quotes", "line ends between the digits")
     if not record:
         return Words("", "hsp sites prints the block with its record", "the record is empty")
     if re.match(r"0[xX]", record):

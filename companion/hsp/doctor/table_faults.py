@@ -106,6 +106,12 @@ def bad_number(spot: Spot, said: str) -> Explained:
             "digits stand in another column, so the columns may be in another order",
             kind=words.kind,
         )
+    if told.why.startswith("a blank") and all(it.startswith(" ") for it in fields[1:]):
+        path = spot.question.files[spot.kind].original.path
+        remedy = f"{told.remedy}; in the whole table: sed 's/, */,/g' {path} > plain.csv"
+        words = replace(words, remedy=remedy)
+    if name == "server_id" and not fields[at].strip().isdigit():
+        words = replace(words, remedy="write the identifier of the server, as hsplan site prints it")
     mended = [spot.with_field(at, it) for it in dict.fromkeys((told.mended, "1"))]
     mended = ([] if name == "server_id" else mended) + [spot.without()]
     return Explained(found(spot.path, spot.place(at), words, said), mended)
@@ -193,6 +199,8 @@ def bad_handle(spot: Spot, said: str, detail: str) -> Explained:
     at = min(at, len(spot.row.fields) - 1)
     handle = spot.row.fields[at]
     words = handle_words(handle, detail or reason_of(spot, at), spot.question.files[spot.kind].original.path)
+    if not handle and spot.row.fields[0].lower() in ("total", "sum", "all", ""):
+        words = replace(words, why="a row of sums, as spreadsheets have them", remedy="take the line out")
     slashed = [it for it, field in enumerate(spot.row.fields) if "/" in field and it != at]
     if "/" not in handle and slashed:
         order = ",".join(spot.header)
@@ -262,6 +270,8 @@ def _too_few(spot: Spot) -> tuple[Words, str]:
     if len(whole.split()) == len(spot.header):
         text = ",".join(it.strip(",;") for it in whole.split())
         return Words("", f"write {text[:60]}", "blanks in place of commas"), text
+    if re.match(r"(<{7}|={7}|>{7})", whole):
+        return Words("", "keep the lines of one side, and take the marks out", "a mark of a merge"), ""
     if len(fields) == 1:
         remedy = f"take the line out, or write all of {order}"
         return Words("", remedy, "not a row: a note, or a line that was cut"), ""
@@ -313,6 +323,9 @@ def row_fault(question: Question, kind: str, said: Said) -> Explained | None:
     if not spot:
         return None
     line = renumbered(question, kind, said)
+    if spot.row.fields == spot.header:
+        words = Words("the header stands among the rows", "take the line out", "two tables joined")
+        return Explained(found(spot.path, spot.line(), words, line), [spot.without()])
     if said.word == "BadNumber":
         it = bad_number(spot, said.line)
         return Explained(it.finding and _saying(it.finding, line), it.mended)

@@ -23,6 +23,8 @@ class Slip(NamedTuple):
     remedy: str
     line: str
     place: Place
+    # The last line of those that it stands for.
+    last: int = 0
 
 
 def _sign_slip(text: Text, number: int) -> Slip | None:
@@ -74,6 +76,17 @@ def _value_slip(text: Text, number: int) -> Slip | None:
     if not value:
         return Slip("a key without a value", f"write the value behind {it[2]} =", f'{it[2]} = ""', place)
     if value.count('"') % 2 or value.count("'") % 2:
+        last = number
+        while HEX.fullmatch(text.line(last + 1).strip().rstrip("\"'")) and not text.line(last).rstrip().endswith(
+            ("'", '"')
+        ):
+            last += 1
+        if last > number:
+            whole = "".join(text.line(at).strip() for at in range(number, last + 1))
+            why = f"a record in {last - number + 1} lines"
+            return Slip(
+                why, "join the lines, so that the digits stand in one line between two quotes", whole, place, last
+            )
         return Slip("a quote that isn't closed", f"write {shorter(mended)}", mended, place)
     if it[4] != "=":
         why = "a colon in place of '='" if it[4] else "no '=' between key and value"
@@ -204,7 +217,7 @@ def not_toml(question: Question, said: Said) -> Explained:
         blank = [question.with_line("settings", number, "")] if text.line(number).strip() else []
         return Explained(None, [*blank, question.with_stand_in("settings")])
     ways = [it for it in dict.fromkeys((slip.line, "")) if it != text.line(number)]
-    mended = [question.with_line("settings", number, it) for it in ways]
+    mended = [question.with_line("settings", number, it, slip.last) for it in ways]
     return Explained(found(text.path, slip.place, words, said.line), [*mended, question.with_stand_in("settings")])
 
 
@@ -212,9 +225,9 @@ def _best(text: Text, numbers: list[int]) -> int:
     """The line whose mend takes a reader of TOML furthest."""
 
     def reached(number: int) -> int:
-        line = slip_of(text, number, "").line
+        slip = slip_of(text, number, "")
         lines = [*text.lines]
-        lines[number - 1] = line
+        lines[number - 1 : max(number, slip.last)] = [slip.line] + [""] * max(0, slip.last - number)
         try:
             tomllib.loads("\n".join(lines))
         except tomllib.TOMLDecodeError as fault:
