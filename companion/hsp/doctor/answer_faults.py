@@ -168,6 +168,17 @@ def log_row(question: Question, said: Said) -> Explained | None:
     return Explained(found(spot.path, spot.place(at), words, line), [spot.without()])
 
 
+def far_row(question: Question, said: Said) -> Explained:
+    """A row of a log beyond the octets that are read of it."""
+    path, line = question.files["log"].original.path, said.numbers["row"] + 2
+    words = Words(
+        f"row {line - 2:,} of the log has a fault: {said.word} {said.detail}".rstrip(),
+        f"look at the line: sed -n {line}p {path}; hsp doctor on a short log with it says more",
+        "the log is long, and the row is far behind",
+    )
+    return Explained(found(path, Place(line, 0, 0, ""), words, said.line))
+
+
 def count_too_large(question: Question, said: Said) -> Explained:
     unit = said.numbers.get("unit", 1000)
     log = question.files["log"].original.path

@@ -6,7 +6,7 @@ from typing import NamedTuple
 
 from hsp.doctor.findings import Place, Words, found, quoted
 from hsp.doctor.question import Question, Said
-from hsp.doctor.rows import Table, joined, near
+from hsp.doctor.rows import joined, near, table_of
 from hsp.doctor.table_faults import Explained, renumbered, spot_of
 from hsp.doctor.toml_places import listed_in
 from hsp.numbers import listed
@@ -54,7 +54,7 @@ def unknown_site(question: Question, said: Said) -> Explained | None:
         return Explained(None, [spot.without()])
     meant = near(name, names)
     tables = [it for it in ("costs", "capacity") if it in question.files]
-    used = {it for table in tables for it in Table(question.text(table)).column("site")}
+    used = {it for table in tables for it in table_of(question.text(table)).column("site")}
     lone = [it for it in names if it not in used]
     line = renumbered(question, said.table, said)
     kind = f"UnknownSite {name}"
@@ -66,7 +66,10 @@ def unknown_site(question: Question, said: Said) -> Explained | None:
         remedy, why = f"write {meant}", f"the settings have {listed(names, 6)}"
         why = f"another case of letters; {why}" if meant.casefold() == name.casefold() else why
     elif name in {
-        it for table in ("demand",) if table in question.files for it in Table(question.text(table)).column("region")
+        it
+        for table in ("demand",)
+        if table in question.files
+        for it in table_of(question.text(table)).column("region")
     }:
         remedy, why = "put the columns in the order " + ",".join(spot.header), f"{quoted(name)} is a region"
     else:
@@ -92,7 +95,7 @@ def unknown_server(question: Question, said: Said) -> Explained | None:
     name, text = spot.row.fields[0], spot.row.fields[1]
     names = names_in(question)
     site = site_at(question, names.index(name)) if name in names else Known(name, [])
-    rows = Table(question.text("capacity")).rows
+    rows = table_of(question.text("capacity")).rows
     taken = {it.fields[1] for it in rows if it.fields[0] == name}
     free = [it for it in map(str, site.servers) if it not in taken]
     ids = listed(map(str, site.servers), 12)
@@ -120,7 +123,7 @@ def no_capacity(question: Question, said: Said) -> Explained:
     mended = question.with_file("capacity", draft.with_text("\n".join([*lines[: number - 1], text, *lines[number:]])))
     if _follows(question, site, server):
         return Explained(None, [mended])
-    rows = Table(draft.original).rows
+    rows = table_of(draft.original).rows
     own = [it for it in rows if it.fields[0] == site]
     last = (own or rows)[-1].last if rows else 1
     place = draft.original.whole(last)

@@ -11,7 +11,7 @@ from dataclasses import dataclass, field
 from urllib.parse import unquote
 
 from hsp.doctor.findings import WARNING, Finding, Place, Text, Words, found, quoted, read_text
-from hsp.doctor.rows import Row, Table, near
+from hsp.doctor.rows import Row, Table, near, table_of
 from hsp.doctor.toml_places import value_of
 from hsp.numbers import listed, some
 from hsp.programs import Desk
@@ -356,7 +356,7 @@ def old_plan(it: Read, desk: Desk) -> None:
 def doubts(service: Service, desk: Desk) -> Iterator[Finding]:
     """All that is accepted and seldom meant, in the order of the files."""
     inputs = service.inputs
-    demand, costs, capacity = (Table(read_text(own)) for own in (inputs.demand, inputs.costs, inputs.capacity))
+    demand, costs, capacity = (table_of(read_text(own)) for own in (inputs.demand, inputs.costs, inputs.capacity))
     it = Read(service, demand, costs, capacity, read_text(inputs.settings))
     for look in (sites, hosts, handles, twins, priceless, idle, pairs, zeros, units, unused):
         look(it)

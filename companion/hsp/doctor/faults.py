@@ -22,8 +22,8 @@ from hsp.doctor.question import ORDER, Diagnosis, Question, Said, draft_of
 from hsp.doctor.table_faults import Explained, row_fault
 from hsp.programs import Desk, program, run
 
-# How often hsplan is asked about copies that were mended.
-TURNS = 120
+# How often hsplan is asked about copies that were mended, and how many octets these may have together.
+TURNS, OCTETS = 120, 100_000_000
 USAGE_STATUS = 2
 
 Way = Callable[[Question, Said], "Explained | None"]
@@ -73,7 +73,8 @@ def _of_log(question: Question, said: Said) -> Explained | None:
         return answer_faults.count_too_large(question, said)
     if "row" not in said.numbers:
         return None
-    return answer_faults.log_row(question, said) or row_fault(question, "log", said)
+    found_one = answer_faults.log_row(question, said) or row_fault(question, "log", said)
+    return found_one or answer_faults.far_row(question, said)
 
 
 def explained(question: Question, said: Said, line: Line | None) -> Explained:
@@ -174,7 +175,8 @@ def diagnosed(question: Question, line: Line | None = None) -> Diagnosis:
         if any(it in question.absent for it in ("plan", "log", "file", "values")):
             question = without_answers(question)
         said = question.ask()
-    for _ in range(TURNS):
+    octets = sum(len(it.original.octets) for it in question.files.values())
+    for _ in range(max(3, min(TURNS, OCTETS // max(1, octets)))):
         if not said.line or _is_consequence(question, said):
             return result
         it = explained(question, said, line)

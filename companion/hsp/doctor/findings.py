@@ -73,7 +73,7 @@ def found(path: str, place: Place, words: Words, said: str = "", severity: str =
     )
 
 
-@dataclass
+@dataclass(eq=False)
 class Text:
     """A file by its lines, as they are counted: a byte order mark is no letter, and other octets stay as they are."""
 

@@ -9,7 +9,7 @@ from typing import NamedTuple
 
 from hsp.doctor.findings import Finding, Place, Text, Words, decoded, found
 from hsp.doctor.question import Question, Said
-from hsp.doctor.rows import HEADERS, Table, near
+from hsp.doctor.rows import HEADERS, near, table_of
 from hsp.doctor.table_faults import Explained
 from hsp.numbers import listed
 
@@ -151,7 +151,7 @@ def header_fault(question: Question, kind: str, said: Said) -> Explained:
 def too_many(question: Question, kind: str, said: Said) -> Explained:
     """A table with more rows or regions than hsplan takes."""
     draft = question.files[kind]
-    table = Table(draft.text)
+    table = table_of(draft.text)
     if said.word == "TooManyRows":
         message = f"{len(table.rows):,} rows; the table has more than hsplan takes"
         why = "a row for each handle of a large service, or two tables joined"

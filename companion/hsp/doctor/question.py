@@ -2,6 +2,7 @@
 
 from __future__ import annotations
 
+import functools
 import os
 import re
 import shutil
@@ -30,7 +31,7 @@ class Draft:
     lines: tuple[str, ...] | None = None
     above: int = 0
 
-    @property
+    @functools.cached_property
     def text(self) -> Text:
         """The copy as it is now."""
         if self.lines is None:

@@ -15,6 +15,10 @@ from hsp.numbers import some
 from hsp.programs import Desk, run
 
 
+# No server has fewer octets: its identifier, its address, and two numbers.
+LEAST_SERVER = 28
+
+
 def is_record(desk: Desk, octets: bytes) -> bool:
     return run("hsplan", "site", desk.put(octets, ".site")).status == 0
 
@@ -29,9 +33,12 @@ def servers_in(desk: Desk, octets: bytes) -> int:
 def with_number(desk: Desk, octets: bytes, at: int) -> tuple[int, int, bytes] | None:
     """The record with another number of servers, if hsplan reads it then: the number, the right one, and the octets.
 
-    Octets after a record may be servers that its number leaves out; a record that ends too early may count too many.
+    Octets after a record may be servers that its number leaves out. A record that ends where a server would begin may
+    count too many.
     """
-    before = servers_in(desk, octets[:at])
+    before = servers_in(desk, octets[:at]) if at < len(octets) else 0
+    if 0 < len(octets) - at < LEAST_SERVER or at < len(octets) and not before:
+        return None
     for old, position in _numbers_in(octets, before):
         for new in range(old + 1, old + 9) if before else range(old - 1, max(0, old - 9), -1):
             changed = octets[:position] + new.to_bytes(4, "big") + octets[position + 4 :]

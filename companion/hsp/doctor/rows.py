@@ -4,6 +4,7 @@ from __future__ import annotations
 
 import csv
 import difflib
+import functools
 import io
 from collections.abc import Iterable
 from typing import NamedTuple
@@ -66,6 +67,12 @@ class Table:
         """The fields of one column, of rows that have it."""
         at = self.header.index(name) if name in self.header else -1
         return [it.fields[at] for it in self.rows if 0 <= at < len(it.fields)]
+
+
+@functools.lru_cache(maxsize=12)
+def table_of(text: Text) -> Table:
+    """The table of a text, which is read once for many questions."""
+    return Table(text)
 
 
 def spans_of(line: str) -> list[tuple[int, int]]:

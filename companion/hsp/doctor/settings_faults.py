@@ -11,7 +11,7 @@ from typing import Any
 
 from hsp.doctor.findings import Place, Words, found, quoted
 from hsp.doctor.question import Question, Said
-from hsp.doctor.rows import Table, near
+from hsp.doctor.rows import near, table_of
 from hsp.doctor.table_faults import Explained, slug
 from hsp.doctor.toml_places import KEYS, blocks, data_of, head_of, listed_in, value_of
 
@@ -53,7 +53,7 @@ def without_block(question: Question, kind: str, number: int) -> Question | None
 
 def without_rows(question: Question, kind: str, column: str, name: str) -> Question:
     """A table without the rows that have a name in a column."""
-    table = Table(question.text(kind))
+    table = table_of(question.text(kind))
     at = table.header.index(column) if column in table.header else 0
     lines = list(table.text.lines)
     left_out = question.left_out
@@ -214,7 +214,7 @@ def _bad_site_name(question: Question, said: Said, number: int, name: object) ->
         it
         for kind in ("costs", "capacity")
         if kind in question.files
-        for it in Table(question.text(kind)).column("site")
+        for it in table_of(question.text(kind)).column("site")
     ]
     free = [it for it in dict.fromkeys(used) if it not in taken and slug(it) == it and it]
     plain = slug(name) if isinstance(name, str) else ""
@@ -253,7 +253,7 @@ def site_twice(question: Question, said: Said) -> Explained:
         it
         for kind in ("costs", "capacity")
         if kind in question.files
-        for it in Table(question.text(kind)).column("site")
+        for it in table_of(question.text(kind)).column("site")
     ]
     free = [it for it in dict.fromkeys(used) if it not in {site.get("name") for site in sites} and it]
     remedy = (

@@ -12,7 +12,7 @@ from urllib.parse import unquote
 from hsp.doctor.findings import Finding, Place, Words, found, quoted
 from hsp.doctor.numbers_advice import advice
 from hsp.doctor.question import Question, Said
-from hsp.doctor.rows import HEADERS, Row, Table, joined, near, spans_of
+from hsp.doctor.rows import HEADERS, Row, joined, near, spans_of, table_of
 from hsp.numbers import listed, some
 from hsp.programs import run
 
@@ -41,7 +41,7 @@ class Spot(NamedTuple):
 
     def place(self, at: int, to: int = 0) -> Place:
         """Where a field stands in the file as it was."""
-        table = Table(self.question.files[self.kind].original)
+        table = table_of(self.question.files[self.kind].original)
         if len(self.original.fields) != len(self.row.fields):
             return table.text.whole(self.original.first)
         return table.place(self.original, at, to)
@@ -62,12 +62,12 @@ class Spot(NamedTuple):
 def spot_of(question: Question, kind: str, number: int) -> Spot | None:
     """The row with a number, that counts from 0."""
     draft = question.files[kind]
-    rows = Table(draft.text).rows
+    rows = table_of(draft.text).rows
     if number >= len(rows):
         return None
     row = rows[number]
     line = draft.number(row.first)
-    original = Table(draft.original)
+    original = table_of(draft.original)
     header = HEADERS.get(kind) or original.header
     return Spot(question, kind, row, original.at_line(line) or Row(line, line, row.fields), header)
 
@@ -78,7 +78,7 @@ def renumbered(question: Question, kind: str, said: Said) -> str:
     if not spot:
         return said.line
     draft = question.files[kind]
-    number = Table(draft.original).number(spot.original.first)
+    number = table_of(draft.original).number(spot.original.first)
     return re.sub(r"row \d+", f"row {number}", said.line, count=1)
 
 
@@ -133,7 +133,7 @@ def bad_name(spot: Spot, said: str) -> Explained:
             "a row of commas only", "take the line out", "an empty row of a spreadsheet", kind="BadName empty"
         )
         return Explained(found(spot.path, spot.line(), words, said), [spot.without()])
-    known = [it for it in Table(spot.question.text(spot.kind)).column(name) if slug(it) == it]
+    known = [it for it in table_of(spot.question.text(spot.kind)).column(name) if slug(it) == it]
     meant = near(field, set(known), 0.8) or slug(field) or ("eu" if name == "region" else "paris")
     why, remedy = "a name has only ASCII letters, digits, '-', '_' and '.', and at most 64 of them", f"write {meant}"
     if not field:
@@ -296,7 +296,7 @@ def bad_fields(spot: Spot, said: str) -> Explained:
 
 
 def row_twice(spot: Spot, said: str) -> Explained:
-    rows = Table(spot.question.text(spot.kind)).rows
+    rows = table_of(spot.question.text(spot.kind)).rows
     fields = spot.row.fields
     first = next((it for it in rows if it.fields[:2] == fields[:2] and it.first < spot.row.first), None)
     key = " and ".join(quoted(it, 40) for it in fields[:2])
