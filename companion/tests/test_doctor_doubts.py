@@ -116,6 +116,7 @@ def test_a_plan_older_than_its_inputs(hsp: Hsp, example: Example) -> None:
     assert examined(str(folder), Desk(), {}).warnings == []
     (folder / CAPACITY).write_text(sub("paris,2,1510", "paris,2,1400")((folder / CAPACITY).read_text()))
     os.utime(folder / CAPACITY, (later, later))
+    assert examined(str(folder), Desk(), {"demand": str(folder / "premiere.csv")}).warnings == []
     (found,) = examined(str(folder), Desk(), {}).warnings
     assert found.message == "the plan is older than capacity.csv" and found.remedy == f"hsp plan {folder}"
 

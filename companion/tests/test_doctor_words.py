@@ -4,6 +4,7 @@ from __future__ import annotations
 
 import json
 import os
+import random
 import subprocess
 import sys
 from collections.abc import Callable
@@ -13,6 +14,7 @@ from typing import Any
 import pytest
 
 from hsp.doctor import examined_words
+from hsp.doctor.commands import line_of
 from hsp.doctor.printing import json_of
 from hsp.programs import Desk
 
@@ -54,6 +56,8 @@ WORDS = [
     ("plan " + FILES.replace("--capacity", "--capacities"), "--capacities", "write --capacity"),
     ("plan " + FILES.replace("--costs", "--cost"), "--cost", "write --costs"),
     ("plan " + FILES.replace("--costs", "-costs"), "-costs", "write --costs"),
+    ("plan " + FILES.replace("--settings", "-s"), "-s", "write --settings"),
+    ("plan " + FILES.replace("--settings", "--settings ="), "=", "write --settings settings.toml"),
     ("plan " + FILES + " --demand demand.csv", "--demand", "take one of them out"),
     ("plan " + FILES + " --values", "--values", "write a file behind --values"),
     ("plan " + FILES + " --plan plan.txt", "--plan", "take it out"),
@@ -154,6 +158,35 @@ LATER: list[tuple[str, str, bytes, bytes, int, str, str]] = [
     ("check", "plan.txt", b"END\n", b"END\n\n", 84, "cut it off", "certificate: AfterEnd line 84"),
     ("dispatch", "log.csv", b"region,handle\n", b"", 1, "region,handle", "log: Header"),
     ("dispatch", "log.csv", b"region,handle\n", b"handle,region\n", 1, "region,handle", "log: Header"),
+    ("dispatch", "log.csv", b"region,handle\n", b"front,region,handle\n", 1, "--fronts N", "log: Header"),
+    (
+        "dispatch",
+        "log.csv",
+        b"region,handle\n",
+        b'- - [] "GET /20.1/x HTTP/1.1" 302\n',
+        1,
+        "hsp demand",
+        "log: Header",
+    ),
+    (
+        "dispatch",
+        "log.csv",
+        b"region,handle\nasia,20.500.1234/report-2025",
+        b"region,body\nasia,zz",
+        2,
+        "hexadecimal",
+        "log: BadBody row 0",
+    ),
+    ("fronts", "log.csv", b"region,handle\n", b"region,handle\n", 1, "leave --fronts out", "log: Header"),
+    (
+        "fronts",
+        "log.csv",
+        b"region,handle\nasia,",
+        b"front,region,handle\nx,asia,",
+        2,
+        "number of the front",
+        "log: BadFront row 0",
+    ),
     ("dispatch", "log.csv", b"report-2025\n", b"a,b\n", 2, '"20.500.1234/a,b"', "log: Fields row 0"),
     ("dispatch", "log.csv", b"20.500.1234/report-2025\n", b"report-2025\n", 2, "prefix", "log: BadHandle row 0"),
     ("dispatch", "capacity.csv", b"paris,2,1510", b"paris,2,1509", 0, "hsplan plan", "check: Load"),
@@ -166,6 +199,7 @@ LATER: list[tuple[str, str, bytes, bytes, int, str, str]] = [
 COMMANDS = {
     "check": f"check {FILES} --plan plan.txt",
     "dispatch": f"dispatch {FILES} --plan plan.txt --log log.csv",
+    "fronts": f"dispatch {FILES} --plan plan.txt --log log.csv --fronts 2",
     "report": f"report {FILES} --plan plan.txt --kind load",
     "kinds": "kinds --settings settings.toml --costs costs.csv --log log.csv",
     "places": "places --settings settings.toml --log log.csv",
@@ -184,7 +218,7 @@ def test_faults_of_plans_logs_and_records(folder: Path, case: tuple[str, str, by
     assert remedy in first["remedy"]
 
 
-@pytest.mark.parametrize("words", COMMANDS.values())
+@pytest.mark.parametrize("words", [it for name, it in COMMANDS.items() if name != "fronts"])
 def test_commands_without_a_fault(folder: Path, words: str) -> None:
     assert told(words, 0) == []
 
@@ -211,6 +245,45 @@ def test_octets_that_are_no_record(folder: Path) -> None:
         (first,) = told(f"site {name}", 1)
         assert remedy in first["remedy"], first
     assert told("site --index 5 sites.values", 1)[0]["remedy"] == "write --index 3"
+
+
+def spoilt(words: list[str], draw: random.Random) -> list[str]:
+    """Words of which some are lost, doubled, misspelt or added."""
+    found = list(words)
+    for _ in range(draw.randint(0, 3)):
+        at = draw.randrange(len(found))
+        way = draw.randrange(6)
+        if way == 0 and len(found) > 1:
+            del found[at]
+        elif way == 1:
+            found.insert(at, draw.choice(found))
+        elif way == 2:
+            found[at] = found[at][:-1] + draw.choice(("", "s", "x", "="))
+        elif way == 3:
+            found.insert(at, draw.choice(("--", "-", "--help", "-v", "=", "", "x", "--kind", "\u00e9", ".", "--log")))
+        elif way == 4:
+            found[at] = found[at].replace("--", "-")
+        else:
+            found[at] = found[at].upper()
+    return found
+
+
+def test_words_that_are_spoilt_at_random(folder: Path) -> None:
+    """The doctor's status is hsplan's, and no fault of words is explained by a sentence that fits any."""
+    draw = random.Random(53)
+    for _ in range(150):
+        words = spoilt(draw.choice(list(COMMANDS.values())).split(), draw)
+        line = line_of(words)
+        path = os.environ[line.program.upper().replace("-", "_")]
+        own = [it.text for it in line.words]
+        ended = subprocess.run([path, *own], stdin=subprocess.DEVNULL, capture_output=True, text=True)
+        found = examined_words(words, Desk())
+        assert found.status == (ended.returncode if ended.returncode != 3 else bool(found.errors)), words
+        said = {it.said for it in found.errors}
+        first = ended.stderr.strip().partition(": ")[2] if ended.returncode else ""
+        assert not first or ended.returncode == 3 or first in said, (words, first, said)
+        for it in found.errors:
+            assert "these words are no command" not in it.message and "FAULTS" not in it.remedy, (words, it)
 
 
 def test_pipes_are_read_once(hsp: Hsp, folder: Path) -> None:

@@ -136,7 +136,7 @@ def body_words(body: str) -> tuple[str, str]:
     if re.fullmatch(r"[0-9A-Fa-f]+", body):
         why = "an odd number of digits" if len(body) % 2 else "these octets aren't the body of a resolution request"
         return why, "write only the body, without the envelope and the header of the message"
-    if re.fullmatch(r"[A-Za-z0-9+/]+=*", body):
+    if re.fullmatch(r"[A-Za-z0-9+/]{16,}=*", body):
         return "base64 in place of hexadecimal digits", "write the octets as hexadecimal digits: base64 -d | xxd -p"
     return "signs that aren't hexadecimal digits", "write the octets of the body as hexadecimal digits"
 
@@ -199,7 +199,12 @@ def streams(question: Question, said: Said) -> Explained:
             if os.path.isdir(log)
             else "the disk, or the program that writes the log, ended early"
         )
-        words = Words("the log can't be read to its end", f"give a file that can be read: cat {log} > /dev/null", why)
+        remedy = (
+            "give the file in it"
+            if os.path.isdir(log)
+            else f"look whether all of it can be read: cat {log} > /dev/null"
+        )
+        words = Words("the log can't be read to its end", remedy, why)
     else:
         words = Words(
             "an answer can't be written",

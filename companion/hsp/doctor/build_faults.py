@@ -7,7 +7,7 @@ from typing import NamedTuple
 from hsp.doctor.findings import Place, Words, found, quoted
 from hsp.doctor.question import Question, Said
 from hsp.doctor.rows import joined, near, table_of
-from hsp.doctor.table_faults import Explained, renumbered, spot_of
+from hsp.doctor.table_faults import Explained, Spot, renumbered, spot_of
 from hsp.doctor.toml_places import listed_in
 from hsp.numbers import listed
 from hsp.programs import run
@@ -46,18 +46,20 @@ def unknown_site(question: Question, said: Said) -> Explained | None:
         return None
     at = spot.header.index("site")
     name, names = spot.row.fields[at], names_in(question)
-    if (
-        (said.table, tuple(spot.row.fields)) in question.left_out
-        or name in _left_out_sites(question)
-        or question.lacks_site
-    ):
+    if name in _left_out_sites(question) or question.lacks_site:
         return Explained(None, [spot.without()])
+    line = renumbered(question, said.table, said)
+    meant, words = _site_words(question, spot, name, names)
+    mended = [spot.with_field(at, meant)] if meant else []
+    return Explained(found(spot.path, spot.place(at), words, line), [*mended, spot.without()], True)
+
+
+def _site_words(question: Question, spot: Spot, name: str, names: list[str]) -> tuple[str, Words]:
+    """The site that was likely meant, and what is said of a name that no site has."""
     meant = near(name, names)
     tables = [it for it in ("costs", "capacity") if it in question.files]
     used = {it for table in tables for it in table_of(question.text(table)).column("site")}
     lone = [it for it in names if it not in used]
-    line = renumbered(question, said.table, said)
-    kind = f"UnknownSite {name}"
     if len(lone) == 1 and (not meant or meant == lone[0]):
         meant = lone[0]
         remedy = f"write one spelling in all files: {meant} as in the settings, or {name} there too"
@@ -65,20 +67,13 @@ def unknown_site(question: Question, said: Said) -> Explained | None:
     elif meant:
         remedy, why = f"write {meant}", f"the settings have {listed(names, 6)}"
         why = f"another case of letters; {why}" if meant.casefold() == name.casefold() else why
-    elif name in {
-        it
-        for table in ("demand",)
-        if table in question.files
-        for it in table_of(question.text(table)).column("region")
-    }:
+    elif "demand" in question.files and name in table_of(question.text("demand")).column("region"):
         remedy, why = "put the columns in the order " + ",".join(spot.header), f"{quoted(name)} is a region"
     else:
         remedy = f'add a block [[site]] with name = "{name}" to the settings, or take its rows out'
         why = f"the settings have only {listed(names, 6)}" if names else "the settings have no site"
     mark = f"did you mean {meant}?" if meant else ""
-    words = Words(f"the settings have no site {quoted(name)}", remedy, why, mark, kind)
-    mended = [spot.with_field(at, meant)] if meant else []
-    return Explained(found(spot.path, spot.place(at), words, line), [*mended, spot.without()], True)
+    return meant, Words(f"the settings have no site {quoted(name)}", remedy, why, mark, f"UnknownSite {name}")
 
 
 def _left_out_sites(question: Question) -> set[str]:

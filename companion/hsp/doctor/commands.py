@@ -106,6 +106,9 @@ def split(line: Line) -> tuple[list[Option], list[Word]]:
         name, equals, value = word.text.lstrip("-").partition("=")
         if equals:
             options.append(Option(name, value, word, word))
+        elif at + 1 < len(words) and words[at].text == "=":
+            options.append(Option(name, words[at + 1].text, word, words[at]))
+            at += 2
         elif at < len(words) and not words[at].text.startswith("--"):
             options.append(Option(name, words[at].text, word, words[at]))
             at += 1

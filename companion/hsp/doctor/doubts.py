@@ -15,7 +15,7 @@ from hsp.doctor.rows import Row, Table, near, table_of
 from hsp.doctor.toml_places import value_of
 from hsp.numbers import listed, some
 from hsp.programs import Desk
-from hsp.service import Service, dotted
+from hsp.service import NAMES, VALUES, Service, dotted
 
 # A demand beyond so many times all capacity, or a capacity beyond so many times the demand, has likely another unit.
 FAR_ABOVE, FAR_BELOW = 10, 1000
@@ -328,8 +328,14 @@ def sites(it: Read) -> None:
 
 
 def stale_plan(service: Service, desk: Desk, path: str) -> list[str]:
-    """The inputs that are newer than a plan which the checker refuses for them; none where the plan still holds."""
+    """The inputs that are newer than a plan which the checker refuses for them; none where the plan still holds.
+
+    A plan of the folder isn't one of other files that were given.
+    """
     inputs = service.inputs
+    own = {os.path.normpath(os.path.join(service.folder, name)) for name in (*NAMES.values(), VALUES)}
+    if not {inputs.settings, inputs.demand, inputs.costs, inputs.capacity} <= own:
+        return []
     files = [own for own in (inputs.settings, inputs.values, inputs.demand, inputs.costs, inputs.capacity) if own]
     time = os.stat(path).st_mtime
     newer = [own for own in files if os.stat(own).st_mtime > time]

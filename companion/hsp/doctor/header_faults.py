@@ -103,6 +103,23 @@ def _of_names(text: Text, wanted: list[str]) -> Cause | None:
     return None
 
 
+def _of_fronts(first: str, wanted: list[str]) -> Cause | None:
+    """A log with a column of fronts where none is wanted, or the other way round."""
+    if f"front,{first}" in wanted:
+        remedy = f"put the number of the front before each row, and write front,{first}; or leave --fronts out"
+        return Cause("a log for --fronts has a column more", remedy)
+    if first.startswith("front,") and first.removeprefix("front,") in wanted:
+        return Cause("a log of several fronts", "give --fronts N too, or take the first column out")
+    return None
+
+
+def _of_access(first: str) -> Cause | None:
+    if re.search(r'"(GET|HEAD|POST|PUT) ', first):
+        remedy = "hsp demand makes a table of its queries; a log for hsplan has the rows region,handle"
+        return Cause("the access log of a proxy", remedy)
+    return None
+
+
 def cause_of(text: Text, wanted: list[str]) -> Cause:
     """The likeliest cause of a first line that is no header."""
     found_one = _of_octets(text)
@@ -119,7 +136,7 @@ def cause_of(text: Text, wanted: list[str]) -> Cause:
         )
     if not first.strip() and text.lines[at] in wanted:
         return Cause("blanks above the header", "take the lines out", "\n".join([""] * at + text.lines[at:]))
-    found_one = _of_whole(text, wanted) or _of_names(text, wanted)
+    found_one = _of_fronts(first, wanted) or _of_access(first) or _of_whole(text, wanted) or _of_names(text, wanted)
     if found_one:
         return found_one
     meant = near(first, wanted, 0.65)

@@ -68,7 +68,7 @@ def spot_of(question: Question, kind: str, number: int) -> Spot | None:
     row = rows[number]
     line = draft.number(row.first)
     original = table_of(draft.original)
-    header = HEADERS.get(kind) or original.header
+    header = HEADERS.get(kind) or table_of(draft.text).header
     return Spot(question, kind, row, original.at_line(line) or Row(line, line, row.fields), header)
 
 

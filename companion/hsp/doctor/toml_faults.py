@@ -62,6 +62,20 @@ def _head_slip(text: Text, number: int) -> Slip | None:
     return None
 
 
+def _open_quote(text: Text, number: int, place: Place, mended: str) -> Slip:
+    """A quote that isn't closed, or a record that goes on in the lines below."""
+    last = number
+    while HEX.fullmatch(text.line(last + 1).strip().rstrip("\"'")) and not text.line(last).rstrip().endswith(
+        ("'", '"')
+    ):
+        last += 1
+    if last == number:
+        return Slip("a quote that isn't closed", f"write {shorter(mended)}", mended, place)
+    whole = "".join(text.line(at).strip() for at in range(number, last + 1))
+    remedy = "join the lines, so that the digits stand in one line between two quotes"
+    return Slip(f"a record in {last - number + 1} lines", remedy, whole, place, last)
+
+
 def _value_slip(text: Text, number: int) -> Slip | None:
     """A key whose value isn't written as TOML has it."""
     line = text.line(number)
@@ -76,18 +90,7 @@ def _value_slip(text: Text, number: int) -> Slip | None:
     if not value:
         return Slip("a key without a value", f"write the value behind {it[2]} =", f'{it[2]} = ""', place)
     if value.count('"') % 2 or value.count("'") % 2:
-        last = number
-        while HEX.fullmatch(text.line(last + 1).strip().rstrip("\"'")) and not text.line(last).rstrip().endswith(
-            ("'", '"')
-        ):
-            last += 1
-        if last > number:
-            whole = "".join(text.line(at).strip() for at in range(number, last + 1))
-            why = f"a record in {last - number + 1} lines"
-            return Slip(
-                why, "join the lines, so that the digits stand in one line between two quotes", whole, place, last
-            )
-        return Slip("a quote that isn't closed", f"write {shorter(mended)}", mended, place)
+        return _open_quote(text, number, place, mended)
     if it[4] != "=":
         why = "a colon in place of '='" if it[4] else "no '=' between key and value"
         return Slip(why, f"write {shorter(mended)}", mended, text.part(number, it.start(4), 1))

@@ -57,13 +57,16 @@ def command_fault(line: Line) -> Finding | None:
     )
 
 
+def meant_by(name: str, form: Form, taken: set[str]) -> str:
+    """The option that a misspelt one likely is: a near one, or the only one that begins so."""
+    free = [it for it in form.options if it not in taken] or form.options
+    start = [it for it in free if name and it.startswith(name)]
+    return near(name, free, 0.6) or (start[0] if len(start) == 1 else "")
+
+
 def _unknown_option(line: Line, form: Form, option: Option, taken: set[str]) -> Finding:
     command = line.command
-    free = [it for it in form.options if it not in taken] or form.options
-    meant = near(option.name, free, 0.6)
-    start = [it for it in free if option.name and it.startswith(option.name)]
-    if not meant and len(start) == 1:
-        meant = start[0]
+    meant = meant_by(option.name, form, taken)
     elsewhere = [it for it, other in FORMS.items() if option.name in other.options]
     if option.name in ("h", "help"):
         words = Words(
@@ -97,6 +100,9 @@ def _option_faults(line: Line, form: Form, options: list[Option]) -> Iterator[Fi
         elif it.name in seen:
             words = Words(f"--{it.name} stands twice", "take one of them out with its value", "", "the second")
             yield at_word(line, it.word, words)
+        elif it.value_word and it.value_word.text == "=":
+            words = Words("a blank stands beside '='", f"write --{it.name} {it.value}", "", "an option and its value")
+            yield at_word(line, it.value_word, words)
         elif it.value is None:
             what = "a file" if it.name in FILES else "a value"
             words = Words(
@@ -122,7 +128,7 @@ def _option_faults(line: Line, form: Form, options: list[Option]) -> Iterator[Fi
 def _missing(line: Line, form: Form, options: list[Option]) -> Iterator[Finding]:
     """Options that a command needs and the line lacks, but for those that are misspelt in it."""
     names = {it.name for it in options}
-    misspelt = [near(it.name, form.options, 0.6) for it in options if it.name not in form.options]
+    misspelt = [meant_by(it.name, form, names) for it in options if it.name not in form.options]
     lacking = [it for it in form.needed if it not in names and it not in misspelt]
     if lacking:
         listed = " and ".join(f"--{it}" for it in lacking)
