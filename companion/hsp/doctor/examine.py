@@ -49,7 +49,7 @@ def examined(
     values = given.get("values") or (os.path.normpath(beside) if os.path.isfile(beside) else None)
     if values:
         paths["values"] = values
-    if not any(map(os.path.exists, paths.values())):
+    if not any(os.path.exists(paths[kind]) for kind in NAMES):
         return Examined([_no_service(folder)], 5)
     question = Question(desk, "plan", {kind: draft_of(desk, path) for kind, path in paths.items()})
     copies = {kind: question.path(kind) for kind, it in question.files.items() if it.lines is not None}
