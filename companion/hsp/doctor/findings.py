@@ -134,5 +134,5 @@ def visible(text: str) -> str:
 
 def quoted(text: str, most: int = 60) -> str:
     """A text between quotes, of which only the beginning is shown where it is long."""
-    shown = visible(text)
-    return f"'{shown}'" if len(shown) <= most else f"'{shown[:most]}..'"
+    shown = visible(text[:most])
+    return f"'{shown}'" if len(text) <= most else f"'{shown}..'"

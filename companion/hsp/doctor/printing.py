@@ -30,7 +30,8 @@ def _place(it: Finding, colour: str) -> Iterator[str]:
         )
     if not it.line or not it.text.strip() and not it.column:
         return
-    text, column = _window(visible(it.text), it.column)
+    text, column = _window(it.text, it.column)
+    text = visible(text)
     number = str(it.line) if it.file else " " * len(gutter)
     yield f"{number} {dim('|')} {text}".rstrip()
     if it.column:

@@ -96,6 +96,8 @@ def joined(fields: Iterable[str]) -> str:
 
 def near(word: str, words: Iterable[str], least: float = 0.6) -> str:
     """The likeliest of some words that was meant, or nothing."""
+    if len(word) > 200:
+        return ""
     known = list(words)
     folded = {it.casefold(): it for it in known}
     if word.strip().casefold() in folded:

@@ -13,6 +13,8 @@ from hsp.doctor.rows import near
 from hsp.doctor.table_faults import Explained
 from hsp.doctor.toml_places import KEYS
 
+# How many lines are looked at as likely ones, and in settings of how many octets.
+MOST_LINES, MOST_OCTETS = 12, 1_000_000
 HEX = re.compile(r"[0-9A-Fa-f]+")
 
 
@@ -240,4 +242,5 @@ def _best(text: Text, numbers: list[int]) -> int:
             return 0
         return len(lines) + 1
 
-    return max(numbers, key=reached) if len(numbers) > 1 else numbers[0]
+    likely = numbers[:MOST_LINES]
+    return max(likely, key=reached) if len(likely) > 1 and len(text.octets) < MOST_OCTETS else numbers[0]
