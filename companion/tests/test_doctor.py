@@ -133,6 +133,13 @@ MISTAKES: dict[str, tuple[str, Edit, int, int, str]] = {
     "a header in another order": (DEMAND, line(1, "handle,region,count"), 1, 1, "order region,handle,count"),
     "no header": (DEMAND, without(1), 1, 1, "above the first line"),
     "a note above the header": (CAPACITY, head("# measured\n"), 1, 1, "take the line out"),
+    "a column that is missing": (
+        DEMAND,
+        lambda it: re.sub(",20[^,]*,", ",", it.replace("handle,", "")),
+        1,
+        1,
+        "column handle",
+    ),
     "an empty file": (COSTS, lambda _: "", 1, 1, "region,site,cost"),
     "another table": (DEMAND, lambda _: "region,site,cost\neu,paris,1\n", 1, 1, "right file"),
     "other names of columns": (CAPACITY, line(1, "site,id,limit"), 1, 1, "site,server_id,capacity"),
@@ -145,11 +152,14 @@ MISTAKES: dict[str, tuple[str, Edit, int, int, str]] = {
     "the place in place of the identifier": (CAPACITY, sub("paris,1,", "paris,0,"), 2, 7, "write 1"),
     "a server that isn't there": (CAPACITY, more("paris,3,1000\n"), 7, 7, "take the row out"),
     "a server without capacity": (CAPACITY, without(6), 5, 14, "add the row reston,3,N"),
+    "a capacity among the costs": (COSTS, more("reston,4,1000\n"), 8, 8, "move the row"),
     # settings
     "an open quote": (SETTINGS, line(2, 'name = "paris'), 2, 8, 'name = "paris"'),
     "no quotes": (SETTINGS, line(2, "name = paris"), 2, 8, 'name = "paris"'),
     "curly quotes": (SETTINGS, line(2, "name = \u201cparis\u201d"), 2, 8, 'name = "paris"'),
     "a colon": (SETTINGS, line(2, 'name: "paris"'), 2, 5, 'name = "paris"'),
+    "two sites in one block": (SETTINGS, without(4), 4, 1, "put [[site]] above it"),
+    "the name of a file without quotes": (SETTINGS, line(3, "record = paris.site"), 3, 10, "hsp sites paris.site"),
     "a comma at the end of a line": (SETTINGS, line(2, 'name = "paris",'), 2, 15, "take it out"),
     "one bracket": (SETTINGS, every("[[site]]", "[site]"), 4, 1, "[[site]]"),
     "one site with one bracket": (
@@ -252,13 +262,34 @@ def test_a_mistake_has_its_place_and_its_remedy(example: Example, name: str) -> 
     assert first.said and first.severity == ERROR and first.end > first.column
 
 
-ONE_FINDING = ("a header among the rows", "a record in two lines", "a record in three lines between three quotes")
+ONE_FINDING = (
+    "two sites in one block",
+    "a header among the rows",
+    "a record in two lines",
+    "a record in three lines between three quotes",
+)
 
 
 @pytest.mark.parametrize("name", ONE_FINDING)
 def test_one_mistake_is_one_finding(example: Example, name: str) -> None:
     file, edit, *_ = MISTAKES[name]
     assert len(broken(example("two-sites"), file, edit).findings) == 1
+
+
+def test_a_block_that_was_left_out_moves_no_other(example: Example) -> None:
+    """The second site keeps its place and its number, also where the first has a fault; so in tables within lines."""
+    folder = example("two-sites")
+    text = re.sub(r'record = "0', 'record = "', (folder / SETTINGS).read_text())
+    (folder / SETTINGS).write_text(text)
+    wanted = [(SETTINGS, 3, 10, "settings: BadSite site 0"), (SETTINGS, 6, 10, "settings: BadSite site 1")]
+    assert [(*at(it), it.said) for it in examined(str(folder), Desk(), {}).errors] == wanted
+    first, second = re.findall(r'record = "(\w+)"', text)
+    lines = [
+        f'  {{ name = "{name}", record = "{it}" }},' for name, it in (("paris", "0" + first), ("reston", second))
+    ]
+    (folder / SETTINGS).write_text("\n".join(["site = [", *lines, "]", ""]))
+    found = examined(str(folder), Desk(), {}).errors
+    assert [(*at(it), it.said) for it in found] == [(SETTINGS, 3, 31, "settings: BadSite site 1")]
 
 
 def test_two_faults_of_one_block(example: Example) -> None:

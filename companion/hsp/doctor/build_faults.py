@@ -67,6 +67,11 @@ def _site_words(question: Question, spot: Spot, name: str, names: list[str]) -> 
     elif meant:
         remedy, why = f"write {meant}", f"the settings have {listed(names, 6)}"
         why = f"another case of letters; {why}" if meant.casefold() == name.casefold() else why
+    elif spot.row.fields[0] in names and name.isdigit() and spot.kind == "costs":
+        remedy, why = (
+            "move the row to the capacities",
+            f"{spot.row.fields[0]} is a site, and {name} one of its servers",
+        )
     elif "demand" in question.files and name in table_of(question.text("demand")).column("region"):
         remedy, why = "put the columns in the order " + ",".join(spot.header), f"{quoted(name)} is a region"
     else:

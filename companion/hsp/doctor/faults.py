@@ -2,6 +2,7 @@
 
 from __future__ import annotations
 
+import re
 import subprocess
 from collections.abc import Callable
 from dataclasses import replace
@@ -102,11 +103,21 @@ def explained(question: Question, said: Said, line: Line | None) -> Explained:
     elif line and said.word.startswith("Bad") and not said.where:
         it = Explained(word_faults.value_fault(line, said.word))
     if it:
-        return it
+        return _numbered(question, said, it)
     words = Words(
         f"hsplan says {said.line or 'nothing'}", "look the word up in FAULTS, which is installed with hsplan"
     )
     return Explained(found("", Place(), words, said.line))
+
+
+def _numbered(question: Question, said: Said, it: Explained) -> Explained:
+    """The same with hsplan's words as they are for the files as they were, where a copy lacks a block."""
+    for kind in ("site", "host"):
+        if it.finding and "settings" in question.files and kind in said.numbers:
+            number = settings_faults.number_then(question, kind, said.numbers[kind])
+            line = re.sub(rf"\b{kind} \d+", f"{kind} {number}", it.finding.said, count=1)
+            it = it._replace(finding=replace(it.finding, said=line))
+    return it
 
 
 def _files_first(question: Question, line: str) -> tuple[Question, list[Finding]]:

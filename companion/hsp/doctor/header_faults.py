@@ -139,6 +139,10 @@ def cause_of(text: Text, wanted: list[str]) -> Cause:
     found_one = _of_fronts(first, wanted) or _of_access(first) or _of_whole(text, wanted) or _of_names(text, wanted)
     if found_one:
         return found_one
+    names = [it.strip() for it in first.split(",")]
+    lacking = [it for it in want.split(",") if it not in names]
+    if len(names) > 1 and lacking and set(names) < set(want.split(",")):
+        return Cause("a column is missing", f"add the column {listed(lacking)} to the first line, and to each row")
     meant = near(first, wanted, 0.65)
     if meant:
         return Cause("a header that is misspelt", f"write {meant}", "\n".join([meant, *text.lines[1:]]))

@@ -19,8 +19,22 @@ NAMES = "a name has only ASCII letters, digits, '-', '_' and '.', and at most 64
 
 
 def place_in(question: Question, kind: str, number: int, key: str) -> Place:
-    """Where the value of a key stands in the settings as they were."""
-    return value_of(question.files["settings"].original, kind, number, key)
+    """Where the value of a key stands in the settings as they were, for a block that counts in the mended copy."""
+    draft = question.files["settings"]
+    place = value_of(draft.text, kind, number, key)
+    line = draft.number(place.line)
+    if draft.original.line(line) != place.text:
+        return draft.original.whole(line)
+    return Place(line, place.column, place.width, place.text)
+
+
+def number_then(question: Question, kind: str, number: int) -> int:
+    """The number that a block of the mended copy has in the settings as they were."""
+    draft = question.files["settings"]
+    own = blocks(draft.text, kind)
+    firsts = [it.first for it in blocks(draft.original, kind)]
+    line = draft.number(own[number].first) if number < len(own) else 0
+    return firsts.index(line) if line in firsts else number
 
 
 def with_value(question: Question, kind: str, number: int, key: str, value: str) -> Question:
@@ -164,7 +178,9 @@ def _source_words(name: str, site: dict[str, Any], folder: str) -> Words:
         return Words(f"the record of '{name}' isn't a text", "put quotes about the digits", "a record is a text")
     why = "an index is a whole number up to 4,294,967,295, without quotes"
     return Words(
-        f"the index of '{name}' isn't a whole number", "write the index of the site's value, as index = 3", why
+        f"the index of '{name}' isn't a whole number from 0 on",
+        "write the index of the site's value, as index = 3",
+        why,
     )
 
 

@@ -5,6 +5,7 @@ from __future__ import annotations
 import re
 import tomllib
 from collections.abc import Iterator
+from dataclasses import replace
 from typing import NamedTuple
 
 from hsp.doctor.findings import Place, Text, Words, encoded, found
@@ -15,6 +16,7 @@ from hsp.doctor.toml_places import KEYS
 
 # How many lines are looked at as likely ones, and in settings of how many octets.
 MOST_LINES, MOST_OCTETS = 12, 1_000_000
+TWICE = "the key stands twice in its block"
 HEX = re.compile(r"[0-9A-Fa-f]+")
 
 
@@ -89,6 +91,9 @@ def _value_slip(text: Text, number: int) -> Slip | None:
     number_like = re.fullmatch(r"[0-9_]+", value) and it[2] in ("limit", "index")
     mended = f"{it[2]} = {value}" if number_like else f'{it[2]} = "{inner}"'
     place = text.part(number, it.start(6), len(it[6])) if value else text.whole(number)
+    if it[2] == "record" and re.fullmatch(r"[\w./-]+\.[a-z]\w{1,5}", inner):
+        why = "a record is octets in hexadecimal digits, not the name of a file"
+        return Slip(why, f"hsp sites {inner} prints the block", mended, place)
     if not value:
         return Slip("a key without a value", f"write the value behind {it[2]} =", f'{it[2]} = ""', place)
     if value.count('"') % 2 or value.count("'") % 2:
@@ -123,9 +128,11 @@ def shorter(text: str) -> str:
 def slip_of(text: Text, number: int, reason: str) -> Slip:
     """What is likely wrong with a line that a reader of TOML refuses."""
     if "overwrite" in reason or "twice" in reason or "already" in reason:
-        twice = "keep one; or put [[site]] above the second"
-        slip = Slip("the key stands twice in its block", twice, "", text.whole(number))
-        return _head_slip(text, number) or slip
+        last = number
+        while last < len(text.lines) and not text.line(last + 1).lstrip().startswith("["):
+            last += 1
+        remedy = "put [[site]] above it, if a second site begins here; otherwise keep one of the two"
+        return _head_slip(text, number) or Slip(TWICE, remedy, "", text.whole(number), last)
     return (
         _sign_slip(text, number) or _head_slip(text, number) or _value_slip(text, number) or _line_slip(text, number)
     )
@@ -222,6 +229,8 @@ def not_toml(question: Question, said: Said) -> Explained:
         blank = [question.with_line("settings", number, "")] if text.line(number).strip() else []
         return Explained(None, [*blank, question.with_stand_in("settings")])
     ways = [it for it in dict.fromkeys((slip.line, "")) if it != text.line(number)]
+    if slip.why == TWICE:
+        question = replace(question, lacks_site=True)
     mended = [question.with_line("settings", number, it, slip.last) for it in ways]
     return Explained(found(text.path, slip.place, words, said.line), [*mended, question.with_stand_in("settings")])
 

@@ -55,4 +55,15 @@ def value_of(text: Text, kind: str, number: int, key: str) -> Place:
     pattern = rf"^\s*[\"']?{key}[\"']?\s*=\s*([^#\s][^#]*?|\"[^\"]*\"?|'[^']*'?)\s*(?:#.*)?$"
     if number < len(own):
         return text.match(pattern, own[number].first, own[number].last) or text.whole(own[number].first)
-    return text.match(rf"\b{key}\b\s*=\s*(\"[^\"]*\"|'[^']*'|[^,}}\s]+)") or head_of(text, kind, number)
+    places = inline(text, key)
+    return places[min(number, len(places) - 1)] if places else head_of(text, kind, number)
+
+
+def inline(text: Text, key: str) -> list[Place]:
+    """The values of a key of tables that stand within lines."""
+    pattern = re.compile(rf"\b{key}\b\s*=\s*(\"[^\"]*\"|'[^']*'|[^,}}\s]+)")
+    return [
+        text.part(number, it.start(1), it.end(1) - it.start(1))
+        for number, line in enumerate(text.lines, 1)
+        for it in pattern.finditer(line)
+    ]
