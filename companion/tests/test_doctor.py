@@ -263,6 +263,7 @@ def test_a_mistake_has_its_place_and_its_remedy(example: Example, name: str) -> 
 
 
 ONE_FINDING = (
+    "the name of a file without quotes",
     "two sites in one block",
     "a header among the rows",
     "a record in two lines",

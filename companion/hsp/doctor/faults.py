@@ -167,6 +167,12 @@ def _is_consequence(question: Question, said: Said) -> bool:
     return said.where in ("certificate", "check") and bool(question.absent) or said.where in question.absent
 
 
+def _is_known(findings: list[Finding], new: Finding) -> bool:
+    """Whether a finding is there already, or is of a line of the settings that has to be written anew anyhow."""
+    lines = {(it.file, it.line) for it in findings if it.said == "settings: NotToml"}
+    return new in findings or new.said.startswith("settings: ") and (new.file, new.line) in lines
+
+
 def diagnosed(question: Question, line: Line | None = None) -> Diagnosis:
     """Asks, explains, mends a copy, and asks again until hsplan has no fault."""
     said = question.ask()
@@ -191,7 +197,7 @@ def diagnosed(question: Question, line: Line | None = None) -> Diagnosis:
         if not said.line or _is_consequence(question, said):
             return result
         it = explained(question, said, line)
-        if it.finding and it.finding not in result.findings:
+        if it.finding and not _is_known(result.findings, it.finding):
             result.findings.append(it.finding)
         then = _next(question, said, it, line)
         if not then:
