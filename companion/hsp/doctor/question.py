@@ -39,8 +39,8 @@ class Draft:
         return Text(self.original.path, encoded("\n".join(self.lines)))
 
     def number(self, line: int) -> int:
-        """The number that a line of the copy has in the original."""
-        return line - self.above
+        """The number that a line of the copy has in the original; 1 for those put above the first."""
+        return max(1, line - self.above)
 
     def with_line(self, line: int, text: str, last: int = 0) -> Draft:
         """The copy with another text in a line, and nothing in those up to `last`."""
