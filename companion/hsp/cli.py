@@ -18,6 +18,8 @@ from hsp.numbers import listed, some
 from hsp.plans import Planned, Reference, cheapest, least_purchase, planned, shortage, with_gains, with_purchase
 from hsp.charts import drawn
 from hsp.doctor import Examined, examined, examined_words
+from hsp.doctor.doubts import OLD_PLAN
+from hsp.doctor.findings import visible
 from hsp.doctor.next_step import next_lines
 from hsp.doctor.printing import json_of as findings_json
 from hsp.doctor.printing import lines as finding_lines
@@ -119,15 +121,19 @@ def progress(number: int) -> Callable[[], None]:
 def sound(
     folder: str, desk: Desk, given: dict[str, str | None], title: str | None = None, cost: str | None = None
 ) -> Service:
-    """Reads a folder in which hsplan has no fault; otherwise prints the faults, and ends. Warnings are one line."""
+    """Reads a folder in which hsplan has no fault; otherwise prints the faults, and ends. Warnings are one line.
+
+    An old plan is none of these, since the commands that ask plan anew.
+    """
     found = examined(folder, desk, given, title, cost)
     if not found.service:
         for line in list(finding_lines(found.errors))[:-1]:
             click.echo(line, err=True)
         sys.exit(found.status)
-    if found.warnings:
-        titles = listed(dict.fromkeys(it.message for it in found.warnings), 2)
-        click.echo(f"hsp: {some(len(found.warnings), 'warning')}: {titles} (hsp doctor {folder})", err=True)
+    warnings = [it for it in found.warnings if it.kind != OLD_PLAN]
+    if warnings:
+        titles = visible(listed(dict.fromkeys(it.message for it in warnings), 2))
+        click.echo(f"hsp: {some(len(warnings), 'warning')}: {titles} (hsp doctor {visible(folder)})", err=True)
     return found.service
 
 

@@ -388,6 +388,15 @@ def test_other_files_of_an_example(hsp: Hsp, example: Example, twelve: Path) -> 
     assert hsp("doctor", str(twelve), "--strict").stdout.startswith("no fault")
 
 
+def test_names_of_folders_in_other_octets(hsp: Hsp, example: Example) -> None:
+    """A folder whose name isn't UTF-8, and a row with a sign that moves the cursor, are shown without harm."""
+    folder = example("two-sites").rename(os.fsdecode(os.fsencode(str(example("base").parent)) + b"/caf\xe9"))
+    (folder / DEMAND).write_text(sub(",475", ",4\x1b[2J5")((folder / DEMAND).read_text()))
+    for words in ([], ["--json"]):
+        shown = hsp("doctor", str(folder), *words, status=1).stdout
+        assert "caf\ufffd" in shown and "\x1b" not in shown
+
+
 def test_files_that_cannot_be_read(hsp: Hsp, example: Example, tmp_path: Path) -> None:
     folder = example("two-sites")
     (folder / COSTS).rename(folder / "cost.csv")

@@ -119,6 +119,8 @@ def test_a_plan_older_than_its_inputs(hsp: Hsp, example: Example) -> None:
     assert examined(str(folder), Desk(), {"demand": str(folder / "premiere.csv")}).warnings == []
     (found,) = examined(str(folder), Desk(), {}).warnings
     assert found.message == "the plan is older than capacity.csv" and found.remedy == f"hsp plan {folder}"
+    assert hsp("plan", str(folder)).stderr == ""
+    assert examined(str(folder), Desk(), {}).warnings == []
 
 
 @pytest.mark.parametrize("command", ["plan", "view", "whatif"])

@@ -294,6 +294,8 @@ def test_pipes_are_read_once(hsp: Hsp, folder: Path) -> None:
     ended = subprocess.run(["bash", "-c", script], capture_output=True, text=True, env=environment)
     assert ended.returncode == 1, ended
     assert "2 | eu,20.500.1234/report-2024,4.5" in ended.stdout and "write 5" in ended.stdout
+    record = f"{sys.executable} -m hsp doctor -- site <(cat paris.site)"
+    assert subprocess.run(["bash", "-c", record], capture_output=True, env=environment).returncode == 0
 
 
 def test_either_a_folder_or_words(hsp: Hsp, folder: Path) -> None:

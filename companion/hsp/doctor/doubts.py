@@ -21,6 +21,8 @@ from hsp.service import NAMES, VALUES, Service, dotted
 FAR_ABOVE, FAR_BELOW = 10, 1000
 # A capacity from here on stands for no limit, as in a what-if.
 NO_LIMIT = 1_000_000_000
+# The kind of the doubt about a plan that is older than its inputs.
+OLD_PLAN = "old plan"
 ADDRESS = re.compile(
     r"\s*(?:https?://(?:(?:dx\.)?doi\.org|(?:www\.)?hdl\.handle\.net)/(?:api/handles/)?|https?://[^/]+/|hdl:(?://)?|doi:|info:hdl/)",
     re.I,
@@ -355,6 +357,7 @@ def old_plan(it: Read, desk: Desk) -> None:
             f"the plan is older than {names}",
             f"hsp plan {it.service.folder}",
             f"{names} {verb} newer, and hsplan check says no to the plan",
+            kind=OLD_PLAN,
         )
         it.findings.append(found(path, Place(), words, "", WARNING))
 

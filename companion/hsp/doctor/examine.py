@@ -52,7 +52,7 @@ def examined(
     if not any(os.path.exists(paths[kind]) for kind in NAMES):
         return Examined([_no_service(folder)], 5)
     question = Question(desk, "plan", {kind: draft_of(desk, path) for kind, path in paths.items()})
-    copies = {kind: question.path(kind) for kind, it in question.files.items() if it.lines is not None}
+    copies = {kind: it.copy for kind, it in question.files.items() if it.copy}
     try:
         service = read_service(folder, desk, {**given, **copies}, title, cost)
     except (Refused, Missing) as fault:

@@ -19,7 +19,7 @@ from hsp.doctor import (
 from hsp.doctor.commands import FILES, FORMS, Line, line_of, split
 from hsp.doctor.file_faults import file_finding
 from hsp.doctor.findings import Finding, Place, Words, found
-from hsp.doctor.question import ORDER, Diagnosis, Question, Said, draft_of
+from hsp.doctor.question import ORDER, Diagnosis, Question, Said, draft_of, is_utf8
 from hsp.doctor.table_faults import Explained, row_fault
 from hsp.programs import Desk, program, run
 
@@ -237,6 +237,9 @@ def of_words(desk: Desk, words: list[str]) -> Diagnosis:
     line = line_of(words)
     if word_faults.command_fault(line):
         return Diagnosis(word_faults.usage(line), run(line.program, *[it.text for it in line.words]).status)
+    odd = [it for it in line.words if not is_utf8(it.text)]
+    if odd:
+        return Diagnosis([word_faults.not_utf8(line, it) for it in odd], USAGE_STATUS)
     question = question_of(desk, line)
     status = _status(line, question)
     if status == USAGE_STATUS:
@@ -246,7 +249,7 @@ def of_words(desk: Desk, words: list[str]) -> Diagnosis:
 
 def _status(line: Line, question: Question) -> int:
     """The status of the words as they are given, with copies of pipes."""
-    copies = {it.original.path: question.path(kind) for kind, it in question.files.items() if it.lines is not None}
+    copies = {it.original.path: it.copy for it in question.files.values() if it.copy}
     words = []
     for it in line.words:
         name, equals, value = it.text.partition("=")

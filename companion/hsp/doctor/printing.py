@@ -25,7 +25,7 @@ def _window(text: str, column: int) -> tuple[str, int]:
 def _place(it: Finding, colour: str) -> Iterator[str]:
     gutter = " " * len(str(it.line or ""))
     if it.file:
-        yield f"{gutter}{dim('-->')} {it.file}" + (f":{it.line}" if it.line else "") + (
+        yield f"{gutter}{dim('-->')} {visible(it.file)}" + (f":{it.line}" if it.line else "") + (
             f":{it.column}" if it.line and it.column else ""
         )
     if not it.line or not it.text.strip() and not it.column:
@@ -36,16 +36,16 @@ def _place(it: Finding, colour: str) -> Iterator[str]:
     yield f"{number} {dim('|')} {text}".rstrip()
     if it.column:
         carets = "^" * max(1, min(it.end - it.column, 60, len(text) - column + 1))
-        yield f"{gutter} {dim('|')} {' ' * (column - 1)}{colored(carets, colour)} {it.mark}".rstrip()
+        yield f"{gutter} {dim('|')} {' ' * (column - 1)}{colored(carets, colour)} {visible(it.mark)}".rstrip()
 
 
 def _lines_of(it: Finding, others: list[Finding]) -> Iterator[str]:
     colour = "red" if it.severity == ERROR else "yellow"
-    yield colored(it.severity, colour) + bold(f": {it.message}")
+    yield colored(it.severity, colour) + bold(f": {visible(it.message)}")
     yield from _place(it, colour)
     if it.why:
-        yield f"  {dim('why')}  {it.why}"
-    yield f"  {dim('do')}   {it.remedy}"
+        yield f"  {dim('why')}  {visible(it.why)}"
+    yield f"  {dim('do')}   {visible(it.remedy)}"
     yield from _others(it, others)
     if it.said:
         yield dim(f"  hsplan says {it.said}")
@@ -56,7 +56,7 @@ def _others(it: Finding, others: list[Finding]) -> Iterator[str]:
     numbers = list(dict.fromkeys(str(other.line) for other in others if other.line not in (0, it.line)))
     if others and not numbers:
         for other in others[:8]:
-            yield f"  {dim('and')}  {other.message}"
+            yield f"  {dim('and')}  {visible(other.message)}"
         if len(others) > 8:
             yield f"  {dim('and')}  {len(others) - 8} more of this kind"
     elif others:
@@ -84,14 +84,14 @@ def json_of(findings: Iterable[Finding]) -> str:
     objects = [
         {
             "severity": it.severity,
-            "file": it.file,
+            "file": visible(it.file),
             "line": it.line,
             "column": it.column,
             "end": it.end,
             "message": visible(it.message),
             "why": visible(it.why),
             "remedy": visible(it.remedy),
-            "hsplan": it.said,
+            "hsplan": visible(it.said),
         }
         for it in findings
     ]

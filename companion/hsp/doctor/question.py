@@ -30,6 +30,8 @@ class Draft:
     original: Text
     lines: tuple[str, ...] | None = None
     above: int = 0
+    # The path of a copy that is asked about in place of the file, until it is mended.
+    copy: str = ""
 
     @functools.cached_property
     def text(self) -> Text:
@@ -114,7 +116,9 @@ class Question:
     def path(self, kind: str) -> str:
         """The file itself, or its copy where that was mended."""
         draft = self.files[kind]
-        return draft.original.path if draft.lines is None else self.desk.put(draft.text.octets)
+        if draft.lines is None:
+            return draft.copy or draft.original.path
+        return self.desk.put(draft.text.octets)
 
     def text(self, kind: str) -> Text:
         return self.files[kind].text
@@ -158,19 +162,22 @@ class Question:
 
 
 def draft_of(desk: Desk, path: str) -> Draft:
-    """A file as it is read. A pipe can be read once, so it is copied first."""
-    if not os.path.isfile(path):
-        try:
-            is_pipe = stat.S_ISFIFO(os.stat(path).st_mode) or stat.S_ISCHR(os.stat(path).st_mode)
-        except (OSError, ValueError):
-            is_pipe = False
-        if is_pipe and path != "/dev/null":
+    """A file as it is read. A pipe can be read once, and hsplan takes no name that isn't UTF-8: these are copied."""
+    try:
+        if path != "/dev/null" and (is_pipe(path) or not is_utf8(path) and os.path.isfile(path)):
             copy = desk.put(b"")
             with open(path, "rb") as source, open(copy, "wb") as target:
                 shutil.copyfileobj(source, target)
-            text = read_text(copy)
-            return Draft(Text(path, text.octets), tuple(text.lines))
-    try:
+            return Draft(Text(path, read_text(copy).octets), copy=copy)
         return Draft(read_text(path))
     except (OSError, ValueError):
         return Draft(Text(path, b""))
+
+
+def is_pipe(path: str) -> bool:
+    mode = os.stat(path).st_mode
+    return stat.S_ISFIFO(mode) or stat.S_ISCHR(mode)
+
+
+def is_utf8(text: str) -> bool:
+    return not any("\ud800" <= it <= "\udfff" for it in text)

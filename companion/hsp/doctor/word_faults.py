@@ -230,6 +230,14 @@ def usage(line: Line) -> list[Finding]:
     return faults
 
 
+def not_utf8(line: Line, word: Word) -> Finding:
+    """A word that hsplan doesn't take, since it isn't UTF-8."""
+    words = Words(
+        f"{quoted(word.text)} isn't UTF-8", "rename the file, or go into its folder", "hsplan takes words in UTF-8"
+    )
+    return at_word(line, word, words)
+
+
 def value_fault(line: Line, word: str) -> Finding:
     """A value that its option doesn't take: `BadOption`, `BadServers`, `BadIndex`, `BadFronts`, `BadUnit`, `BadFront`."""
     told = {
