@@ -300,3 +300,85 @@ def test_pipes_are_read_once(hsp: Hsp, folder: Path) -> None:
 
 def test_either_a_folder_or_words(hsp: Hsp, folder: Path) -> None:
     assert "either DIR, or the words" in hsp("doctor", ".", "--", "plan", status=2).stderr
+
+
+RECORD = "0001020b0007000200000000" + "00000000"
+SERVER = "{:08x}" + "0" * 24 + "c000020b" + "00000000" + "00000000"
+# A file and its text, a command, words of the remedy, and the word of hsplan's fault.
+RARE: dict[str, tuple[str, str, str, str]] = {
+    "too many sites": (
+        "settings.toml",
+        "".join(f'[[site]]\nname = "s{it}"\nrecord = "00"\n' for it in range(33)),
+        "plan in parts",
+        "settings: TooManySites",
+    ),
+    "too many hosts": (
+        "settings.toml",
+        "".join(f'[[host]]\naddress = "{it:032x}"\nlimit = 1\n' for it in range(1025)),
+        "several servers",
+        "settings: TooManyHosts",
+    ),
+    "no server": (
+        "settings.toml",
+        f'[[site]]\nname = "paris"\nrecord = "{RECORD}00000000"\n',
+        "add its servers",
+        "build: NoServer site 0",
+    ),
+    "too many servers": (
+        "settings.toml",
+        f'[[site]]\nname = "paris"\nrecord = "{RECORD}{1025:08x}{"".join(map(SERVER.format, range(1025)))}"\n',
+        "octets of the record",
+        "build: BadRecord site 0 TooManyServers",
+    ),
+    "a host as a single table": ("settings.toml", "[host]\nlimit = 1\n", "[[host]]", "settings: BadHost host 0"),
+}
+
+
+@pytest.mark.parametrize("name", RARE)
+def test_rare_faults(folder: Path, name: str) -> None:
+    file, text, remedy, said = RARE[name]
+    (folder / file).write_text(text)
+    first = told(f"plan {FILES}", 1)[0]
+    assert first["hsplan"] == said and remedy in first["remedy"], first
+
+
+# What stands in place of some octets of a value list, hsplan's words, and words of the remedy.
+LISTS: dict[str, tuple[bytes, bytes, str, str]] = {
+    "another type": (b"HS_SITE", b"HS_ADDR", "build: NotSiteValue site 0", "HS_SITE stands at 4"),
+    "another index": (b"\x00\x00\x00\x03\x00\x00\x00\x07HS", b"\x00\x00\x00\x09\x00\x00\x00\x07HS", "build: NoValue site 0", "write index = 4 or 9"),
+    "an index twice": (b"\x00\x00\x00\x03\x00\x00\x00\x07HS", b"\x00\x00\x00\x04\x00\x00\x00\x07HS", "values: IndexTwice index 4", "one value for each index"),
+    "another record": (b"mirror paris\x00\x00\x00\x02", b"mirror paris\x00\x00\x00\x03", "build: BadRecord site 0 Truncated at 320", "index of the site's value"),
+    "JSON": (b"\x00\x00\x00\x02", b'{"values": ', "values: ", "hsp sites"),
+}  # fmt: skip
+
+
+@pytest.mark.parametrize("name", LISTS)
+def test_value_lists(folder: Path, name: str) -> None:
+    old, new, said, remedy = LISTS[name]
+    words = f"plan {FILES} --values sites.values".replace("settings.toml", "by_index.toml")
+    assert told(words, 0) == []
+    edited(folder / "sites.values", old, new)
+    first = told(words, 1)[0]
+    assert first["hsplan"].startswith(said) and remedy in first["remedy"], first
+
+
+def test_long_logs(folder: Path) -> None:
+    kinds = "kinds --settings settings.toml --costs costs.csv --log {}"
+    (folder / "sums.csv").write_text("region,handle,count\neu,20.500.1234/film-5,2000000\n")
+    (first,) = told(kinds.format("sums.csv"), 1)
+    assert first["hsplan"].startswith("log: CountTooLarge row 0 unit 2") and "--unit 2," in first["remedy"]
+    rows = "".join(f"r{it},20.500.1234/film-5\n" for it in range(65))
+    (folder / "regions.csv").write_text("region,handle\n" + rows)
+    costs = "region,site,cost\n" + "".join(f"r{it},paris,1\n" for it in range(64))
+    (folder / "costs.csv").write_text(costs)
+    first = told(kinds.format("regions.csv"), 1)[0]
+    assert (first["hsplan"], first["line"]) == ("log: TooManyRegions row 64", 66) and "join networks" in first[
+        "remedy"
+    ]
+    (first,) = told(f"dispatch {FILES} --plan plan.txt --log .".replace("costs.csv", "costs2.csv"), 5)[:1]
+    assert "costs2.csv" in first["file"]
+
+
+def test_a_log_that_is_a_folder(folder: Path) -> None:
+    (first,) = told(f"dispatch {FILES} --plan plan.txt --log .", 5)
+    assert first["file"] == "." and "folder" in first["message"] + first["why"]
