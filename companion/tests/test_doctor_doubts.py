@@ -174,7 +174,19 @@ def test_what_comes_next(hsp: Hsp, example: Example, tmp_path: Path) -> None:
     empty = tmp_path / "empty"
     empty.mkdir()
     assert "next  hsp new DIR" in at_a_terminal(empty)
+    for name, text in (
+        (SETTINGS, ""),
+        (DEMAND, "region,handle,count\n"),
+        (COSTS, "region,site,cost\n"),
+        (CAPACITY, "site,server_id,capacity\n"),
+    ):
+        (empty / name).write_text(text)
+    assert "next  hsp sites FILE.. --into .  " in at_a_terminal(empty)
     folder = example("two-sites")
+    rows = (folder / DEMAND).read_text()
+    (folder / DEMAND).write_text(no_rows(rows))
+    assert "next  hsp demand LOG..  " in at_a_terminal(folder)
+    (folder / DEMAND).write_text(rows)
     assert "next  hsp plan  " in at_a_terminal(folder)
     hsp("plan", str(folder))
     assert "next  hsp view" in at_a_terminal(folder)

@@ -311,7 +311,7 @@ def sites(it: Read) -> None:
             Words(
                 "the settings have no site",
                 "add a block [[site]] for each: hsp sites makes it",
-                "every query is short",
+                "without a site no query is served",
             ),
         )
     seen: dict[str, str] = {}

@@ -40,6 +40,12 @@ def next_lines(folder: str, desk: Desk) -> Iterator[str]:
 
 def _of_plan(service: Service, at: str, desk: Desk) -> str:
     """The step for a folder without a fault: whether there is a plan, and whether it is one of these inputs."""
+    if not service.sites:
+        return step(
+            f"hsp sites FILE.. --into {service.folder}", "brings the sites in, of a proxy's JSON or their records"
+        )
+    if not service.rows:
+        return step("hsp demand LOG..", "counts the queries of access logs for demand.csv")
     path = os.path.join(service.folder, "plan.txt")
     if not os.path.isfile(path):
         return step(f"hsp plan{at}", "plans, and keeps the plan in plan.txt")
