@@ -25,7 +25,7 @@ from hsp.doctor.printing import json_of as findings_json
 from hsp.doctor.printing import lines as finding_lines
 from hsp.page import View, changes_between, render
 from hsp.programs import Desk, Missing, Refused
-from hsp.service import Service, read_service
+from hsp.service import Service
 from hsp.terminal import colored, head, plan_lines, shortage_lines
 from hsp.whatif import Changes, full_servers, server_named, sizes, standard
 from hsp.whatif import csv_of as cases_csv
@@ -260,7 +260,7 @@ def plan(
 
 def earlier(folder: str, desk: Desk, now: Service) -> tuple[Service, Reference] | None:
     """Another folder's plan, as a reference for this one. Sites are matched by their names."""
-    old = read_service(folder, desk, {})
+    old = sound(folder, desk, {})
     if not old.certificate.is_plan:
         return None
     found = planned(old, desk)
