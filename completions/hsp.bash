@@ -5,6 +5,7 @@ _hsp_options() {
     case $1 in
         plan) echo "$files --all --output --no-save --csv --json" ;;
         view) echo "$files --before --title --output" ;;
+        doctor) echo "${files/ --unit/} --strict --json" ;;
         whatif) echo "$files --server --from --to --points --step --csv --chart" ;;
         new) echo "--example --help" ;;
         sites) echo "--into --name --capacity --help" ;;
@@ -18,7 +19,7 @@ _hsp() {
     local current=${COMP_WORDS[COMP_CWORD]} before=${COMP_WORDS[COMP_CWORD - 1]}
     COMPREPLY=()
     if [ "$COMP_CWORD" -eq 1 ]; then
-        COMPREPLY=($(compgen -W "demand new plan sites view whatif --help --version" -- "$current"))
+        COMPREPLY=($(compgen -W "demand doctor new plan sites view whatif --help --version" -- "$current"))
     elif [[ $before == --format ]]; then
         COMPREPLY=($(compgen -W "auto server proxy json csv" -- "$current"))
     elif [[ " --unit --title --server --from --to --points --step " == *" $before "* ]]; then

@@ -1,7 +1,8 @@
 # Completions of hsp for fish.
 
-set -l commands demand new plan sites view whatif
-set -l of_folder plan view whatif
+set -l commands demand doctor new plan sites view whatif
+set -l of_folder doctor plan view whatif
+set -l planning plan view whatif
 
 complete -c hsp -n "not __fish_seen_subcommand_from $commands" -f -a "$commands"
 complete -c hsp -n "not __fish_seen_subcommand_from $commands" -l version -d "show the version"
@@ -11,10 +12,11 @@ complete -c hsp -n "__fish_seen_subcommand_from $of_folder" -l values -r -F -d "
 complete -c hsp -n "__fish_seen_subcommand_from $of_folder" -l demand -r -F -d "queries of regions for handles, CSV"
 complete -c hsp -n "__fish_seen_subcommand_from $of_folder" -l costs -r -F -d "costs from regions to sites, CSV"
 complete -c hsp -n "__fish_seen_subcommand_from $of_folder" -l capacity -r -F -d "capacities of servers, CSV"
-complete -c hsp -n "__fish_seen_subcommand_from $of_folder" -l unit -x -d "unit of costs"
+complete -c hsp -n "__fish_seen_subcommand_from $planning" -l unit -x -d "unit of costs"
 complete -c hsp -n "__fish_seen_subcommand_from plan" -l all -d "all servers and regions"
 complete -c hsp -n "__fish_seen_subcommand_from plan" -l no-save -d "keep no certificate"
-complete -c hsp -n "__fish_seen_subcommand_from plan" -l json -d "for other programs"
+complete -c hsp -n "__fish_seen_subcommand_from plan doctor" -l json -d "for other programs"
+complete -c hsp -n "__fish_seen_subcommand_from doctor" -l strict -d "status 1 for warnings too"
 complete -c hsp -n "__fish_seen_subcommand_from plan whatif" -l csv -d "a table"
 complete -c hsp -n "__fish_seen_subcommand_from plan view" -l output -r -F -d "the file that is written"
 complete -c hsp -n "__fish_seen_subcommand_from view" -l before -r -F -d "another folder"

@@ -14,12 +14,18 @@ from typing import Any, TypeVar
 import click
 
 from hsp import __version__, bring
-from hsp.numbers import some
+from hsp.numbers import listed, some
 from hsp.plans import Planned, Reference, cheapest, least_purchase, planned, shortage, with_gains, with_purchase
 from hsp.charts import drawn
+from hsp.doctor import Examined, examined, examined_words
+from hsp.doctor.doubts import OLD_PLAN
+from hsp.doctor.findings import visible
+from hsp.doctor.next_step import next_lines
+from hsp.doctor.printing import json_of as findings_json
+from hsp.doctor.printing import lines as finding_lines
 from hsp.page import View, changes_between, render
 from hsp.programs import Desk, Missing, Refused
-from hsp.service import Service, read_service
+from hsp.service import Service
 from hsp.terminal import colored, head, plan_lines, shortage_lines
 from hsp.whatif import Changes, full_servers, server_named, sizes, standard
 from hsp.whatif import csv_of as cases_csv
@@ -59,14 +65,26 @@ def ended(status: int, *lines: str) -> None:
     sys.exit(status)
 
 
-@click.group(cls=Commands, context_settings={"help_option_names": ["-h", "--help"], "max_content_width": 100})
+@click.group(
+    cls=Commands,
+    invoke_without_command=True,
+    context_settings={"help_option_names": ["-h", "--help"], "max_content_width": 100},
+)
 @click.version_option(__version__, "-V", "--version", prog_name="hsp", message="%(prog)s %(version)s")
-def main() -> None:
+@click.pass_context
+def main(context: click.Context) -> None:
     """Shows the load plan of a Handle System service.
 
     DIR has settings.toml, demand.csv, costs.csv and capacity.csv, and may have hsp.toml with a title and units.
-    Every rule is hsplan's. Nothing is sent anywhere.
+    Every rule is hsplan's. Nothing is sent anywhere. At a terminal, hsp by itself says what to do next.
     """
+    if context.invoked_subcommand is None:
+        if sys.stdout.isatty():
+            for line in next_lines(".", Desk()):
+                click.echo(line)
+            click.echo("help  hsp --help")
+        else:
+            click.echo(context.get_help())
 
 
 def with_files(command: Command) -> Command:
@@ -98,6 +116,25 @@ def progress(number: int) -> Callable[[], None]:
         click.echo(f"\rplanning: {done} of {number}{last}", err=True, nl=False)
 
     return one_more
+
+
+def sound(
+    folder: str, desk: Desk, given: dict[str, str | None], title: str | None = None, cost: str | None = None
+) -> Service:
+    """Reads a folder in which hsplan has no fault; otherwise prints the faults, and ends. Warnings are one line.
+
+    An old plan is none of these, since the commands that ask plan anew.
+    """
+    found = examined(folder, desk, given, title, cost)
+    if not found.service:
+        for line in list(finding_lines(found.errors))[:-1]:
+            click.echo(line, err=True)
+        sys.exit(found.status)
+    warnings = [it for it in found.warnings if it.kind != OLD_PLAN]
+    if warnings:
+        titles = visible(listed(dict.fromkeys(it.message for it in warnings), 2))
+        click.echo(f"hsp: {some(len(warnings), 'warning')}: {titles} (hsp doctor {visible(folder)})", err=True)
+    return found.service
 
 
 def shares_of(plan: Planned) -> list[tuple[str, str, int, float]]:
@@ -197,7 +234,7 @@ def plan(
     Status 3 is a shortage: then the lines say who lacks what, and the least that has to be bought.
     """
     desk = Desk()
-    service = read_service(folder, desk, given, cost=unit)
+    service = sound(folder, desk, given, cost=unit)
     if not service.certificate.is_plan:
         show_shortage(service, desk, as_json)
     found = planned(service, desk)
@@ -223,7 +260,7 @@ def plan(
 
 def earlier(folder: str, desk: Desk, now: Service) -> tuple[Service, Reference] | None:
     """Another folder's plan, as a reference for this one. Sites are matched by their names."""
-    old = read_service(folder, desk, {})
+    old = sound(folder, desk, {})
     if not old.certificate.is_plan:
         return None
     found = planned(old, desk)
@@ -275,7 +312,7 @@ def view(
     The page is one file. It asks no network, and needs no script but to sort and search its rows.
     """
     desk = Desk()
-    service = read_service(folder, desk, given, title, unit)
+    service = sound(folder, desk, given, title, unit)
     text = render(view_of(service, desk, before))
     path = output or os.path.normpath(os.path.join(folder, "plan.html"))
     write(path, text)
@@ -314,7 +351,7 @@ def whatif(
     By default: more room at each full server, each site lost, and 10% more demand.
     """
     desk = Desk()
-    service = read_service(folder, desk, given, cost=unit)
+    service = sound(folder, desk, given, cost=unit)
     if server:
         own = server_named(service, server)
         room = service.capacity(own)
@@ -330,6 +367,53 @@ def whatif(
             click.echo(line)
     if chart:
         write(chart, drawn(service, cases, step))
+
+
+class WordsBehind(click.Command):
+    """A command that takes the words behind `--` as they are."""
+
+    def parse_args(self, context: click.Context, args: list[str]) -> list[str]:
+        if "--" in args:
+            at = args.index("--")
+            context.meta["words"] = args[at + 1 :]
+            if [it for it in args[:at] if it not in ("--json", "--strict")]:
+                context.fail("give either DIR, or the words of a command of hsplan behind --")
+            args = args[:at]
+        return super().parse_args(context, args)
+
+
+def shown_findings(found: Examined, summary: str) -> None:
+    """Prints findings, and what is there where no fault is."""
+    for line in finding_lines(found.findings):
+        click.echo(line)
+    if found.is_cut_short:
+        click.echo("there may be more: mend these, and ask again")
+    if not found.errors:
+        click.echo(summary)
+
+
+@main.command(cls=WordsBehind)
+@with_files
+@click.option("--strict", is_flag=True, help="status 1 for warnings too")
+@click.option("--json", "as_json", is_flag=True, help="one object for each finding, for editors")
+@click.pass_context
+def doctor(context: click.Context, folder: str, strict: bool, as_json: bool, **given: str | None) -> None:
+    """Shows each fault of the files, with its place, its cause and its remedy.
+
+    Where hsplan has no fault, it shows what is accepted and seldom meant. In place of DIR the words of a command of
+    hsplan may stand behind --, as in: hsp doctor -- plan --settings settings.toml --demand demand.csv
+    """
+    desk = Desk()
+    words = context.meta.get("words")
+    found = examined(folder, desk, given) if words is None else examined_words(words, desk)
+    summary = "no fault in these words and files"
+    if found.service:
+        summary = f"{colored('no fault', 'green')}  {head(found.service)}"
+    if as_json:
+        click.echo(findings_json(found.findings), nl=False)
+    else:
+        shown_findings(found, summary)
+    sys.exit(found.status or int(strict and bool(found.warnings)))
 
 
 for brought in (bring.new, bring.sites, bring.demand):

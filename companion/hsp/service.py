@@ -196,8 +196,8 @@ def read_service(
     """Reads a folder. hsplan plans it first, so any fault of the files is hsplan's."""
     inputs = inputs_in(folder, given)
     certificate, plan_file = desk.plan(inputs)
-    with open(inputs.settings, "rb") as file:
-        settings = tomllib.load(file)
+    with open(inputs.settings, encoding="utf-8-sig", newline="") as file:
+        settings = tomllib.loads(file.read())
     rows = [Row(region, handle, int(count)) for region, handle, count in table(inputs.demand)]
     return Service(
         folder,

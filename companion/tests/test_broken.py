@@ -67,5 +67,5 @@ def test_broken_folders_end_well(tmp_path: Path) -> None:
     for folder, (status, line) in zip(folders, found):
         assert "Traceback" not in line, f"{folder}: {line}"
         assert status in (0, 1, 3, 5), f"{folder}: {status} {line}"
-        assert status in (0, 3) or line.startswith("hsp: "), f"{folder}: {line}"
+        assert status in (0, 3) or line.startswith(("hsp: ", "error: ")), f"{folder}: {line}"
     assert {status for status, _ in found} >= {0, 1}

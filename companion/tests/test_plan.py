@@ -152,21 +152,19 @@ def test_twelve_sites(hsp: Hsp, twelve: Path) -> None:
     assert sum(line.startswith("      ") or line.startswith("goes") for line in lines) == 13 + 10
 
 
-def test_faults_are_one_line(hsp: Hsp, example: Example, tmp_path: Path) -> None:
+def test_faults_have_a_place(hsp: Hsp, example: Example, tmp_path: Path) -> None:
     folder = example("two-sites")
     assert "did you mean 'plan'?" in hsp("plam", status=2).stderr
     assert hsp("plan", str(tmp_path / "absent"), status=2).stderr.count("absent") == 1
     (folder / "costs.csv").rename(folder / "cost.csv")
-    assert (
-        hsp("plan", str(folder), status=5).stderr
-        == f"hsp: {folder}/costs.csv: no such file; did you mean cost.csv?\n"
-    )
+    lines = hsp("plan", str(folder), status=5).stderr.splitlines()
+    assert lines[:2] == ["error: no such file", f"--> {folder}/costs.csv"]
+    assert f"did you mean {folder}/cost.csv?" in lines[3]
     (folder / "cost.csv").rename(folder / "costs.csv")
     (folder / "demand.csv").write_text("region,handle,count\neu,x,1\n")
-    assert (
-        hsp("plan", str(folder), status=1).stderr
-        == "hsp: hsplan refuses these files: demand: BadHandle row 0 NoSlash\n"
-    )
+    lines = hsp("plan", str(folder), status=1).stderr.splitlines()
+    assert lines[:2] == ["error: 'x' isn't a handle", f" --> {folder}/demand.csv:2:4"]
+    assert lines[-1] == "  hsplan says demand: BadHandle row 0 NoSlash"
     no_program = hsp("plan", str(folder), status=5, HSPLAN="", PATH="/nowhere").stderr
     assert no_program == "hsp: hsplan isn't in PATH. Install it, or set HSPLAN to its file.\n"
 

@@ -1,0 +1,224 @@
+"""Faults of plans and of logs: what stands there in place of them, and what to do."""
+
+from __future__ import annotations
+
+import os
+import re
+from collections.abc import Iterator
+
+from hsp.doctor.findings import Place, Text, Words, found, quoted
+from hsp.doctor.question import Question, Said
+from hsp.doctor.table_faults import Explained, renumbered, spot_of
+from hsp.numbers import listed, some
+
+AGAIN = "print it again: hsplan plan .. > plan.txt"
+# The reasons of a no, and the file that they speak of.
+REASONS = {
+    "Shape": ("it has other rows, servers or hosts than these inputs", ("demand", "settings")),
+    "NoSuchUse": ("it sends queries where no cost stands", ("costs",)),
+    "RowSum": ("its queries of a row don't add up to the count", ("demand",)),
+    "Load": ("it brings a server above its capacity, or a host above its limit", ("capacity", "settings")),
+    "Cost": ("its cost isn't what its queries cost", ("costs",)),
+    "ArcPrice": ("a row's price is above that of a cheaper way", ("costs",)),
+    "UsedArcPrice": ("a row's price isn't that of the way it goes", ("costs",)),
+    "IdlePrice": ("a server with room left has a price", ("capacity",)),
+    "DemandSum": ("it is a shortage of another demand", ("demand",)),
+    "CapacitySum": ("it is a shortage of other capacities", ("capacity", "costs")),
+    "NotShort": ("it is a shortage that is over", ("capacity", "demand")),
+}
+
+
+def _other_text(text: Text) -> tuple[str, str]:
+    """What a text is that isn't a certificate."""
+    first = text.line(1)
+    if not text.octets:
+        return "the file is empty: the plan was refused, or its disk was full", AGAIN
+    if re.match(r"(place|\s+row|\s+demand)\s|short \d", first):
+        return "this is what hsplan report prints", AGAIN
+    if re.match(r"(region|site),", first):
+        return "this is a table", f"give the plan; {AGAIN}"
+    if first.startswith(("fits", "cost ", "hsp ")) or re.search(r"\d+ sites?, \d+ servers?", first):
+        return "this is what hsp plan shows; it keeps the certificate in plan.txt", "give DIR/plan.txt"
+    if first.startswith(("<", "{", "[")):
+        return "this is a page, JSON or settings", f"give the plan; {AGAIN}"
+    if first.startswith("hsplan: "):
+        return "this is what hsplan printed of a fault", f"mend the fault; then {AGAIN}"
+    return "a line can't stand here: an edited text, or lines in another order", AGAIN
+
+
+def certificate(question: Question, said: Said) -> Explained:
+    """A text that isn't that of a plan or of a shortage."""
+    text = question.files["plan"].original
+    number = said.numbers.get("line", max(1, len(text.lines)))
+    place = text.whole(number)
+    if said.word == "Ended":
+        last = max(1, len([it for it in text.lines if it]))
+        place = text.whole(last)
+        lacks_end = text.line(last) == "END"
+        why = "the line end behind END is lost" if lacks_end else "the file was cut: END is its last line"
+        remedy = AGAIN + ("; or add a line end" if lacks_end else "")
+        if not text.octets:
+            why, remedy = _other_text(text)
+        message = "the plan ends too early"
+    elif said.word == "AfterEnd":
+        message, why, remedy = (
+            "something stands behind END",
+            "an empty line, or two plans in one file",
+            "cut it off: END and its line end are the last",
+        )
+    elif b"\r\n" in text.octets[:200]:
+        message, why = "the plan has line ends of Windows", "a program that changed the text"
+        remedy = rf"tr -d '\r' < {text.path} > plain.txt"
+    elif number == 1:
+        why, remedy = _other_text(text)
+        message = "this isn't a plan"
+    else:
+        why, remedy = _bad_line(text.line(number))
+        message = f"{quoted(text.line(number), 40)} can't stand in line {number} of a plan"
+    words = Words(message, remedy, why)
+    return Explained(found(text.path, place, words, said.line), [])
+
+
+def _bad_line(line: str) -> tuple[str, str]:
+    if line != line.strip() or "  " in line:
+        return "a blank too much: words stand between single blanks", AGAIN
+    if re.search(r"\b0\d|[+.,-]\d", line):
+        return "a number that isn't whole and plain", AGAIN
+    if re.fullmatch(r"(use|row|server|host|cost)( \d+)*", line):
+        return "a line in another order, twice, or with numbers too many or too few", AGAIN
+    return "an edited text", AGAIN
+
+
+def verdict(question: Question, said: Said) -> Explained:
+    """A plan to which the checker says no."""
+    means, kinds = REASONS.get(said.word, ("the checker says no", ("demand",)))
+    text = question.files["plan"].original
+    changed = newer_than(question, text.path)
+    why = f"{means}; likely {listed(changed)} changed since" if changed else f"{means}; look at {listed(kinds)}"
+    words = Words("the plan isn't one of these inputs", AGAIN, why)
+    return Explained(found(text.path, Place(), words, said.line), [])
+
+
+def newer_than(question: Question, path: str) -> list[str]:
+    """The names of inputs that were written after a file."""
+    if not os.path.isfile(path):
+        return []
+    time = os.stat(path).st_mtime
+    paths = [
+        question.files[it].original.path
+        for it in ("settings", "values", "demand", "costs", "capacity")
+        if it in question.files
+    ]
+    return [os.path.basename(it) for it in paths if os.path.isfile(it) and os.stat(it).st_mtime > time]
+
+
+def wrong_kind(question: Question, said: Said) -> Explained:
+    """A shortage where a plan is wanted, or a plan where a shortage is."""
+    text = question.files["plan"].original
+    is_shortage = text.line(2) == "SHORTAGE"
+    if question.command == "report":
+        remedy = "report it by --kind shortage" if is_shortage else "report it by --kind load or --kind region"
+    else:
+        remedy = "plan again with more capacity: hsp plan shows the least purchase"
+    what, wanted = ("a shortage", "a plan") if is_shortage else ("a plan", "a shortage")
+    words = Words(
+        f"this is {what}, and {question.command} wants {wanted}",
+        remedy,
+        "the demand can't be met" if is_shortage else "the demand can be met",
+    )
+    return Explained(found(text.path, text.whole(2), words, said.line), [])
+
+
+def body_words(body: str) -> tuple[str, str]:
+    """Why the body of a request can't be read."""
+    if re.search(r"\s", body.strip()) and re.fullmatch(r"[0-9A-Fa-f\s:]+", body):
+        return "blanks between the digits", "take them out"
+    if re.fullmatch(r"[0-9A-Fa-f]+", body):
+        why = "an odd number of digits" if len(body) % 2 else "these octets aren't the body of a resolution request"
+        return why, "write only the body, without the envelope and the header of the message"
+    if re.fullmatch(r"[A-Za-z0-9+/]{16,}=*", body):
+        return "base64 in place of hexadecimal digits", "write the octets as hexadecimal digits: base64 -d | xxd -p"
+    return "signs that aren't hexadecimal digits", "write the octets of the body as hexadecimal digits"
+
+
+def log_row(question: Question, said: Said) -> Explained | None:
+    """Faults that only rows of logs have."""
+    spot = spot_of(question, "log", said.numbers["row"])
+    if not spot:
+        return None
+    fields, line = spot.row.fields, renumbered(question, "log", said)
+    at, message = 0, ""
+    if said.word == "BadBody":
+        at = len(fields) - 1
+        message = f"{quoted(fields[at], 30)} isn't the body of a request"
+        why, remedy = body_words(fields[at])
+    elif said.word == "BadFront":
+        message, why = f"front {quoted(fields[0], 20)} isn't a number", "columns in another order, or a name"
+        remedy = "write the number of the front, from 0 on: front,region,handle"
+    elif said.word == "TooManyRegions":
+        at = spot.header.index("region") if "region" in spot.header else 0
+        message, why = f"{quoted(fields[at])} is the 65th region", "a region for each network or country"
+        remedy = "join networks under at most 64 names of regions"
+    elif said.word == "TooManyKinds":
+        message, why = "here begins the 8,193rd kind", "costs to all sites, or server counts without common factors"
+        remedy = "give each region costs for only the three or four sites that it uses"
+    else:
+        return None
+    words = Words(message, remedy, why, kind=f"{said.word} {why}")
+    return Explained(found(spot.path, spot.place(at), words, line), [spot.without()])
+
+
+def far_row(question: Question, said: Said) -> Explained:
+    """A row of a log beyond the octets that are read of it."""
+    path, line = question.files["log"].original.path, said.numbers["row"] + 2
+    words = Words(
+        f"row {line - 2:,} of the log has a fault: {said.word} {said.detail}".rstrip(),
+        f"look at the line: sed -n {line}p {path}; hsp doctor on a short log with it says more",
+        "the log is long, and the row is far behind",
+    )
+    return Explained(found(path, Place(line, 0, 0, ""), words, said.line))
+
+
+def count_too_large(question: Question, said: Said) -> Explained:
+    unit = said.numbers.get("unit", 1000)
+    log = question.files["log"].original.path
+    words = Words(
+        "a row of the table is above 1,000,000",
+        f"give --unit {unit}, and divide capacities and limits by {unit:,}",
+        f"row {said.numbers.get('row', 0)} of the table that kinds makes: a long log",
+    )
+    return Explained(found(log, Place(), words, said.line), [])
+
+
+def streams(question: Question, said: Said) -> Explained:
+    """A log that can't be read to its end, or an answer that can't be written."""
+    log = question.files["log"].original.path if "log" in question.files else ""
+    if said.word == "ReadFailed":
+        why = (
+            "a folder, not a file"
+            if os.path.isdir(log)
+            else "the disk, or the program that writes the log, ended early"
+        )
+        remedy = (
+            "give the file in it"
+            if os.path.isdir(log)
+            else f"look whether all of it can be read: cat {log} > /dev/null"
+        )
+        words = Words("the log can't be read to its end", remedy, why)
+    else:
+        words = Words(
+            "an answer can't be written",
+            "make room on the disk, or keep the reader of the pipe open",
+            "a full disk, or a closed pipe",
+        )
+    return Explained(found(log, Place(), words, said.line), [])
+
+
+def memory(question: Question, said: Said) -> Iterator[Explained]:
+    size = sum(len(it.original.octets) for it in question.files.values())
+    words = Words(
+        "memory ran out",
+        "give the process more memory (ulimit -v), or close other programs",
+        f"the files have {some(size, 'octet')}",
+    )
+    yield Explained(found("", Place(), words, said.line), [])

@@ -1,0 +1,154 @@
+"""Faults of the inputs together: names and identifiers that only one of the files has."""
+
+from __future__ import annotations
+
+from typing import NamedTuple
+
+from hsp.doctor.findings import Place, Words, found, quoted
+from hsp.doctor.question import Question, Said
+from hsp.doctor.rows import joined, near, table_of
+from hsp.doctor.table_faults import Explained, Spot, renumbered, spot_of
+from hsp.doctor.toml_places import listed_in
+from hsp.numbers import listed
+from hsp.programs import run
+
+
+class Known(NamedTuple):
+    """A site of the settings, and the identifiers of its servers, as hsplan reads them."""
+
+    name: str
+    servers: list[int]
+
+
+def names_in(question: Question) -> list[str]:
+    return [str(it.get("name", "")) for it in listed_in(question.text("settings"), "site")]
+
+
+def site_at(question: Question, number: int) -> Known:
+    """A site by its number in the settings."""
+    sites = listed_in(question.text("settings"), "site")
+    site = sites[number] if number < len(sites) else {}
+    if isinstance(site.get("record"), str):
+        path = question.desk.put(bytes.fromhex(site["record"]), ".site")
+        printed = run("hsplan", "site", path)
+    elif "values" in question.files:
+        printed = run("hsplan", "site", f"--index={site.get('index')}", question.path("values"))
+    else:
+        return Known(str(site.get("name", "")), [])
+    lines = (it.split() for it in printed.out.splitlines())
+    return Known(str(site.get("name", "")), [int(it[2]) for it in lines if it[:1] == ["server"]])
+
+
+def unknown_site(question: Question, said: Said) -> Explained | None:
+    """A row with a site that the settings lack."""
+    spot = spot_of(question, said.table, said.numbers["row"])
+    if not spot:
+        return None
+    at = spot.header.index("site")
+    name, names = spot.row.fields[at], names_in(question)
+    if name in _left_out_sites(question) or question.lacks_site:
+        return Explained(None, [spot.without()])
+    line = renumbered(question, said.table, said)
+    meant, words = _site_words(question, spot, name, names)
+    mended = [spot.with_field(at, meant)] if meant else []
+    return Explained(found(spot.path, spot.place(at), words, line), [*mended, spot.without()], True)
+
+
+def _site_words(question: Question, spot: Spot, name: str, names: list[str]) -> tuple[str, Words]:
+    """The site that was likely meant, and what is said of a name that no site has."""
+    meant = near(name, names)
+    tables = [it for it in ("costs", "capacity") if it in question.files]
+    used = {it for table in tables for it in table_of(question.text(table)).column("site")}
+    lone = [it for it in names if it not in used]
+    if len(lone) == 1 and (not meant or meant == lone[0]):
+        meant = lone[0]
+        remedy = f"write one spelling in all files: {meant} as in the settings, or {name} there too"
+        why = f"the settings call a site {quoted(meant)}, and no table has this name"
+    elif meant:
+        remedy, why = f"write {meant}", f"the settings have {listed(names, 6)}"
+        why = f"another case of letters; {why}" if meant.casefold() == name.casefold() else why
+    elif spot.row.fields[0] in names and name.isdigit() and spot.kind == "costs":
+        remedy, why = (
+            "move the row to the capacities",
+            f"{spot.row.fields[0]} is a site, and {name} one of its servers",
+        )
+    elif "demand" in question.files and name in table_of(question.text("demand")).column("region"):
+        remedy, why = "put the columns in the order " + ",".join(spot.header), f"{quoted(name)} is a region"
+    else:
+        remedy = f'add a block [[site]] with name = "{name}" to the settings, or take its rows out'
+        why = f"the settings have only {listed(names, 6)}" if names else "the settings have no site"
+    mark = f"did you mean {meant}?" if meant else ""
+    return meant, Words(f"the settings have no site {quoted(name)}", remedy, why, mark, f"UnknownSite {name}")
+
+
+def _left_out_sites(question: Question) -> set[str]:
+    """Names of sites whose blocks a copy no longer has."""
+    original = {str(it.get("name")) for it in listed_in(question.files["settings"].original, "site")}
+    return original - set(names_in(question))
+
+
+def unknown_server(question: Question, said: Said) -> Explained | None:
+    """A row of the capacities with an identifier that the site lacks."""
+    spot = spot_of(question, "capacity", said.numbers["row"])
+    if not spot:
+        return None
+    name, text = spot.row.fields[0], spot.row.fields[1]
+    names = names_in(question)
+    site = site_at(question, names.index(name)) if name in names else Known(name, [])
+    rows = table_of(question.text("capacity")).rows
+    taken = {it.fields[1] for it in rows if it.fields[0] == name}
+    free = [it for it in map(str, site.servers) if it not in taken]
+    ids = listed(map(str, site.servers), 12)
+    why = f"{name} has the servers {ids}" if len(site.servers) > 1 else f"{name} has only the server {ids}"
+    if text == "0" or len(free) == 1 and text not in free:
+        why += "; places count from 0, identifiers needn't" if text == "0" else ""
+    remedy = f"write {free[0]}" if len(free) == 1 else f"take the row out, or write one of {ids}"
+    if len(free) > 1:
+        remedy = f"write the identifier that it stands for: {listed(free, 8)} have no row"
+    elif not free:
+        remedy = "take the row out: each server has its row"
+    words = Words(f"site {name} has no server {text}", remedy, why, kind=f"UnknownServer {name}")
+    mended = [spot.with_field(1, free[0])] if free else []
+    line = renumbered(question, "capacity", said)
+    return Explained(found(spot.path, spot.place(1), words, line), [*mended, spot.without()])
+
+
+def no_capacity(question: Question, said: Said) -> Explained:
+    """A server without a row in the capacities."""
+    site, server = site_at(question, said.numbers["site"]).name, str(said.numbers["server_id"])
+    draft = question.files["capacity"]
+    lines = draft.text.lines
+    number = next((at for at in range(len(lines), 1, -1) if lines[at - 1].strip()), 1)
+    text = lines[number - 1] + "\n" + joined([site, server, "0"])
+    mended = question.with_file("capacity", draft.with_text("\n".join([*lines[: number - 1], text, *lines[number:]])))
+    if _follows(question, site, server):
+        return Explained(None, [mended])
+    rows = table_of(draft.original).rows
+    own = [it for it in rows if it.fields[0] == site]
+    last = (own or rows)[-1].last if rows else 1
+    place = draft.original.whole(last)
+    place = Place(place.line, place.column + place.width, 1, place.text)
+    like = [it for it in dict.fromkeys(row.fields[0] for row in rows) if it != site]
+    why = (
+        f"no row of {site}: a new site, or rows that were cut off"
+        if not own
+        else "a new server, or a row that was lost"
+    )
+    if near(site, like, 0.8) and not own:
+        why = f"the rows may be those of {near(site, like, 0.8)}"
+    words = Words(
+        f"server {server} of {site} has no capacity",
+        f"add the row {site},{server},N with what it takes in place of N; 0 if it may get nothing",
+        why,
+        "the row belongs below this line",
+        f"NoCapacity {site}",
+    )
+    return Explained(found(draft.original.path, place, words, said.line), [mended])
+
+
+def _follows(question: Question, site: str, server: str) -> bool:
+    """Whether a server lacks its row only because a copy no longer has it."""
+    for kind, fields in question.left_out:
+        if kind == "capacity" and (server in fields[1:2] or fields[:1] == (site,) or len(fields) != 3):
+            return True
+    return False

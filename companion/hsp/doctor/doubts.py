@@ -1,0 +1,373 @@
+"""What hsplan accepts and people seldom mean."""
+
+from __future__ import annotations
+
+import os
+import re
+import unicodedata
+from collections import defaultdict
+from collections.abc import Iterable, Iterator
+from dataclasses import dataclass, field
+from urllib.parse import unquote
+
+from hsp.doctor.findings import WARNING, Finding, Place, Text, Words, found, quoted, read_text
+from hsp.doctor.rows import Row, Table, near, table_of
+from hsp.doctor.toml_places import value_of
+from hsp.numbers import listed, some
+from hsp.programs import Desk
+from hsp.service import NAMES, VALUES, Service, dotted
+
+# A demand beyond so many times all capacity, or a capacity beyond so many times the demand, has likely another unit.
+FAR_ABOVE, FAR_BELOW = 10, 1000
+# A capacity from here on stands for no limit, as in a what-if.
+NO_LIMIT = 1_000_000_000
+# The kind of the doubt about a plan that is older than its inputs.
+OLD_PLAN = "old plan"
+ADDRESS = re.compile(
+    r"\s*(?:https?://(?:(?:dx\.)?doi\.org|(?:www\.)?hdl\.handle\.net)/(?:api/handles/)?|https?://[^/]+/|hdl:(?://)?|doi:|info:hdl/)",
+    re.I,
+)
+OTHER_OCTETS = "other octets are hashed, so another server may be planned; a log's queries are 'unknown'"
+
+
+@dataclass
+class Read:
+    """A service with its tables, and the doubts that were found."""
+
+    service: Service
+    demand: Table
+    costs: Table
+    capacity: Table
+    settings: Text
+    findings: list[Finding] = field(default_factory=list)
+
+    def doubt(self, text: Text, place: Place, words: Words) -> None:
+        self.findings.append(found(text.path, place, words, "", WARNING))
+
+    def of_row(self, table: Table, row: Row, at: int, words: Words) -> None:
+        self.doubt(table.text, table.place(row, at), words)
+
+
+def bare(handle: str) -> str:
+    """The handle that was likely meant."""
+    text = unquote(ADDRESS.sub("", handle.strip()))
+    return (
+        "".join(it for it in text if unicodedata.category(it) not in ("Cf", "Cc")).strip().removesuffix("?noredirect")
+    )
+
+
+def _handle_words(handle: str) -> tuple[str, str]:
+    """What is odd about a handle: the message, and its kind."""
+    if ADDRESS.match(handle):
+        what = "a URL" if "://" in handle else f"written with {handle.strip().split(':')[0]}:"
+        return f"{quoted(handle)} is {what}, not a bare handle", "address"
+    if re.search(r"%[0-9A-Fa-f]{2}", handle):
+        return f"{quoted(handle)} is percent-encoded", "percent"
+    if handle != handle.strip():
+        side = "before" if handle[:1].isspace() else "behind"
+        return f"{quoted(handle)} has a blank {side} it", "blank"
+    if any(unicodedata.category(it) in ("Cf", "Cc") or it in "\u00a0\u202f" for it in handle):
+        return f"{quoted(handle)} has a sign that isn't seen", "unseen"
+    if re.match(r"[\"'<].*[\"'>]$", handle):
+        return f"{quoted(handle)} has quotes or brackets that belong to it", "quotes"
+    return "", ""
+
+
+def handles(it: Read) -> None:
+    """Handles that aren't bare."""
+    for row in it.demand.rows:
+        handle = row.fields[1]
+        message, kind = _handle_words(handle)
+        if message:
+            meant = bare(handle).strip("\"'<>") if kind == "quotes" else bare(handle)
+            shown = f"write {meant}" + (
+                f", {len(handle)} letters become {len(meant)}" if kind in ("blank", "unseen") else ""
+            )
+            remedy = shown if meant and meant != handle else "write the bare handle: prefix, '/', suffix"
+            it.of_row(it.demand, row, 1, Words(message, remedy, OTHER_OCTETS, "", f"handle {kind}"))
+
+
+def twins(it: Read) -> None:
+    """Handles of one region that differ only in the case of letters, or in how a letter is composed."""
+    groups: dict[tuple[str, str], list[Row]] = defaultdict(list)
+    for row in it.demand.rows:
+        groups[row.fields[0], unicodedata.normalize("NFC", row.fields[1]).casefold()].append(row)
+    for rows in groups.values():
+        first, *others = rows
+        for row in others:
+            one, two = first.fields[1], row.fields[1]
+            if one == two:
+                continue
+            is_ascii = one.upper() == two.upper() and one.isascii() and two.isascii()
+            why = (
+                "both have the same server"
+                if is_ascii
+                else "only ASCII letters are folded before the hash, so their servers may differ"
+            )
+            words = Words(
+                f"{quoted(two)} and {quoted(one)} differ only in the case of letters"
+                if one.casefold() == two.casefold()
+                else f"{quoted(two)} and {quoted(one)} differ only in how letters are composed",
+                "write the spelling of your log in one row, with the sum of the counts",
+                f"{why}; to the tables and to a log they are two handles",
+                f"the other is in line {first.first}",
+                "twins",
+            )
+            it.of_row(it.demand, row, 1, words)
+
+
+def firsts(table: Table) -> dict[str, Row]:
+    """The first row of each region."""
+    found_rows: dict[str, Row] = {}
+    for row in table.rows:
+        found_rows.setdefault(row.fields[0], row)
+    return found_rows
+
+
+def priceless(it: Read) -> None:
+    """Regions that ask and have no cost."""
+    asking, paying = firsts(it.demand), firsts(it.costs)
+    costs = os.path.basename(it.costs.text.path)
+    for region, row in asking.items():
+        if region in paying:
+            continue
+        meant = namesake(region, asking, paying)
+        number = sum(other.fields[0] == region for other in it.demand.rows)
+        words = Words(
+            f"region {quoted(region)} has no cost for any site",
+            f"write {meant} here, or {region} in {costs}" if meant else f"add rows {region},SITE,COST to {costs}",
+            f"no site may serve its {some(number, 'row')}, so the plan is a shortage",
+            f"{costs} has {meant}" if meant else "",
+            f"priceless {region}",
+        )
+        it.of_row(it.demand, row, 0, words)
+
+
+def namesake(region: str, asking: Iterable[str], paying: Iterable[str]) -> str:
+    """The region of the costs that a region of the demand was likely meant to be."""
+    return near(region, set(paying) - set(asking)) or near(region, paying, 0.8)
+
+
+def idle(it: Read) -> None:
+    """Regions that have costs and ask for nothing, but for those that another spelling explains."""
+    asking, paying = firsts(it.demand), firsts(it.costs)
+    explained = {namesake(region, asking, paying) for region in asking if region not in paying}
+    for region, row in paying.items():
+        if region in asking or region in explained or not asking:
+            continue
+        meant = near(region, asking, 0.75)
+        remedy = (
+            f"write {meant}, if that is meant" if meant else "take its rows out, or leave them for a later demand"
+        )
+        message = f"region {quoted(region)} has costs and asks for nothing"
+        mark = f"did you mean {meant}?" if meant else ""
+        it.of_row(it.costs, row, 0, Words(message, remedy, "its costs are never used", mark, "idle region"))
+
+
+def pairs(it: Read) -> None:
+    """Pairs of region and site without a cost, where a region has costs for half of the sites or more."""
+    asking, paying = firsts(it.demand), firsts(it.costs)
+    there = {(row.fields[0], row.fields[1]) for row in it.costs.rows}
+    for region in (own for own in asking if own in paying):
+        lacking = [site.name for site in it.service.sites if (region, site.name) not in there]
+        if not lacking or len(lacking) * 2 > len(it.service.sites):
+            continue
+        rows = listed([f"{region},{site},COST" for site in lacking], 3)
+        words = Words(
+            f"region {quoted(region)} has no cost for {listed(lacking, 6)}",
+            f"add {rows}; or leave it so, if that is meant",
+            f"{region} may never use {listed(lacking, 6)}",
+            kind="pair",
+        )
+        it.of_row(it.costs, paying[region], 0, words)
+
+
+def hosts(it: Read) -> None:
+    """Hosts whose address no server has."""
+    addresses: dict[str, list[str]] = defaultdict(list)
+    for site in it.service.sites:
+        for server in site.servers:
+            addresses[server.address.lower()].append(server.label)
+    for number, host in enumerate(it.service.settings.get("host", [])):
+        address = str(host["address"]).lower()
+        if address not in addresses:
+            meant = near(address, addresses, 0.9)
+            many = [own for own, labels in addresses.items() if len(labels) > 1]
+            other = meant or (many[0] if len(many) == 1 else "")
+            remedy = (
+                f'write address = "{other}", that of {listed(addresses[other])}'
+                if other
+                else "copy the address of its servers from hsplan site"
+            )
+            why = f"the limit binds nothing; the servers have {listed(map(dotted, sorted(addresses)), 4)}"
+            place = value_of(it.settings, "host", number, "address")
+            it.doubt(
+                it.settings, place, Words(f"no server has the address {dotted(address)}", remedy, why, "", "host")
+            )
+
+
+def zeros(it: Read) -> None:
+    """Counts and capacities of 0."""
+    for row in it.demand.rows:
+        if row.fields[2] == "0":
+            words = Words(
+                f"{row.fields[0]} asks 0 times for {quoted(row.fields[1])}",
+                "take the row out, or write its count",
+                "the row asks for nothing",
+                "",
+                "count 0",
+            )
+            it.of_row(it.demand, row, 2, words)
+    for row in it.capacity.rows:
+        if row.fields[2] == "0":
+            words = Words(
+                f"server {row.fields[1]} of {row.fields[0]} has the capacity 0",
+                "write what it takes, unless it is out of service",
+                "it is planned to get nothing",
+                "",
+                "capacity 0",
+            )
+            it.of_row(it.capacity, row, 2, words)
+
+
+def units(it: Read) -> None:
+    """A demand that is far from all capacity."""
+    asked = it.service.asked
+    room = sum(it.service.capacities.values())
+    if not it.demand.rows or not asked:
+        if not it.demand.rows:
+            it.doubt(
+                it.demand.text,
+                it.demand.text.whole(1),
+                Words(
+                    "the demand has no rows",
+                    "add a row region,handle,count for each region and handle",
+                    "the plan is empty and costs 0",
+                ),
+            )
+        return
+    if room and asked > FAR_ABOVE * room:
+        place = it.capacity.text.whole(2)
+        why = f"{asked:,} queries, and room for {room:,}"
+        words = Words(
+            "the demand is far above all capacity",
+            "give counts and capacities for the same time: an hour, say",
+            f"{why}: counts of a day, and capacities of a second?",
+        )
+        it.doubt(it.capacity.text, place, words)
+    bound = [own for own in it.service.capacities.values() if own < NO_LIMIT]
+    if bound and sum(bound) > FAR_BELOW * asked:
+        why = f"room for {sum(bound):,}, and {asked:,} queries"
+        words = Words(
+            "all capacity is far above the demand",
+            "give counts and capacities for the same time: an hour, say",
+            f"{why}: no limit will ever bind",
+        )
+        it.doubt(it.capacity.text, it.capacity.text.whole(2), words)
+
+
+def unused(it: Read) -> None:
+    """Servers that no row of the demand may use."""
+    service = it.service
+    used = {
+        (at, service.places[row.handle, service.sites[at].name])
+        for row in service.rows
+        if row.count
+        for at in service.sites_for(row.region)
+    }
+    reached = {site for site, _ in used}
+    for at, site in enumerate(service.sites):
+        own = [row for row in it.capacity.rows if row.fields[0] == site.name]
+        if service.rows and at not in reached and own:
+            words = Words(
+                f"no row may use site {quoted(site.name)}",
+                f"add costs REGION,{site.name},COST; or leave it so, if it is out of service",
+                "no region of the demand has a cost for it",
+                "",
+                "unused site",
+            )
+            it.of_row(it.capacity, own[0], 0, words)
+            continue
+        for place, server in enumerate(site.servers):
+            row = next((own_row for own_row in own if own_row.fields[1] == str(server.id)), None)
+            if row and service.rows and (at, place) not in used:
+                why = "by the hash none of the demand's handles is its own; a demand of a few busy handles may be so"
+                words = Words(
+                    f"no handle of the demand leads to server {server.id} of {site.name}",
+                    "look whether the demand has all handles; hsp demand counts those of a log",
+                    why,
+                    "",
+                    "unused server",
+                )
+                it.of_row(it.capacity, row, 1, words)
+
+
+def sites(it: Read) -> None:
+    """Settings without a site, and a record that two sites share."""
+    if not it.service.sites:
+        it.doubt(
+            it.settings,
+            Place(),
+            Words(
+                "the settings have no site",
+                "add a block [[site]] for each: hsp sites makes it",
+                "without a site no query is served",
+            ),
+        )
+    seen: dict[str, str] = {}
+    for number, site in enumerate(it.service.settings.get("site", [])):
+        key = str(site.get("record", f"index {site.get('index')}")).lower()
+        if key in seen:
+            place = value_of(it.settings, "site", number, "record" if "record" in site else "index")
+            place = Place(place.line, place.column, min(place.width, 24), place.text)
+            words = Words(
+                f"site {quoted(site['name'])} has the record of {quoted(seen[key])}",
+                "copy its own record: hsp sites makes the block",
+                "both are the same servers, so their room counts twice",
+            )
+            it.doubt(it.settings, place, words)
+        seen.setdefault(key, site["name"])
+
+
+def stale_plan(service: Service, desk: Desk, path: str) -> list[str]:
+    """The inputs that are newer than a plan which the checker refuses for them; none where the plan still holds.
+
+    A plan of the folder isn't one of other files that were given.
+    """
+    inputs = service.inputs
+    own = {os.path.normpath(os.path.join(service.folder, name)) for name in (*NAMES.values(), VALUES)}
+    if not {inputs.settings, inputs.demand, inputs.costs, inputs.capacity} <= own:
+        return []
+    files = [own for own in (inputs.settings, inputs.values, inputs.demand, inputs.costs, inputs.capacity) if own]
+    time = os.stat(path).st_mtime
+    newer = [own for own in files if os.stat(own).st_mtime > time]
+    return newer if newer and desk.verdict(inputs, path) != "yes" else []
+
+
+def old_plan(it: Read, desk: Desk) -> None:
+    """A plan that is older than its inputs, and isn't theirs any more."""
+    path = os.path.normpath(os.path.join(it.service.folder, "plan.txt"))
+    if not os.path.isfile(path):
+        return
+    newer = stale_plan(it.service, desk, path)
+    if newer:
+        names = listed(map(os.path.basename, newer))
+        verb = "is" if len(newer) == 1 else "are"
+        words = Words(
+            f"the plan is older than {names}",
+            f"hsp plan {it.service.folder}",
+            f"{names} {verb} newer, and hsplan check says no to the plan",
+            kind=OLD_PLAN,
+        )
+        it.findings.append(found(path, Place(), words, "", WARNING))
+
+
+def doubts(service: Service, desk: Desk) -> Iterator[Finding]:
+    """All that is accepted and seldom meant, in the order of the files."""
+    inputs = service.inputs
+    demand, costs, capacity = (table_of(read_text(own)) for own in (inputs.demand, inputs.costs, inputs.capacity))
+    it = Read(service, demand, costs, capacity, read_text(inputs.settings))
+    for look in (sites, hosts, handles, twins, priceless, idle, pairs, zeros, units, unused):
+        look(it)
+    old_plan(it, desk)
+    yield from it.findings

@@ -1,0 +1,118 @@
+"""The doctor: faults of a folder, or of the words of a command; and doubts where there is no fault."""
+
+from __future__ import annotations
+
+import os
+import re
+import tomllib
+from dataclasses import dataclass
+
+from hsp.doctor.doubts import doubts
+from hsp.doctor.findings import ERROR, Finding, Place, Words, found, read_text
+from hsp.doctor.question import Diagnosis, Question, draft_of
+from hsp.numbers import listed
+from hsp.programs import Desk, Missing, Refused
+from hsp.service import NAMES, TITLES, VALUES, Service, read_service
+
+
+@dataclass(frozen=True)
+class Examined:
+    """What was found, hsplan's status, and the service where it has no fault."""
+
+    findings: list[Finding]
+    status: int
+    is_cut_short: bool = False
+    service: Service | None = None
+
+    @property
+    def errors(self) -> list[Finding]:
+        return [it for it in self.findings if it.severity == ERROR]
+
+    @property
+    def warnings(self) -> list[Finding]:
+        return [it for it in self.findings if it.severity != ERROR]
+
+
+def status_of(result: Diagnosis) -> int:
+    """hsplan's status for faults; 1 in place of a verdict on a certificate."""
+    if not result.findings:
+        return 0
+    return result.status if result.status in (1, 2, 4, 5) else 1
+
+
+def examined(
+    folder: str, desk: Desk, given: dict[str, str | None], title: str | None = None, cost: str | None = None
+) -> Examined:
+    """What is wrong with a folder, or what is doubtful where nothing is wrong."""
+    paths = {kind: given.get(kind) or os.path.normpath(os.path.join(folder, name)) for kind, name in NAMES.items()}
+    beside = os.path.join(folder, VALUES)
+    values = given.get("values") or (os.path.normpath(beside) if os.path.isfile(beside) else None)
+    if values:
+        paths["values"] = values
+    if not any(os.path.exists(paths[kind]) for kind in NAMES):
+        return Examined([_no_service(folder)], 5)
+    question = Question(desk, "plan", {kind: draft_of(desk, path) for kind, path in paths.items()})
+    copies = {kind: it.copy for kind, it in question.files.items() if it.copy}
+    try:
+        service = read_service(folder, desk, {**given, **copies}, title, cost)
+    except (Refused, Missing) as fault:
+        return _refused(question, folder, fault)
+    return Examined(list(doubts(service, desk)), 0, False, service)
+
+
+def _refused(question: Question, folder: str, fault: Exception) -> Examined:
+    """All faults of a folder. What explains them is loaded only where there are some."""
+    from hsp.doctor.faults import diagnosed
+
+    result = diagnosed(question)
+    findings = result.findings + titles_faults(folder)
+    if not findings:
+        raise fault
+    return Examined(findings, status_of(result) or 1, result.is_cut_short)
+
+
+def _no_service(folder: str) -> Finding:
+    """A folder with none of the files, and a folder in it that has them."""
+    inside = sorted(it.name for it in os.scandir(folder) if it.is_dir() and not it.name.startswith("."))
+    there = [it for it in inside if os.path.exists(os.path.join(folder, it, NAMES["settings"]))]
+    message = f"none of {listed(NAMES.values())} is here"
+    if there:
+        near = os.path.normpath(os.path.join(folder, there[0]))
+        words = Words(
+            message, f"hsp doctor {near}", f"{listed(there)} in it {'has' if len(there) == 1 else 'have'} settings"
+        )
+    else:
+        words = Words(message, "give the folder that has them; hsp new makes such a folder", "another folder?")
+    return found(folder, Place(), words, "read failed")
+
+
+def titles_faults(folder: str) -> list[Finding]:
+    """What is wrong with hsp.toml, which hsplan doesn't read."""
+    path = os.path.normpath(os.path.join(folder, TITLES))
+    if not os.path.isfile(path):
+        return []
+    text = read_text(path)
+    try:
+        tomllib.loads(text.octets.decode("utf-8"))
+    except UnicodeDecodeError:
+        words = Words(
+            f"{TITLES} isn't UTF-8", f"iconv -f windows-1252 -t utf-8 {path} > utf8.toml", "a letter of Latin-1"
+        )
+        return [found(path, Place(), words)]
+    except tomllib.TOMLDecodeError as fault:
+        told = re.search(r"line (\d+)", str(fault))
+        number = (
+            int(told[1]) if told else next((it for it, line in enumerate(text.lines, 1) if line.count('"') % 2), 1)
+        )
+        why = re.sub(r" \(at .*\)", "", str(fault)).lower()
+        words = Words(f"{TITLES} isn't TOML", 'write lines as title = "Films", cost = "ms", time = "an hour"', why)
+        return [found(path, text.whole(number), words)]
+    return []
+
+
+def examined_words(words: list[str], desk: Desk) -> Examined:
+    """What is wrong with the words of a command, and with its files."""
+    from hsp.doctor.faults import of_words
+
+    result = of_words(desk, words)
+    return Examined(result.findings, status_of(result), result.is_cut_short)

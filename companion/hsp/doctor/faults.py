@@ -1,0 +1,269 @@
+"""All faults of a command and its files. Each is hsplan's: a mended copy of the files is asked again and again."""
+
+from __future__ import annotations
+
+import re
+import subprocess
+from collections.abc import Callable
+from dataclasses import replace
+
+from hsp.doctor import (
+    answer_faults,
+    build_faults,
+    header_faults,
+    record_faults,
+    settings_faults,
+    toml_faults,
+    word_faults,
+)
+from hsp.doctor.commands import FILES, FORMS, Line, line_of, split
+from hsp.doctor.file_faults import file_finding
+from hsp.doctor.findings import Finding, Place, Words, found
+from hsp.doctor.question import ORDER, Diagnosis, Question, Said, draft_of, is_utf8
+from hsp.doctor.table_faults import Explained, row_fault
+from hsp.programs import Desk, program, run
+
+# How often hsplan is asked about copies that were mended, and how many octets these may have together.
+TURNS, OCTETS = 120, 100_000_000
+USAGE_STATUS = 2
+
+Way = Callable[[Question, Said], "Explained | None"]
+OF_SETTINGS: dict[str, Way] = {
+    "NotToml": toml_faults.not_toml,
+    "UnknownKey": settings_faults.unknown_key,
+    "BadSite": settings_faults.bad_site,
+    "SiteTwice": settings_faults.site_twice,
+    "BadHost": settings_faults.bad_host,
+    "HostTwice": settings_faults.host_twice,
+    "TooManySites": settings_faults.too_many_blocks,
+    "TooManyHosts": settings_faults.too_many_blocks,
+}
+OF_BUILD: dict[str, Way] = {
+    "UnknownSite": build_faults.unknown_site,
+    "UnknownServer": build_faults.unknown_server,
+    "NoCapacity": build_faults.no_capacity,
+    "BadRecord": record_faults.bad_record,
+    "NoValue": record_faults.no_value,
+    "NotSiteValue": record_faults.no_value,
+    "BadHashOption": record_faults.site_record,
+    "NoServer": record_faults.site_record,
+    "ServerIdTwice": record_faults.site_record,
+    "TooManyServers": record_faults.site_record,
+}
+
+
+def _of_table(question: Question, said: Said) -> Explained | None:
+    kind = said.where
+    if kind not in question.files:
+        return None
+    if said.word == "Header":
+        return header_faults.header_fault(question, kind, said)
+    if said.word in ("TooManyRows", "TooManyRegions") and "row" not in said.numbers:
+        return header_faults.too_many(question, kind, said)
+    if kind == "log":
+        return _of_log(question, said)
+    return row_fault(question, kind, said) if "row" in said.numbers else None
+
+
+def _of_log(question: Question, said: Said) -> Explained | None:
+    if said.word in ("ReadFailed", "WriteFailed"):
+        return answer_faults.streams(question, said)
+    if said.word == "LogTooLong":
+        return Explained(header_faults.log_too_long(question, said))
+    if said.word == "CountTooLarge":
+        return answer_faults.count_too_large(question, said)
+    if "row" not in said.numbers:
+        return None
+    found_one = answer_faults.log_row(question, said) or row_fault(question, "log", said)
+    return found_one or answer_faults.far_row(question, said)
+
+
+def explained(question: Question, said: Said, line: Line | None) -> Explained:
+    """What a line of hsplan means."""
+    ways = {"settings": OF_SETTINGS, "build": OF_BUILD}.get(said.where, {})
+    it: Explained | None = None
+    if said.word in ways:
+        it = ways[said.word](question, said)
+    elif said.where in ("demand", "costs", "capacity", "log"):
+        it = _of_table(question, said)
+    elif said.where in ("site", "values"):
+        it = record_faults.bad_file(question, said, "file" if "file" in question.files else "values")
+    elif said.where == "certificate":
+        it = answer_faults.certificate(question, said)
+    elif said.where == "check":
+        it = answer_faults.verdict(question, said)
+    elif said.word == "WrongKind":
+        it = answer_faults.wrong_kind(question, said)
+    elif said.word in ("NoValue", "NotSiteValue") and "file" in question.files:
+        it = record_faults.value_of_list(question, said)
+    elif said.word == "OutOfMemory" or said.detail == "OutOfMemory":
+        it = next(answer_faults.memory(question, said))
+    elif line and said.where == "handle":
+        it = Explained(word_faults.bad_handle_word(line, said))
+    elif line and said.word.startswith("Bad") and not said.where:
+        it = Explained(word_faults.value_fault(line, said.word))
+    if it:
+        return _numbered(question, said, it)
+    words = Words(
+        f"hsplan says {said.line or 'nothing'}", "look the word up in FAULTS, which is installed with hsplan"
+    )
+    return Explained(found("", Place(), words, said.line))
+
+
+def _numbered(question: Question, said: Said, it: Explained) -> Explained:
+    """The same with hsplan's words as they are for the files as they were, where a copy lacks a block."""
+    for kind in ("site", "host"):
+        if it.finding and "settings" in question.files and kind in said.numbers:
+            number = settings_faults.number_then(question, kind, said.numbers[kind])
+            line = re.sub(rf"\b{kind} \d+", f"{kind} {number}", it.finding.said, count=1)
+            it = it._replace(finding=replace(it.finding, said=line))
+    return it
+
+
+def _files_first(question: Question, line: str) -> tuple[Question, list[Finding]]:
+    """Faults of files that can't be read, and the question with others in their place."""
+    findings = []
+    for kind in ORDER:
+        if kind in question.files:
+            it = file_finding(question.files[kind].original.path, kind, line)
+            if it:
+                findings.append(it)
+                question = question.with_stand_in(kind)
+    return question, findings
+
+
+def _is_another(it: Explained, then: Explained) -> bool:
+    """Whether two explanations of one line of hsplan speak of different things."""
+    return it.finding and then.finding and it.finding.message != then.finding.message or False
+
+
+def _next(question: Question, said: Said, it: Explained, line: Line | None) -> tuple[Question, Said] | None:
+    """The first mended question whose answer is another one."""
+    for mended in it.mended:
+        then = mended.ask()
+        if then.line == said.line:
+            # The next row or block may have the same number and fault, and a block may have two faults.
+            if (
+                said.word == "NotToml"
+                or mended.size() < question.size()
+                or _is_another(it, explained(mended, then, line))
+            ):
+                return mended, then
+        elif not (it.is_whole_row and _is_same_row(said, then)):
+            return mended, then
+    return None
+
+
+def _is_same_row(said: Said, then: Said) -> bool:
+    row = said.numbers.get("row")
+    return then.where == said.where and then.word != said.word and row is not None and then.numbers.get("row") == row
+
+
+def _is_consequence(question: Question, said: Said) -> bool:
+    """Whether a fault may come only of a file that stands in for another."""
+    if said.where == "build":
+        needs_all = "settings" in question.absent or "values" in question.absent
+        return needs_all or "capacity" in question.absent and said.word == "NoCapacity"
+    return said.where in ("certificate", "check") and bool(question.absent) or said.where in question.absent
+
+
+def _is_known(findings: list[Finding], new: Finding) -> bool:
+    """Whether a finding is there already, or is of a line of the settings that has to be written anew anyhow."""
+    lines = {(it.file, it.line) for it in findings if it.said == "settings: NotToml"}
+    return new in findings or new.said.startswith("settings: ") and (new.file, new.line) in lines
+
+
+def diagnosed(question: Question, line: Line | None = None) -> Diagnosis:
+    """Asks, explains, mends a copy, and asks again until hsplan has no fault."""
+    said = question.ask()
+    result = Diagnosis([], said.status)
+    if not said.line:
+        return result
+    if said.word == "read failed":
+        question, result.findings = _files_first(question, said.line)
+        if not result.findings:
+            words = Words(
+                "a file can't be read",
+                "look at the files one by one: cat FILE > /dev/null",
+                "a file that changes, or a disk that fails",
+            )
+            result.findings.append(found("", Place(), words, said.line))
+            return result
+        if any(it in question.absent for it in ("plan", "log", "file", "values")):
+            question = without_answers(question)
+        said = question.ask()
+    octets = sum(len(it.original.octets) for it in question.files.values())
+    for _ in range(max(3, min(TURNS, OCTETS // max(1, octets)))):
+        if not said.line or _is_consequence(question, said):
+            return result
+        it = explained(question, said, line)
+        if it.finding and not _is_known(result.findings, it.finding):
+            result.findings.append(it.finding)
+        then = _next(question, said, it, line)
+        if not then:
+            return result
+        question, said = then
+    result.is_cut_short = bool(said.line)
+    return result
+
+
+def without_answers(question: Question) -> Question:
+    """Only the planning of a question: of a command whose plan or log can't be read, the inputs still can."""
+    if question.command not in ("check", "dispatch", "report", "answer", "plan"):
+        return question
+    files = {kind: it for kind, it in question.files.items() if kind not in ("plan", "log", "file")}
+    if "values" in question.absent:
+        files.pop("values", None)
+    return replace(question, program="hsplan", command="plan", files=files, options=(), words=())
+
+
+def question_of(desk: Desk, line: Line) -> Question:
+    """The question that the words of a line ask."""
+    options, others = split(line)
+    form = FORMS[line.command]
+    values: dict[str, str] = {}
+    for it in options:
+        if it.name in FILES and it.value is not None:
+            values.setdefault(it.name, it.value)
+    files = {name: draft_of(desk, value) for name, value in values.items()}
+    rest = tuple(f"--{it.name}={it.value}" for it in options if it.name not in FILES)
+    if form.last == "file" and others:
+        files["file"] = draft_of(desk, others[0].text)
+    return Question(desk, line.command, files, rest, tuple(it.text for it in others), line.program)
+
+
+def of_words(desk: Desk, words: list[str]) -> Diagnosis:
+    """All faults of the words of a command, and of its files."""
+    line = line_of(words)
+    if word_faults.command_fault(line):
+        return Diagnosis(word_faults.usage(line), run(line.program, *[it.text for it in line.words]).status)
+    odd = [it for it in line.words if not is_utf8(it.text)]
+    if odd:
+        return Diagnosis([word_faults.not_utf8(line, it) for it in odd], USAGE_STATUS)
+    question = question_of(desk, line)
+    status = _status(line, question)
+    if status == USAGE_STATUS:
+        return Diagnosis(word_faults.usage(line) + _of_files(question), status)
+    return diagnosed(question, line)
+
+
+def _status(line: Line, question: Question) -> int:
+    """The status of the words as they are given, with copies of pipes."""
+    copies = {it.original.path: it.copy for it in question.files.values() if it.copy}
+    words = []
+    for it in line.words:
+        name, equals, value = it.text.partition("=")
+        words.append(copies.get(it.text) or (f"{name}={copies[value]}" if equals and value in copies else it.text))
+    quiet = subprocess.DEVNULL
+    return subprocess.run([program(line.program), *words], stdin=quiet, stdout=quiet, stderr=quiet).returncode
+
+
+def _of_files(question: Question) -> list[Finding]:
+    """Beside words that are no command: files that aren't there, and the faults of inputs where all are given."""
+    findings = [file_finding(it.original.path, kind, "") for kind, it in question.files.items()]
+    found_ones = [replace(it, said="read failed") for it in findings if it]
+    kinds = {"settings", "demand", "costs", "capacity"}
+    if found_ones or not kinds <= set(question.files):
+        return found_ones
+    files = {kind: it for kind, it in question.files.items() if kind in kinds | {"values"}}
+    return diagnosed(Question(question.desk, "plan", files)).findings

@@ -1,0 +1,95 @@
+"""Files that can't be read, each with the reason."""
+
+from __future__ import annotations
+
+import difflib
+import os
+import stat
+
+from hsp.doctor.findings import LARGEST, Finding, Place, Words, found
+
+CONVENTIONS = {"settings": "settings.toml", "demand": "demand.csv", "costs": "costs.csv", "capacity": "capacity.csv"}
+
+
+def unreadable(path: str, kind: str) -> Words | None:
+    """Why a file can't be read, or None."""
+    if path == "-":
+        return Words("'-' is no file here", "give /dev/stdin for standard input", "'-' is a name like any other")
+    if not path:
+        return Words(
+            f"the name of the file for --{kind} is empty",
+            f"give a file behind --{kind}",
+            "a variable of the shell that isn't set?",
+        )
+    try:
+        mode = os.stat(path).st_mode
+    except FileNotFoundError:
+        return _absent(path, kind)
+    except NotADirectoryError:
+        return Words(
+            "no such file", "mend the path: a part of it is a file, not a folder", "a part of the path is a file"
+        )
+    except OSError as fault:
+        return Words(
+            "the file can't be looked at", "mend the path, or the rights of its folders", str(fault.strerror)
+        )
+    except ValueError:
+        return Words("no such file", "mend the path", "a sign in the name that no file has")
+    return _of_kind(path, kind, mode)
+
+
+def _of_kind(path: str, kind: str, mode: int) -> Words | None:
+    """What is wrong with a file that is there: a folder, too large, or closed to this user."""
+    if stat.S_ISDIR(mode):
+        name = CONVENTIONS.get(kind, "the file")
+        return Words(
+            "a folder, not a file", f"give the file in it, as {os.path.join(path, name)}", "hsplan reads files"
+        )
+    if stat.S_ISREG(mode) and kind != "log" and os.stat(path).st_size > LARGEST:
+        return Words(
+            f"the file has more than {LARGEST:,} octets",
+            "give a smaller file: this is likely another one",
+            "hsplan reads it whole",
+        )
+    if not os.access(path, os.R_OK):
+        return Words(
+            "you may not read this file", f"chmod +r {path}, or run as its owner", "its rights don't let you"
+        )
+    return None
+
+
+def _absent(path: str, kind: str) -> Words:
+    """A file that isn't there: a near name in its folder, or the nearest folder that is."""
+    folder = os.path.dirname(path) or "."
+    if os.path.islink(path):
+        return Words(
+            "a link to a file that isn't there",
+            "mend the link, or put its file back",
+            f"it leads to {os.readlink(path)}",
+        )
+    if not os.path.isdir(folder):
+        return Words("no such file", f"mend the path: there is no folder {folder}", f"{folder} isn't there")
+    names = sorted(it for it in os.listdir(folder) if not it.startswith("."))
+    near = difflib.get_close_matches(os.path.basename(path), names, 1, 0.6)
+    if near:
+        return Words(
+            "no such file",
+            f"did you mean {os.path.join(os.path.dirname(path), near[0])}? Rename it, or give it by --{kind}",
+            f"{near[0]} is there",
+        )
+    if path.startswith("~"):
+        return Words(
+            "no such file",
+            f"write $HOME in place of ~, or a blank before it: --{kind} ~/..",
+            "the shell didn't replace ~",
+        )
+    remedy = f"give another file by --{kind}" + (
+        "; hsp new makes a folder with all of them" if kind in CONVENTIONS else ""
+    )
+    return Words("no such file", remedy, f"{folder} has {', '.join(names[:6]) or 'no file'}")
+
+
+def file_finding(path: str, kind: str, said: str) -> Finding | None:
+    """What is wrong with a file by itself, before its text is read."""
+    words = unreadable(path, kind)
+    return found(path or f"--{kind}", Place(), words, said) if words else None

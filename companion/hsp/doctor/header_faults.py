@@ -1,0 +1,203 @@
+"""Faults of a table as a whole: its first line, and how many rows it has."""
+
+from __future__ import annotations
+
+import gzip
+import re
+import zlib
+from typing import NamedTuple
+
+from hsp.doctor.findings import Finding, Place, Text, Words, decoded, found
+from hsp.doctor.question import Question, Said
+from hsp.doctor.rows import HEADERS, near, table_of
+from hsp.doctor.table_faults import Explained
+from hsp.numbers import listed
+
+# The headers of logs, by the command that reads them.
+LOGS = {
+    "dispatch": ["region,handle", "region,body"],
+    "kinds": ["region,handle", "region,handle,count"],
+    "places": ["handle", "region,handle"],
+    "answer": ["region,handle", "region,body"],
+}
+
+
+class Cause(NamedTuple):
+    """Why a first line is no header, what to do, and the text of a mended copy with the lines put above."""
+
+    why: str
+    remedy: str
+    text: str | None = None
+    above: int = 0
+
+
+def headers_of(question: Question, kind: str) -> list[str]:
+    """The headers that a file may have."""
+    if kind != "log":
+        return [",".join(HEADERS[kind])]
+    if question.command == "dispatch" and any(it.startswith("--fronts") for it in question.options):
+        return ["front,region,handle", "front,region,body"]
+    return LOGS.get(question.command, ["region,handle"])
+
+
+def _of_octets(text: Text) -> Cause | None:
+    """A file that is packed, or in another encoding."""
+    octets, name = text.octets, text.path
+    if octets[:2] in (b"\xff\xfe", b"\xfe\xff"):
+        return Cause(
+            "a file in UTF-16, as programs of Windows write",
+            f"iconv -f utf-16 -t utf-8 {name} > utf8.csv",
+            octets.decode("utf-16", "replace"),
+        )
+    if octets[:2] == b"\x1f\x8b":
+        try:
+            plain = decoded(gzip.decompress(octets))
+        except (OSError, EOFError, zlib.error):
+            plain = None
+        return Cause("a packed file", f"gunzip < {name} > plain.csv", plain)
+    if octets[:4] == b"PK\x03\x04":
+        return Cause("a file of a spreadsheet program", "save it as CSV, with commas, in UTF-8")
+    if octets[:5] == b"%PDF-" or b"\x00" in octets[:100]:
+        return Cause("no text", "save the table as CSV, in UTF-8")
+    return None
+
+
+def _of_whole(text: Text, wanted: list[str]) -> Cause | None:
+    """Another separator in the whole table."""
+    first, want = text.line(1), wanted[0]
+    for sign, name, way in ((";", "semicolons", "tr ';' ,"), ("\t", "tabs", r"tr '\t' ,"), ("|", "bars", "tr '|' ,")):
+        if first.replace(sign, ",") == want:
+            plain = "\n".join(it.replace(sign, ",") for it in text.lines)
+            return Cause(f"{name} in place of commas", f"{way} < {text.path} > commas.csv", plain)
+    bare = re.sub(r"\s*,\s*", ",", first.strip())
+    if bare in wanted and first != bare:
+        plain = "\n".join(re.sub(r" *, *", ",", it.strip()) for it in text.lines)
+        return Cause(
+            "blanks beside the commas", f"sed 's/ *, */,/g; s/^ *//; s/ *$//' {text.path} > plain.csv", plain
+        )
+    return None
+
+
+def _of_names(text: Text, wanted: list[str]) -> Cause | None:
+    """The names of the columns in another case or order, or of another file."""
+    first, want = text.line(1), wanted[0]
+    names = [it.strip().strip('"') for it in first.split(",")]
+    mended = "\n".join([want, *text.lines[1:]])
+    if first.casefold() in wanted or ",".join(names).casefold() in wanted:
+        return Cause("another case of letters", f"write {want}", mended)
+    for other in wanted:
+        if sorted(names) == sorted(other.split(",")):
+            return Cause("the columns are in another order", f"put the columns in the order {other}, in each row")
+    for kind, header in HEADERS.items():
+        if names == header:
+            return Cause(f"this is a table of {kind}", f"give the right file: its first line is {want}")
+    if "site" in want and re.match(r"\s*\[\[?site|.*record\s*=", first):
+        return Cause("these are settings", f"give the right file: its first line is {want}")
+    if re.match(r"\s*(\[\[|name\s*=)", first):
+        return Cause("this is a file of settings", f"give the right file: its first line is {want}")
+    if len(names) == len(want.split(",")) and all(it.replace("_", "").isalpha() for it in names):
+        remedy = f"write {want} in place of it, if these are its columns"
+        return Cause("other names of columns", remedy, mended)
+    if set(want.split(",")) < set(names):
+        return Cause("columns too many", f"keep only {want}, in each row")
+    return None
+
+
+def _of_fronts(first: str, wanted: list[str]) -> Cause | None:
+    """A log with a column of fronts where none is wanted, or the other way round."""
+    if f"front,{first}" in wanted:
+        remedy = f"put the number of the front before each row, and write front,{first}; or leave --fronts out"
+        return Cause("a log for --fronts has a column more", remedy)
+    if first.startswith("front,") and first.removeprefix("front,") in wanted:
+        return Cause("a log of several fronts", "give --fronts N too, or take the first column out")
+    return None
+
+
+def _of_access(first: str) -> Cause | None:
+    if re.search(r'"(GET|HEAD|POST|PUT) ', first):
+        remedy = "hsp demand makes a table of its queries; a log for hsplan has the rows region,handle"
+        return Cause("the access log of a proxy", remedy)
+    return None
+
+
+def cause_of(text: Text, wanted: list[str]) -> Cause:
+    """The likeliest cause of a first line that is no header."""
+    found_one = _of_octets(text)
+    if found_one:
+        return found_one
+    first, want = text.line(1), wanted[0]
+    plain = "\n".join(text.lines)
+    if not plain.strip():
+        return Cause("the file is empty", f"write {want}, and a row for each entry below it", want + "\n")
+    at = next((it for it, line in enumerate(text.lines) if line.strip()), 0)
+    if first.lstrip().startswith(("#", "//", "sep=")):
+        return Cause(
+            "a note above the header; tables have none", "take the line out", "\n".join(["", *text.lines[1:]])
+        )
+    if not first.strip() and text.lines[at] in wanted:
+        return Cause("blanks above the header", "take the lines out", "\n".join([""] * at + text.lines[at:]))
+    found_one = _of_fronts(first, wanted) or _of_access(first) or _of_whole(text, wanted) or _of_names(text, wanted)
+    if found_one:
+        return found_one
+    names = [it.strip() for it in first.split(",")]
+    lacking = [it for it in want.split(",") if it not in names]
+    if len(names) > 1 and lacking and set(names) < set(want.split(",")):
+        return Cause("a column is missing", f"add the column {listed(lacking)} to the first line, and to each row")
+    meant = near(first, wanted, 0.65)
+    if meant:
+        return Cause("a header that is misspelt", f"write {meant}", "\n".join([meant, *text.lines[1:]]))
+    if len(first.split(",")) == len(want.split(",")) and re.search(r"[0-9/]", first):
+        return Cause("the header is missing", f"put {want} above the first line", f"{want}\n{plain}", 1)
+    for number, line in enumerate(text.lines[:20]):
+        if line in wanted:
+            rest = "\n".join([""] * number + text.lines[number:])
+            return Cause("lines above the header", f"take out what stands above {want}", rest)
+    return Cause("other columns, or another file", f"write {want} as the first line, and such rows below it", None)
+
+
+def header_fault(question: Question, kind: str, said: Said) -> Explained:
+    """A first line that is no header."""
+    draft = question.files[kind]
+    text, wanted = draft.text, headers_of(question, kind)
+    cause = cause_of(text, wanted)
+    what = "a log for this command" if kind == "log" else kind
+    first = text.line(1)
+    place = Place(1, 1, max(1, len(first)), first) if first.isprintable() else Place(1, 1, 1, "")
+    want = listed(wanted, 3).replace(" and ", " or ")
+    words = Words(f"the first line isn't the header of {what}", cause.remedy, cause.why, f"wanted: {want}")
+    mended = [] if cause.text is None else [question.with_file(kind, draft.with_text(cause.text, cause.above))]
+    return Explained(found(draft.original.path, place, words, said.line), [*mended, question.with_stand_in(kind)])
+
+
+def too_many(question: Question, kind: str, said: Said) -> Explained:
+    """A table with more rows or regions than hsplan takes."""
+    draft = question.files[kind]
+    table = table_of(draft.text)
+    if said.word == "TooManyRows":
+        message = f"{len(table.rows):,} rows; the table has more than hsplan takes"
+        why = "a row for each handle of a large service, or two tables joined"
+        remedy = "hsplan-stream kinds joins a log of any length to a table of demand"
+        if kind != "demand":
+            remedy = "keep one row for each pair; take rows of sites or regions out that aren't used"
+        place = draft.original.whole(draft.number(table.rows[-1].first)) if table.rows else Place()
+    else:
+        first: dict[str, int] = {}
+        for row in table.rows:
+            first.setdefault(row.fields[0], row.first)
+        lines = sorted(first.values())
+        message = f"{len(first):,} regions; hsplan takes 64"
+        why = "a region for each network or country"
+        remedy = "join regions whose costs are equal under one name, in demand and costs"
+        place = draft.original.whole(draft.number(lines[64] if len(lines) > 64 else 2))
+    words = Words(message, remedy, why)
+    return Explained(found(draft.original.path, place, words, said.line), [question.with_stand_in(kind)])
+
+
+def log_too_long(question: Question, said: Said) -> Finding:
+    """A log that has more rows than dispatch takes."""
+    words = Words(
+        "the log has more rows than dispatch takes",
+        "hsplan-stream answer takes a log of any length; or cut the log in parts",
+        "each run of dispatch takes 10,000,000 rows",
+    )
+    return found(question.files["log"].original.path, Place(), words, said.line)

@@ -1,0 +1,56 @@
+"""What to do next in a folder."""
+
+from __future__ import annotations
+
+import os
+import shlex
+from collections.abc import Iterator
+
+from hsp.doctor.doubts import stale_plan
+from hsp.doctor.examine import examined
+from hsp.numbers import listed, some
+from hsp.programs import Desk
+from hsp.service import NAMES, Service
+from hsp.terminal import bold, head
+
+
+def step(command: str, why: str) -> str:
+    return f"next  {bold(command)}  {why}"
+
+
+def next_lines(folder: str, desk: Desk) -> Iterator[str]:
+    """What stands in the folder, and the command that comes next there."""
+    at = "" if folder in ("", ".") else f" {shlex.quote(folder)}"
+    there = [it for it in NAMES.values() if os.path.exists(os.path.join(folder, it))]
+    if not there:
+        yield f"no service here: a folder of one has {listed(NAMES.values())}"
+        yield step("hsp new DIR", "makes such a folder")
+        return
+    found = examined(folder, desk, {})
+    if found.errors:
+        yield f"{some(len(found.errors), 'fault')} in the files here"
+        yield step(f"hsp doctor{at}", "shows each with its place and its remedy")
+        return
+    if found.service:
+        yield head(found.service)
+        yield _of_plan(found.service, at, desk)
+    if found.warnings:
+        yield f"also  {bold(f'hsp doctor{at}')}  shows {some(len(found.warnings), 'warning')}"
+
+
+def _of_plan(service: Service, at: str, desk: Desk) -> str:
+    """The step for a folder without a fault: whether there is a plan, and whether it is one of these inputs."""
+    if not service.sites:
+        return step(
+            f"hsp sites FILE.. --into {service.folder}", "brings the sites in, of a proxy's JSON or their records"
+        )
+    if not service.rows:
+        return step("hsp demand LOG..", "counts the queries of access logs for demand.csv")
+    path = os.path.join(service.folder, "plan.txt")
+    if not os.path.isfile(path):
+        return step(f"hsp plan{at}", "plans, and keeps the plan in plan.txt")
+    newer = stale_plan(service, desk, path)
+    if newer:
+        names = listed(map(os.path.basename, newer))
+        return step(f"hsp plan{at}", f"plans again: {names} changed since plan.txt was written")
+    return step(f"hsp view{at}", "writes the plan as a page")

@@ -1,0 +1,183 @@
+"""A command of hsplan that can be asked again with mended copies of its files."""
+
+from __future__ import annotations
+
+import functools
+import os
+import re
+import shutil
+import stat
+import subprocess
+from dataclasses import dataclass, field, replace
+
+from hsp.doctor.findings import Finding, Text, encoded, read_text
+from hsp.programs import Desk, program
+
+# The files in the order in which hsplan reads them.
+ORDER = ("settings", "values", "demand", "costs", "capacity", "plan", "log", "file")
+STANDS_IN = {
+    "settings": "",
+    "demand": "region,handle,count\n",
+    "costs": "region,site,cost\n",
+    "capacity": "site,server_id,capacity\n",
+}
+
+
+@dataclass(frozen=True)
+class Draft:
+    """A file, and the lines of its mended copy. Every line keeps its number, but for those put above the first."""
+
+    original: Text
+    lines: tuple[str, ...] | None = None
+    above: int = 0
+    # The path of a copy that is asked about in place of the file, until it is mended.
+    copy: str = ""
+
+    @functools.cached_property
+    def text(self) -> Text:
+        """The copy as it is now."""
+        if self.lines is None:
+            return self.original
+        return Text(self.original.path, encoded("\n".join(self.lines)))
+
+    def number(self, line: int) -> int:
+        """The number that a line of the copy has in the original; 1 for those put above the first."""
+        return max(1, line - self.above)
+
+    def with_line(self, line: int, text: str, last: int = 0) -> Draft:
+        """The copy with another text in a line, and nothing in those up to `last`."""
+        lines = list(self.text.lines)
+        lines[line - 1 : max(line, last)] = [text] + [""] * max(0, last - line)
+        return replace(self, lines=tuple(lines))
+
+    def with_text(self, text: str, above: int = 0) -> Draft:
+        return Draft(self.original, tuple(re.split(r"\r\n|\n|\r", text)), self.above + above)
+
+
+@dataclass(frozen=True)
+class Said:
+    """What hsplan printed of a fault: where it was met, its word, and what stands behind."""
+
+    status: int
+    line: str
+    where: str = ""
+    word: str = ""
+    detail: str = ""
+    table: str = ""
+    numbers: dict[str, int] = field(default_factory=dict)
+
+
+@dataclass
+class Diagnosis:
+    """All faults that were found, hsplan's status for the files as they are, and whether there may be more."""
+
+    findings: list[Finding]
+    status: int
+    is_cut_short: bool = False
+
+
+def said_of(status: int, line: str) -> Said:
+    """The parts of a line as `demand: BadHandle row 36 NoSlash`."""
+    it = re.fullmatch(r"(?:(\w+): )?(read failed|write failed|\w+)(.*)", line)
+    if not it:
+        return Said(status, line)
+    rest = it[3]
+    numbers = {name: int(value) for name, value in re.findall(r"([a-z_]+) (\d+)", rest)}
+    table = re.search(r"table (\w+)", rest)
+    detail = re.search(r"\b([A-Z]\w+)", rest)
+    return Said(status, line, it[1] or "", it[2], detail[1] if detail else "", table[1] if table else "", numbers)
+
+
+@dataclass(frozen=True)
+class Question:
+    """A program, its command, its files, and its other words. `left_out` are rows that copies no longer have."""
+
+    desk: Desk
+    command: str
+    files: dict[str, Draft]
+    options: tuple[str, ...] = ()
+    words: tuple[str, ...] = ()
+    program: str = "hsplan"
+    absent: frozenset[str] = frozenset()
+    left_out: tuple[tuple[str, tuple[str, ...]], ...] = ()
+    # A copy lacks a site whose name isn't known, so that rows may name it.
+    lacks_site: bool = False
+
+    def arguments(self) -> list[str]:
+        """The words of the command."""
+        found = [self.command]
+        for kind in ORDER:
+            if kind in self.files and kind != "file":
+                found.append(f"--{kind}={self.path(kind)}")
+        found += self.options
+        last = [self.path("file")] if "file" in self.files else list(self.words)
+        return found + (["--", *last] if last else [])
+
+    def path(self, kind: str) -> str:
+        """The file itself, or its copy where that was mended."""
+        draft = self.files[kind]
+        if draft.lines is None:
+            return draft.copy or draft.original.path
+        return self.desk.put(draft.text.octets)
+
+    def text(self, kind: str) -> Text:
+        return self.files[kind].text
+
+    def with_file(self, kind: str, draft: Draft) -> Question:
+        return replace(self, files={**self.files, kind: draft})
+
+    def with_line(self, kind: str, line: int, text: str, last: int = 0) -> Question:
+        return self.with_file(kind, self.files[kind].with_line(line, text, last))
+
+    def with_stand_in(self, kind: str) -> Question:
+        """The same with a file that has no fault, and nothing in it."""
+        draft = Draft(self.files[kind].original, tuple(STANDS_IN.get(kind, "").split("\n")))
+        return replace(self.with_file(kind, draft), absent=self.absent | {kind})
+
+    def without_row(self, kind: str, line: int, last: int, fields: list[str]) -> Question:
+        """The same without a row. Later lines keep their numbers, since hsplan passes over an empty line."""
+        it = self.with_line(kind, line, "", last)
+        return replace(it, left_out=(*self.left_out, (kind, tuple(fields))))
+
+    def size(self) -> int:
+        """How many lines with a text the files have."""
+        return sum(bool(line.strip()) for it in self.files.values() for line in it.lines or it.original.lines)
+
+    def ask(self) -> Said:
+        """What hsplan says. Its answer is the status only, since answers to a log may be long."""
+        short = self.command in ("check", "plan")
+        done = subprocess.run(
+            [program(self.program), *self.arguments()],
+            stdin=subprocess.DEVNULL,
+            stdout=subprocess.PIPE if short else subprocess.DEVNULL,
+            stderr=subprocess.PIPE,
+        )
+        line = done.stderr.decode("utf-8", "replace").strip()
+        verdict = done.stdout.decode("utf-8", "replace").strip() if self.command == "check" else ""
+        if done.returncode == 3 and verdict.startswith("no "):
+            return Said(3, verdict, "check", verdict.split()[-1])
+        if done.returncode in (0, 3) and not line.startswith(f"{self.program}: "):
+            return Said(0, "")
+        return said_of(done.returncode, line.removeprefix(f"{self.program}: "))
+
+
+def draft_of(desk: Desk, path: str) -> Draft:
+    """A file as it is read. A pipe can be read once, and hsplan takes no name that isn't UTF-8: these are copied."""
+    try:
+        if path != "/dev/null" and (is_pipe(path) or not is_utf8(path) and os.path.isfile(path)):
+            copy = desk.put(b"")
+            with open(path, "rb") as source, open(copy, "wb") as target:
+                shutil.copyfileobj(source, target)
+            return Draft(Text(path, read_text(copy).octets), copy=copy)
+        return Draft(read_text(path))
+    except (OSError, ValueError):
+        return Draft(Text(path, b""))
+
+
+def is_pipe(path: str) -> bool:
+    mode = os.stat(path).st_mode
+    return stat.S_ISFIFO(mode) or stat.S_ISCHR(mode)
+
+
+def is_utf8(text: str) -> bool:
+    return not any("\ud800" <= it <= "\udfff" for it in text)

@@ -1,0 +1,297 @@
+"""Faults of site records and value lists. Which mend helps, hsplan says."""
+
+from __future__ import annotations
+
+import os
+import re
+from collections.abc import Iterator
+
+from hsp.doctor.findings import Place, Words, found, quoted
+from hsp.doctor.question import Question, Said
+from hsp.doctor.settings_faults import mends, place_in, with_value, without_block
+from hsp.doctor.table_faults import Explained
+from hsp.doctor.toml_places import listed_in
+from hsp.numbers import some
+from hsp.programs import Desk, run
+
+
+# No server has fewer octets: its identifier, its address, and two numbers.
+LEAST_SERVER = 28
+
+
+def is_record(desk: Desk, octets: bytes) -> bool:
+    return run("hsplan", "site", desk.put(octets, ".site")).status == 0
+
+
+def servers_in(desk: Desk, octets: bytes) -> int:
+    """How many servers hsplan finds in a record; 0 where it is none."""
+    printed = run("hsplan", "site", desk.put(octets, ".site"))
+    told = re.search(r"^servers (\d+)", printed.out, re.M)
+    return int(told[1]) if told and not printed.status else 0
+
+
+def with_number(desk: Desk, octets: bytes, at: int) -> tuple[int, int, bytes] | None:
+    """The record with another number of servers, if hsplan reads it then: the number, the right one, and the octets.
+
+    Octets after a record may be servers that its number leaves out. A record that ends where a server would begin may
+    count too many.
+    """
+    before = servers_in(desk, octets[:at]) if at < len(octets) else 0
+    if 0 < len(octets) - at < LEAST_SERVER or at < len(octets) and not before:
+        return None
+    for old, position in _numbers_in(octets, before):
+        for new in range(old + 1, old + 9) if before else range(old - 1, max(0, old - 9), -1):
+            changed = octets[:position] + new.to_bytes(4, "big") + octets[position + 4 :]
+            if servers_in(desk, changed) == new:
+                return old, new, changed
+    return None
+
+
+def _numbers_in(octets: bytes, wanted: int) -> Iterator[tuple[int, int]]:
+    """Places of small numbers of four octets: of a wanted one, or of any from 2 to 64."""
+    tried = 0
+    for position in range(8, min(len(octets) - 4, 4096)):
+        value = int.from_bytes(octets[position : position + 4], "big")
+        if value == wanted if wanted else 2 <= value <= 64:
+            tried += 1
+            yield value, position
+        if tried >= 24:
+            return
+
+
+def octets_words(octets: bytes, path: str, desk: Desk) -> Words | None:
+    """What octets are that aren't a record."""
+    stripped = octets.strip()
+    if not stripped:
+        return Words(
+            "", "hsp sites prints the fields of a site from JSON, hexadecimal digits or base64", "the file is empty"
+        )
+    if stripped[:1] in (b"{", b"["):
+        head = b"TOML" if stripped[:2] == b"[[" else b"JSON"
+        if head == b"TOML":
+            return Words("", "give the file of a record, not the settings", "these are settings")
+        return Words("", f"hsp sites {path or 'FILE'} makes a record of it", "JSON in place of octets")
+    bare = re.sub(rb"^0[xX]|\s", b"", stripped)
+    if not path and re.fullmatch(rb"[0-9A-Fa-f]+", bare):
+        return Words("", f"write {bare[:16].decode()}.. in place of them", "these are the digits of digits")
+    if re.fullmatch(rb"[0-9A-Fa-f]+", bare):
+        return Words("", f"xxd -r -p {path} > octets.site", "hexadecimal digits in place of octets")
+    if re.fullmatch(rb"[A-Za-z0-9+/\s]+=*", stripped) and len(stripped) > 20:
+        return Words("", f"base64 -d {path or 'FILE'} > octets.site", "base64 in place of octets")
+    if stripped.isascii() and re.fullmatch(rb"[\x20-\x7e\r\n\t]+", stripped):
+        return Words("", "give the octets of the record, as siteinfo.bin has them", "a text in place of octets")
+    values = run("hsplan", "site", "--index=1", desk.put(octets, ".values"))
+    if not values.status or "Value" in values.line:
+        return Words(
+            "",
+            f"hsplan site --index N {path}, with the index of the site's value",
+            "a value list in place of a record",
+        )
+    return None
+
+
+def record_words(octets: bytes, said: Said, path: str, desk: Desk) -> tuple[Words, bytes]:
+    """Why octets are no record, what to do, and octets that are one."""
+    at = said.numbers.get("at", len(octets))
+    told = octets_words(octets, path, desk)
+    if told:
+        return told, b""
+    if said.detail == "TooManyServers" or said.word == "TooManyServers":
+        return (
+            Words(
+                "",
+                "give the octets of the record, as siteinfo.bin has them",
+                "octets that aren't a record, or a very large service",
+            ),
+            b"",
+        )
+    counted = with_number(desk, octets, at)
+    if counted:
+        old, new, changed = counted
+        verb = "raise" if new > old else "lower"
+        why = f"the number of servers in the head is {old}, and {some(new, 'server')} {'follow' if new > 1 else 'follows'}"
+        return Words("", f"{verb} the number of servers in the record to {new}; hsplan reads it then", why), changed
+    left = len(octets) - at
+    if said.detail == "Trailing" or said.word == "Trailing":
+        ending = octets[at:].strip(b"\r\n") == b""
+        why = "a line end behind the record" if ending else f"{some(left, 'octet')} behind the last server"
+        why = "the record stands twice" if octets[at:] == octets[:at] else why
+        remedy = f"cut {'it' if ending else 'them'} off: head -c {at} {path} > record.site"
+        return Words("", remedy if path else f"cut them off: keep the first {2 * at:,} digits", why), octets[:at]
+    why = f"{some(left, 'octet')} from octet {at} on are too few for the field that begins there"
+    return Words("", "copy the whole record again: it was cut, or an octet is lost; or another layout", why), b""
+
+
+def bad_record(question: Question, said: Said) -> Explained:
+    """A record of the settings that can't be read."""
+    number = said.numbers.get("site", 0)
+    text = question.text("settings")
+    sites = listed_in(text, "site")
+    site = sites[number] if number < len(sites) else {}
+    name, record = site.get("name", ""), site.get("record")
+    place = place_in(question, "site", number, "record" if isinstance(record, str) else "index")
+    if not isinstance(record, str):
+        return _bad_value(question, said, number, str(name))
+    octets = bytes.fromhex(record)
+    told, octets_then = record_words(octets, said, "", question.desk)
+    start = place.text.find(record)
+    if start >= 0 and "at" in said.numbers:
+        column = min(start + 2 * said.numbers["at"], max(start, start + len(record) - 2))
+        place = Place(place.line, column + 1, 2, place.text)
+    words = Words(f"the record of '{name}' can't be read", told.remedy, told.why, kind=f"BadRecord {number}")
+    ways = mends(
+        with_value(question, "site", number, "record", f'"{octets_then.hex()}"') if octets_then else None,
+        without_block(question, "site", number),
+        question.with_stand_in("settings"),
+    )
+    return Explained(found(text.path, place, words, said.line), ways)
+
+
+def _bad_value(question: Question, said: Said, number: int, name: str) -> Explained:
+    """A value of a list that isn't a site's record."""
+    path = question.files["settings"].original.path
+    words = Words(
+        f"the value of '{name}' isn't a record that can be read",
+        "give the index of the site's value: hsplan site --index N FILE prints a good one",
+        f"the value list has other octets there ({said.detail or said.word})",
+        kind=f"BadRecord {number}",
+    )
+    ways = mends(without_block(question, "site", number), question.with_stand_in("settings"))
+    return Explained(found(path, place_in(question, "site", number, "index"), words, said.line), ways)
+
+
+def no_value(question: Question, said: Said) -> Explained:
+    """An index without a value, or with a value of another type."""
+    number = said.numbers.get("site", 0)
+    text = question.text("settings")
+    site = (listed_in(text, "site") + [{}] * (number + 1))[number]
+    index, name = site.get("index"), site.get("name")
+    beside = os.path.join(os.path.dirname(text.path), "sites.values")
+    good = _indices(question)
+    if "values" not in question.files:
+        there = (
+            f"{beside} is there"
+            if os.path.exists(beside)
+            else "put the value list in sites.values beside the settings"
+        )
+        words = Words(
+            f"site '{name}' has an index, and there is no value list",
+            f"give --values FILE; {there}",
+            "an index counts in a value list",
+        )
+    elif said.word == "NotSiteValue":
+        other = f"; HS_SITE stands at {good}" if good else ""
+        words = Words(
+            f"the value with index {index} isn't an HS_SITE",
+            f"write the index of the site's value{other}",
+            "another value of the handle, as a key or an address",
+            kind=f"NotSiteValue {number}",
+        )
+    else:
+        other = f"write index = {good}" if good else "write an index that the list has"
+        words = Words(
+            f"no value has the index {index}",
+            f"{other}; or give the right list",
+            "another value list, or a slip",
+            kind=f"NoValue {number}",
+        )
+    ways = mends(without_block(question, "site", number), question.with_stand_in("settings"))
+    return Explained(found(text.path, place_in(question, "site", number, "index"), words, said.line), ways)
+
+
+def _indices(question: Question) -> str:
+    """The indices at which hsplan finds a site in the value list, of those that are usual."""
+    if "values" not in question.files:
+        return ""
+    path = question.path("values")
+    usual = [*range(1, 33), 100, 101, 200, 300, 301]
+    good = [str(it) for it in usual if not run("hsplan", "site", f"--index={it}", path).status]
+    return " or ".join(good[:4])
+
+
+def site_record(question: Question, said: Said) -> Explained:
+    """What is wrong with a record in two ways that a reader accepts: its hash option, or its servers."""
+    number = said.numbers.get("site", 0)
+    text = question.text("settings")
+    sites = listed_in(text, "site")
+    name = sites[number].get("name", "") if number < len(sites) else ""
+    told = {
+        "BadHashOption": Words(
+            f"the hash option in the record of '{name}' isn't 0, 1 or 2",
+            "copy the record again, or make the block by hsp sites",
+            "octets in another layout, or a digit that was changed",
+        ),
+        "NoServer": Words(
+            f"the record of '{name}' has no server",
+            "add its servers: hsp sites makes the block from a proxy's JSON",
+            "a record that isn't filled in",
+        ),
+        "ServerIdTwice": Words(
+            f"two servers in the record of '{name}' have one identifier",
+            "give each server its own identifier in the record",
+            "a server that was copied",
+        ),
+        "TooManyServers": Words(
+            "all sites together have more servers than hsplan takes",
+            "plan in parts; 1,024 servers are the limit",
+            "a very large service",
+        ),
+    }[said.word]
+    place = place_in(question, "site", number, "record") if "site" in said.numbers else Place()
+    if isinstance((sites[number] if number < len(sites) else {}).get("index"), int):
+        place = place_in(question, "site", number, "index")
+    ways = mends(without_block(question, "site", number), question.with_stand_in("settings"))
+    return Explained(found(text.path, place, told, said.line), ways)
+
+
+def bad_file(question: Question, said: Said, kind: str) -> Explained:
+    """A file that is no record, or no value list."""
+    draft = question.files[kind]
+    octets = draft.original.octets
+    if kind == "values" or any(it.startswith("--index") for it in question.options):
+        return _bad_list(question, said, kind)
+    told, _ = record_words(octets, said, draft.original.path, question.desk)
+    place = Place()
+    words = Words(
+        f"{quoted(os.path.basename(draft.original.path))} isn't the record of a site", told.remedy, told.why
+    )
+    return Explained(found(draft.original.path, place, words, said.line), [])
+
+
+def _bad_list(question: Question, said: Said, kind: str) -> Explained:
+    draft = question.files[kind]
+    path, octets = draft.original.path, draft.original.octets
+    remedy, why = (
+        "give the value list, octet for octet",
+        f"it can't be read from octet {said.numbers.get('at', 0):,} on",
+    )
+    if is_record(question.desk, octets):
+        remedy, why = (
+            "write its digits as record in the settings; or give the value list",
+            "this is one site's record",
+        )
+        if kind == "file":
+            remedy = f"hsplan site {path}, without --index"
+    elif said.word == "IndexTwice":
+        why = f"two values have the index {said.numbers.get('index', 0)}"
+        remedy = "keep one value for each index"
+    elif octets.strip()[:1] in (b"{", b"["):
+        remedy, why = f"hsp sites {path} makes the blocks of it", "JSON in place of octets"
+    elif re.fullmatch(rb"[0-9A-Fa-f\s]+", octets):
+        remedy, why = f"xxd -r -p {path} > sites.values", "hexadecimal digits in place of octets"
+    words = Words(f"{quoted(os.path.basename(path))} isn't a value list", remedy, why)
+    return Explained(
+        found(path, Place(), words, said.line),
+        [question.with_stand_in("settings")] if "settings" in question.files else [],
+    )
+
+
+def value_of_list(question: Question, said: Said) -> Explained:
+    """`hsplan site --index`: the list has no value there, or another one."""
+    draft = question.files["file"]
+    path = draft.original.path
+    index = next((it.partition("=")[2] for it in question.options if it.startswith("--index")), "")
+    good = [str(it) for it in range(1, 33) if not run("hsplan", "site", f"--index={it}", path).status]
+    why = "no value has this index" if said.word == "NoValue" else "the value with this index is no HS_SITE"
+    remedy = f"write --index {good[0]}" if good else "look up the index of the site's value"
+    return Explained(found(path, Place(), Words(f"no site at index {index}", remedy, why), said.line), [])

@@ -1,0 +1,105 @@
+"""Tables with the place of each row and field in their file."""
+
+from __future__ import annotations
+
+import csv
+import difflib
+import functools
+import io
+from collections.abc import Iterable
+from typing import NamedTuple
+
+from hsp.doctor.findings import Place, Text
+
+HEADERS = {
+    "demand": ["region", "handle", "count"],
+    "costs": ["region", "site", "cost"],
+    "capacity": ["site", "server_id", "capacity"],
+}
+
+
+class Row(NamedTuple):
+    """A row: the lines that it stands in, and its fields."""
+
+    first: int
+    last: int
+    fields: list[str]
+
+
+class Table:
+    """The rows of a table below its header."""
+
+    def __init__(self, text: Text) -> None:
+        self.text = text
+        self.header: list[str] = []
+        self.rows: list[Row] = []
+        csv.field_size_limit(1 << 30)
+        reader = csv.reader(io.StringIO("\n".join(text.lines), newline=""))
+        before = 0
+        try:
+            for fields in reader:
+                if fields:
+                    self.rows.append(Row(before + 1, reader.line_num, fields))
+                before = reader.line_num
+        except csv.Error:
+            pass
+        if self.rows:
+            self.header = self.rows.pop(0).fields
+
+    def place(self, row: Row, at: int, to: int = 0) -> Place:
+        """Where a field stands, or all fields from one to another; the whole line where that can't be seen."""
+        line = self.text.line(row.first)
+        spans = spans_of(line)
+        if len(spans) != len(row.fields) or at >= len(spans):
+            return self.text.whole(row.first)
+        start, end = spans[at][0], spans[max(at, to)][1]
+        return self.text.part(row.first, start, end - start)
+
+    def at_line(self, line: int) -> Row | None:
+        """The row that begins in a line."""
+        return next((it for it in self.rows if it.first == line), None)
+
+    def number(self, line: int) -> int:
+        """How many rows stand before a line."""
+        return sum(it.first < line for it in self.rows)
+
+    def column(self, name: str) -> list[str]:
+        """The fields of one column, of rows that have it."""
+        at = self.header.index(name) if name in self.header else -1
+        return [it.fields[at] for it in self.rows if 0 <= at < len(it.fields)]
+
+
+@functools.lru_cache(maxsize=12)
+def table_of(text: Text) -> Table:
+    """The table of a text, which is read once for many questions."""
+    return Table(text)
+
+
+def spans_of(line: str) -> list[tuple[int, int]]:
+    """Where the fields of a line begin and end, with their quotes."""
+    spans, start, inside = [], 0, False
+    for at, sign in enumerate(line):
+        if sign == '"':
+            inside = not inside
+        elif sign == "," and not inside:
+            spans.append((start, at))
+            start = at + 1
+    return [*spans, (start, len(line))]
+
+
+def joined(fields: Iterable[str]) -> str:
+    """The fields as a row."""
+    out = io.StringIO()
+    csv.writer(out, lineterminator="").writerow(list(fields))
+    return out.getvalue()
+
+
+def near(word: str, words: Iterable[str], least: float = 0.6) -> str:
+    """The likeliest of some words that was meant, or nothing."""
+    if len(word) > 200:
+        return ""
+    known = list(words)
+    folded = {it.casefold(): it for it in known}
+    if word.strip().casefold() in folded:
+        return folded[word.strip().casefold()]
+    return next(iter(difflib.get_close_matches(word, known, 1, least)), "")

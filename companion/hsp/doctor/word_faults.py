@@ -1,0 +1,286 @@
+"""Words that are no command of hsplan: which of them is missing, misspelt, or given twice."""
+
+from __future__ import annotations
+
+from collections.abc import Iterator
+
+from hsp.doctor.commands import FILES, FORMS, KINDS, Form, Line, Option, Word, shown, split
+from hsp.doctor.findings import Finding, Place, Words, found, quoted
+from hsp.doctor.question import Said
+from hsp.doctor.rows import near
+
+USAGE = "Usage"
+HELP = ("-h", "--help", "help", "-V", "--version", "version", "-v")
+
+
+def at_word(line: Line, word: Word | None, words: Words) -> Finding:
+    """A finding at a word, or behind the last one."""
+    column = word.column if word else len(line.text) + 1
+    width = len(word.text) if word else 1
+    return found("", Place(1, column + 1, width, line.text), words, USAGE)
+
+
+def command_fault(line: Line) -> Finding | None:
+    """A command that isn't there, or is another program's."""
+    if not line.words:
+        which = [it for it, form in FORMS.items() if form.program == line.program]
+        return at_word(line, None, Words("no command", f"write one of {', '.join(which)} behind {line.program}", ""))
+    command, first = line.command, line.words[0]
+    if command in HELP and line.program == "hsplan":
+        return at_word(
+            line, first, Words(f"hsplan has no {command}", "man hsplan is its help", "it takes commands only")
+        )
+    own = [it for it, form in FORMS.items() if form.program == line.program]
+    if command in own:
+        return None
+    if command in FORMS:
+        other = FORMS[command].program
+        return at_word(
+            line,
+            first,
+            Words(
+                f"{line.program} has no command {command}", f"write {other} {command}", f"it is a command of {other}"
+            ),
+        )
+    if command.startswith("-"):
+        words = Words(
+            "an option stands where the command belongs",
+            f"write the command first: {', '.join(own)}",
+            "the first word is the command",
+        )
+        return at_word(line, first, words)
+    meant = near(command, own, 0.6) or near(command, FORMS, 0.6)
+    remedy = f"write {meant}" if meant in own else f"write {FORMS[meant].program} {meant}" if meant else ""
+    remedy = remedy or f"write one of {', '.join(own)}"
+    return at_word(
+        line, first, Words(f"no command {quoted(command)}", remedy, "", f"did you mean {meant}?" if meant else "")
+    )
+
+
+def meant_by(name: str, form: Form, taken: set[str]) -> str:
+    """The option that a misspelt one likely is: a near one, or the only one that begins so."""
+    free = [it for it in form.options if it not in taken] or form.options
+    start = [it for it in free if name and it.startswith(name)]
+    return near(name, free, 0.6) or (start[0] if len(start) == 1 else "")
+
+
+def _unknown_option(line: Line, form: Form, option: Option, taken: set[str]) -> Finding:
+    command = line.command
+    meant = meant_by(option.name, form, taken)
+    elsewhere = [it for it, other in FORMS.items() if option.name in other.options]
+    if option.name in ("h", "help"):
+        words = Words(
+            f"{command} has no {option.word.text}", f"man {form.program} is its help", "it takes files only"
+        )
+    elif meant:
+        words = Words(f"no option {option.word.text}", f"write --{meant}", "", f"did you mean --{meant}?")
+    elif elsewhere:
+        words = Words(
+            f"{command} has no option --{option.name}",
+            "take it out with its value",
+            f"it is an option of {', '.join(elsewhere)}",
+        )
+    else:
+        words = Words(
+            f"no option {option.word.text}", f"take it out; {command} has --{', --'.join(form.options)}", ""
+        )
+    return at_word(line, option.word, words)
+
+
+def _option_faults(line: Line, form: Form, options: list[Option]) -> Iterator[Finding]:
+    seen: dict[str, Option] = {}
+    right = {it.name for it in options if it.name in form.options}
+    for it in options:
+        is_short = not it.word.text.startswith("--")
+        if it.name not in form.options:
+            yield _unknown_option(line, form, it, right)
+        elif is_short:
+            words = Words(f"{it.word.text} has one hyphen", f"write --{it.name}", "options have two hyphens")
+            yield at_word(line, it.word, words)
+        elif it.name in seen:
+            words = Words(f"--{it.name} stands twice", "take one of them out with its value", "", "the second")
+            yield at_word(line, it.word, words)
+        elif it.value_word and it.value_word.text == "=":
+            words = Words("a blank stands beside '='", f"write --{it.name} {it.value}", "", "an option and its value")
+            yield at_word(line, it.value_word, words)
+        elif it.value is None:
+            what = "a file" if it.name in FILES else "a value"
+            words = Words(
+                f"--{it.name} has no value",
+                f"write {what} behind --{it.name}",
+                "the next word is an option, or there is none",
+            )
+            yield at_word(line, it.word, words)
+        elif it.value_word and it.value_word is not it.word and it.value.startswith("-") and len(it.value) > 1:
+            remedy = f"write --{it.name}={it.value}"
+            yield at_word(
+                line, it.value_word, Words(f"{it.value} is read as an option", remedy, "it begins with a hyphen")
+            )
+        elif it.name == "kind" and it.value not in KINDS:
+            meant = near(it.value, KINDS, 0.6)
+            remedy = f"write {meant}" if meant else f"write one of {', '.join(KINDS)}"
+            yield at_word(
+                line, it.value_word, Words(f"no kind {quoted(it.value)}", remedy, f"the kinds are {', '.join(KINDS)}")
+            )
+        seen.setdefault(it.name, it)
+
+
+def _missing(line: Line, form: Form, options: list[Option]) -> Iterator[Finding]:
+    """Options that a command needs and the line lacks, but for those that are misspelt in it."""
+    names = {it.name for it in options}
+    misspelt = [meant_by(it.name, form, names) for it in options if it.name not in form.options]
+    lacking = [it for it in form.needed if it not in names and it not in misspelt]
+    if lacking:
+        listed = " and ".join(f"--{it}" for it in lacking)
+        values = " ".join(f"--{it} {'FILE' if it in FILES else 'load'}" for it in lacking)
+        yield at_word(
+            line,
+            None,
+            Words(
+                f"{line.command} needs {listed} too",
+                f"write {values} behind it",
+                f"the form is {shown(line.command)}",
+            ),
+        )
+    if line.command == "locate":
+        yield from _locate(line, names | set(misspelt))
+    if line.command == "answer" and ("fronts" in names) != ("front" in names):
+        absent = "front" if "fronts" in names else "fronts"
+        yield at_word(
+            line,
+            None,
+            Words(
+                f"--{absent} is missing",
+                f"write --{absent} N too, or neither of the two",
+                "--fronts N --front K belong together",
+            ),
+        )
+
+
+def _locate(line: Line, names: set[str]) -> Iterator[Finding]:
+    forms = "locate --settings FILE HANDLE, or locate --option na|local|handle --servers N HANDLE"
+    if "settings" in names and names & {"option", "servers"}:
+        yield at_word(
+            line,
+            None,
+            Words(
+                "--settings and --option exclude each other",
+                "keep either --settings, or --option and --servers",
+                f"the forms are {forms}",
+            ),
+        )
+    elif "settings" not in names:
+        lacking = [it for it in ("option", "servers") if it not in names]
+        if lacking:
+            remedy = "write " + " and ".join(f"--{it} {'handle' if it == 'option' else 'N'}" for it in lacking)
+            if len(lacking) == 2:
+                remedy = "write --settings FILE, or --option handle --servers N"
+            yield at_word(
+                line,
+                None,
+                Words(f"locate needs {' and '.join('--' + it for it in lacking)}", remedy, f"the forms are {forms}"),
+            )
+
+
+def _other_words(line: Line, form: Form, others: list[Word]) -> Iterator[Finding]:
+    """Words that belong to no option: the last word of some commands, and no other."""
+    wanted = 1 if form.last else 0
+    if len(others) < wanted:
+        example = "20.500.1234/report-2024" if form.last == "handle" else "FILE"
+        yield at_word(
+            line,
+            None,
+            Words(
+                f"the {form.last} is missing",
+                f"write {example} as the last word",
+                f"the form is {shown(line.command)}",
+            ),
+        )
+    for it in others[wanted:]:
+        twice = (
+            "a handle with a blank stands in quotes"
+            if form.last == "handle"
+            else "a name with a blank stands in quotes"
+        )
+        why = twice if wanted else "each file stands behind its option"
+        meant = near(it.text.split(".")[0], form.options, 0.6)
+        remedy = f"write --{meant} {it.text}" if meant else "take it out, or put its option in front"
+        if wanted:
+            remedy = "put quotes about the whole, or take it out"
+        yield at_word(line, it, Words(f"the word {quoted(it.text)} belongs to no option", remedy, why))
+
+
+def usage(line: Line) -> list[Finding]:
+    """All that is wrong with words that are no command."""
+    wrong = command_fault(line)
+    if wrong:
+        return [wrong]
+    form = FORMS[line.command]
+    options, others = split(line)
+    faults = list(_option_faults(line, form, options))
+    faults += _other_words(line, form, others)
+    faults += _missing(line, form, options)
+    if not faults:
+        words = Words(
+            "these words are no command",
+            f"compare with {shown(line.command)}",
+            "an option is missing, misspelt, or twice",
+        )
+        faults = [at_word(line, None, words)]
+    return faults
+
+
+def not_utf8(line: Line, word: Word) -> Finding:
+    """A word that hsplan doesn't take, since it isn't UTF-8."""
+    words = Words(
+        f"{quoted(word.text)} isn't UTF-8", "rename the file, or go into its folder", "hsplan takes words in UTF-8"
+    )
+    return at_word(line, word, words)
+
+
+def value_fault(line: Line, word: str) -> Finding:
+    """A value that its option doesn't take: `BadOption`, `BadServers`, `BadIndex`, `BadFronts`, `BadUnit`, `BadFront`."""
+    told = {
+        "BadOption": ("option", "write na, local or handle", "the hash option is one of three words"),
+        "BadServers": (
+            "servers",
+            "write the number of the site's servers, 1 to 1024",
+            "a whole number of digits only",
+        ),
+        "BadIndex": (
+            "index",
+            "write the index of the value, a whole number up to 4294967295",
+            "a whole number of digits only",
+        ),
+        "BadFronts": ("fronts", "write how many dispatchers there are, 1 to 64", "a whole number of digits only"),
+        "BadUnit": ("unit", "write a whole number from 1 to 1000000, as 1000", "a whole number of digits only"),
+        "BadFront": ("front", "write a number below that of --fronts: the first front is 0", "fronts count from 0"),
+    }
+    name, remedy, why = told[word]
+    options, _ = split(line)
+    it = next((it for it in options if it.name == name), None)
+    value = it.value if it and it.value is not None else ""
+    finding = at_word(
+        line, it.value_word if it else None, Words(f"--{name} doesn't take {quoted(value)}", remedy, why)
+    )
+    return found(
+        "",
+        Place(1, finding.column, finding.end - finding.column, line.text),
+        Words(finding.message, remedy, why),
+        word,
+    )
+
+
+def bad_handle_word(line: Line, said: Said) -> Finding:
+    """A handle among the words of `locate` that is none."""
+    told = {
+        "NoSlash": ("a handle is a prefix, '/' and a suffix", "write it whole, as 20.500.1234/report-2024"),
+        "EmptySegment": ("the prefix has an empty part", "write the prefix without a point at its ends or twice"),
+        "NotUtf8": ("its octets aren't UTF-8", "write it in UTF-8: iconv -f latin1 -t utf-8"),
+        "TooLong": ("a handle has at most 4,096 octets", "is this a handle?"),
+    }
+    why, remedy = told.get(said.word, ("it isn't a handle", "write prefix, '/', suffix"))
+    others = split(line)[1]
+    word = others[0] if others else Word("", len(line.text))
+    place = Place(1, word.column + 1, len(word.text), line.text)
+    return found("", place, Words(f"{quoted(word.text)} isn't a handle", remedy, why), said.line)

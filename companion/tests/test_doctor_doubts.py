@@ -1,0 +1,204 @@
+"""Warnings of hsp doctor, and what hsp plan, hsp view and hsp by itself make of the doctor's findings."""
+
+from __future__ import annotations
+
+import json
+import os
+import pty
+import re
+import subprocess
+import sys
+from collections.abc import Callable
+from pathlib import Path
+
+import pytest
+
+from hsp.doctor import examined
+from hsp.doctor.findings import WARNING
+from hsp.programs import Desk
+
+from conftest import TOP, Hsp
+from test_doctor import CAPACITY, COSTS, DEMAND, HOSTS, SETTINGS, Edit, every, line, more, sub, without
+
+Example = Callable[[str], Path]
+
+
+def only_eu(whole: str) -> str:
+    return "".join(it for it in whole.splitlines(True) if it.startswith(("region", "eu,")))
+
+
+def no_rows(whole: str) -> str:
+    return whole.splitlines(True)[0]
+
+
+# A file, what is done to it, the place of the doubt, and a word of its message and of its remedy.
+DOUBTS: dict[str, tuple[str, Edit, tuple[str, int, int], str, str]] = {
+    "a URL": (DEMAND, sub("20.500.1234/report-2024", "https://hdl.handle.net/20.500.1234/report-2024"), (DEMAND, 2, 4), "a URL", "write 20.500.1234/report-2024"),
+    "a URL of a DOI": (DEMAND, sub("20.500.1234/report-2024", "https://doi.org/10.1000/1"), (DEMAND, 2, 4), "a URL", "write 10.1000/1"),
+    "hdl:": (DEMAND, sub("20.500.1234/report-2024", "hdl:20.500.1234/report-2024"), (DEMAND, 2, 4), "hdl:", "write 20.500.1234/report-2024"),
+    "percent-encoded": (DEMAND, sub("report-2024", "report%202024"), (DEMAND, 2, 4), "percent-encoded", "write 20.500.1234/report 2024"),
+    "a blank behind": (DEMAND, sub("report-2024,", "report-2024 ,"), (DEMAND, 2, 4), "a blank behind", "24 letters become 23"),
+    "a blank before": (DEMAND, sub("eu,20", "eu, 20"), (DEMAND, 2, 4), "a blank before", "24 letters become 23"),
+    "a sign that isn't seen": (DEMAND, sub("report-2024", "report\u200b-2024"), (DEMAND, 2, 4), "isn't seen", "24 letters become 23"),
+    "another case": (DEMAND, sub("report-2025", "REPORT-2024"), (DEMAND, 3, 4), "case of letters", "one row"),
+    "another case of a letter beyond ASCII": (DEMAND, lambda it: sub("report-2024", "\u00e9")(sub("report-2025", "\u00c9")(it)), (DEMAND, 3, 4), "case of letters", "one row"),
+    "a letter composed in another way": (DEMAND, lambda it: sub("report-2024", "caf\u00e9")(sub("report-2025", "cafe\u0301")(it)), (DEMAND, 3, 4), "composed", "one row"),
+    "a region without costs": (DEMAND, every("asia,", "china,"), (DEMAND, 26, 1), "'china' has no cost", "china,SITE,COST"),
+    "a region in another case": (DEMAND, every("eu,", "EU,"), (DEMAND, 2, 1), "'EU' has no cost", "write eu"),
+    "a region that asks for nothing": (COSTS, more("brasil,paris,5\n"), (COSTS, 8, 1), "'brasil' has costs", "take its rows out"),
+    "a pair without a cost": (COSTS, without(7), (COSTS, 6, 1), "'asia' has no cost for reston", "asia,reston,COST"),
+    "a host of no server": (HOSTS, sub('"000000000000000000000000c6336416"', '"000000000000000000000000c6336499"'), (HOSTS, 8, 11), "no server has the address 198.51.100.153", "000000000000000000000000c6336416"),
+    "a count of 0": (DEMAND, sub(",475", ",0"), (DEMAND, 2, 28), "asks 0 times", "take the row out"),
+    "a capacity of 0": (CAPACITY, sub("reston,3,1470", "reston,3,0"), (CAPACITY, 6, 10), "capacity 0", "out of service"),
+    "a site that no row may use": (COSTS, without(3, 5, 7), (CAPACITY, 4, 1), "no row may use site 'reston'", "REGION,reston,COST"),
+    "a server that no handle leads to": (DEMAND, lambda it: "region,handle,count\neu,20.500.1234/film-5,900\n", (CAPACITY, 2, 7), "server 1 of paris", "hsp demand"),
+    "a demand of a day, capacities of a second": (CAPACITY, lambda it: re.sub(r"\d+$", "2", it, flags=re.M), (CAPACITY, 2, 1), "far above all capacity", "the same time"),
+    "capacities of a year": (CAPACITY, lambda it: re.sub(r"(\d+)$", r"\g<1>0000", it, flags=re.M), (CAPACITY, 2, 1), "far above the demand", "the same time"),
+    "no rows": (DEMAND, no_rows, (DEMAND, 1, 1), "no rows", "add a row"),
+}  # fmt: skip
+
+
+@pytest.mark.parametrize("name", DOUBTS)
+def test_a_doubt_has_its_place_and_its_remedy(example: Example, name: str) -> None:
+    file, edit, place, message, remedy = DOUBTS[name]
+    folder = example("two-sites")
+    path = folder / file
+    path.write_text(edit(path.read_text()))
+    found = examined(str(folder), Desk(), {"settings": str(path)} if file == HOSTS else {})
+    assert not found.errors and found.status == 0
+    own = [
+        it
+        for it in found.warnings
+        if (os.path.basename(it.file), it.line, it.column) == place and message in it.message
+    ]
+    assert own and remedy in own[0].remedy and own[0].severity == WARNING, found.findings
+
+
+def test_a_doubt_is_not_raised_where_it_is_not_due(example: Example) -> None:
+    """Each edit raises one kind of doubt, but for two that take servers away from handles as well."""
+    several = {"a server that no handle leads to", "a site that no row may use", "no rows", "a region without costs"}
+    for name in DOUBTS.keys() - several:
+        file, edit, *_ = DOUBTS[name]
+        folder = example("two-sites")
+        (folder / file).write_text(edit((folder / file).read_text()))
+        found = examined(str(folder), Desk(), {"settings": str(folder / file)} if file == HOSTS else {})
+        assert len(found.warnings) == 1 or len({it.kind for it in found.warnings}) == 1, (name, found.warnings)
+        subprocess.run(["rm", "-r", str(folder)], check=True)
+
+
+def test_two_sites_with_one_record(example: Example) -> None:
+    folder = example("base")
+    lines = (folder / SETTINGS).read_text().splitlines()
+    first = next(it for it in lines if it.startswith("record"))
+    lines[max(at for at, it in enumerate(lines) if it.startswith("record"))] = first
+    (folder / SETTINGS).write_text("\n".join(lines) + "\n")
+    found = examined(str(folder), Desk(), {})
+    assert [it.message for it in found.warnings if "has the record of" in it.message] or found.errors
+
+
+def test_strict_makes_warnings_a_status(hsp: Hsp, example: Example) -> None:
+    folder = example("two-sites")
+    (folder / DEMAND).write_text(sub(",475", ",0")((folder / DEMAND).read_text()))
+    hsp("doctor", str(folder))
+    lines = hsp("doctor", str(folder), "--strict", status=1).stdout.splitlines()
+    assert lines[0] == "warning: eu asks 0 times for '20.500.1234/report-2024'"
+    assert lines[-1].startswith("no fault  two-sites  2 sites")
+    (told,) = json.loads(hsp("doctor", str(folder), "--json", "--strict", status=1).stdout)
+    assert (told["severity"], told["hsplan"]) == ("warning", "")
+
+
+def test_a_plan_older_than_its_inputs(hsp: Hsp, example: Example) -> None:
+    """A plan is old where an input is newer and the checker says no; a touched file alone changes nothing."""
+    folder = example("two-sites")
+    hsp("plan", str(folder))
+    later = os.stat(folder / "plan.txt").st_mtime + 10
+    os.utime(folder / CAPACITY, (later, later))
+    assert examined(str(folder), Desk(), {}).warnings == []
+    (folder / CAPACITY).write_text(sub("paris,2,1510", "paris,2,1400")((folder / CAPACITY).read_text()))
+    os.utime(folder / CAPACITY, (later, later))
+    assert examined(str(folder), Desk(), {"demand": str(folder / "premiere.csv")}).warnings == []
+    (found,) = examined(str(folder), Desk(), {}).warnings
+    assert found.message == "the plan is older than capacity.csv" and found.remedy == f"hsp plan {folder}"
+    assert hsp("plan", str(folder)).stderr == ""
+    assert examined(str(folder), Desk(), {}).warnings == []
+
+
+@pytest.mark.parametrize("command", ["plan", "view", "whatif"])
+def test_commands_show_the_faults(hsp: Hsp, example: Example, command: str) -> None:
+    folder = example("two-sites")
+    (folder / DEMAND).write_text(sub(",475", ",4.5")((folder / DEMAND).read_text()))
+    ended = hsp(command, str(folder), status=1)
+    assert ended.stdout == ""
+    assert ended.stderr.splitlines()[:2] == [
+        "error: count '4.5' isn't a whole number within its limit",
+        f" --> {folder}/demand.csv:2:28",
+    ]
+    assert not (folder / "plan.txt").exists() or command == "view"
+
+
+@pytest.mark.parametrize("command", ["plan", "view"])
+def test_commands_sum_up_warnings(hsp: Hsp, example: Example, command: str) -> None:
+    folder = example("two-sites")
+    text = sub(",475", ",0")((folder / DEMAND).read_text())
+    (folder / DEMAND).write_text(sub("report-2025", "report-2025 ")(text))
+    ended = hsp(command, str(folder))
+    (summary,) = ended.stderr.splitlines()
+    assert summary.startswith("hsp: 2 warnings: ") and summary.endswith(f"(hsp doctor {folder})")
+    assert "'20.500.1234/report-2025 ' has a blank behind it" in summary
+    assert ended.stdout.startswith("two-sites") or "plan.html" in ended.stdout
+
+
+def at_a_terminal(folder: Path, *words: str) -> str:
+    """What hsp prints at a terminal."""
+    ours, theirs = pty.openpty()
+    environment = {**os.environ, "PYTHONPATH": str(TOP / "companion"), "NO_COLOR": "1"}
+    command = [sys.executable, "-m", "hsp", *words]
+    process = subprocess.Popen(command, cwd=folder, stdin=theirs, stdout=theirs, stderr=theirs, env=environment)
+    os.close(theirs)
+    shown = b""
+    while True:
+        try:
+            octets = os.read(ours, 4096)
+        except OSError:
+            break
+        if not octets:
+            break
+        shown += octets
+    os.close(ours)
+    assert process.wait() == 0
+    return shown.decode().replace("\r\n", "\n")
+
+
+def test_what_comes_next(hsp: Hsp, example: Example, tmp_path: Path) -> None:
+    """Each state of a folder has its next command."""
+    empty = tmp_path / "empty"
+    empty.mkdir()
+    assert "next  hsp new DIR" in at_a_terminal(empty)
+    for name, text in (
+        (SETTINGS, ""),
+        (DEMAND, "region,handle,count\n"),
+        (COSTS, "region,site,cost\n"),
+        (CAPACITY, "site,server_id,capacity\n"),
+    ):
+        (empty / name).write_text(text)
+    assert "next  hsp sites FILE.. --into .  " in at_a_terminal(empty)
+    folder = example("two-sites")
+    rows = (folder / DEMAND).read_text()
+    (folder / DEMAND).write_text(no_rows(rows))
+    assert "next  hsp demand LOG..  " in at_a_terminal(folder)
+    (folder / DEMAND).write_text(rows)
+    assert "next  hsp plan  " in at_a_terminal(folder)
+    hsp("plan", str(folder))
+    assert "next  hsp view" in at_a_terminal(folder)
+    later = os.stat(folder / "plan.txt").st_mtime + 10
+    (folder / CAPACITY).write_text(sub("paris,2,1510", "paris,2,1400")((folder / CAPACITY).read_text()))
+    os.utime(folder / CAPACITY, (later, later))
+    assert "next  hsp plan  plans again: capacity.csv changed" in at_a_terminal(folder)
+    (folder / COSTS).unlink()
+    (folder / DEMAND).write_text(line(2, "eu")((folder / DEMAND).read_text()))
+    shown = at_a_terminal(folder)
+    assert "2 faults in the files here" in shown and "next  hsp doctor" in shown
+
+
+def test_in_a_pipe_hsp_prints_its_help(hsp: Hsp) -> None:
+    assert hsp().stdout == hsp("--help").stdout and "Usage: hsp" in hsp().stdout
