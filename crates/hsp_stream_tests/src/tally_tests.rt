@@ -2,10 +2,12 @@
 
 use crate::same::is_same;
 use crate::worked::{COSTS, PLAN, SETTINGS, inputs_of};
+use hsp_instance::{Instance, Sites};
 use hsp_names::HandleRef;
-use hsp_runs::{accepted_in, costs_in, sites_in};
+use hsp_runs::{Accepted, accepted_in, costs_in, sites_in};
+use hsp_tables::Costs;
 use hsp_tally::{Kinds, RowFinder, SeenRows};
-use std::alloc::Global;
+use std::alloc::{AllocError, Global};
 
 // Puts in a number, and once more where memory ran out. Whether it is in then.
 fn has_put(seen: &mut SeenRows, alloc: Global, region: &[u8], handle: &[u8], number: u32) -> bool {
@@ -38,23 +40,35 @@ fn a_row_of_more_than_256_octets_is_not_kept(rt: HostRuntime) {
 // kind, if it is that of 10/1. None where memory ran out.
 type Counted = Option<(bool, bool, u32, Option<u64>)>;
 
-fn counted(alloc: Global) -> Counted {
-    let (Ok(sites), Ok(costs)) = (sites_in(alloc, SETTINGS, None), costs_in(alloc, COSTS)) else {
-        return None;
-    };
-    let handle = HandleRef::parse(b"10/1").ok()?;
-    let mut kinds = Kinds::new(alloc, &sites, &costs);
-    let before = kinds.count_seen(b"r1", b"10/1", 5);
-    kinds.count_new(alloc, b"r1", handle, 4).ok()?;
-    let after = kinds.count_seen(b"r1", b"10/1", 3);
-    let number = kinds.len();
-    if number == 0 {
+// The count of the first kind, if it is that of 10/1.
+fn first_count(kinds: &Kinds<'_>) -> Option<u64> {
+    if kinds.len() == 0 {
         return None;
     }
-    let (region, name, count) = kinds.row(0);
-    let is_first = region == b"r1".as_slice() && name == b"10/1".as_slice();
-    let count = if is_first { Some(count) } else { None };
-    Some((before, after, number, count))
+    let (region, handle, count) = kinds.row(0);
+    if region == b"r1".as_slice() && handle == b"10/1".as_slice() {
+        Some(count)
+    } else {
+        None
+    }
+}
+
+fn counted_by(alloc: Global, sites: &Sites, costs: &Costs) -> Counted {
+    let handle = HandleRef::parse(b"10/1").ok()?;
+    let mut kinds = Kinds::new(alloc, sites, costs);
+    let before = kinds.count_seen(b"r1", b"10/1", 5);
+    match kinds.count_new(alloc, b"r1", handle, 4) {
+        Ok(()) => {}
+        Err(_) => return None,
+    }
+    let after = kinds.count_seen(b"r1", b"10/1", 3);
+    Some((before, after, kinds.len(), first_count(&kinds)))
+}
+
+fn counted(alloc: Global) -> Counted {
+    let sites = sites_in(alloc, SETTINGS, None).ok()?;
+    let costs = costs_in(alloc, COSTS).ok()?;
+    counted_by(alloc, &sites, &costs)
 }
 
 #[test]
@@ -69,23 +83,41 @@ fn a_row_that_was_counted_is_counted_again(rt: HostRuntime) {
     is_same(&rt, found, wanted);
 }
 
-// The rows of two handles of one kind, the first of which has a row, and of a handle without a row of its kind. None
-// where memory ran out.
-fn rows_found(alloc: Global) -> Option<[Option<u32>; 3]> {
+// The row of a handle.
+fn row_for(
+    finder: &mut RowFinder<'_>,
+    alloc: Global,
+    octets: &[u8],
+) -> Result<Option<u32>, AllocError> {
+    match HandleRef::parse(octets) {
+        Ok(handle) => finder.find(alloc, b"r1", handle),
+        Err(_) => Err(AllocError),
+    }
+}
+
+// The rows of two handles of one kind, the first of which has a row, and of a handle without a row of its kind.
+fn rows_by(
+    alloc: Global,
+    instance: &Instance,
+    costs: &Costs,
+) -> Result<[Option<u32>; 3], AllocError> {
+    let mut finder = RowFinder::new(alloc, instance, costs)?;
+    let own = row_for(&mut finder, alloc, b"10/4")?;
+    let alike = row_for(&mut finder, alloc, b"10/9")?;
+    let other = row_for(&mut finder, alloc, b"10/3")?;
+    Ok([own, alike, other])
+}
+
+fn accepted(alloc: Global) -> Option<Accepted> {
     let inputs = inputs_of(alloc).ok()?;
-    let accepted = accepted_in(alloc, &inputs, PLAN).ok()?;
+    accepted_in(alloc, &inputs, PLAN).ok()
+}
+
+// The same of the service, or None where memory ran out.
+fn rows_found(alloc: Global) -> Option<[Option<u32>; 3]> {
+    let accepted = accepted(alloc)?;
     let costs = costs_in(alloc, COSTS).ok()?;
-    let mut finder = RowFinder::new(alloc, &accepted.instance, &costs).ok()?;
-    let own = finder
-        .find(alloc, b"r1", HandleRef::parse(b"10/4").ok()?)
-        .ok()?;
-    let alike = finder
-        .find(alloc, b"r1", HandleRef::parse(b"10/9").ok()?)
-        .ok()?;
-    let other = finder
-        .find(alloc, b"r1", HandleRef::parse(b"10/3").ok()?)
-        .ok()?;
-    Some([own, alike, other])
+    rows_by(alloc, &accepted.instance, &costs).ok()
 }
 
 #[test]
