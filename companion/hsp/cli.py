@@ -179,7 +179,7 @@ def json_of(plan: Planned, reference: Reference | None) -> str:
         for it in plan.gains
     ]
     shares = [{"region": a, "site": b, "queries": c, "share": d} for a, b, c, d in shares_of(plan)]
-    told = {
+    report = {
         "title": plan.service.titles.title,
         "served": True,
         "queries": plan.service.asked,
@@ -190,7 +190,7 @@ def json_of(plan: Planned, reference: Reference | None) -> str:
         "regions": [{"region": it, "queries": a, "cost": b} for it, (a, b) in plan.regions.items()],
         "shares": shares,
     }
-    return json.dumps(told, indent=2, ensure_ascii=False) + "\n"
+    return json.dumps(report, indent=2, ensure_ascii=False) + "\n"
 
 
 def show_shortage(service: Service, desk: Desk, as_json: bool) -> None:
@@ -202,8 +202,8 @@ def show_shortage(service: Service, desk: Desk, as_json: bool) -> None:
         purchase = [
             {"site": it.site, "server_id": it.id, "more": more} for it, more in (bought or {}).items() if after
         ]
-        told = {"title": service.titles.title, "served": False, "queries": service.asked, "lack": short.lack}
-        click.echo(json.dumps({**told, "least_purchase": purchase or None}, indent=2, ensure_ascii=False))
+        report = {"title": service.titles.title, "served": False, "queries": service.asked, "lack": short.lack}
+        click.echo(json.dumps({**report, "least_purchase": purchase or None}, indent=2, ensure_ascii=False))
     else:
         click.echo(head(service))
         for line in shortage_lines(service, short, bought, after):

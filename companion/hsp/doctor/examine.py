@@ -100,9 +100,11 @@ def titles_faults(folder: str) -> list[Finding]:
         )
         return [found(path, Place(), words)]
     except tomllib.TOMLDecodeError as fault:
-        told = re.search(r"line (\d+)", str(fault))
+        advised = re.search(r"line (\d+)", str(fault))
         number = (
-            int(told[1]) if told else next((it for it, line in enumerate(text.lines, 1) if line.count('"') % 2), 1)
+            int(advised[1])
+            if advised
+            else next((it for it, line in enumerate(text.lines, 1) if line.count('"') % 2), 1)
         )
         why = re.sub(r" \(at .*\)", "", str(fault)).lower()
         words = Words(f"{TITLES} isn't TOML", 'write lines as title = "Films", cost = "ms", time = "an hour"', why)

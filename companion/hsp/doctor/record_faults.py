@@ -26,8 +26,8 @@ def is_record(desk: Desk, octets: bytes) -> bool:
 def servers_in(desk: Desk, octets: bytes) -> int:
     """How many servers hsplan finds in a record; 0 where it is none."""
     printed = run("hsplan", "site", desk.put(octets, ".site"))
-    told = re.search(r"^servers (\d+)", printed.out, re.M)
-    return int(told[1]) if told and not printed.status else 0
+    advised = re.search(r"^servers (\d+)", printed.out, re.M)
+    return int(advised[1]) if advised and not printed.status else 0
 
 
 def with_number(desk: Desk, octets: bytes, at: int) -> tuple[int, int, bytes] | None:
@@ -93,9 +93,9 @@ def octets_words(octets: bytes, path: str, desk: Desk) -> Words | None:
 def record_words(octets: bytes, said: Said, path: str, desk: Desk) -> tuple[Words, bytes]:
     """Why octets are no record, what to do, and octets that are one."""
     at = said.numbers.get("at", len(octets))
-    told = octets_words(octets, path, desk)
-    if told:
-        return told, b""
+    advised = octets_words(octets, path, desk)
+    if advised:
+        return advised, b""
     if said.detail == "TooManyServers" or said.word == "TooManyServers":
         return (
             Words(
@@ -133,12 +133,12 @@ def bad_record(question: Question, said: Said) -> Explained:
     if not isinstance(record, str):
         return _bad_value(question, said, number, str(name))
     octets = bytes.fromhex(record)
-    told, octets_then = record_words(octets, said, "", question.desk)
+    advised, octets_then = record_words(octets, said, "", question.desk)
     start = place.text.find(record)
     if start >= 0 and "at" in said.numbers:
         column = min(start + 2 * said.numbers["at"], max(start, start + len(record) - 2))
         place = Place(place.line, column + 1, 2, place.text)
-    words = Words(f"the record of '{name}' can't be read", told.remedy, told.why, kind=f"BadRecord {number}")
+    words = Words(f"the record of '{name}' can't be read", advised.remedy, advised.why, kind=f"BadRecord {number}")
     ways = mends(
         with_value(question, "site", number, "record", f'"{octets_then.hex()}"') if octets_then else None,
         without_block(question, "site", number),
@@ -215,7 +215,7 @@ def site_record(question: Question, said: Said) -> Explained:
     text = question.text("settings")
     sites = listed_in(text, "site")
     name = sites[number].get("name", "") if number < len(sites) else ""
-    told = {
+    advised = {
         "BadHashOption": Words(
             f"the hash option in the record of '{name}' isn't 0, 1 or 2",
             "copy the record again, or make the block by hsp sites",
@@ -241,7 +241,7 @@ def site_record(question: Question, said: Said) -> Explained:
     if isinstance((sites[number] if number < len(sites) else {}).get("index"), int):
         place = place_in(question, "site", number, "index")
     ways = mends(without_block(question, "site", number), question.with_stand_in("settings"))
-    return Explained(found(text.path, place, told, said.line), ways)
+    return Explained(found(text.path, place, advised, said.line), ways)
 
 
 def bad_file(question: Question, said: Said, kind: str) -> Explained:
@@ -250,10 +250,10 @@ def bad_file(question: Question, said: Said, kind: str) -> Explained:
     octets = draft.original.octets
     if kind == "values" or any(it.startswith("--index") for it in question.options):
         return _bad_list(question, said, kind)
-    told, _ = record_words(octets, said, draft.original.path, question.desk)
+    advised, _ = record_words(octets, said, draft.original.path, question.desk)
     place = Place()
     words = Words(
-        f"{quoted(os.path.basename(draft.original.path))} isn't the record of a site", told.remedy, told.why
+        f"{quoted(os.path.basename(draft.original.path))} isn't the record of a site", advised.remedy, advised.why
     )
     return Explained(found(draft.original.path, place, words, said.line), [])
 

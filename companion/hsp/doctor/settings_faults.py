@@ -172,8 +172,8 @@ def _source_words(name: str, site: dict[str, Any], folder: str) -> Words:
             remedy = "write record = and the digits; hsp sites prints the block"
         return Words(f"site '{name}' has {what}", remedy, "a site has a record, or the index of one in a value list")
     if isinstance(record, str):
-        told = record_words(record, folder)
-        return Words(f"the record of '{name}' isn't hexadecimal digits", told.remedy, told.why)
+        advised = record_words(record, folder)
+        return Words(f"the record of '{name}' isn't hexadecimal digits", advised.remedy, advised.why)
     if record is not None:
         return Words(f"the record of '{name}' isn't a text", "put quotes about the digits", "a record is a text")
     why = "an index is a whole number up to 4,294,967,295, without quotes"
@@ -318,9 +318,9 @@ def _host_words(host: dict[str, Any]) -> tuple[str, Words, str]:
         remedy = 'write address = "..", as hsplan site prints it of its servers'
         return "address", Words("a host without an address", remedy, has), ""
     if not re.fullmatch(r"[0-9A-Fa-f]{32}", address):
-        told, octets = _address_words(address)
+        advised, octets = _address_words(address)
         message = f"the address {quoted(address)} isn't 32 hexadecimal digits"
-        return "address", Words(message, told.remedy, told.why), f'"{octets}"' if octets else ""
+        return "address", Words(message, advised.remedy, advised.why), f'"{octets}"' if octets else ""
     if limit is None:
         remedy = "write limit = and how many queries the machine takes"
         return "limit", Words("a host without a limit", remedy, has), ""

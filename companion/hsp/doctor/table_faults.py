@@ -91,12 +91,12 @@ def bad_number(spot: Spot, said: str) -> Explained:
         if spot.with_field(it, "1").ask().line != said:
             at = it
     name = spot.header[at] if at < len(spot.header) else "number"
-    told = advice(fields[at], name)
+    advised = advice(fields[at], name)
     words = Words(
         f"{name} {quoted(fields[at], 30)} isn't a whole number within its limit",
-        told.remedy,
-        told.why,
-        kind=f"BadNumber {name} {told.why}",
+        advised.remedy,
+        advised.why,
+        kind=f"BadNumber {name} {advised.why}",
     )
     others = [field for number, field in enumerate(fields) if number not in numeric]
     if not re.search(r"[0-9]", fields[at]) and any(re.fullmatch(r"[0-9]+", field) for field in others):
@@ -106,13 +106,13 @@ def bad_number(spot: Spot, said: str) -> Explained:
             "digits stand in another column, so the columns may be in another order",
             kind=words.kind,
         )
-    if told.why.startswith("a blank") and all(it.startswith(" ") for it in fields[1:]):
+    if advised.why.startswith("a blank") and all(it.startswith(" ") for it in fields[1:]):
         path = spot.question.files[spot.kind].original.path
-        remedy = f"{told.remedy}; in the whole table: sed 's/, */,/g' {path} > plain.csv"
+        remedy = f"{advised.remedy}; in the whole table: sed 's/, */,/g' {path} > plain.csv"
         words = replace(words, remedy=remedy)
     if name == "server_id" and not fields[at].strip().isdigit():
         words = replace(words, remedy="write the identifier of the server, as hsplan site prints it")
-    mended = [spot.with_field(at, it) for it in dict.fromkeys((told.mended, "1"))]
+    mended = [spot.with_field(at, it) for it in dict.fromkeys((advised.mended, "1"))]
     mended = ([] if name == "server_id" else mended) + [spot.without()]
     return Explained(found(spot.path, spot.place(at), words, said), mended)
 
@@ -282,9 +282,9 @@ def _too_few(spot: Spot) -> tuple[Words, str]:
 def bad_fields(spot: Spot, said: str) -> Explained:
     fields, order = spot.row.fields, ",".join(spot.header)
     many = len(fields) > len(spot.header)
-    told, text = _too_many(spot) if many else _too_few(spot)
+    advised, text = _too_many(spot) if many else _too_few(spot)
     message = f"{some(len(fields), 'field')} in place of {len(spot.header)} ({order})"
-    words = Words(message, told.remedy, told.why, kind=f"Fields {told.why}")
+    words = Words(message, advised.remedy, advised.why, kind=f"Fields {advised.why}")
     place = spot.line()
     line = spot.question.files[spot.kind].original.line(spot.original.first)
     spans = spans_of(line)

@@ -240,7 +240,7 @@ def not_utf8(line: Line, word: Word) -> Finding:
 
 def value_fault(line: Line, word: str) -> Finding:
     """A value that its option doesn't take: `BadOption`, `BadServers`, `BadIndex`, `BadFronts`, `BadUnit`, `BadFront`."""
-    told = {
+    advised = {
         "BadOption": ("option", "write na, local or handle", "the hash option is one of three words"),
         "BadServers": (
             "servers",
@@ -256,7 +256,7 @@ def value_fault(line: Line, word: str) -> Finding:
         "BadUnit": ("unit", "write a whole number from 1 to 1000000, as 1000", "a whole number of digits only"),
         "BadFront": ("front", "write a number below that of --fronts: the first front is 0", "fronts count from 0"),
     }
-    name, remedy, why = told[word]
+    name, remedy, why = advised[word]
     options, _ = split(line)
     it = next((it for it in options if it.name == name), None)
     value = it.value if it and it.value is not None else ""
@@ -273,13 +273,13 @@ def value_fault(line: Line, word: str) -> Finding:
 
 def bad_handle_word(line: Line, said: Said) -> Finding:
     """A handle among the words of `locate` that is none."""
-    told = {
+    advised = {
         "NoSlash": ("a handle is a prefix, '/' and a suffix", "write it whole, as 20.500.1234/report-2024"),
         "EmptySegment": ("the prefix has an empty part", "write the prefix without a point at its ends or twice"),
         "NotUtf8": ("its octets aren't UTF-8", "write it in UTF-8: iconv -f latin1 -t utf-8"),
         "TooLong": ("a handle has at most 4,096 octets", "is this a handle?"),
     }
-    why, remedy = told.get(said.word, ("it isn't a handle", "write prefix, '/', suffix"))
+    why, remedy = advised.get(said.word, ("it isn't a handle", "write prefix, '/', suffix"))
     others = split(line)[1]
     word = others[0] if others else Word("", len(line.text))
     place = Place(1, word.column + 1, len(word.text), line.text)
