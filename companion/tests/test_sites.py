@@ -10,6 +10,7 @@ import os
 import random
 import subprocess
 import sys
+from concurrent.futures import ThreadPoolExecutor
 from pathlib import Path
 from typing import Any
 
@@ -319,6 +320,12 @@ def place(handle: str, servers: int) -> int:
     return abs(int.from_bytes(digest[-4:], "big", signed=True)) % servers
 
 
+def located_by(settings: Path, handle: str) -> str:
+    """What `hsplan locate` prints for a handle."""
+    words = [os.environ["HSPLAN"], "locate", "--settings", str(settings), handle]
+    return subprocess.run(words, capture_output=True, text=True, check=True).stdout
+
+
 def test_places_of_what_is_written(tmp_path: Path) -> None:
     path = tmp_path / "two.json"
     path.write_bytes(answer(value_json(3, site_json("paris", 7)), value_json(4, site_json("reston", 8))))
@@ -341,10 +348,10 @@ def test_places_of_what_is_written(tmp_path: Path) -> None:
         for site, servers in sizes.items()
     ]
     assert printed == wanted
-    for handle in handles[:5]:
-        words = [os.environ["HSPLAN"], "locate", "--settings", f"{tmp_path}/settings.toml", handle]
-        located = subprocess.run(words, capture_output=True, text=True, check=True).stdout
-        assert located == "".join(f"{it} {place(handle, n)} {place(handle, n) + 1}\n" for it, n in sizes.items())
+    with ThreadPoolExecutor(4) as several:
+        located = several.map(lambda it: located_by(tmp_path / "settings.toml", it), handles)
+        for handle, lines in zip(handles, located, strict=True):
+            assert lines == "".join(f"{it} {place(handle, n)} {place(handle, n) + 1}\n" for it, n in sizes.items())
 
 
 def test_sites_are_added_once_and_nothing_is_lost(tmp_path: Path) -> None:
