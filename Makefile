@@ -36,6 +36,7 @@ release:
 
 # The checks that need no built program run before the proofs.
 test:
+	tools/packages.py
 	tools/make_examples.py --check
 	tools/draw_pictures.py --check
 	tools/check_docs.py --names

@@ -4,47 +4,23 @@ Chromium, and the pages that lie in examples.
 
     tools/check_companion.py [PYTEST ARGUMENTS]..
 
-Debian packages that are absent are installed where this script runs as root. Otherwise one line names them.
+The packages of Debian that this takes are installed by tools/packages.py.
 """
 from __future__ import annotations
 
 import os
-import shutil
 import subprocess
 import sys
 
+import packages
 import programs
 
 PYTHON = "/usr/bin/python3"
-PACKAGES = (
-    "chromium chromium-driver fonts-dejavu-core mypy python3-click python3-jinja2 python3-maxminddb python3-pil "
-    "python3-pytest python3-selenium"
-).split()
 COMPANION = os.path.join(programs.TOP, "companion")
 
 
-def absent() -> list[str]:
-    """The packages that are not installed."""
-    words = ["dpkg-query", "-W", "-f", "${Package} ${db:Status-Status}\n", *PACKAGES]
-    told = subprocess.run(words, stdout=subprocess.PIPE, stderr=subprocess.DEVNULL, text=True).stdout.splitlines()
-    return [it for it in PACKAGES if f"{it} installed" not in told]
-
-
-def install(names: list[str]) -> None:
-    """Installs packages, where this may be done."""
-    if os.geteuid() == 0 and shutil.which("apt-get"):
-        environment = {**os.environ, "DEBIAN_FRONTEND": "noninteractive"}
-        for words in (["apt-get", "update", "-qq"], ["apt-get", "install", "-y", "-qq", *names]):
-            subprocess.run(words, env=environment, stdout=subprocess.DEVNULL, stderr=subprocess.DEVNULL)
-
-
 def main() -> int:
-    lacking = absent()
-    if lacking:
-        install(lacking)
-    lacking = absent()
-    if lacking:
-        print(f"hsp cannot be tested without these packages of Debian: {' '.join(lacking)}", file=sys.stderr)
+    if packages.main():
         return 1
     steps = [
         [PYTHON, "-m", "mypy", "--strict", "--no-incremental", "hsp"],
