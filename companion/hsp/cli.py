@@ -17,6 +17,7 @@ from hsp import __version__, bring
 from hsp.numbers import some
 from hsp.plans import Planned, Reference, cheapest, least_purchase, planned, shortage, with_gains, with_purchase
 from hsp.charts import drawn
+from hsp.fleet.command import fleet
 from hsp.page import View, changes_between, render
 from hsp.programs import Desk, Missing, Refused
 from hsp.service import Service, read_service
@@ -332,8 +333,8 @@ def whatif(
         write(chart, drawn(service, cases, step))
 
 
-for brought in (bring.new, bring.sites, bring.demand):
-    main.add_command(brought)
+for other in (bring.new, bring.sites, bring.demand, fleet):
+    main.add_command(other)
 
 
 __all__ = ["main"]
