@@ -47,8 +47,9 @@ class Local:
         words = KEY.split() + ["-keyout", self.key, "-out", self.certificate]
         if subprocess.run(words, capture_output=True).returncode:
             raise Gone("openssl made no key for the workers of this machine")
-        where = ["--host", "127.0.0.1", "--port", "0", "--protocol", "tls", "--no-show"]
-        self._scheduler = self._start("dask_scheduler", "--scheduler-file", self._file, *where)
+        # A port is open for Dask's pages even without them: it must not be the one of another user.
+        where = ["--host", "127.0.0.1", "--port", "0", "--protocol", "tls", "--dashboard-address", "127.0.0.1:0"]
+        self._scheduler = self._start("dask_scheduler", "--scheduler-file", self._file, "--no-show", *where)
         self._workers = [self._worker() for _ in range(number)]
 
     def _start(self, module: str, *words: str) -> subprocess.Popen[bytes]:

@@ -1,4 +1,4 @@
-"""The parts of a run. A worker runs each in a Python of its own, with one request and one reply in JSON."""
+"""The parts of a run. A worker runs each in a Python of its own, with a request and a reply in JSON."""
 
 from __future__ import annotations
 
@@ -103,4 +103,6 @@ def replied(request: Request) -> Reply:
 
 
 def main() -> None:
-    json.dump(replied(json.load(sys.stdin)), sys.stdout)
+    with open(sys.argv[2], encoding="ascii") as file:
+        request = json.load(file)
+    json.dump(replied(request), sys.stdout)

@@ -161,18 +161,16 @@ def _is_wanted(worker: Any, key: str) -> bool:
     return task is not None and task.state not in ("cancelled", "resumed")
 
 
-def _reply(child: "subprocess.Popen[bytes]", request: bytes, worker: Any) -> bytes:
+def _reply(child: "subprocess.Popen[bytes]", worker: Any) -> bytes:
     """What a part prints. It is killed where nobody wants it any more."""
     key = worker.get_current_task()
     with child:
         try:
-            given: bytes | None = request
             while True:
                 try:
-                    out, told = child.communicate(given, timeout=0.2)
+                    out, told = child.communicate(timeout=0.2)
                     break
                 except subprocess.TimeoutExpired:
-                    given = None
                     if not _is_wanted(worker, key):
                         raise InterruptedError("nobody waits for this part") from None
         finally:
@@ -205,12 +203,15 @@ def part(seal: Seal, request: dict[str, Any], *before: dict[str, Any]) -> dict[s
             "HSPLAN": paths["hsplan"],
             "HSPLAN_STREAM": paths["hsplan-stream"],
         }
-        words = [*DIES_WITH_ITS_PARENT, sys.executable, "-c", START, paths[COMPANION]]
-        streams: dict[str, Any] = {"stdin": subprocess.PIPE, "stdout": subprocess.PIPE, "stderr": subprocess.PIPE}
+        asked = os.path.join(folder, "request.json")
+        with open(asked, "w", encoding="ascii") as file:
+            json.dump(whole, file)
+        words = [*DIES_WITH_ITS_PARENT, sys.executable, "-c", START, paths[COMPANION], asked]
+        streams: dict[str, Any] = {"stdin": subprocess.DEVNULL, "stdout": subprocess.PIPE, "stderr": subprocess.PIPE}
         at = request["at"] if os.path.isdir(request["at"]) else folder
         try:
             child = subprocess.Popen(words, env=environment, cwd=at, **streams)
-            reply: dict[str, Any] = json.loads(_reply(child, json.dumps(whole).encode(), worker))
+            reply: dict[str, Any] = json.loads(_reply(child, worker))
             if "again" in reply:
                 raise MemoryError() if reply["status"] == OUT_OF_MEMORY else OSError(reply["again"])
         except BaseException:
