@@ -79,6 +79,7 @@ class Engine:
         self.seal: Any = None
         self._sent: dict[str, ByValue] = {}
         self._futures: list[Any] = []
+        self._hosts: set[str] = set()
         self._client: Any = None
         self.local = None if place.scheduler else Local(place.workers or len(os.sched_getaffinity(0)))
         try:
@@ -179,9 +180,13 @@ class Engine:
         with contextlib.suppress(OSError):
             names |= {str(it[4][0]) for it in socket.getaddrinfo(name, None)}
         for it in self.workers().values():
-            if it["host"] in names or it.get("name") == name:
+            if self._is_fit(it) and (it["host"] in names or it.get("name") == name):
+                self._hosts.add(str(it["host"]))
                 return str(it["host"])
-        raise Unfinished(NO_WORKER, f"no worker is at {name}")
+        raise Unfinished(NO_WORKER, f"no fit worker is at {name}")
+
+    def _is_fit(self, worker: Reply) -> bool:
+        return bool(worker.get("resources", {}).get(self.seal.mark))
 
     def submit(self, request: Reply, *before: Any, host: str | None = None) -> Any:
         """A part, whose request is plain. The replies that it waits for are other parts."""
@@ -225,12 +230,21 @@ class Engine:
         with contextlib.suppress(Exception):
             if not self.local and self.seal and self._client.status == "running":
                 self._client.cancel(self._futures, force=True)
-                away = [self._submit("sweep", paths, self.run, host=host) for paths, host in targets if host]
-                self.outcomes(away)
+                self._sweep_hosts(targets)
         self.close()
         for paths, host in targets:
             if host is None:
                 self.remote.sweep(paths, self.run)
+
+    def _sweep_hosts(self, targets: list[tuple[list[str], str | None]]) -> None:
+        """Takes away what isn't published at those hosts that can still be asked."""
+        away = []
+        for paths, name in targets:
+            with contextlib.suppress(Unfinished):
+                away += [self._submit("sweep", paths, self.run, host=self.host(name))] if name else []
+        until = time.monotonic() + 10
+        while any(it.status == "pending" for it in away) and time.monotonic() < until:
+            time.sleep(0.02)
 
     def outcomes(
         self, futures: list[Any], show: Callable[[list[Reply]], None] = lambda done: None, every: bool = False
@@ -260,14 +274,17 @@ class Engine:
         return found
 
     def _fit(self, last: float) -> float:
-        """When a worker with the mark was seen last. A run without one ends after some time."""
+        """When fit workers were seen last, at each host that has a part. Without them a run ends after some time."""
         now = time.monotonic()
         if now - last < 2:
             return last
-        if any(it.get("resources", {}).get(self.seal.mark) for it in self.workers().values()):
+        hosts = {str(it["host"]) for it in self.workers().values() if self._is_fit(it)}
+        lacking = sorted(self._hosts - hosts)
+        if hosts and not lacking:
             return now
         if now - last > self._place.patience:
-            raise Unfinished(NO_WORKER, f"no fit worker is left since {self._place.patience:.0f} seconds")
+            where = f" at {lacking[0]}" if lacking else ""
+            raise Unfinished(NO_WORKER, f"no fit worker is left{where} since {self._place.patience:.0f} seconds")
         return last
 
     def _reply(self, future: Any) -> Reply:
