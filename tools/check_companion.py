@@ -17,8 +17,8 @@ import programs
 
 PYTHON = "/usr/bin/python3"
 PACKAGES = (
-    "chromium chromium-driver fonts-dejavu-core mypy python3-click python3-jinja2 python3-maxminddb python3-pil "
-    "python3-pytest python3-selenium"
+    "chromium chromium-driver fonts-dejavu-core mypy openssl parallel procps python3-click python3-distributed "
+    "python3-jinja2 python3-maxminddb python3-pil python3-pytest python3-selenium"
 ).split()
 COMPANION = os.path.join(programs.TOP, "companion")
 

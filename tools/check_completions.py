@@ -38,7 +38,7 @@ CASES = [
     ("hsplan-stream places --settings set", ["settings.toml"]),
     ("hsplan-stream answer --fr", ["--front", "--fronts"]),
     ("hsplan-stream answer --demand dem", ["demand.csv"]),
-    ("hsp ", ["--help", "--version", "demand", "new", "plan", "sites", "view", "whatif"]),
+    ("hsp ", ["--help", "--version", "demand", "fleet", "new", "plan", "sites", "view", "whatif"]),
     ("hsp wh", ["whatif"]),
     ("hsp plan --no", ["--no-save"]),
     ("hsp plan --bef", []),
@@ -53,6 +53,11 @@ CASES = [
     ("hsp demand --format ser", ["server"]),
     ("hsp demand --regions dem", ["demand.csv"]),
     ("hsp demand --sett", []),
+    ("hsp fleet di", ["dispatch"]),
+    ("hsp fleet dispatch --fr", ["--fronts"]),
+    ("hsp fleet dispatch --reg", []),
+    ("hsp fleet demand --ke", ["--keep"]),
+    ("hsp fleet demand --regions dem", ["demand.csv"]),
 ]
 
 
