@@ -246,7 +246,7 @@ def logs(tmp_path: Path) -> Logs:
 
 
 def test_a_worker_is_killed_while_logs_are_counted(logs: Logs, tmp_path: Path) -> None:
-    run = started("demand", *logs.paths, *logs.options, "--workers", 2, "--keep", ".rows")
+    run = started("demand", *logs.paths, *logs.options, "--workers", 1, "--keep", ".rows")
     os.kill(at_work(run), signal.SIGKILL)
     told = ended(run, 0)
     assert (tmp_path / "service" / "demand.csv").read_bytes() == logs.table
@@ -395,6 +395,28 @@ def test_a_worker_whose_program_has_one_octet_more_gets_no_part(
         "dispatch", million.folder, *options, f"3@192.0.2.1={log}", status=3
     )
     assert not left(tmp_path)
+
+
+@pytest.mark.parametrize("number", [signal.SIGINT, signal.SIGKILL])
+def test_a_cluster_ends_the_parts_of_a_run_that_is_gone(
+    cluster: Cluster, tmp_path: Path, number: signal.Signals
+) -> None:
+    cluster.worker("own", os.environ["PATH"])
+    log = tmp_path / "log"
+    log.write_text("".join(f"{server_line(it)}\n" for it in asked(10_000, 92)) * 60)
+    options = ["--regions", regions_file(tmp_path), "--scheduler", cluster.address, "--keep", ".rows"]
+    run = started("demand", log, *options, "-o", tmp_path / "t")
+    until = time.monotonic() + 60
+    while not left(tmp_path) and run.poll() is None and time.monotonic() < until:
+        time.sleep(0.01)
+    assert left(tmp_path)
+    os.kill(run.pid, number)
+    run.communicate(timeout=60)
+    assert run.returncode == (130 if number == signal.SIGINT else -signal.SIGKILL)
+    until = time.monotonic() + 20
+    while left(tmp_path) and time.monotonic() < until:
+        time.sleep(0.05)
+    assert not left(tmp_path) and not (tmp_path / "t").exists() and not (tmp_path / "log.rows").exists()
 
 
 def test_sums_above_the_greatest_count_are_joined_exactly(tmp_path: Path) -> None:

@@ -139,18 +139,28 @@ class Engine:
         wanted, until = self.local.number if self.local else 1, time.monotonic() + self._place.patience
         while len(self.workers()) < wanted and time.monotonic() < until:
             time.sleep(0.05)
-        others = self._other_pythons()
-        mark = self.remote.Mark(sent, self.seal)
-        with self._asked():
-            self._client.register_worker_plugin(ByValue(mark), name=mark.name)
-            rest = [it for it in self.workers() if it not in others]
-            seek = ByValue(functools.partial(self.remote.refusal, self.seal.mark))
-            refusals = {**others, **(self._client.run(seek, workers=rest) if rest else {})}
+        refusals = self._refusals(self.remote.Mark(sent, self.seal))
         for name, reason in sorted(refusals.items()):
             if reason:
                 click.echo(f"hsp: worker {name} gets no part: {reason}", err=True)
         if all(refusals.values()):
             raise Unfinished(NO_WORKER, "no worker is fit" if refusals else "the scheduler has no worker")
+
+    def _refusals(self, mark: Any) -> dict[str, str | None]:
+        """Why a worker got no mark, or none, by its address. A worker that ends meanwhile is asked no more."""
+        seek = ByValue(functools.partial(self.remote.refusal, mark.name))
+        for last in (False, False, True):
+            others = self._other_pythons()
+            try:
+                with self._asked():
+                    self._client.register_worker_plugin(ByValue(mark), name=mark.name)
+                    rest = [it for it in self.workers() if it not in others]
+                    return {**others, **(self._client.run(seek, workers=rest) if rest else {})}
+            except Gone:
+                if last:
+                    raise
+                time.sleep(0.5)
+        raise AssertionError("the last try ends here")
 
     def _other_pythons(self) -> dict[str, str]:
         """The workers that can't read what this Python sends."""
