@@ -99,7 +99,7 @@ class Tally:
         try:
             joined = self._desk.kinds(inputs, self._spilled or "", unit).encode()
         except Refused as fault:
-            raise Unfit(_advice(fault)) from None
+            raise Unfit(advice(fault)) from None
         self._accepted(joined)
         return joined, True
 
@@ -137,7 +137,8 @@ def _remedy(fault: Refused) -> str:
     return f"; {found}" if found else ""
 
 
-def _advice(fault: Refused) -> str:
+def advice(fault: Refused) -> str:
+    """What an operator does where rows can't be joined."""
     unit = re.search(r"CountTooLarge.* unit ([0-9]+)", fault.line)
     if unit:
         return f"a row of the demand has more than {MOST_COUNT:,} queries; give --unit {unit[1]} or a larger one"

@@ -18,7 +18,7 @@ from typing import NamedTuple
 
 import pytest
 
-from hsp.fleet import kit, tables
+from hsp.fleet import tables
 from hsp.fleet.split import Parted
 from hsp.programs import Desk, Inputs
 
@@ -485,7 +485,3 @@ def test_words_that_are_no_run(million: Million, monkeypatch: pytest.MonkeyPatch
     monkeypatch.setitem(sys.modules, "distributed", None)
     line = invoke("fleet", "dispatch", folder, "--fronts", "2", "0=a", status=5).stderr
     assert line == "hsp: Python has no distributed: install it (Debian: python3-distributed)\n"
-
-
-def test_the_same_sources_are_shipped_under_the_same_sum() -> None:
-    assert kit.companion() == kit.companion()

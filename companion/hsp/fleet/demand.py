@@ -10,7 +10,7 @@ from typing import Any
 import click
 
 from hsp.bring import FOLDER, form_of, output_of, rows_line, service_of, skipped_lines, some_in, summary, with_forms
-from hsp.faults import Unfit
+from hsp.faults import Unfit, printable
 from hsp.files import replace_all
 from hsp.fleet import kit
 from hsp.fleet.engine import Engine, Reply
@@ -121,4 +121,4 @@ def demand(logs: tuple[str, ...], regions: str, into: str | None, keep: str | No
     if inputs and lacking:
         lines.append(f"{inputs.costs} has no cost yet of {listed(lacking)}")
     for line in lines:
-        click.echo(line, err=output is None)
+        click.echo(printable(line), err=output is None)

@@ -13,7 +13,7 @@ from typing import Any
 import click
 
 from hsp.bring import FOLDER
-from hsp.faults import Unfit
+from hsp.faults import Unfit, printable
 from hsp.fleet import kit
 from hsp.fleet.answers import SUMS, line_of_row
 from hsp.fleet.engine import Engine, Reply
@@ -161,4 +161,4 @@ def dispatch(folder: str, logs: tuple[str, ...], plan: str | None, **given: Any)
         sums.update(it["sums"])
     answers = [path + SUFFIX for it in fronts for path in it.logs]
     counts = ", ".join(f"{sums[it]:,} {it}" for it in SUMS if sums[it])
-    click.echo(f"{some(sum(sums.values()), 'row')}: {counts}; answers in {listed(answers)}")
+    click.echo(printable(f"{some(sum(sums.values()), 'row')}: {counts}; answers in {listed(answers)}"))

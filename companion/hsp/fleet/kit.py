@@ -3,7 +3,9 @@
 from __future__ import annotations
 
 import importlib.resources
+import importlib.util
 import io
+import marshal
 import zipfile
 from collections.abc import Iterator
 from typing import Any
@@ -11,8 +13,8 @@ from typing import Any
 from hsp.fleet.answers import FILES
 from hsp.programs import Inputs, program
 
-# The time of each file in an archive, so that the same sources have the same sum.
-TIME = (1980, 1, 1, 0, 0, 0)
+# The beginning of a compiled module that is taken without a look at its source.
+UNCHECKED = (1).to_bytes(4, "little")
 
 
 def _modules(folder: Any, name: str) -> Iterator[tuple[str, bytes]]:
@@ -23,12 +25,19 @@ def _modules(folder: Any, name: str) -> Iterator[tuple[str, bytes]]:
             yield f"{name}/{it.name}", it.read_bytes()
 
 
+def _compiled(name: str, source: bytes) -> bytes:
+    """A module as Python keeps it. Workers have the same Python, so a part doesn't compile it once more."""
+    code = compile(source, name, "exec", dont_inherit=True)
+    head: list[Any] = [importlib.util.MAGIC_NUMBER, UNCHECKED, importlib.util.source_hash(source)]
+    return b"".join([*head, marshal.dumps(code)])
+
+
 def companion() -> bytes:
     """The modules of hsp as a zip archive that Python imports from."""
     room = io.BytesIO()
-    with zipfile.ZipFile(room, "w", zipfile.ZIP_DEFLATED) as packed:
-        for name, octets in sorted(_modules(importlib.resources.files("hsp"), "hsp")):
-            packed.writestr(zipfile.ZipInfo(name, TIME), octets)
+    with zipfile.ZipFile(room, "w") as packed:
+        for name, source in sorted(_modules(importlib.resources.files("hsp"), "hsp")):
+            packed.writestr(f"{name}c", _compiled(name, source))
     return room.getvalue()
 
 

@@ -33,15 +33,15 @@ def inputs_of(files: dict[str, str]) -> Inputs | None:
 
 
 def form_of(told: Request) -> Form:
-    pattern = re.compile(told["pattern"].encode()) if told["pattern"] else None
-    prefixes = frozenset(it.encode() for it in told["prefixes"])
+    pattern = re.compile(os.fsencode(told["pattern"])) if told["pattern"] else None
+    prefixes = frozenset(os.fsencode(it) for it in told["prefixes"])
     return Form(told["name"], told["client"], told["handle"], told["path"], pattern, prefixes)
 
 
 def told_of(form: Form) -> Request:
     """A form as a request has it."""
-    pattern = form.pattern.pattern.decode() if form.pattern else None
-    prefixes = sorted(it.decode() for it in form.prefixes)
+    pattern = os.fsdecode(form.pattern.pattern) if form.pattern else None
+    prefixes = sorted(map(os.fsdecode, form.prefixes))
     names = {"name": form.name, "client": form.client, "handle": form.handle, "path": form.path}
     return {**names, "pattern": pattern, "prefixes": prefixes}
 

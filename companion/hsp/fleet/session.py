@@ -10,7 +10,7 @@ from typing import Any, TypeVar
 
 import click
 
-from hsp.faults import Unfit
+from hsp.faults import Unfit, printable
 from hsp.fleet.engine import BROKEN, Engine, Place, Unfinished
 from hsp.fleet.local import Gone
 
@@ -80,6 +80,6 @@ def _ended(status: int, line: str) -> None:
     if sys.stderr.isatty():
         click.echo("\r\033[K", err=True, nl=False)
     if status == 1:
-        raise Unfit(line)
-    click.echo(f"hsp: {line}", err=True)
+        raise Unfit(printable(line))
+    click.echo(printable(f"hsp: {line}"), err=True)
     sys.exit(status)

@@ -13,7 +13,7 @@ from hsp.faults import Unfit
 from hsp.logs import Skipped
 from hsp.programs import Desk, Inputs, Refused
 from hsp.queries import Query
-from hsp.tally import HEADER, MOST_ROWS, rows_of
+from hsp.tally import HEADER, MOST_ROWS, advice, rows_of
 
 # So many pairs are counted in memory, before they are joined.
 MOST_PAIRS = 1 << 19
@@ -74,7 +74,7 @@ class Table:
         try:
             self.counts = dict(joined(self.desk, self.inputs, list(self.counts.items())))
         except Refused as fault:
-            raise Unfit(f"hsplan-stream can't join the rows: {fault.line}") from None
+            raise Unfit(advice(fault)) from None
         self.is_joined = True
 
     def told(self) -> dict[str, object]:
