@@ -66,7 +66,7 @@ def main() -> None:
     """Shows the load plan of a Handle System service.
 
     DIR has settings.toml, demand.csv, costs.csv and capacity.csv, and may have hsp.toml with a title and units.
-    Every rule is hsplan's. Nothing is sent anywhere.
+    Every rule is hsplan's. Nothing is sent anywhere, but by fleet to its workers.
     """
 
 

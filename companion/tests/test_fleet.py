@@ -27,6 +27,7 @@ from test_demand import Asked, asked, regions_file, server_line, service
 from test_sites import invoke
 
 FRONTS = 8
+DOCUMENT = (TOP / "docs" / "use" / "FLEET.md").read_text()
 Fleet = Callable[..., "subprocess.CompletedProcess[str]"]
 ENVIRONMENT = {**os.environ, "PYTHONPATH": str(TOP / "companion"), "PYTHONDONTWRITEBYTECODE": "1"}
 
@@ -333,15 +334,25 @@ class Cluster(NamedTuple):
     """A scheduler, and what starts a worker with another PATH."""
 
     address: str
+    scheduler: int
     worker: Callable[[str, str], None]
 
 
+def keys_by_recipe(folder: Path) -> list[str]:
+    """Makes an authority and a key by the commands of the document. Returns the options for Dask."""
+    recipe = next(it for it in DOCUMENT.split("```sh\n") if it.startswith("openssl")).split("```")[0]
+    subprocess.run(["bash", "-e", "-c", recipe], cwd=folder, check=True, capture_output=True)
+    names = {"--tls-ca-file": "ca.pem", "--tls-cert": "cert.pem", "--tls-key": "key.pem"}
+    return ["--protocol", "tls", *(word for option, it in names.items() for word in (option, str(folder / it)))]
+
+
 @pytest.fixture
-def cluster(tmp_path: Path) -> Iterator[Cluster]:
+def cluster(tmp_path: Path, request: pytest.FixtureRequest) -> Iterator[Cluster]:
     running = []
+    keys = keys_by_recipe(tmp_path) if getattr(request, "param", "") == "tls" else []
 
     def start(module: str, path: str, *words: str) -> None:
-        command = [sys.executable, "-m", f"distributed.cli.{module}", *words]
+        command = [sys.executable, "-m", f"distributed.cli.{module}", *words, *keys]
         with open(tmp_path / f"{module}.log", "ab") as log:
             streams = {"stdin": subprocess.DEVNULL, "stdout": log, "stderr": log}
             running.append(
@@ -359,7 +370,7 @@ def cluster(tmp_path: Path) -> Iterator[Cluster]:
     while not (file.exists() and file.read_text().endswith("}")) and time.monotonic() < until:
         time.sleep(0.02)
     address = str(json.loads(file.read_text())["address"])
-    yield Cluster(address, worker)
+    yield Cluster(address, running[0].pid, worker)
     for it in running:
         it.kill()
     for it in running:
@@ -419,6 +430,40 @@ def test_a_cluster_ends_the_parts_of_a_run_that_is_gone(
     assert not left(tmp_path) and not (tmp_path / "t").exists() and not (tmp_path / "log.rows").exists()
 
 
+@pytest.mark.parametrize("cluster", ["tls"], indirect=True)
+def test_a_cluster_with_keys_answers_who_has_one(million: Million, cluster: Cluster, tmp_path: Path) -> None:
+    cluster.worker("own", os.environ["PATH"])
+    log = million.written(tmp_path, 1)
+    options = ["--fronts", FRONTS, "--scheduler", cluster.address, "--patience", 10]
+    keys = ["--tls-ca", tmp_path / "ca.pem", "--tls-cert", tmp_path / "cert.pem", "--tls-key", tmp_path / "key.pem"]
+    fleet("dispatch", million.folder, *options, *keys, f"1={log}")
+    assert cluster.address.startswith("tls://") and (
+        tmp_path / "front-1.csv.answers"
+    ).read_bytes() == million.of_front(1)
+    (tmp_path / "other").mkdir()
+    keys_by_recipe(tmp_path / "other")
+    strange = [
+        *keys[:2],
+        *(it if str(it).startswith("--") else tmp_path / "other" / Path(it).name for it in keys[2:]),
+    ]
+    told = fleet("dispatch", million.folder, *options, *strange, f"1={log}", status=5)
+    assert told.startswith(f"hsp: no scheduler answers at {cluster.address}: ") and told.count("\n") == 1
+
+
+def test_a_cluster_whose_scheduler_goes_away_is_one_line(cluster: Cluster, tmp_path: Path) -> None:
+    cluster.worker("own", os.environ["PATH"])
+    log = tmp_path / "log"
+    log.write_text("".join(f"{server_line(it)}\n" for it in asked(10_000, 93)) * 60)
+    options = ["--regions", regions_file(tmp_path), "--scheduler", cluster.address, "--keep", ".rows"]
+    run = started("demand", log, *options, "-o", tmp_path / "t")
+    until = time.monotonic() + 60
+    while not left(tmp_path) and run.poll() is None and time.monotonic() < until:
+        time.sleep(0.01)
+    os.kill(cluster.scheduler, signal.SIGKILL)
+    told = ended(run, 5)
+    assert told.startswith("hsp: the scheduler has ") and told.count("\n") == 1 and not (tmp_path / "t").exists()
+
+
 def test_sums_above_the_greatest_count_are_joined_exactly(tmp_path: Path) -> None:
     folder = service(tmp_path)
     inputs = Inputs(str(folder / "settings.toml"), "", str(folder / "costs.csv"), "")
@@ -443,7 +488,7 @@ def test_gnu_parallel_answers_the_same(million: Million, tmp_path: Path) -> None
         pytest.skip("no GNU parallel is here")
     for at in range(FRONTS):
         million.written(tmp_path, at)
-    recipe = (TOP / "docs" / "use" / "FLEET.md").read_text().split("```sh parallel\n")[1].split("```")[0]
+    recipe = DOCUMENT.split("```sh parallel\n")[1].split("```")[0]
     environment = {**os.environ, "DIR": str(million.folder), "PATH": f"{tmp_path}/bin:{os.environ['PATH']}"}
     (tmp_path / "bin").mkdir()
     for it in ("HSPLAN", "HSPLAN_STREAM"):

@@ -21,6 +21,7 @@ SUMS = ("assigned", "spent", "unknown", "nofront", "refused")
 BLOCK = 1 << 22
 # Statuses of hsplan that another try doesn't change: refused inputs, wrong words, no plan.
 LASTING = (1, 2, 3)
+OUT_OF_MEMORY, BROKEN = 4, 5
 DIES_WITH_ITS_PARENT = ["setpriv", "--pdeathsig", "KILL", "--"]
 
 
@@ -88,7 +89,16 @@ def words_of(request: dict[str, Any]) -> list[str]:
 
 
 def _feed(pipe: IO[bytes], request: dict[str, Any]) -> list[int]:
-    """Passes all rows of a front on. Returns how many there are in each of its files."""
+    """Passes all rows of a front on. Returns how many there are in each of its files.
+
+    A log of all fronts is passed on as it is.
+    """
+    if request["front"] is None:
+        with contextlib.suppress(BrokenPipeError):
+            pipe.writelines(blocks(request["logs"][0]))
+        with contextlib.suppress(BrokenPipeError):
+            pipe.close()
+        return []
     front = b"" if request["any_handle"] else b"%d," % request["front"]
     counts = [0] * len(request["logs"])
     with contextlib.suppress(BrokenPipeError):  # hsplan has ended, and says why
@@ -104,13 +114,11 @@ def _feed(pipe: IO[bytes], request: dict[str, Any]) -> list[int]:
 
 def _ran(request: dict[str, Any], out: IO[bytes]) -> tuple[int, str, list[int]]:
     """Runs the command. Returns its status, its last line and the rows of each file."""
-    direct = request["front"] is None
-    words = DIES_WITH_ITS_PARENT + words_of(request) + ["--log", request["logs"][0] if direct else "/dev/stdin"]
-    given = subprocess.DEVNULL if direct else subprocess.PIPE
-    with subprocess.Popen(words, stdin=given, stdout=out, stderr=subprocess.PIPE) as run:
+    words = [*DIES_WITH_ITS_PARENT, *words_of(request), "--log", "/dev/stdin"]
+    with subprocess.Popen(words, stdin=subprocess.PIPE, stdout=out, stderr=subprocess.PIPE) as run:
         try:
-            counts = [] if run.stdin is None else _feed(run.stdin, request)
-            assert run.stderr
+            assert run.stdin and run.stderr
+            counts = _feed(run.stdin, request)
             told = run.stderr.read().decode("utf-8", "replace").strip()
         except BaseException:
             run.kill()
@@ -119,8 +127,8 @@ def _ran(request: dict[str, Any], out: IO[bytes]) -> tuple[int, str, list[int]]:
 
 
 def _place(request: dict[str, Any], counts: list[int], row: int) -> str:
-    """The file and the line of a row of a front's files."""
-    for path, count in zip(request["logs"], counts or [row + 1]):
+    """The file and the line of a row of a front's files. A row of a log of all fronts may be more than a line."""
+    for path, count in zip(request["logs"], counts):
         if row < count:
             return f"{path}: line {line_of_row(path, row)}"
         row -= count
@@ -133,7 +141,10 @@ def _refused(request: dict[str, Any], status: int, told: str, counts: list[int])
     found = re.fullmatch(r"log: (.+?) row ([0-9]+)(.*)", line)
     if status not in LASTING:
         name = f"signal {-status}" if status < 0 else f"status {status}"
-        raise Again(f"{request['logs'][0]}: hsplan ended with {name}{': ' + line if line else ''}", max(status, 4))
+        line = f": {line}" if line else ""
+        raise Again(
+            f"{request['logs'][0]}: hsplan ended with {name}{line}", status if status == OUT_OF_MEMORY else BROKEN
+        )
     if found:
         place = _place(request, counts, int(found[2]))
         return {"fault": f"{place}: {found[1]}{found[3]}", "status": status, "row": int(found[2]), "word": found[1]}

@@ -69,6 +69,8 @@ def _files(regions: str, inputs: Inputs | None) -> dict[str, bytes]:
 
 def _checked(logs: list[Log], regions: str, output: str | None) -> None:
     """Refuses a run that would read what it writes."""
+    if any(it.path == "-" for it in logs):
+        raise Unfit("standard input isn't a log that workers can read")
     sources = {os.path.realpath(it.path) for it in logs if not it.host} | {os.path.realpath(regions)}
     for path in [*([output] if output else []), *(it for log in logs for it in log.kept)]:
         if os.path.realpath(path) in sources:

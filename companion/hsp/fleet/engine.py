@@ -22,6 +22,8 @@ from hsp.programs import Missing
 
 Reply = dict[str, Any]
 NO_WORKER, BROKEN, OUT_OF_MEMORY = 3, 5, 4
+# What stands for the reply of a part that isn't there.
+NOT_YET: Reply = {"not": "yet"}
 
 
 class Unfinished(Exception):
@@ -269,9 +271,10 @@ class Engine:
         while len(replies) < last:
             self._alive()
             for at in [it for it in range(last) if it not in replies and futures[it].status != "pending"]:
-                if at < last:
-                    replies[at] = self._reply(futures[at])
-                    if not every and replies[at] and "fault" in replies[at]:
+                reply = self._reply(futures[at]) if at < last else NOT_YET
+                if reply is not NOT_YET:
+                    replies[at] = reply
+                    if not every and reply and "fault" in reply:
                         self._client.cancel(futures[at + 1 :], force=True)
                         last = at + 1
                         replies = {key: it for key, it in replies.items() if key < last}
@@ -302,8 +305,10 @@ class Engine:
             self._alive()
             raise Gone("the scheduler has lost a part of the run")
         try:
-            reply: Reply = future.result(timeout=self._place.patience)
+            reply: Reply = future.result(timeout=5)
             return reply
+        except TimeoutError:
+            return NOT_YET  # its worker has gone meanwhile, and another one repeats it
         except MemoryError:
             raise Unfinished(OUT_OF_MEMORY, "out of memory") from None
         except OSError as fault:
