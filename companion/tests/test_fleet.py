@@ -81,29 +81,30 @@ def left(folder: Path) -> list[str]:
 
 
 class Million(NamedTuple):
-    """A service, its plan, a log of 10^6 rows over 8 fronts, and what one hsplan answers."""
+    """A service, its plan, a log of 10^6 rows over 8 fronts, and what one hsplan answers to all and to each front."""
 
     folder: Path
-    fronts: list[int]
-    rows: list[bytes]
-    answers: list[bytes]
-
-    def of_front(self, front: int) -> bytes:
-        return b"".join(it for at, it in zip(self.fronts, self.answers) if at == front)
+    answers: bytes
+    of_front: list[bytes]
 
     def written(self, into: Path, front: int) -> Path:
+        """The log of a front. It is another name of the same file, which nobody may write to."""
         path = into / f"front-{front}.csv"
-        rows = b"\n".join(it for at, it in zip(self.fronts, self.rows) if at == front)
-        path.write_bytes(b"region,handle\n" + rows + b"\n")
+        os.link(self.folder / path.name, path)
         return path
 
     def all_written(self, into: Path) -> list[str]:
         return [f"{at}={self.written(into, at)}" for at in range(FRONTS)]
 
     def are_answered(self, into: Path) -> bool:
-        return all(
-            (into / f"front-{at}.csv.answers").read_bytes() == self.of_front(at) for at in range(FRONTS)
-        ) and not left(into)
+        found = [(into / f"front-{at}.csv.answers").read_bytes() for at in range(FRONTS)]
+        return found == self.of_front and not left(into)
+
+
+def changed(path: Path, octets: bytes) -> None:
+    """Puts another file in the place of one with several names."""
+    path.unlink()
+    path.write_bytes(octets)
 
 
 def words_of(folder: Path) -> list[str]:
@@ -132,7 +133,14 @@ def million(twelve: Path, hsp: Hsp) -> Million:
     assert done.returncode == 0
     answers = done.stdout.splitlines(keepends=True)
     assert len(answers) == len(rows) and len({it.split()[0] for it in answers}) == 3
-    return Million(twelve, fronts, rows, answers)
+    of_front: list[list[bytes]] = [[] for _ in range(FRONTS)]
+    logs: list[list[bytes]] = [[b"region,handle"] for _ in range(FRONTS)]
+    for front, row, answer in zip(fronts, rows, answers):
+        of_front[front].append(answer)
+        logs[front].append(row)
+    for front, lines in enumerate(logs):
+        (twelve / f"front-{front}.csv").write_bytes(b"\n".join(lines) + b"\n")
+    return Million(twelve, done.stdout, [b"".join(it) for it in of_front])
 
 
 def test_a_worker_is_killed_while_a_million_rows_are_answered(million: Million, tmp_path: Path) -> None:
@@ -141,7 +149,7 @@ def test_a_worker_is_killed_while_a_million_rows_are_answered(million: Million, 
     os.kill(at_work(run), signal.SIGKILL)
     told = ended(run, 0)
     assert told.startswith("1,000,000 rows: ") and million.are_answered(tmp_path)
-    spent = sum(it.startswith(b"spent") for it in million.answers)
+    spent = million.answers.count(b"spent")
     assert f", {spent:,} spent, " in told
 
 
@@ -149,7 +157,7 @@ def test_a_log_of_all_fronts_is_answered_as_by_one_run(million: Million, tmp_pat
     log = tmp_path / "events.csv"
     os.link(million.folder / "events.csv", log)
     fleet("dispatch", million.folder, "--fronts", FRONTS, "--workers", 2, log)
-    assert (tmp_path / "events.csv.answers").read_bytes() == b"".join(million.answers)
+    assert (tmp_path / "events.csv.answers").read_bytes() == million.answers
     assert sorted(it.name for it in tmp_path.iterdir()) == ["events.csv", "events.csv.answers"]
 
 
@@ -162,7 +170,7 @@ def test_several_logs_of_a_front_are_one_log_also_packed(million: Million, tmp_p
     (tmp_path / "none.csv").write_bytes(b"region,handle\n")
     named = [f"5={tmp_path / it}" for it in ("a.gz", "b.csv")] + [f"6={tmp_path / 'none.csv'}"]
     fleet("dispatch", million.folder, "--fronts", FRONTS, "--workers", 1, *named)
-    answers = million.of_front(5).splitlines(keepends=True)
+    answers = million.of_front[5].splitlines(keepends=True)
     assert (tmp_path / "a.gz.answers").read_bytes() == b"".join(answers[:1000])
     assert (tmp_path / "b.csv.answers").read_bytes() == b"".join(answers[1000:])
     assert (tmp_path / "none.csv.answers").read_bytes() == b""
@@ -172,8 +180,7 @@ def test_any_handle_is_answered_by_the_other_program(million: Million, tmp_path:
     wanted = {}
     logs = [million.written(tmp_path, at) for at in range(2)]
     for at, log in enumerate(logs):
-        with open(log, "ab") as file:
-            file.write(b"eu,no handle\neu,20.500.1/never-seen\n")
+        changed(log, log.read_bytes() + b"eu,no handle\neu,20.500.1/never-seen\n")
         words = [os.environ["HSPLAN_STREAM"], "answer", *words_of(million.folder), "--log", str(log)]
         done = subprocess.run([*words, "--fronts", "2", "--front", str(at)], capture_output=True, check=True)
         wanted[f"{log}.answers"] = done.stdout
@@ -189,9 +196,8 @@ def test_a_bad_row_in_the_third_file_ends_the_run_with_its_line(million: Million
     lines = third.read_bytes().split(b"\n")
     lines[41] = b""
     lines[77] = b"eu,no handle"
-    third.write_bytes(b"\n".join(lines))
-    bad = tmp_path / "front-6.csv"
-    bad.write_bytes(b"region,handle\n,20.1/a\n")
+    changed(third, b"\n".join(lines))
+    changed(tmp_path / "front-6.csv", b"region,handle\n,20.1/a\n")
     told = fleet("dispatch", million.folder, "--fronts", FRONTS, "--workers", 2, *logs, status=1)
     assert told == f"hsp: {third}: line 78: BadHandle\n"
     assert not list(tmp_path.glob("*.answers*")) and not left(tmp_path)
@@ -206,6 +212,10 @@ def test_rows_that_cannot_be_parted_are_answered_by_one_run(
     wanted = one_run(million.folder, log, 2)
     fleet("dispatch", million.folder, "--fronts", 2, "--workers", 1, log)
     assert wanted.returncode == 0 and (tmp_path / "odd.csv.answers").read_bytes() == wanted.stdout
+
+
+def test_a_bad_row_of_all_fronts_is_the_first_of_the_log(million: Million, tmp_path: Path) -> None:
+    log = tmp_path / "bad.csv"
     log.write_bytes(b"front,region,handle\n0,eu,20.1/a\n\n1,eu,20.1/b\n1,eu,none\n0,eu,none\n")
     told = fleet("dispatch", million.folder, "--fronts", 2, "--workers", 1, log, status=1)
     assert one_run(million.folder, log, 2).stderr == b"hsplan: log: BadHandle row 2\n"
@@ -256,6 +266,19 @@ def test_a_worker_is_killed_while_logs_are_counted(logs: Logs, tmp_path: Path) -
     invoke("demand", logs.paths[3], *words)
     assert (tmp_path / "3.log.rows").read_bytes() == (tmp_path / "rows").read_bytes()
     assert (tmp_path / "4.log.rows").read_bytes() == b"region,handle\n"
+
+
+def test_what_is_counted_is_planned_and_answered(logs: Logs, tmp_path: Path, hsp: Hsp) -> None:
+    folder, paths = tmp_path / "service", logs.paths[2:4]
+    fleet("demand", *paths, *logs.options, "--workers", 1, "--keep", ".csv")
+    capacity = (folder / "capacity.csv").read_text().replace("1000000000", "500000000")
+    (folder / "capacity.csv").write_text(capacity)
+    hsp("plan", str(folder))
+    options = ["--fronts", 1, "--any-handle", "--unit", 2, "--workers", 1]
+    told = fleet("dispatch", folder, *options, *(f"0={it}.csv" for it in paths))
+    rows = sum(it.read_bytes().count(b"\n") for it in paths)
+    answers = b"".join((tmp_path / f"{it.name}.csv.answers").read_bytes() for it in paths)
+    assert told.startswith(f"{rows:,} rows: {rows:,} assigned; ") and answers.count(b"assigned ") == rows
 
 
 def test_few_pairs_have_the_table_of_one_run(tmp_path: Path) -> None:
@@ -401,7 +424,7 @@ def test_a_worker_whose_program_has_one_octet_more_gets_no_part(
         assert time.monotonic() < until
         time.sleep(0.05)
     told = fleet("dispatch", million.folder, *options, f"3@127.0.0.1={log}", status=0)
-    assert reason in told and (tmp_path / "front-3.csv.answers").read_bytes() == million.of_front(3)
+    assert reason in told and (tmp_path / "front-3.csv.answers").read_bytes() == million.of_front[3]
     assert "no fit worker is at 192.0.2.1" in fleet(
         "dispatch", million.folder, *options, f"3@192.0.2.1={log}", status=3
     )
@@ -437,9 +460,10 @@ def test_a_cluster_with_keys_answers_who_has_one(million: Million, cluster: Clus
     options = ["--fronts", FRONTS, "--scheduler", cluster.address, "--patience", 10]
     keys = ["--tls-ca", tmp_path / "ca.pem", "--tls-cert", tmp_path / "cert.pem", "--tls-key", tmp_path / "key.pem"]
     fleet("dispatch", million.folder, *options, *keys, f"1={log}")
-    assert cluster.address.startswith("tls://") and (
-        tmp_path / "front-1.csv.answers"
-    ).read_bytes() == million.of_front(1)
+    assert (
+        cluster.address.startswith("tls://")
+        and (tmp_path / "front-1.csv.answers").read_bytes() == million.of_front[1]
+    )
     (tmp_path / "other").mkdir()
     keys_by_recipe(tmp_path / "other")
     strange = [
