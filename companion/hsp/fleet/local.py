@@ -44,13 +44,21 @@ class Local:
         self._file = os.path.join(self.folder, "scheduler.json")
         self._scheduler: subprocess.Popen[bytes] | None = None
         self._workers: list[subprocess.Popen[bytes]] = []
+        try:
+            self._begin()
+        except BaseException:
+            self.close()
+            raise
+
+    def _begin(self) -> None:
         words = KEY.split() + ["-keyout", self.key, "-out", self.certificate]
         if subprocess.run(words, capture_output=True).returncode:
             raise Gone("openssl made no key for the workers of this machine")
         # A port is open for Dask's pages even without them: it must not be the one of another user.
         where = ["--host", "127.0.0.1", "--port", "0", "--protocol", "tls", "--dashboard-address", "127.0.0.1:0"]
         self._scheduler = self._start("dask_scheduler", "--scheduler-file", self._file, "--no-show", *where)
-        self._workers = [self._worker() for _ in range(number)]
+        for _ in range(self.number):
+            self._workers.append(self._worker())
 
     def _start(self, module: str, *words: str) -> subprocess.Popen[bytes]:
         """Starts a process that is killed when this one ends, and that a terminal's interrupt doesn't reach."""
