@@ -3,6 +3,7 @@
 from __future__ import annotations
 
 import contextlib
+import io
 import itertools
 import os
 import re
@@ -49,7 +50,7 @@ def blocks(path: str) -> Iterator[bytes]:
 
 
 def _is_row(line: bytes) -> bool:
-    return bool(line.rstrip(b"\r"))
+    return bool(line.rstrip(b"\r\n"))
 
 
 def rows_of_front(path: str, front: bytes) -> Iterator[tuple[bytes, int]]:
@@ -61,11 +62,11 @@ def rows_of_front(path: str, front: bytes) -> Iterator[tuple[bytes, int]]:
             head, _, block = block.partition(b"\n")
             if head.rstrip(b"\r") != HEADER:
                 raise Unfit(f"{path}: line 1: the header isn't region,handle")
-        lines = block.split(b"\n")[:-1]
-        if b"" in lines or b"\r" in block:
-            lines = [it for it in lines if _is_row(it)]
-        if lines:
-            yield front + (b"\n" + front).join(lines) + b"\n", len(lines)
+        if b"\r" in block or b"\n\n" in block or block[:1] == b"\n":
+            block = b"".join(it for it in io.BytesIO(block) if _is_row(it))
+        if block:
+            rows = front + block[:-1].replace(b"\n", b"\n" + front) + b"\n" if front else block
+            yield rows, block.count(b"\n")
     if is_first:
         raise Unfit(f"{path}: line 1: the header isn't region,handle")
 
@@ -74,7 +75,7 @@ def line_of_row(path: str, row: int) -> int:
     """The line of a log's row. Rows count from 0 below the header, lines from 1, and an empty line is no row."""
     lines = itertools.count(1)
     with opened(path) as file:
-        numbers = (number for number, line in zip(lines, file) if _is_row(line.rstrip(b"\n")) and number > 1)
+        numbers = (number for number, line in zip(lines, file) if _is_row(line) and number > 1)
         return next(itertools.islice(numbers, row, None), 0)
 
 
