@@ -437,7 +437,7 @@ def test_a_cluster_ends_the_parts_of_a_run_that_is_gone(
 ) -> None:
     cluster.worker("own", os.environ["PATH"])
     log = tmp_path / "log"
-    log.write_text("".join(f"{server_line(it)}\n" for it in asked(10_000, 92)) * 60)
+    log.write_text("".join(f"{server_line(it)}\n" for it in asked(10_000, 92)) * 40)
     options = ["--regions", regions_file(tmp_path), "--scheduler", cluster.address, "--keep", ".rows"]
     run = started("demand", log, *options, "-o", tmp_path / "t")
     until = time.monotonic() + 60
@@ -477,7 +477,7 @@ def test_a_cluster_with_keys_answers_who_has_one(million: Million, cluster: Clus
 def test_a_cluster_whose_scheduler_goes_away_is_one_line(cluster: Cluster, tmp_path: Path) -> None:
     cluster.worker("own", os.environ["PATH"])
     log = tmp_path / "log"
-    log.write_text("".join(f"{server_line(it)}\n" for it in asked(10_000, 93)) * 60)
+    log.write_text("".join(f"{server_line(it)}\n" for it in asked(10_000, 93)) * 40)
     options = ["--regions", regions_file(tmp_path), "--scheduler", cluster.address, "--keep", ".rows"]
     run = started("demand", log, *options, "-o", tmp_path / "t")
     until = time.monotonic() + 60
