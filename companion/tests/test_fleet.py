@@ -18,7 +18,7 @@ from typing import NamedTuple
 
 import pytest
 
-from hsp.fleet import tables
+from hsp.fleet import remote, tables
 from hsp.fleet.split import Parted
 from hsp.programs import Desk, Inputs
 
@@ -505,6 +505,20 @@ def test_sums_above_the_greatest_count_are_joined_exactly(tmp_path: Path) -> Non
     assert table.is_joined and table.counts.keys() >= dict(plain).keys()
     table.join()
     assert list(table.counts.items()) == plain
+
+
+def test_a_file_is_published_once_and_nothing_old_stands_for_it(tmp_path: Path) -> None:
+    path = str(tmp_path / "a.answers")
+    Path(path).write_text("of an earlier run")
+    own = Path(remote.staged(path, "run", "attempt"))
+    own.write_text("new")
+    inodes = [own.stat().st_ino]
+    for _ in range(2):
+        remote.publish("run", [path], "attempt", inodes)
+        assert Path(path).read_text() == "new" and not left(tmp_path)
+    changed(Path(path), b"of another run")
+    with pytest.raises(FileNotFoundError):
+        remote.publish("run", [path], "attempt", [inodes[0] + 10**9])
 
 
 def test_gnu_parallel_answers_the_same(million: Million, tmp_path: Path) -> None:

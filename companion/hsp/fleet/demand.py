@@ -113,9 +113,10 @@ def demand(logs: tuple[str, ...], regions: str, into: str | None, keep: str | No
         tally.take(dict(counts_in(whole["table"])), whole["is_joined"])
         text, is_joined = tally.demand(inputs, given["unit"])
         hosts = [engine.host(it.host) if it.host else None for it in named]
-        engine.publish([(it.kept, head["attempt"], host) for it, head, host in zip(named, heads, hosts) if it.kept])
+        engine.is_publishing = True
         if output:
             replace_all({output: text})
+        engine.publish([(it.kept, head, host) for it, head, host in zip(named, heads, hosts) if it.kept])
     if not output:
         click.echo(text, nl=False)
     lines = [summary(logs, reading, tally), *skipped_lines(reading), rows_line(output, text, is_joined)]

@@ -79,8 +79,7 @@ def apart(engine: Engine, fronts: list[Front], options: dict[str, Any]) -> list[
         engine.submit(request_of(it, options, it.targets), host=host) for it, host in zip(fronts, hosts, strict=True)
     ]
     replies = engine.outcomes(parts, shown(engine, "front", len(parts), _rows))
-    attempts = [(it.targets, reply["attempt"], host) for it, reply, host in zip(fronts, replies, hosts)]
-    engine.publish(attempts)
+    engine.publish([(it.targets, reply, host) for it, reply, host in zip(fronts, replies, hosts)])
     return replies
 
 
@@ -99,7 +98,7 @@ def together(engine: Engine, own: Front, folder: str, options: dict[str, Any]) -
     parts = [engine.submit(request_of(it, options, it.targets)) for it in fronts]
     replies = engine.outcomes(parts, shown(engine, "front", len(parts), _rows), every=True)
     _fine(parted, replies)
-    engine.publish([(it.targets, reply["attempt"], None) for it, reply in zip(fronts, replies)])
+    engine.publish([(it.targets, reply, None) for it, reply in zip(fronts, replies)])
     parted.merge([it.targets[0] for it in fronts], output)
     return replies
 
@@ -122,7 +121,7 @@ def _in_one(engine: Engine, own: Front, options: dict[str, Any]) -> list[Reply]:
         raise Unfit(f"{own.logs[0]}: {wanted}")
     parts = [engine.submit(request_of(own, options, own.targets))]
     replies = engine.outcomes(parts, shown(engine, "log", 1, _rows))
-    engine.publish([(own.targets, replies[0]["attempt"], None)])
+    engine.publish([(own.targets, replies[0], None)])
     return replies
 
 

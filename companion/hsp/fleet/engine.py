@@ -82,6 +82,7 @@ class Engine:
         self._sent: dict[str, ByValue] = {}
         self._futures: list[Any] = []
         self._hosts: set[str] = set()
+        self.is_publishing = False
         self._client: Any = None
         self.local = None if place.scheduler else Local(place.workers or len(os.sched_getaffinity(0)))
         try:
@@ -227,14 +228,16 @@ class Engine:
         self._futures.append(future)
         return future
 
-    def publish(self, files: Sequence[tuple[list[str], str, str | None]]) -> None:
-        """Gives all files their names, at their hosts: paths, attempt and host of each part."""
+    def publish(self, files: Sequence[tuple[list[str], Reply, str | None]]) -> None:
+        """Gives all files their names, at their hosts: paths, reply and host of each part. It isn't interrupted."""
+        self.is_publishing = True
         futures = []
-        for paths, attempt, host in files:
+        for paths, reply, host in files:
             if host is None:
-                self.remote.publish(paths, self.run, attempt)
+                self.remote.publish(self.run, paths, reply["attempt"], reply["inodes"])
             else:
-                futures.append(self._submit("publish", paths, self.run, attempt, host=host))
+                words = self.run, paths, reply["attempt"], reply["inodes"]
+                futures.append(self._submit("publish", *words, host=host))
         self.outcomes(futures)
 
     def end(self, targets: list[tuple[list[str], str | None]]) -> None:
@@ -297,7 +300,7 @@ class Engine:
             return now
         if now - last > self._place.patience:
             where = f" at {lacking[0]}" if lacking else ""
-            raise Unfinished(NO_WORKER, f"no fit worker is left{where} since {self._place.patience:.0f} seconds")
+            raise Unfinished(NO_WORKER, f"no fit worker was there{where} for {self._place.patience:.0f} seconds")
         return last
 
     def _reply(self, future: Any) -> Reply:

@@ -137,12 +137,11 @@ def sweep(paths: list[str], run: str) -> None:
                         os.unlink(os.path.join(folder, it))
 
 
-def publish(paths: list[str], run: str, attempt: str) -> None:
-    """Gives the files of an attempt their names. A file that has its name already stays."""
-    for path in paths:
-        name = staged(path, run, attempt)
-        if os.path.exists(name) or not os.path.exists(path):
-            os.replace(name, path)
+def publish(run: str, targets: list[str], attempt: str, inodes: list[int]) -> None:
+    """Gives the files of an attempt their names. A file that has its name already, by its number, stays."""
+    for path, inode in zip(targets, inodes, strict=True):
+        if not os.path.exists(path) or os.stat(path).st_ino != inode:
+            os.replace(staged(path, run, attempt), path)
         folder = os.open(os.path.dirname(os.path.abspath(path)), os.O_RDONLY)
         try:
             os.fsync(folder)
@@ -183,8 +182,29 @@ def _reply(child: "subprocess.Popen[bytes]", worker: Any) -> bytes:
     return out
 
 
+def _ran(whole: dict[str, Any], folder: str, worker: Any) -> dict[str, Any]:
+    """The reply of a part that runs in a Python of its own."""
+    files = whole["files"]
+    programs = {"HSPLAN": files["hsplan"], "HSPLAN_STREAM": files["hsplan-stream"]}
+    asked = os.path.join(folder, "request.json")
+    with open(asked, "w", encoding="ascii") as file:
+        json.dump(whole, file)
+    child = subprocess.Popen(
+        [*DIES_WITH_ITS_PARENT, sys.executable, "-c", START, files[COMPANION], asked],
+        stdin=subprocess.DEVNULL,
+        stdout=subprocess.PIPE,
+        stderr=subprocess.PIPE,
+        env={**os.environ, **programs, "TMPDIR": folder},
+        cwd=whole["at"] if os.path.isdir(whole["at"]) else folder,
+    )
+    reply: dict[str, Any] = json.loads(_reply(child, worker))
+    if "again" in reply:
+        raise MemoryError() if reply["status"] == OUT_OF_MEMORY else OSError(reply["again"])
+    return reply
+
+
 def part(seal: Seal, request: dict[str, Any], *before: dict[str, Any]) -> dict[str, Any]:
-    """Runs a part in a Python of its own: what it found, or its fault. What may go well at another time is raised."""
+    """What a part found, or its fault. What may go well at another time is raised."""
     worker = distributed.get_worker()
     reason = seal.differs(worker.local_directory)
     if reason:
@@ -192,31 +212,17 @@ def part(seal: Seal, request: dict[str, Any], *before: dict[str, Any]) -> dict[s
     fault = next((it for it in before if "fault" in it), None)
     if fault:
         return fault
-    attempt = uuid.uuid4().hex[:12]
-    paths = {name: seal.path(worker.local_directory, name) for name in seal.sums}
-    with tempfile.TemporaryDirectory(dir=worker.local_directory) as folder:
-        whole = {**request, "files": paths, "before": before}
-        whole["staged"] = [staged(it, request["run"], attempt) for it in request["targets"]]
-        environment = {
-            **os.environ,
-            "TMPDIR": folder,
-            "HSPLAN": paths["hsplan"],
-            "HSPLAN_STREAM": paths["hsplan-stream"],
-        }
-        asked = os.path.join(folder, "request.json")
-        with open(asked, "w", encoding="ascii") as file:
-            json.dump(whole, file)
-        words = [*DIES_WITH_ITS_PARENT, sys.executable, "-c", START, paths[COMPANION], asked]
-        streams: dict[str, Any] = {"stdin": subprocess.DEVNULL, "stdout": subprocess.PIPE, "stderr": subprocess.PIPE}
-        at = request["at"] if os.path.isdir(request["at"]) else folder
-        try:
-            child = subprocess.Popen(words, env=environment, cwd=at, **streams)
-            reply: dict[str, Any] = json.loads(_reply(child, worker))
-            if "again" in reply:
-                raise MemoryError() if reply["status"] == OUT_OF_MEMORY else OSError(reply["again"])
-        except BaseException:
-            sweep(request["targets"], f"{request['run']}-{attempt}")
-            raise
-    if "fault" in reply:
-        sweep(request["targets"], f"{request['run']}-{attempt}")
-    return {**reply, "attempt": attempt}
+    run, targets, attempt = request["run"], request["targets"], uuid.uuid4().hex[:12]
+    names = [staged(it, run, attempt) for it in targets]
+    files = {name: seal.path(worker.local_directory, name) for name in seal.sums}
+    whole = {**request, "files": files, "before": before, "staged": names}
+    try:
+        with tempfile.TemporaryDirectory(dir=worker.local_directory) as folder:
+            reply = _ran(whole, folder, worker)
+        if "fault" not in reply:
+            return {**reply, "attempt": attempt, "inodes": [os.stat(it).st_ino for it in names]}
+    except BaseException:
+        sweep(targets, f"{run}-{attempt}")
+        raise
+    sweep(targets, f"{run}-{attempt}")
+    return reply

@@ -51,15 +51,16 @@ def place_of(given: dict[str, Any]) -> Place:
     return Place(scheduler, workers, keys, given["patience"])
 
 
-def _stop(number: int, _: Any) -> None:
-    raise Unfinished(STOPPED + number, "interrupted; nothing was written")
-
-
 @contextlib.contextmanager
 def session(place: Place, targets: Targets) -> Iterator[Engine]:
     """A run. It ends with one line where it can't go on, and takes away all that it hasn't published."""
-    before = {it: signal.signal(it, _stop) for it in (signal.SIGINT, signal.SIGTERM, signal.SIGHUP)}
     engine: Engine | None = None
+
+    def stop(number: int, _: Any) -> None:
+        if not engine or not engine.is_publishing:
+            raise Unfinished(STOPPED + number, "interrupted; nothing was written")
+
+    before = {it: signal.signal(it, stop) for it in (signal.SIGINT, signal.SIGTERM, signal.SIGHUP)}
     try:
         engine = Engine(place)
         yield engine
