@@ -18,7 +18,7 @@ from typing import NamedTuple
 
 import pytest
 
-from hsp.fleet import remote, tables
+from hsp.fleet import answers, remote, tables
 from hsp.fleet.split import Parted
 from hsp.programs import Desk, Inputs
 
@@ -153,6 +153,20 @@ def test_a_worker_is_killed_while_a_million_rows_are_answered(million: Million, 
     assert f", {spent:,} spent, " in told
 
 
+@pytest.mark.parametrize("seconds", [0.0, 0.8])
+def test_a_worker_is_killed_while_it_starts(million: Million, tmp_path: Path, seconds: float) -> None:
+    log = million.written(tmp_path, 2)
+    run = started("dispatch", million.folder, "--fronts", FRONTS, "--workers", 2, f"2={log}")
+    workers: list[int] = []
+    while not workers and run.poll() is None:
+        workers = [it for it in children(run.pid) if named(it, "dask_worker")]
+        time.sleep(0.005)
+    time.sleep(seconds)
+    os.kill(workers[0], signal.SIGKILL)
+    ended(run, 0)
+    assert (tmp_path / "front-2.csv.answers").read_bytes() == million.of_front[2] and not left(tmp_path)
+
+
 def test_a_log_of_all_fronts_is_answered_as_by_one_run(million: Million, tmp_path: Path) -> None:
     log = tmp_path / "events.csv"
     os.link(million.folder / "events.csv", log)
@@ -220,6 +234,56 @@ def test_a_bad_row_of_all_fronts_is_the_first_of_the_log(million: Million, tmp_p
     told = fleet("dispatch", million.folder, "--fronts", 2, "--workers", 1, log, status=1)
     assert one_run(million.folder, log, 2).stderr == b"hsplan: log: BadHandle row 2\n"
     assert told == f"hsp: {log}: line 5: BadHandle\n"
+
+
+# Rows of a log of two fronts: good ones, odd ones, and such as hsplan refuses.
+ROWS = [
+    b"0,eu,20.1/a",
+    b"1,eu,20.1/b",
+    b"0,us,20.500.1/nobody",
+    b"1,asia,20.1/c,d",
+    b"",
+    b"2,eu,20.1/a",
+    b"01,eu,20.1/a",
+]
+ROWS += [
+    b" 0,eu,20.1/a",
+    b"0",
+    b",",
+    b"0,eu,none",
+    b"\xff,eu,20.1/a",
+    b'1,"eu",20.1/a',
+    b'1,eu,"20.1/a\nb"',
+    b"0,eu,20.1/\xff",
+]
+
+
+def test_logs_of_any_rows_are_parted_as_one_run_reads_them(million: Million, tmp_path: Path) -> None:
+    draw, seen = random.Random(94), set()
+    files = {it.split(".")[0]: str(million.folder / it) for it in ("settings.toml", "demand.csv", "plan.txt")}
+    files |= {it: str(million.folder / f"{it}.csv") for it in ("costs", "capacity")}
+    for _ in range(60):
+        kinds = draw.sample(ROWS, draw.randrange(1, 4)) + ROWS[:5]
+        lines = [draw.choice(kinds) + draw.choice([b"\n"] * 9 + [b"\r\n"] * draw.randrange(2)) for _ in range(12)]
+        log = tmp_path / "log.csv"
+        log.write_bytes(b"front,region,handle\n" + b"".join(lines)[: -draw.randrange(1, 3)])
+        wanted = one_run(million.folder, log, 2)
+        parted = Parted(str(log), str(tmp_path), 2)
+        if not parted.is_plain:
+            seen.add("not plain")
+            continue
+        asked = {"fronts": 2, "any_handle": False, "unit": None, "files": files}
+        outs = [str(tmp_path / f"{it}.out") for it in range(2)]
+        parts = zip(range(2), parted.logs, outs)
+        replies = [answers.answer({**asked, "front": it, "logs": [log], "staged": [out]}) for it, log, out in parts]
+        rows = [parted.row(at, it["row"]) for at, it in enumerate(replies) if "row" in it]
+        seen.add(wanted.returncode)
+        if rows:
+            assert wanted.returncode == 1 and wanted.stderr.split()[4] == b"%d" % min(rows)
+            continue
+        parted.merge(outs, str(tmp_path / "merged"))
+        assert wanted.returncode == 0 and (tmp_path / "merged").read_bytes() == wanted.stdout
+    assert seen == {"not plain", 0, 1}
 
 
 def test_a_log_of_all_has_a_greatest_length(tmp_path: Path, monkeypatch: pytest.MonkeyPatch) -> None:
