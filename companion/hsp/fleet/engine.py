@@ -67,7 +67,9 @@ def needed() -> Any:
         found = importlib.import_module("distributed")
     except ImportError:
         raise Missing("Python has no distributed: install it (Debian: python3-distributed)") from None
-    logging.disable(logging.CRITICAL)  # what Dask logs of lost workers is no fault of the run
+    # What Dask logs of lost workers is no fault of the run, nor what its connections raise when Python ends.
+    logging.disable(logging.CRITICAL)
+    sys.unraisablehook = lambda _: None
     return found
 
 
@@ -112,11 +114,9 @@ class Engine:
             with contextlib.suppress(Exception):
                 if self.seal and not self.local and self._client.status == "running":
                     self._client.unregister_worker_plugin(self.seal.mark)
-            if self.local:
-                self.local.close()
             with contextlib.suppress(Exception):
                 self._client.close(timeout=2)
-        elif self.local:
+        if self.local:
             self.local.close()
 
     def workers(self) -> dict[str, Any]:
