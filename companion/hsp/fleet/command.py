@@ -12,7 +12,7 @@ from hsp.fleet.dispatch import dispatch
 def fleet() -> None:
     """Counts and answers the logs of many machines, on Dask's scheduler.
 
-    Below 30,000,000 rows one hsp demand or hsplan dispatch is faster.
+    On one machine one hsplan dispatch is faster, and so is one hsp demand below 3,000,000 lines.
     """
 
 
