@@ -1,6 +1,6 @@
 # Completions of hsp for fish.
 
-set -l commands demand doctor new plan sites view whatif
+set -l commands demand doctor fleet new plan sites view whatif
 set -l of_folder doctor plan view whatif
 set -l planning plan view whatif
 
@@ -43,3 +43,20 @@ complete -c hsp -n "__fish_seen_subcommand_from demand" -l prefix -x -d "count o
 complete -c hsp -n "__fish_seen_subcommand_from demand" -l elsewhere -x -d "region of other clients"
 complete -c hsp -n "__fish_seen_subcommand_from demand" -l by -x -d "field of a MaxMind database"
 complete -c hsp -n "__fish_seen_subcommand_from demand" -l unit -x -d "count in units"
+
+# hsp fleet: its own demand has the options of hsp demand, above.
+set -l of_fleet "__fish_seen_subcommand_from fleet"
+set -l of_dispatch "__fish_seen_subcommand_from fleet; and __fish_seen_subcommand_from dispatch"
+complete -c hsp -n "$of_fleet; and not __fish_seen_subcommand_from demand dispatch" -f -a "demand dispatch"
+complete -c hsp -n "$of_fleet; and __fish_seen_subcommand_from demand" -l keep -x -d "suffix of the queries of each log"
+complete -c hsp -n "$of_dispatch" -l fronts -x -d "how many fronts"
+complete -c hsp -n "$of_dispatch" -l plan -r -F -d "the certificate"
+complete -c hsp -n "$of_dispatch" -l any-handle -d "by hsplan-stream"
+complete -c hsp -n "$of_dispatch" -l unit -x -d "of the demand"
+complete -c hsp -n "$of_fleet" -l workers -x -d "processes of this machine"
+complete -c hsp -n "$of_fleet" -l scheduler -x -d "one that runs already"
+complete -c hsp -n "$of_fleet" -l tls-ca -r -F -d "the authority"
+complete -c hsp -n "$of_fleet" -l tls-cert -r -F -d "a certificate"
+complete -c hsp -n "$of_fleet" -l tls-key -r -F -d "its key"
+complete -c hsp -n "$of_fleet" -l installed -d "programs of the workers"
+complete -c hsp -n "$of_fleet" -l patience -x -d "seconds to wait for a worker"

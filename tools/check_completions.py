@@ -38,7 +38,7 @@ CASES = [
     ("hsplan-stream places --settings set", ["settings.toml"]),
     ("hsplan-stream answer --fr", ["--front", "--fronts"]),
     ("hsplan-stream answer --demand dem", ["demand.csv"]),
-    ("hsp ", ["--help", "--version", "demand", "doctor", "new", "plan", "sites", "view", "whatif"]),
+    ("hsp ", ["--help", "--version", "demand", "doctor", "fleet", "new", "plan", "sites", "view", "whatif"]),
     ("hsp do", ["doctor"]),
     ("hsp doctor --st", ["--strict"]),
     ("hsp doctor --un", []),
@@ -56,6 +56,11 @@ CASES = [
     ("hsp demand --format ser", ["server"]),
     ("hsp demand --regions dem", ["demand.csv"]),
     ("hsp demand --sett", []),
+    ("hsp fleet di", ["dispatch"]),
+    ("hsp fleet dispatch --fr", ["--fronts"]),
+    ("hsp fleet dispatch --reg", []),
+    ("hsp fleet demand --ke", ["--keep"]),
+    ("hsp fleet demand --regions dem", ["demand.csv"]),
 ]
 
 

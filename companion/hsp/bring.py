@@ -8,7 +8,7 @@ import re
 import sys
 import time
 from collections.abc import Callable
-from typing import Any
+from typing import Any, TypeVar
 
 import click
 
@@ -28,6 +28,7 @@ from hsp.tally import Tally
 
 FOLDER = click.Path(exists=True, file_okay=False)
 LOG_HEADER = b"region,handle\n"
+Command = TypeVar("Command", bound=Callable[..., Any])
 
 
 @click.command()
@@ -172,6 +173,11 @@ def counted(logs: tuple[str, ...], reading: Reading, tally: Tally, into: Any) ->
                 into.write(b"".join(b"%b,%b\n" % (field_of(region), field_of(handle)) for region, handle in chunk))
     if sys.stderr.isatty():
         click.echo("\r\033[K", err=True, nl=False)
+    some_in(logs, reading, tally)
+
+
+def some_in(logs: tuple[str, ...], reading: Reading, tally: Tally) -> None:
+    """Refuses logs that have no query."""
     if not tally.asked:
         first = (skipped_lines(reading) + ["", "they have no line"])[1].strip()
         raise Unfit(f"no query is in {listed(logs)}: {first}")
@@ -185,27 +191,52 @@ def summary(logs: tuple[str, ...], reading: Reading, tally: Tally) -> str:
     return f"{some(len(logs), 'log')}, {lines}: {asked} of {regions}{handles}"
 
 
+def rows_line(output: str | None, text: bytes, is_joined: bool) -> str:
+    """How many rows the table has, and what each stands for."""
+    kinds = ", each for the handles that have the same servers" if is_joined else ""
+    return f"{output or 'the table'} has {some(text.count(10) - 1, 'row')}{kinds}"
+
+
+FORM_OPTIONS = [
+    click.option(
+        "--format", type=click.Choice(["auto", *FORMS]), default="auto", show_default=True, help="of the logs"
+    ),
+    click.option(
+        "--regex", metavar="PATTERN", help="lines of another form: (?P<client>..) and (?P<handle>..) or (?P<path>..)"
+    ),
+    click.option(
+        "--client", metavar="NAME", default="client", show_default=True, help="the field with the client's address"
+    ),
+    click.option("--handle", metavar="NAME", default="handle", show_default=True, help="the field with the handle"),
+    click.option("--path", metavar="NAME", help="the field with the path of a request, in place of a handle"),
+    click.option("--prefix", metavar="PREFIX", multiple=True, help="count only handles of this prefix"),
+    click.option("--elsewhere", metavar="REGION", help="of clients that have no region"),
+    click.option("--by", metavar="FIELD", default="continent.code", show_default=True, help="of a MaxMind database"),
+    click.option(
+        "--unit", type=click.IntRange(1, 1_000_000), metavar="N", help="count in units of N queries, rounded up"
+    ),
+]
+
+
+def with_forms(command: Command) -> Command:
+    """Adds the options that say how logs are read."""
+    for option in reversed(FORM_OPTIONS):
+        command = option(command)
+    return command
+
+
+def output_of(given: dict[str, Any], into: str | None) -> str | None:
+    """The file of the table, where one is named."""
+    return given["output"] or (os.path.normpath(os.path.join(into, NAMES["demand"])) if into else None)
+
+
 @click.command()
 @click.argument("logs", metavar="LOG..", nargs=-1, required=True, type=click.Path(dir_okay=False, allow_dash=True))
 @click.option("--regions", metavar="FILE", required=True, help="a table network,region, or a MaxMind database")
 @click.option("--into", metavar="DIR", type=FOLDER, help="the folder whose demand.csv is written")
 @click.option("-o", "--output", metavar="FILE", help="the table, in place of DIR/demand.csv")
 @click.option("--log", "kept", metavar="FILE", help="also the queries, as a log for hsplan dispatch")
-@click.option("--format", type=click.Choice(["auto", *FORMS]), default="auto", show_default=True, help="of the logs")
-@click.option(
-    "--regex", metavar="PATTERN", help="lines of another form: (?P<client>..) and (?P<handle>..) or (?P<path>..)"
-)
-@click.option(
-    "--client", metavar="NAME", default="client", show_default=True, help="the field with the client's address"
-)
-@click.option("--handle", metavar="NAME", default="handle", show_default=True, help="the field with the handle")
-@click.option("--path", metavar="NAME", help="the field with the path of a request, in place of a handle")
-@click.option("--prefix", metavar="PREFIX", multiple=True, help="count only handles of this prefix")
-@click.option("--elsewhere", metavar="REGION", help="of clients that have no region")
-@click.option("--by", metavar="FIELD", default="continent.code", show_default=True, help="of a MaxMind database")
-@click.option(
-    "--unit", type=click.IntRange(1, 1_000_000), metavar="N", help="count in units of N queries, rounded up"
-)
+@with_forms
 def demand(logs: tuple[str, ...], regions: str, into: str | None, kept: str | None, **given: Any) -> None:
     """Counts the queries of access logs by region and handle.
 
@@ -213,7 +244,7 @@ def demand(logs: tuple[str, ...], regions: str, into: str | None, kept: str | No
     HTTP proxy (proxy), JSON lines (json) or a table (csv). Without --into and -o the table is printed.
     """
     desk = Desk()
-    output = given["output"] or (os.path.normpath(os.path.join(into, NAMES["demand"])) if into else None)
+    output = output_of(given, into)
     sources = {os.path.realpath(it) for it in (*logs, regions)}
     for path in filter(None, (output, kept)):
         if os.path.realpath(path) in sources:
@@ -230,9 +261,7 @@ def demand(logs: tuple[str, ...], regions: str, into: str | None, kept: str | No
             replace_all({output: text})
         else:
             click.echo(text, nl=False)
-    lines = [summary(logs, reading, tally), *skipped_lines(reading)]
-    kinds = ", each for the handles that have the same servers" if is_joined else ""
-    lines.append(f"{output or 'the table'} has {some(text.count(10) - 1, 'row')}{kinds}")
+    lines = [summary(logs, reading, tally), *skipped_lines(reading), rows_line(output, text, is_joined)]
     if inputs and lacking:
         lines.append(f"{inputs.costs} has no cost yet of {listed(lacking)}")
     for line in lines:

@@ -23,6 +23,7 @@ from hsp.doctor.findings import visible
 from hsp.doctor.next_step import next_lines
 from hsp.doctor.printing import json_of as findings_json
 from hsp.doctor.printing import lines as finding_lines
+from hsp.fleet.command import fleet
 from hsp.page import View, changes_between, render
 from hsp.programs import Desk, Missing, Refused
 from hsp.service import Service
@@ -76,7 +77,8 @@ def main(context: click.Context) -> None:
     """Shows the load plan of a Handle System service.
 
     DIR has settings.toml, demand.csv, costs.csv and capacity.csv, and may have hsp.toml with a title and units.
-    Every rule is hsplan's. Nothing is sent anywhere. At a terminal, hsp by itself says what to do next.
+    Every rule is hsplan's. Nothing is sent anywhere, but by fleet to its workers. At a terminal, hsp by itself says what
+    to do next.
     """
     if context.invoked_subcommand is None:
         if sys.stdout.isatty():
@@ -416,8 +418,8 @@ def doctor(context: click.Context, folder: str, strict: bool, as_json: bool, **g
     sys.exit(found.status or int(strict and bool(found.warnings)))
 
 
-for brought in (bring.new, bring.sites, bring.demand):
-    main.add_command(brought)
+for other in (bring.new, bring.sites, bring.demand, fleet):
+    main.add_command(other)
 
 
 __all__ = ["main"]

@@ -29,7 +29,7 @@ REMEDIES = {
 MOST_PAIRS = 1 << 20
 
 
-def _rows(counts: Iterable[tuple[Query, int]]) -> Iterator[bytes]:
+def rows_of(counts: Iterable[tuple[Query, int]]) -> Iterator[bytes]:
     """The rows of a demand."""
     for (region, handle), count in counts:
         yield b"%b,%b,%d\n" % (field_of(region), field_of(handle), count)
@@ -60,12 +60,18 @@ class Tally:
                 self._spill()
             yield chunk
 
+    def take(self, counts: dict[Query, int], is_joined: bool) -> None:
+        """Takes the counts of pairs, or the sums of kinds that were joined before."""
+        self._counts.update(counts)
+        if is_joined:
+            self._spill()
+
     def _spill(self) -> None:
         """Puts the counts into a file in their order, since a table is a log of `kinds`."""
         self.regions.update(region for region, _ in self._counts)
         self._spilled = self._spilled or self._desk.put(HEADER, ".csv")
         with open(self._spilled, "ab") as file:
-            file.writelines(_rows(self._counts.items()))
+            file.writelines(rows_of(self._counts.items()))
         self._counts.clear()
 
     @property
@@ -79,7 +85,7 @@ class Tally:
         rows = len(self._counts)
         large = max(self._counts.values(), default=0) > MOST_COUNT
         if not self._spilled and rows <= MOST_ROWS and not large and unit is None:
-            text = HEADER + b"".join(_rows(_most_first(self._counts)))
+            text = HEADER + b"".join(rows_of(_most_first(self._counts)))
             self._accepted(text)
             return text, False
         if not inputs:
@@ -93,7 +99,7 @@ class Tally:
         try:
             joined = self._desk.kinds(inputs, self._spilled or "", unit).encode()
         except Refused as fault:
-            raise Unfit(_advice(fault)) from None
+            raise Unfit(advice(fault)) from None
         self._accepted(joined)
         return joined, True
 
@@ -131,7 +137,8 @@ def _remedy(fault: Refused) -> str:
     return f"; {found}" if found else ""
 
 
-def _advice(fault: Refused) -> str:
+def advice(fault: Refused) -> str:
+    """What an operator does where rows can't be joined."""
     unit = re.search(r"CountTooLarge.* unit ([0-9]+)", fault.line)
     if unit:
         return f"a row of the demand has more than {MOST_COUNT:,} queries; give --unit {unit[1]} or a larger one"

@@ -1,0 +1,127 @@
+"""`hsp fleet demand`: a part for each log. Tables are added up by eights, in a tree."""
+
+from __future__ import annotations
+
+import os
+import re
+from dataclasses import dataclass
+from typing import Any
+
+import click
+
+from hsp.bring import FOLDER, form_of, output_of, rows_line, service_of, skipped_lines, some_in, summary, with_forms
+from hsp.faults import Unfit, printable
+from hsp.files import replace_all
+from hsp.fleet import kit
+from hsp.fleet.engine import Engine, Reply
+from hsp.fleet.parts import told_of
+from hsp.fleet.progress import shown
+from hsp.fleet.session import Targets, place_of, session, with_cluster
+from hsp.fleet.tables import counts_in, skipped_of
+from hsp.numbers import listed
+from hsp.programs import Desk, Inputs
+from hsp.queries import Judge, Reading
+from hsp.regions import regions_in
+from hsp.tally import Tally
+
+# So many tables are added up by one part.
+WIDTH = 8
+AT_HOST = re.compile(r"@([^=/]+)=(.+)", re.DOTALL)
+
+
+@dataclass(frozen=True)
+class Log:
+    """A log, at a host where one is named, and the file beside it for its queries where they are kept."""
+
+    path: str
+    host: str | None
+    kept: list[str]
+
+
+def log_of(text: str, suffix: str | None) -> Log:
+    """`PATH` or `@HOST=PATH`."""
+    match = AT_HOST.fullmatch(text)
+    path, host = (match[2], match[1]) if match else (text, None)
+    return Log(path, host, [os.path.abspath(path + suffix)] if suffix else [])
+
+
+def counted(engine: Engine, logs: list[Log], asked: Reply) -> tuple[list[Reply], Reply]:
+    """The heads of all logs' tables, and their sum."""
+    level = []
+    for it in logs:
+        host = engine.host(it.host) if it.host else None
+        request = {**asked, "what": "count", "log": it.path, "targets": it.kept}
+        level.append(engine.submit(request, host=host))
+    heads = [engine.head(it) for it in level]
+    while len(level) > 1:
+        merge = {"what": "merge", "targets": []}
+        level = [engine.submit(merge, *level[at : at + WIDTH]) for at in range(0, len(level), WIDTH)]
+    show = shown(engine, "log", len(heads), lambda it: int(it.get("asked", 0)))
+    found = engine.outcomes(heads, show)
+    return found, engine.outcomes(level)[0]
+
+
+def _files(regions: str, inputs: Inputs | None) -> dict[str, bytes]:
+    with open(regions, "rb") as file:
+        files = {"networks": file.read(), **kit.programs(), "hsp.zip": kit.companion()}
+    return files | (kit.files_of(inputs) if inputs else {})
+
+
+def _checked(logs: list[Log], regions: str, output: str | None) -> None:
+    """Refuses a run that would read what it writes."""
+    if any(it.path == "-" for it in logs):
+        raise Unfit("standard input isn't a log that workers can read")
+    sources = {os.path.realpath(it.path) for it in logs if not it.host} | {os.path.realpath(regions)}
+    for path in [*([output] if output else []), *(it for log in logs for it in log.kept)]:
+        if os.path.realpath(path) in sources:
+            raise Unfit(f"{path}: it would be read and written")
+    kept = [(it.host, path) for it in logs for path in it.kept]
+    if len(set(kept)) < len(kept):
+        raise Unfit("a log is given twice, and its queries have one file")
+
+
+@click.command()
+@click.argument("logs", metavar="LOG..", nargs=-1, required=True)
+@click.option(
+    "--regions", "--networks", "regions", metavar="FILE", required=True, help="network,region, or a MaxMind database"
+)
+@click.option("--into", metavar="DIR", type=FOLDER, help="the folder whose demand.csv is written")
+@click.option("-o", "--output", metavar="FILE", help="the table, in place of DIR/demand.csv")
+@click.option("--keep", metavar="SUFFIX", help="also the queries of each LOG, in LOG with this suffix")
+@with_forms
+@with_cluster
+def demand(logs: tuple[str, ...], regions: str, into: str | None, keep: str | None, **given: Any) -> None:
+    """Counts the queries of access logs by region and handle, on many processors or machines.
+
+    A LOG is the path of a file that every worker can read, or @HOST=PATH where only the workers of one host can. The
+    table is that of hsp demand over all logs in their order.
+    """
+    desk = Desk()
+    place, output = place_of(given), output_of(given, into)
+    named = [log_of(it, keep) for it in logs]
+    _checked(named, regions, output)
+    form, seek = form_of(given), regions_in(regions, given["by"], given["elsewhere"])
+    reading, tally, inputs = Reading(form, seek, Judge(desk)), Tally(desk), service_of(into)
+    asked = {"form": told_of(form), "by": given["by"], "elsewhere": given["elsewhere"]}
+    targets: Targets = [(it.kept, it.host) for it in named]
+    with session(place, targets) as engine:
+        engine.ship(_files(regions, inputs), given["installed"])
+        heads, whole = counted(engine, named, asked)
+        reading.skipped = skipped_of(whole["skipped"])
+        tally.asked = whole["asked"]
+        some_in(logs, reading, tally)
+        tally.take(dict(counts_in(whole["table"])), whole["is_joined"])
+        text, is_joined = tally.demand(inputs, given["unit"])
+        hosts = [engine.host(it.host) if it.host else None for it in named]
+        engine.is_publishing = True
+        if output:
+            replace_all({output: text})
+        engine.publish([(it.kept, head, host) for it, head, host in zip(named, heads, hosts) if it.kept])
+    if not output:
+        click.echo(text, nl=False)
+    lines = [summary(logs, reading, tally), *skipped_lines(reading), rows_line(output, text, is_joined)]
+    lacking = tally.without_costs(inputs) if inputs else []
+    if inputs and lacking:
+        lines.append(f"{inputs.costs} has no cost yet of {listed(lacking)}")
+    for line in lines:
+        click.echo(printable(line), err=output is None)

@@ -1,0 +1,163 @@
+"""`hsp fleet dispatch`: a part for each front, and its answers beside its log."""
+
+from __future__ import annotations
+
+import contextlib
+import os
+import re
+import tempfile
+from collections import Counter
+from dataclasses import dataclass, field
+from typing import Any
+
+import click
+
+from hsp.bring import FOLDER
+from hsp.faults import Unfit, printable
+from hsp.fleet import kit
+from hsp.fleet.answers import SUMS, line_of_row
+from hsp.fleet.engine import Engine, Reply
+from hsp.fleet.progress import shown
+from hsp.fleet.session import Targets, place_of, session, with_cluster
+from hsp.fleet.split import Parted
+from hsp.numbers import listed, some
+from hsp.programs import Missing
+from hsp.service import inputs_in
+
+SUFFIX = ".answers"
+OF_FRONT = re.compile(r"([0-9]+)(?:@([^=/]+))?=(.+)", re.DOTALL)
+
+
+@dataclass
+class Front:
+    """A front, or all of them where it has no number, and its logs at one host."""
+
+    number: int | None
+    host: str | None
+    logs: list[str] = field(default_factory=list)
+
+    @property
+    def targets(self) -> list[str]:
+        return [os.path.abspath(it + SUFFIX) for it in self.logs]
+
+
+def fronts_of(words: tuple[str, ...], most: int) -> list[Front]:
+    """The fronts in their order. Several logs of a front are one log."""
+    found: dict[int, Front] = {}
+    for text in words:
+        match = OF_FRONT.fullmatch(text)
+        if not match and len(words) > 1:
+            raise click.UsageError(f"'{text}' names no front: give FRONT=LOG or FRONT@HOST=LOG, or one log of all")
+        if not match:
+            return [Front(None, None, [text])]
+        number, host = int(match[1]), match[2]
+        if number >= most:
+            raise click.UsageError(f"front {number} isn't one of {most}: the first one is 0")
+        own = found.setdefault(number, Front(number, host))
+        if own.host != host:
+            raise click.UsageError(f"front {number} has logs at two hosts: a front begins with its whole share again")
+        own.logs.append(match[3])
+    names = [(it.host, path) for it in found.values() for path in it.targets]
+    if len(set(names)) < len(names):
+        raise click.UsageError("a log is given twice")
+    return [found[it] for it in sorted(found)]
+
+
+def request_of(front: Front, options: dict[str, Any], targets: list[str]) -> Reply:
+    told = {name: options[name] for name in ("fronts", "any_handle", "unit")}
+    return {**told, "what": "answer", "front": front.number, "logs": front.logs, "targets": targets}
+
+
+def _rows(reply: Reply) -> int:
+    return sum(reply["sums"].values()) if "sums" in reply else 0
+
+
+def apart(engine: Engine, fronts: list[Front], options: dict[str, Any]) -> list[Reply]:
+    """Answers the logs of each front, and publishes all answers."""
+    hosts = [engine.host(it.host) if it.host else None for it in fronts]
+    parts = [
+        engine.submit(request_of(it, options, it.targets), host=host) for it, host in zip(fronts, hosts, strict=True)
+    ]
+    replies = engine.outcomes(parts, shown(engine, "front", len(parts), _rows))
+    engine.publish([(it.targets, reply, host) for it, reply, host in zip(fronts, replies, hosts)])
+    return replies
+
+
+def beside(own: Front) -> "tempfile.TemporaryDirectory[str]":
+    """A folder for the logs of each front, beside the log of all: every worker has to read them."""
+    return tempfile.TemporaryDirectory(dir=os.path.dirname(own.targets[0]), prefix=".hsp-fleet-")
+
+
+def together(engine: Engine, own: Front, folder: str, options: dict[str, Any]) -> list[Reply]:
+    """Answers a log of all fronts: each front apart, and the answers in the order of the log."""
+    log, output = own.logs[0], own.targets[0]
+    parted = Parted(log, folder, options["fronts"])
+    if not parted.is_plain:
+        return _in_one(engine, own, options)
+    fronts = [Front(at, None, [it]) for at, it in enumerate(parted.logs)]
+    parts = [engine.submit(request_of(it, options, it.targets)) for it in fronts]
+    replies = engine.outcomes(parts, shown(engine, "front", len(parts), _rows), every=True)
+    _fine(parted, replies)
+    engine.publish([(it.targets, reply, None) for it, reply in zip(fronts, replies)])
+    parted.merge([it.targets[0] for it in fronts], output)
+    return replies
+
+
+def _fine(parted: Parted, replies: list[Reply]) -> None:
+    """Reports the first fault of the log, as one run would."""
+    rows = [(parted.row(at, it["row"]), it) for at, it in enumerate(replies) if "row" in it]
+    if rows:
+        row, fault = min(rows, key=lambda it: it[0])
+        raise Unfit(f"{parted.path}: line {line_of_row(parted.path, row)}: {fault['word']}")
+    for it in replies:
+        if "fault" in it:
+            raise Unfit(it["fault"])
+
+
+def _in_one(engine: Engine, own: Front, options: dict[str, Any]) -> list[Reply]:
+    """A log that can't be parted by its lines is answered by one run."""
+    if options["any_handle"]:
+        wanted = f"with --any-handle each line has to begin with a front below {options['fronts']}"
+        raise Unfit(f"{own.logs[0]}: {wanted}")
+    parts = [engine.submit(request_of(own, options, own.targets))]
+    replies = engine.outcomes(parts, shown(engine, "log", 1, _rows))
+    engine.publish([(own.targets, replies[0], None)])
+    return replies
+
+
+@click.command()
+@click.argument("folder", metavar="DIR", type=FOLDER)
+@click.argument("logs", metavar="[FRONT[@HOST]=]LOG..", nargs=-1, required=True)
+@click.option("--fronts", type=click.IntRange(1, 64), required=True, metavar="N", help="how many fronts the plan has")
+@click.option("--plan", metavar="FILE", help="the certificate, in place of DIR/plan.txt")
+@click.option("--any-handle", is_flag=True, help="answer by hsplan-stream: any handle, and logs of any length")
+@click.option("--unit", type=click.IntRange(1, 1_000_000), metavar="N", help="of the demand, with --any-handle")
+@with_cluster
+def dispatch(folder: str, logs: tuple[str, ...], plan: str | None, **given: Any) -> None:
+    """Answers the queries of logs by the plan of DIR, each front by its share, on many processors or machines.
+
+    A front's LOG is a table region,handle. Every worker can read it, or those of its host only. The answers are in
+    LOG.answers. One LOG of all fronts is a table front,region,handle.
+    """
+    place, fronts = place_of(given), fronts_of(logs, given["fronts"])
+    if given["unit"] and not given["any_handle"]:
+        raise click.UsageError("--unit needs --any-handle")
+    certificate = plan or os.path.normpath(os.path.join(folder, "plan.txt"))
+    if not os.path.isfile(certificate):
+        raise Missing(f"{certificate}: no such file: hsp plan {folder} makes it")
+    files = {**kit.files_of(inputs_in(folder, {}), certificate), **kit.programs(), "hsp.zip": kit.companion()}
+    targets: Targets = [(it.targets, it.host) for it in fronts]
+    with contextlib.ExitStack() as stack:
+        folder = stack.enter_context(beside(fronts[0])) if fronts[0].number is None else ""
+        engine = stack.enter_context(session(place, targets))
+        engine.ship(files, given["installed"])
+        if folder:
+            replies = together(engine, fronts[0], folder, given)
+        else:
+            replies = apart(engine, fronts, given)
+    sums: Counter[str] = Counter()
+    for it in replies:
+        sums.update(it["sums"])
+    answers = [path + SUFFIX for it in fronts for path in it.logs]
+    counts = ", ".join(f"{sums[it]:,} {it}" for it in SUMS if sums[it])
+    click.echo(printable(f"{some(sum(sums.values()), 'row')}: {counts}; answers in {listed(answers)}"))

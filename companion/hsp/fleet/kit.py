@@ -1,0 +1,56 @@
+"""What a run's workers need: the programs, the files of the plan and hsp itself, under SHA-256 sums."""
+
+from __future__ import annotations
+
+import importlib.resources
+import importlib.util
+import io
+import marshal
+import zipfile
+from collections.abc import Iterator
+from typing import Any
+
+from hsp.fleet.answers import FILES
+from hsp.programs import Inputs, program
+
+# The beginning of a compiled module that is taken without a look at its source.
+UNCHECKED = (1).to_bytes(4, "little")
+
+
+def _modules(folder: Any, name: str) -> Iterator[tuple[str, bytes]]:
+    for it in folder.iterdir():
+        if it.is_dir() and not it.name.startswith("__"):
+            yield from _modules(it, f"{name}/{it.name}")
+        elif it.name.endswith(".py"):
+            yield f"{name}/{it.name}", it.read_bytes()
+
+
+def _compiled(name: str, source: bytes) -> bytes:
+    """A module as Python keeps it. Workers have the same Python, so a part doesn't compile it once more."""
+    code = compile(source, name, "exec", dont_inherit=True)
+    head: list[Any] = [importlib.util.MAGIC_NUMBER, UNCHECKED, importlib.util.source_hash(source)]
+    return b"".join([*head, marshal.dumps(code)])
+
+
+def companion() -> bytes:
+    """The modules of hsp as a zip archive that Python imports from."""
+    room = io.BytesIO()
+    with zipfile.ZipFile(room, "w") as packed:
+        for name, source in sorted(_modules(importlib.resources.files("hsp"), "hsp")):
+            packed.writestr(f"{name}c", _compiled(name, source))
+    return room.getvalue()
+
+
+def _octets(path: str) -> bytes:
+    with open(path, "rb") as file:
+        return file.read()
+
+
+def programs() -> dict[str, bytes]:
+    return {name: _octets(program(name)) for name in ("hsplan", "hsplan-stream")}
+
+
+def files_of(inputs: Inputs, plan: str = "") -> dict[str, bytes]:
+    """The files of a service by their kinds, those that there are."""
+    paths = {it: getattr(inputs, it) for it in FILES if it != "plan"} | {"plan": plan}
+    return {kind: _octets(path) for kind, path in paths.items() if path}

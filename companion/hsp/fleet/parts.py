@@ -1,0 +1,108 @@
+"""The parts of a run. A worker runs each in a Python of its own, with a request and a reply in JSON."""
+
+from __future__ import annotations
+
+import itertools
+import json
+import os
+import re
+import sys
+from collections import Counter
+from collections.abc import Callable
+from typing import Any
+
+from hsp.faults import Unfit
+from hsp.fleet import answers
+from hsp.fleet.tables import Table, merged
+from hsp.forms import Form
+from hsp.programs import Desk, Inputs, Missing, Refused
+from hsp.queries import Judge, Query, Reading, field_of, queries
+from hsp.regions import regions_in
+
+CHUNK = 1 << 16
+LOG_HEADER = b"region,handle\n"
+Request = dict[str, Any]
+Reply = dict[str, Any]
+
+
+def inputs_of(files: dict[str, str]) -> Inputs | None:
+    """The sites and costs of a run, where it has them."""
+    if "settings" not in files or "costs" not in files:
+        return None
+    return Inputs(files["settings"], "", files["costs"], "", files.get("values"))
+
+
+def form_of(told: Request) -> Form:
+    pattern = re.compile(os.fsencode(told["pattern"])) if told["pattern"] else None
+    prefixes = frozenset(os.fsencode(it) for it in told["prefixes"])
+    return Form(told["name"], told["client"], told["handle"], told["path"], pattern, prefixes)
+
+
+def told_of(form: Form) -> Request:
+    """A form as a request has it."""
+    pattern = os.fsdecode(form.pattern.pattern) if form.pattern else None
+    prefixes = sorted(map(os.fsdecode, form.prefixes))
+    names = {"name": form.name, "client": form.client, "handle": form.handle, "path": form.path}
+    return {**names, "pattern": pattern, "prefixes": prefixes}
+
+
+def count(request: Request) -> Reply:
+    """Counts a log. Its queries are kept beside it where a file for them is named."""
+    desk = Desk()
+    seek = regions_in(request["files"]["networks"], request["by"], request["elsewhere"])
+    reading = Reading(form_of(request["form"]), seek, Judge(desk))
+    table, asked = Table(desk, inputs_of(request["files"])), 0
+    rows = iter(queries(request["log"], reading))
+    kept = open(request["staged"][0], "wb") if request["staged"] else None
+    try:
+        if kept:
+            kept.write(LOG_HEADER)
+        while chunk := list(itertools.islice(rows, CHUNK)):
+            asked += len(chunk)
+            of_chunk: Counter[Query] = Counter(chunk)
+            table.add(of_chunk.items())
+            if kept:
+                kept.write(b"".join(b"%b,%b\n" % (field_of(region), field_of(handle)) for region, handle in chunk))
+        if kept:
+            kept.flush()
+            os.fsync(kept.fileno())
+    finally:
+        if kept:
+            kept.close()
+    skipped = {"counts": reading.skipped.counts, "first": reading.skipped.first}
+    return {**table.told(), "asked": asked, "skipped": [skipped]}
+
+
+def merge(request: Request) -> Reply:
+    """Adds up the tables of parts."""
+    before = request["before"]
+    table = merged(before, Table(Desk(), inputs_of(request["files"])))
+    skipped = [it for told in before for it in told["skipped"]]
+    return {**table.told(), "asked": sum(it["asked"] for it in before), "skipped": skipped}
+
+
+WORK: dict[str, Callable[[Request], Reply]] = {"count": count, "merge": merge, "answer": answers.answer}
+
+
+def replied(request: Request) -> Reply:
+    """What a part found; or `fault`, which no repetition mends; or `again`, which one may mend."""
+    try:
+        return WORK[request["what"]](request)
+    except Unfit as fault:
+        return {"fault": fault.message, "status": 1}
+    except Refused as fault:
+        return {"fault": fault.line, "status": fault.status}
+    except Missing as fault:
+        return {"fault": str(fault), "status": 5}
+    except answers.Again as fault:
+        return {"again": str(fault), "status": fault.status}
+    except MemoryError:
+        return {"again": "out of memory", "status": 4}
+    except OSError as fault:
+        return {"again": f"{fault.filename}: {fault.strerror}", "status": 5}
+
+
+def main() -> None:
+    with open(sys.argv[2], encoding="ascii") as file:
+        request = json.load(file)
+    json.dump(replied(request), sys.stdout)

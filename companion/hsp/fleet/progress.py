@@ -1,0 +1,31 @@
+"""How far a run is, on a terminal: parts, rows a second, workers."""
+
+from __future__ import annotations
+
+import sys
+import time
+from collections.abc import Callable
+from typing import Any
+
+import click
+
+from hsp.fleet.engine import Engine, Reply
+from hsp.numbers import some
+
+
+def shown(engine: Engine, word: str, number: int, rows_of: Callable[[Reply], int]) -> Callable[[list[Reply]], Any]:
+    """Shows twice a second how many of `number` logs or fronts are done."""
+    begun, last = time.monotonic(), 0.0
+
+    def show(done: list[Reply]) -> None:
+        nonlocal last
+        now = time.monotonic()
+        if now - last < 0.5 and len(done) < number or not sys.stderr.isatty():
+            return
+        last = now
+        speed = sum(map(rows_of, done)) / max(now - begun, 0.001)
+        workers = some(len(engine.workers()), "worker")
+        line = f"{len(done):,} of {some(number, word)}, {speed:,.0f} rows a second, {workers}"
+        click.echo(f"\r{line}\033[K" + ("\r\033[K" if len(done) == number else ""), err=True, nl=False)
+
+    return show

@@ -1,0 +1,86 @@
+"""A run from its first worker to its last file, and the options that say where it runs."""
+
+from __future__ import annotations
+
+import contextlib
+import signal
+import sys
+from collections.abc import Callable, Iterator
+from typing import Any, TypeVar
+
+import click
+
+from hsp.faults import Unfit, printable
+from hsp.fleet.engine import BROKEN, Engine, Place, Unfinished
+from hsp.fleet.local import Gone
+
+Command = TypeVar("Command", bound=Callable[..., Any])
+# Paths whose unpublished files are taken away at the end, and their host.
+Targets = list[tuple[list[str], str | None]]
+STOPPED = 128
+OPTIONS = [
+    click.option("--workers", type=click.IntRange(1, 256), metavar="N", help="of this machine; one a processor"),
+    click.option("--scheduler", metavar="ADDRESS", help="tcp://HOST:PORT or tls://HOST:PORT that runs already"),
+    click.option("--tls-ca", metavar="FILE", help="the certificate of the authority that a tls scheduler trusts"),
+    click.option("--tls-cert", metavar="FILE", help="this client's certificate"),
+    click.option("--tls-key", metavar="FILE", help="its key"),
+    click.option("--installed", is_flag=True, help="workers use the programs in their PATH, if these are the same"),
+    click.option(
+        "--patience", type=click.FloatRange(1), default=60, show_default=True, help="seconds to wait for a worker"
+    ),
+]
+
+
+def with_cluster(command: Command) -> Command:
+    """Adds the options that say where a run takes place."""
+    for option in reversed(OPTIONS):
+        command = option(command)
+    return command
+
+
+def place_of(given: dict[str, Any]) -> Place:
+    """Where a run takes place by its options."""
+    scheduler, workers = given["scheduler"], given["workers"]
+    keys = given["tls_ca"], given["tls_cert"], given["tls_key"]
+    if scheduler and workers:
+        raise click.UsageError("--workers is for this machine, --scheduler for workers that run already")
+    if not scheduler and any(keys):
+        raise click.UsageError("--tls-ca, --tls-cert and --tls-key are for a --scheduler")
+    if scheduler and scheduler.startswith("tls:") != all(keys) or any(keys) != all(keys):
+        raise click.UsageError("a scheduler at tls:// needs --tls-ca, --tls-cert and --tls-key, another one none")
+    return Place(scheduler, workers, keys, given["patience"])
+
+
+@contextlib.contextmanager
+def session(place: Place, targets: Targets) -> Iterator[Engine]:
+    """A run. It ends with one line where it can't go on, and takes away all that it hasn't published."""
+    engine: Engine | None = None
+
+    def stop(number: int, _: Any) -> None:
+        if not engine or not engine.is_publishing:
+            raise Unfinished(STOPPED + number, "interrupted; nothing was written")
+
+    before = {it: signal.signal(it, stop) for it in (signal.SIGINT, signal.SIGTERM, signal.SIGHUP)}
+    try:
+        engine = Engine(place)
+        yield engine
+    except Unfinished as fault:
+        _ended(fault.status, str(fault))
+    except Gone as fault:
+        _ended(BROKEN, str(fault))
+    finally:
+        for it in before:
+            signal.signal(it, signal.SIG_IGN)
+        if engine:
+            engine.end(targets)
+        for number, handler in before.items():
+            signal.signal(number, handler)
+
+
+def _ended(status: int, line: str) -> None:
+    if sys.stderr.isatty():
+        click.echo("\r\033[K", err=True, nl=False)
+    if status == 1:
+        raise Unfit(printable(line))
+    click.echo(printable(f"hsp: {line}"), err=True)
+    sys.exit(status)

@@ -1,0 +1,107 @@
+"""Counts that add up: tables of parts, joined by kinds as soon as they are long, so that no table grows with a log."""
+
+from __future__ import annotations
+
+import csv
+import io
+import math
+import os
+from collections.abc import Iterable
+from dataclasses import dataclass, field
+
+from hsp.faults import Unfit
+from hsp.logs import Skipped
+from hsp.programs import Desk, Inputs, Refused
+from hsp.queries import Query
+from hsp.tally import HEADER, MOST_ROWS, advice, rows_of
+
+# So many pairs are counted in memory, before they are joined.
+MOST_PAIRS = 1 << 19
+Counts = list[tuple[Query, int]]
+
+
+def counts_in(text: str) -> Counts:
+    """The rows of a table of demand."""
+    rows = list(csv.reader(io.StringIO(text, newline="")))[1:]
+    return [((region.encode(), handle.encode()), int(count)) for region, handle, count in rows]
+
+
+def joined(desk: Desk, inputs: Inputs, counts: Counts) -> Counts:
+    """The sums of each kind, in the order in which the kinds first come.
+
+    A demand has a greatest count, and sums may be above it. Then the counts are parted into a high and a low digit,
+    whose sums are joined apart: sums of kinds add up.
+    """
+    log = desk.put(HEADER + b"".join(rows_of(counts)), ".csv")
+    try:
+        return counts_in(desk.kinds(inputs, log, None))
+    except Refused as fault:
+        most = max(count for _, count in counts)
+        if "CountTooLarge" not in fault.line or most < 2:
+            raise
+    finally:
+        os.unlink(log)
+    base = math.isqrt(most) + 1
+    high = joined(desk, inputs, [(it, count // base) for it, count in counts])
+    low = joined(desk, inputs, [(it, count % base) for it, count in counts])
+    return [(it, base * more + less) for (it, more), (_, less) in zip(high, low, strict=True)]
+
+
+@dataclass
+class Table:
+    """Counts in the order in which their pairs, or their kinds, first come."""
+
+    desk: Desk
+    inputs: Inputs | None
+    most: int = MOST_PAIRS
+    counts: dict[Query, int] = field(default_factory=dict)
+    is_joined: bool = False
+
+    def add(self, pairs: Iterable[tuple[Query, int]]) -> None:
+        counts = self.counts
+        for pair, count in pairs:
+            counts[pair] = counts.get(pair, 0) + count
+        if len(counts) > self.most:
+            self.join()
+
+    def join(self) -> None:
+        """Joins the pairs of one kind."""
+        if not self.inputs:
+            raise Unfit(
+                f"more than {MOST_ROWS:,} rows of demand, which is what hsplan takes. "
+                "Give --into DIR with settings.toml and costs.csv, so that rows of one kind are joined"
+            )
+        try:
+            self.counts = dict(joined(self.desk, self.inputs, list(self.counts.items())))
+        except Refused as fault:
+            raise Unfit(advice(fault)) from None
+        self.is_joined = True
+
+    def told(self) -> dict[str, object]:
+        """The table as a part returns it, short enough to be passed on."""
+        if len(self.counts) > MOST_ROWS:
+            self.join()
+        text = HEADER + b"".join(rows_of(self.counts.items()))
+        return {"table": text.decode(), "is_joined": self.is_joined}
+
+
+def merged(tables: Iterable[dict[str, object]], into: Table) -> Table:
+    """The tables of parts as one, in their order."""
+    for it in tables:
+        into.is_joined |= bool(it["is_joined"])
+        into.add(counts_in(str(it["table"])))
+    if into.is_joined:
+        into.join()
+    return into
+
+
+def skipped_of(parts: Iterable[dict[str, object]]) -> Skipped:
+    """What was passed over in all parts, and where the first line of each reason stands."""
+    whole = Skipped()
+    for it in parts:
+        counts, first = it["counts"], it["first"]
+        assert isinstance(counts, dict) and isinstance(first, dict)
+        for reason, count in counts.items():
+            whole.first.setdefault(reason, first[reason])
+            whole.counts[reason] = whole.counts.get(reason, 0) + count
+    return whole

@@ -1,0 +1,634 @@
+"""hsp fleet: the octets of one run, whatever happens to workers, files, disks and schedulers."""
+
+from __future__ import annotations
+
+import csv
+import gzip
+import json
+import os
+import random
+import shutil
+import signal
+import subprocess
+import sys
+import time
+from collections.abc import Callable, Iterator
+from pathlib import Path
+from typing import NamedTuple
+
+import pytest
+
+from hsp.fleet import answers, remote, tables
+from hsp.fleet.split import Parted
+from hsp.programs import Desk, Inputs
+
+from conftest import TOP, Hsp
+from test_demand import Asked, asked, regions_file, server_line, service
+from test_sites import invoke
+
+FRONTS = 8
+DOCUMENT = (TOP / "docs" / "use" / "FLEET.md").read_text()
+Fleet = Callable[..., "subprocess.CompletedProcess[str]"]
+ENVIRONMENT = {**os.environ, "PYTHONPATH": str(TOP / "companion"), "PYTHONDONTWRITEBYTECODE": "1"}
+
+
+def started(*words: object, **more: object) -> "subprocess.Popen[str]":
+    command = [sys.executable, "-m", "hsp", "fleet", *map(str, words)]
+    environment = {**os.environ, **ENVIRONMENT}
+    streams = {"stdin": subprocess.DEVNULL, "stdout": subprocess.PIPE, "stderr": subprocess.PIPE}
+    return subprocess.Popen(command, env=environment, text=True, **{**streams, **more})  # type: ignore[call-overload, no-any-return]
+
+
+def ended(run: "subprocess.Popen[str]", status: int) -> str:
+    """What a run printed, with no trace of Python."""
+    out, told = run.communicate(timeout=100)
+    assert run.returncode == status, out + told
+    assert "Traceback" not in told and "Error" not in told, told
+    assert status == 0 or not out, out
+    return out + told
+
+
+def fleet(*words: object, status: int = 0) -> str:
+    return ended(started(*words), status)
+
+
+def children(process: int) -> list[int]:
+    done = subprocess.run(["pgrep", "-P", str(process)], capture_output=True, text=True)
+    return [int(it) for it in done.stdout.split()]
+
+
+def named(process: int, word: str) -> bool:
+    try:
+        return word in Path(f"/proc/{process}/cmdline").read_text()
+    except OSError:
+        return False
+
+
+def at_work(run: "subprocess.Popen[str]") -> int:
+    """A worker of a run that has begun a part."""
+    until = time.monotonic() + 60
+    while time.monotonic() < until and run.poll() is None:
+        for worker in children(run.pid):
+            if any(named(it, "hsp.fleet.parts") for it in children(worker)):
+                return worker
+        time.sleep(0.005)
+    raise AssertionError("no worker has begun a part")
+
+
+def left(folder: Path) -> list[str]:
+    """What a run has left behind that it hasn't published."""
+    return [it.name for it in folder.iterdir() if ".fleet-" in it.name or it.name.startswith(".hsp-fleet-")]
+
+
+class Million(NamedTuple):
+    """A service, its plan, a log of 10^6 rows over 8 fronts, and what one hsplan answers to all and to each front."""
+
+    folder: Path
+    answers: bytes
+    of_front: list[bytes]
+
+    def written(self, into: Path, front: int) -> Path:
+        """The log of a front. It is another name of the same file, which nobody may write to."""
+        path = into / f"front-{front}.csv"
+        os.link(self.folder / path.name, path)
+        return path
+
+    def all_written(self, into: Path) -> list[str]:
+        return [f"{at}={self.written(into, at)}" for at in range(FRONTS)]
+
+    def are_answered(self, into: Path) -> bool:
+        found = [(into / f"front-{at}.csv.answers").read_bytes() for at in range(FRONTS)]
+        return found == self.of_front and not left(into)
+
+
+def changed(path: Path, octets: bytes) -> None:
+    """Puts another file in the place of one with several names."""
+    path.unlink()
+    path.write_bytes(octets)
+
+
+def words_of(folder: Path) -> list[str]:
+    names = ("settings.toml", "demand.csv", "costs.csv", "capacity.csv", "plan.txt")
+    return [it for name in names for it in (f"--{name.split('.')[0]}", str(folder / name))]
+
+
+def one_run(folder: Path, log: Path, fronts: int = FRONTS) -> "subprocess.CompletedProcess[bytes]":
+    words = [os.environ["HSPLAN"], "dispatch", *words_of(folder), "--log", str(log), "--fronts", str(fronts)]
+    return subprocess.run(words, capture_output=True)
+
+
+@pytest.fixture(scope="module")
+def million(twelve: Path, hsp: Hsp) -> Million:
+    hsp("plan", str(twelve))
+    with open(twelve / "demand.csv", newline="") as file:
+        demand = list(csv.reader(file))[1:]
+    draw = random.Random(51)
+    pool = [f"{region},{handle}".encode() for region, handle, _ in demand] + [b"eu,20.500.1/nobody-plans-it"]
+    weights = [int(count) for *_, count in demand] + [300]
+    rows = draw.choices(pool, weights, k=1_000_000)
+    fronts = draw.choices(range(FRONTS), k=len(rows))
+    log = twelve / "events.csv"
+    log.write_bytes(b"front,region,handle\n" + b"".join(b"%d,%b\n" % it for it in zip(fronts, rows)))
+    done = one_run(twelve, log)
+    assert done.returncode == 0
+    answers = done.stdout.splitlines(keepends=True)
+    assert len(answers) == len(rows) and len({it.split()[0] for it in answers}) == 3
+    of_front: list[list[bytes]] = [[] for _ in range(FRONTS)]
+    logs: list[list[bytes]] = [[b"region,handle"] for _ in range(FRONTS)]
+    for front, row, answer in zip(fronts, rows, answers):
+        of_front[front].append(answer)
+        logs[front].append(row)
+    for front, lines in enumerate(logs):
+        (twelve / f"front-{front}.csv").write_bytes(b"\n".join(lines) + b"\n")
+    return Million(twelve, done.stdout, [b"".join(it) for it in of_front])
+
+
+def test_a_worker_is_killed_while_a_million_rows_are_answered(million: Million, tmp_path: Path) -> None:
+    logs = million.all_written(tmp_path)
+    run = started("dispatch", million.folder, "--fronts", FRONTS, "--workers", 4, *logs)
+    os.kill(at_work(run), signal.SIGKILL)
+    told = ended(run, 0)
+    assert told.startswith("1,000,000 rows: ") and million.are_answered(tmp_path)
+    spent = million.answers.count(b"spent")
+    assert f", {spent:,} spent, " in told
+
+
+@pytest.mark.parametrize("seconds", [0.0, 0.8])
+def test_a_worker_is_killed_while_it_starts(million: Million, tmp_path: Path, seconds: float) -> None:
+    log = million.written(tmp_path, 2)
+    run = started("dispatch", million.folder, "--fronts", FRONTS, "--workers", 2, f"2={log}")
+    workers: list[int] = []
+    while not workers and run.poll() is None:
+        workers = [it for it in children(run.pid) if named(it, "dask_worker")]
+        time.sleep(0.005)
+    time.sleep(seconds)
+    os.kill(workers[0], signal.SIGKILL)
+    ended(run, 0)
+    assert (tmp_path / "front-2.csv.answers").read_bytes() == million.of_front[2] and not left(tmp_path)
+
+
+def test_a_log_of_all_fronts_is_answered_as_by_one_run(million: Million, tmp_path: Path) -> None:
+    log = tmp_path / "events.csv"
+    os.link(million.folder / "events.csv", log)
+    fleet("dispatch", million.folder, "--fronts", FRONTS, "--workers", 2, log)
+    assert (tmp_path / "events.csv.answers").read_bytes() == million.answers
+    assert sorted(it.name for it in tmp_path.iterdir()) == ["events.csv", "events.csv.answers"]
+
+
+def test_several_logs_of_a_front_are_one_log_also_packed(million: Million, tmp_path: Path) -> None:
+    whole = million.written(tmp_path, 5).read_bytes().split(b"\n")[1:-1]
+    first, second = whole[:1000], whole[1000:]
+    header = b"region,handle\r\n"
+    (tmp_path / "a.gz").write_bytes(gzip.compress(header + b"\r\n".join(first) + b"\r\n\r\n"))
+    (tmp_path / "b.csv").write_bytes(b"region,handle\n\n" + b"\n".join(second))
+    (tmp_path / "none.csv").write_bytes(b"region,handle\n")
+    named = [f"5={tmp_path / it}" for it in ("a.gz", "b.csv")] + [f"6={tmp_path / 'none.csv'}"]
+    fleet("dispatch", million.folder, "--fronts", FRONTS, "--workers", 1, *named)
+    answers = million.of_front[5].splitlines(keepends=True)
+    assert (tmp_path / "a.gz.answers").read_bytes() == b"".join(answers[:1000])
+    assert (tmp_path / "b.csv.answers").read_bytes() == b"".join(answers[1000:])
+    assert (tmp_path / "none.csv.answers").read_bytes() == b""
+
+
+def test_any_handle_is_answered_by_the_other_program(million: Million, tmp_path: Path) -> None:
+    wanted = {}
+    logs = [million.written(tmp_path, at) for at in range(2)]
+    for at, log in enumerate(logs):
+        changed(log, log.read_bytes() + b"eu,no handle\neu,20.500.1/never-seen\n")
+        words = [os.environ["HSPLAN_STREAM"], "answer", *words_of(million.folder), "--log", str(log)]
+        done = subprocess.run([*words, "--fronts", "2", "--front", str(at)], capture_output=True, check=True)
+        wanted[f"{log}.answers"] = done.stdout
+    named = [f"{at}={log}" for at, log in enumerate(logs)]
+    told = fleet("dispatch", million.folder, "--fronts", 2, "--workers", 1, "--any-handle", *named)
+    assert " 2 refused; " in told
+    assert all(Path(path).read_bytes() == answers for path, answers in wanted.items())
+
+
+def test_a_bad_row_in_the_third_file_ends_the_run_with_its_line(million: Million, tmp_path: Path) -> None:
+    logs = million.all_written(tmp_path)
+    third = tmp_path / "front-2.csv"
+    lines = third.read_bytes().split(b"\n")
+    lines[41] = b""
+    lines[77] = b"eu,no handle"
+    changed(third, b"\n".join(lines))
+    changed(tmp_path / "front-6.csv", b"region,handle\n,20.1/a\n")
+    told = fleet("dispatch", million.folder, "--fronts", FRONTS, "--workers", 2, *logs, status=1)
+    assert told == f"hsp: {third}: line 78: BadHandle\n"
+    assert not list(tmp_path.glob("*.answers*")) and not left(tmp_path)
+
+
+@pytest.mark.parametrize("rows", [[b'1,"eu",20.1/a', b"0,eu,20.1/a"], [b"9,eu,20.1/a", b"1,eu,20.1/a"]])
+def test_rows_that_cannot_be_parted_are_answered_by_one_run(
+    million: Million, tmp_path: Path, rows: list[bytes]
+) -> None:
+    log = tmp_path / "odd.csv"
+    log.write_bytes(b"front,region,handle\n" + b"\n".join(rows) + b"\n")
+    wanted = one_run(million.folder, log, 2)
+    fleet("dispatch", million.folder, "--fronts", 2, "--workers", 1, log)
+    assert wanted.returncode == 0 and (tmp_path / "odd.csv.answers").read_bytes() == wanted.stdout
+
+
+def test_a_bad_row_of_all_fronts_is_the_first_of_the_log(million: Million, tmp_path: Path) -> None:
+    log = tmp_path / "bad.csv"
+    log.write_bytes(b"front,region,handle\n0,eu,20.1/a\n\n1,eu,20.1/b\n1,eu,none\n0,eu,none\n")
+    told = fleet("dispatch", million.folder, "--fronts", 2, "--workers", 1, log, status=1)
+    assert one_run(million.folder, log, 2).stderr == b"hsplan: log: BadHandle row 2\n"
+    assert told == f"hsp: {log}: line 5: BadHandle\n"
+
+
+# Rows of a log of two fronts: good ones, odd ones, and such as hsplan refuses.
+ROWS = [
+    b"0,eu,20.1/a",
+    b"1,eu,20.1/b",
+    b"0,us,20.500.1/nobody",
+    b"1,asia,20.1/c,d",
+    b"",
+    b"2,eu,20.1/a",
+    b"01,eu,20.1/a",
+]
+ROWS += [
+    b" 0,eu,20.1/a",
+    b"0",
+    b",",
+    b"0,eu,none",
+    b"\xff,eu,20.1/a",
+    b'1,"eu",20.1/a',
+    b'1,eu,"20.1/a\nb"',
+    b"0,eu,20.1/\xff",
+]
+
+
+def test_logs_of_any_rows_are_parted_as_one_run_reads_them(million: Million, tmp_path: Path) -> None:
+    draw, seen = random.Random(94), set()
+    files = {it.split(".")[0]: str(million.folder / it) for it in ("settings.toml", "demand.csv", "plan.txt")}
+    files |= {it: str(million.folder / f"{it}.csv") for it in ("costs", "capacity")}
+    for _ in range(60):
+        kinds = draw.sample(ROWS, draw.randrange(1, 4)) + ROWS[:5]
+        lines = [draw.choice(kinds) + draw.choice([b"\n"] * 9 + [b"\r\n"] * draw.randrange(2)) for _ in range(12)]
+        log = tmp_path / "log.csv"
+        log.write_bytes(b"front,region,handle\n" + b"".join(lines)[: -draw.randrange(1, 3)])
+        wanted = one_run(million.folder, log, 2)
+        parted = Parted(str(log), str(tmp_path), 2)
+        if not parted.is_plain:
+            seen.add("not plain")
+            continue
+        asked = {"fronts": 2, "any_handle": False, "unit": None, "files": files}
+        outs = [str(tmp_path / f"{it}.out") for it in range(2)]
+        parts = zip(range(2), parted.logs, outs)
+        replies = [answers.answer({**asked, "front": it, "logs": [log], "staged": [out]}) for it, log, out in parts]
+        rows = [parted.row(at, it["row"]) for at, it in enumerate(replies) if "row" in it]
+        seen.add(wanted.returncode)
+        if rows:
+            assert wanted.returncode == 1 and wanted.stderr.split()[4] == b"%d" % min(rows)
+            continue
+        parted.merge(outs, str(tmp_path / "merged"))
+        assert wanted.returncode == 0 and (tmp_path / "merged").read_bytes() == wanted.stdout
+    assert seen == {"not plain", 0, 1}
+
+
+def test_a_log_of_all_has_a_greatest_length(tmp_path: Path, monkeypatch: pytest.MonkeyPatch) -> None:
+    monkeypatch.setattr("hsp.fleet.split.MOST_ROWS", 3)
+    (tmp_path / "log").write_bytes(b"front,region,handle\n" + b"0,eu,20.1/a\n" * 4)
+    with pytest.raises(Exception, match="more than 3 rows. Let each front write a file of its own"):
+        Parted(str(tmp_path / "log"), str(tmp_path), 2)
+
+
+class Logs(NamedTuple):
+    """Access logs, the options that read them, and the table that one hsp demand makes of them."""
+
+    options: list[object]
+    paths: list[Path]
+    table: bytes
+
+
+@pytest.fixture
+def logs(tmp_path: Path) -> Logs:
+    """Eleven logs, of which one has no line, and two are packed."""
+    paths = []
+    for number in range(11):
+        rows = [it for it in asked(4000, 60 + number) if it.region != "lab"] if number != 4 else []
+        fresh = [Asked(f"10.1.2.{number}", "eu", f"20.500.1/{number}-{at}") for at in range(2000 if rows else 0)]
+        octets = "".join(f"{server_line(it)}\n" for it in rows + fresh).encode()
+        name = f"{number}.log" if number % 5 else f"{number}.gz"
+        paths.append(tmp_path / name)
+        paths[-1].write_bytes(octets if number % 5 else gzip.compress(octets))
+    folder = service(tmp_path)
+    options = ["--regions", regions_file(tmp_path), "--into", folder, "--unit", 2]
+    invoke("demand", *paths, *options, "-o", tmp_path / "one.csv")
+    table = (tmp_path / "one.csv").read_bytes()
+    assert table.count(b"\n") == 1 + 18
+    return Logs(options, paths, table)
+
+
+def test_a_worker_is_killed_while_logs_are_counted(logs: Logs, tmp_path: Path) -> None:
+    run = started("demand", *logs.paths, *logs.options, "--workers", 1, "--keep", ".rows")
+    os.kill(at_work(run), signal.SIGKILL)
+    told = ended(run, 0)
+    assert (tmp_path / "service" / "demand.csv").read_bytes() == logs.table
+    assert told.startswith("11 logs, ") and not left(tmp_path)
+    words = ["--regions", logs.options[1], "-o", tmp_path / "t", "--log", tmp_path / "rows"]
+    invoke("demand", logs.paths[3], *words)
+    assert (tmp_path / "3.log.rows").read_bytes() == (tmp_path / "rows").read_bytes()
+    assert (tmp_path / "4.log.rows").read_bytes() == b"region,handle\n"
+
+
+def test_what_is_counted_is_planned_and_answered(logs: Logs, tmp_path: Path, hsp: Hsp) -> None:
+    folder, paths = tmp_path / "service", logs.paths[2:4]
+    fleet("demand", *paths, *logs.options, "--workers", 1, "--keep", ".csv")
+    capacity = (folder / "capacity.csv").read_text().replace("1000000000", "500000000")
+    (folder / "capacity.csv").write_text(capacity)
+    hsp("plan", str(folder))
+    options = ["--fronts", 1, "--any-handle", "--unit", 2, "--workers", 1]
+    told = fleet("dispatch", folder, *options, *(f"0={it}.csv" for it in paths))
+    rows = sum(it.read_bytes().count(b"\n") for it in paths)
+    answers = b"".join((tmp_path / f"{it.name}.csv.answers").read_bytes() for it in paths)
+    assert told.startswith(f"{rows:,} rows: {rows:,} assigned; ") and answers.count(b"assigned ") == rows
+
+
+def test_few_pairs_have_the_table_of_one_run(tmp_path: Path) -> None:
+    paths = []
+    for number in range(3):
+        lines = [server_line(it) for it in asked(500, 80 + number)] + ["nonsense"] * number
+        paths.append(tmp_path / f"{number}.log")
+        paths[-1].write_text("\n".join(lines))
+    options = ["--networks", regions_file(tmp_path)]
+    one = invoke("demand", *paths, "--regions", options[1])
+    run = started("demand", *paths, *options, "--workers", 1)
+    out, told = run.communicate(timeout=60)
+    assert (out, told) == (one.stdout, one.stderr) and "  3  not a line of this form; first " in told
+
+
+def test_a_log_of_no_form_ends_the_count_and_is_named(tmp_path: Path) -> None:
+    good, bad, empty = (tmp_path / it for it in ("good.log", "bad.log", "empty.log"))
+    good.write_text("".join(f"{server_line(it)}\n" for it in asked(100, 90)))
+    bad.write_text("what is this\n")
+    empty.write_text("")
+    options = ["--regions", regions_file(tmp_path), "--workers", 1, "-o", tmp_path / "t.csv"]
+    told = fleet("demand", good, bad, *options, status=1)
+    assert told.startswith(f"hsp: {bad}: line 1: a log of no known form; ") and told.count("\n") == 1
+    told = fleet("demand", empty, *options, status=1)
+    assert told == f"hsp: no query is in {empty}: they have no line\n"
+    assert not (tmp_path / "t.csv").exists() and not left(tmp_path)
+
+
+@pytest.mark.parametrize("number", [signal.SIGINT, signal.SIGTERM])
+def test_an_interrupted_run_leaves_nothing(million: Million, tmp_path: Path, number: signal.Signals) -> None:
+    logs = million.all_written(tmp_path)
+    before = sorted(it.name for it in tmp_path.iterdir())
+    run = started("dispatch", million.folder, "--fronts", FRONTS, "--workers", 1, *logs)
+    worker = at_work(run)
+    os.kill(run.pid, number)
+    assert ended(run, 128 + number) == "hsp: interrupted; nothing was written\n"
+    assert sorted(it.name for it in tmp_path.iterdir()) == before
+    assert not Path(f"/proc/{worker}").exists()
+
+
+def test_a_scheduler_that_goes_away_is_one_line(million: Million, tmp_path: Path) -> None:
+    logs = million.all_written(tmp_path)
+    run = started("dispatch", million.folder, "--fronts", FRONTS, "--workers", 1, *logs)
+    at_work(run)
+    scheduler = next(it for it in children(run.pid) if named(it, "dask_scheduler"))
+    os.kill(scheduler, signal.SIGKILL)
+    told = ended(run, 5)
+    assert told.startswith("hsp: the scheduler of this machine has ended") and told.count("\n") == 1
+    assert not list(tmp_path.glob("*.answers*"))
+    words = ("--scheduler", "tcp://127.0.0.1:9", "--patience", 1)
+    told = fleet("dispatch", million.folder, "--fronts", FRONTS, *words, *logs, status=5)
+    assert told.startswith("hsp: no scheduler answers at tcp://127.0.0.1:9: ") and told.count("\n") == 1
+
+
+@pytest.fixture
+def small_disk(tmp_path: Path) -> Iterator[Path]:
+    """A disk of 1 MiB, where the machine allows one."""
+    disk = tmp_path / "disk"
+    disk.mkdir()
+    if subprocess.run(["mount", "-t", "tmpfs", "-o", "size=1m", "tmpfs", str(disk)], capture_output=True).returncode:
+        pytest.skip("no disk can be mounted here")
+    yield disk
+    subprocess.run(["umount", str(disk)], check=True)
+
+
+def test_a_full_disk_is_one_line(million: Million, tmp_path: Path, small_disk: Path) -> None:
+    log = million.written(tmp_path, 0)
+    own = small_disk / "front-0.csv"
+    own.symlink_to(log)
+    told = fleet("dispatch", million.folder, "--fronts", FRONTS, "--workers", 1, f"0={own}", status=5)
+    assert told.count("\n") == 1 and str(own) in told
+    assert [it.name for it in small_disk.iterdir()] == ["front-0.csv"]
+
+
+class Cluster(NamedTuple):
+    """A scheduler, and what starts a worker with another PATH."""
+
+    address: str
+    scheduler: int
+    worker: Callable[[str, str], None]
+
+
+def keys_by_recipe(folder: Path) -> list[str]:
+    """Makes an authority and a key by the commands of the document. Returns the options for Dask."""
+    recipe = next(it for it in DOCUMENT.split("```sh\n") if it.startswith("openssl")).split("```")[0]
+    subprocess.run(["bash", "-e", "-c", recipe], cwd=folder, check=True, capture_output=True)
+    names = {"--tls-ca-file": "ca.pem", "--tls-cert": "cert.pem", "--tls-key": "key.pem"}
+    return ["--protocol", "tls", *(word for option, it in names.items() for word in (option, str(folder / it)))]
+
+
+@pytest.fixture
+def cluster(tmp_path: Path, request: pytest.FixtureRequest) -> Iterator[Cluster]:
+    running = []
+    keys = keys_by_recipe(tmp_path) if getattr(request, "param", "") == "tls" else []
+
+    def start(module: str, path: str, *words: str) -> None:
+        command = [sys.executable, "-m", f"distributed.cli.{module}", *words, *keys]
+        with open(tmp_path / f"{module}.log", "ab") as log:
+            streams = {"stdin": subprocess.DEVNULL, "stdout": log, "stderr": log}
+            running.append(
+                subprocess.Popen(command, env={**os.environ, "PATH": path}, cwd=tmp_path, **streams)  # type: ignore[call-overload]
+            )
+
+    def worker(name: str, path: str) -> None:
+        words = ("--no-nanny", "--nthreads", "1", "--no-dashboard", "--name", name)
+        start("dask_worker", path, address, "--host", "127.0.0.1", *words, "--local-directory", str(tmp_path / name))
+
+    file = tmp_path / "scheduler.json"
+    where = ("--host", "127.0.0.1", "--port", "0", "--dashboard-address", "127.0.0.1:0")
+    start("dask_scheduler", os.environ["PATH"], "--scheduler-file", str(file), "--no-show", *where)
+    until = time.monotonic() + 60
+    while not (file.exists() and file.read_text().endswith("}")) and time.monotonic() < until:
+        time.sleep(0.02)
+    address = str(json.loads(file.read_text())["address"])
+    yield Cluster(address, running[0].pid, worker)
+    for it in running:
+        it.kill()
+    for it in running:
+        it.wait()
+
+
+def test_a_worker_whose_program_has_one_octet_more_gets_no_part(
+    million: Million, cluster: Cluster, tmp_path: Path
+) -> None:
+    paths = {}
+    for name, more in (("good", b""), ("bad", b"\n")):
+        folder = tmp_path / f"bin-{name}"
+        folder.mkdir()
+        for it in ("HSPLAN", "HSPLAN_STREAM"):
+            program = folder / it.lower().replace("_", "-")
+            program.write_bytes(Path(os.environ[it]).read_bytes() + (more if it == "HSPLAN" else b""))
+            program.chmod(0o755)
+        paths[name] = f"{folder}:{os.environ['PATH']}"
+    log = million.written(tmp_path, 3)
+    options = ["--fronts", FRONTS, "--scheduler", cluster.address, "--installed", "--patience", 30]
+    cluster.worker("bad", paths["bad"])
+    told = fleet("dispatch", million.folder, *options, f"3={log}", status=3)
+    reason = f"gets no part: {tmp_path}/bin-bad/hsplan has another SHA-256 sum\n"
+    assert reason in told and told.endswith("hsp: no worker is fit\n") and told.count("\n") == 2
+    cluster.worker("good", paths["good"])
+    until = time.monotonic() + 60
+    while (tmp_path / "dask_scheduler.log").read_text().count("Starting worker compute stream") < 2:
+        assert time.monotonic() < until
+        time.sleep(0.05)
+    told = fleet("dispatch", million.folder, *options, f"3@127.0.0.1={log}", status=0)
+    assert reason in told and (tmp_path / "front-3.csv.answers").read_bytes() == million.of_front[3]
+    assert "no fit worker is at 192.0.2.1" in fleet(
+        "dispatch", million.folder, *options, f"3@192.0.2.1={log}", status=3
+    )
+    assert not left(tmp_path)
+
+
+@pytest.mark.parametrize("number", [signal.SIGINT, signal.SIGKILL])
+def test_a_cluster_ends_the_parts_of_a_run_that_is_gone(
+    cluster: Cluster, tmp_path: Path, number: signal.Signals
+) -> None:
+    cluster.worker("own", os.environ["PATH"])
+    log = tmp_path / "log"
+    log.write_text("".join(f"{server_line(it)}\n" for it in asked(10_000, 92)) * 40)
+    options = ["--regions", regions_file(tmp_path), "--scheduler", cluster.address, "--keep", ".rows"]
+    run = started("demand", log, *options, "-o", tmp_path / "t")
+    until = time.monotonic() + 60
+    while not left(tmp_path) and run.poll() is None and time.monotonic() < until:
+        time.sleep(0.01)
+    assert left(tmp_path)
+    os.kill(run.pid, number)
+    run.communicate(timeout=60)
+    assert run.returncode == (130 if number == signal.SIGINT else -signal.SIGKILL)
+    until = time.monotonic() + 20
+    while left(tmp_path) and time.monotonic() < until:
+        time.sleep(0.05)
+    assert not left(tmp_path) and not (tmp_path / "t").exists() and not (tmp_path / "log.rows").exists()
+
+
+@pytest.mark.parametrize("cluster", ["tls"], indirect=True)
+def test_a_cluster_with_keys_answers_who_has_one(million: Million, cluster: Cluster, tmp_path: Path) -> None:
+    cluster.worker("own", os.environ["PATH"])
+    log = million.written(tmp_path, 1)
+    options = ["--fronts", FRONTS, "--scheduler", cluster.address, "--patience", 10]
+    keys = ["--tls-ca", tmp_path / "ca.pem", "--tls-cert", tmp_path / "cert.pem", "--tls-key", tmp_path / "key.pem"]
+    fleet("dispatch", million.folder, *options, *keys, f"1={log}")
+    assert (
+        cluster.address.startswith("tls://")
+        and (tmp_path / "front-1.csv.answers").read_bytes() == million.of_front[1]
+    )
+    (tmp_path / "other").mkdir()
+    keys_by_recipe(tmp_path / "other")
+    strange = [
+        *keys[:2],
+        *(it if str(it).startswith("--") else tmp_path / "other" / Path(it).name for it in keys[2:]),
+    ]
+    told = fleet("dispatch", million.folder, *options, *strange, f"1={log}", status=5)
+    assert told.startswith(f"hsp: no scheduler answers at {cluster.address}: ") and told.count("\n") == 1
+
+
+def test_a_cluster_whose_scheduler_goes_away_is_one_line(cluster: Cluster, tmp_path: Path) -> None:
+    cluster.worker("own", os.environ["PATH"])
+    log = tmp_path / "log"
+    log.write_text("".join(f"{server_line(it)}\n" for it in asked(10_000, 93)) * 40)
+    options = ["--regions", regions_file(tmp_path), "--scheduler", cluster.address, "--keep", ".rows"]
+    run = started("demand", log, *options, "-o", tmp_path / "t")
+    until = time.monotonic() + 60
+    while not left(tmp_path) and run.poll() is None and time.monotonic() < until:
+        time.sleep(0.01)
+    os.kill(cluster.scheduler, signal.SIGKILL)
+    told = ended(run, 5)
+    assert told.startswith("hsp: the scheduler has ") and told.count("\n") == 1 and not (tmp_path / "t").exists()
+
+
+def test_sums_above_the_greatest_count_are_joined_exactly(tmp_path: Path) -> None:
+    folder = service(tmp_path)
+    inputs = Inputs(str(folder / "settings.toml"), "", str(folder / "costs.csv"), "")
+    draw, desk = random.Random(91), Desk()
+    pairs = [(draw.choice([b"eu", b"us"]), b"20.500.1/x%d" % number) for number in range(3000)]
+    small = [(it, draw.randrange(300)) for it in pairs]
+    plain = tables.joined(desk, inputs, small)
+    factor = 1_000_003
+    large = tables.joined(desk, inputs, [(it, count * factor) for it, count in small])
+    assert large == [(it, count * factor) for it, count in plain] and max(it for _, it in large) > 10**10
+    assert sum(it for _, it in plain) == sum(it for _, it in small) and len(plain) == 12
+    table = tables.Table(desk, inputs, most=100)
+    for it in small:
+        table.add([it])
+    assert table.is_joined and table.counts.keys() >= dict(plain).keys()
+    table.join()
+    assert list(table.counts.items()) == plain
+
+
+def test_a_file_is_published_once_and_nothing_old_stands_for_it(tmp_path: Path) -> None:
+    path = str(tmp_path / "a.answers")
+    Path(path).write_text("of an earlier run")
+    own = Path(remote.staged(path, "run", "attempt"))
+    own.write_text("new")
+    inodes = [own.stat().st_ino]
+    for _ in range(2):
+        remote.publish("run", [path], "attempt", inodes)
+        assert Path(path).read_text() == "new" and not left(tmp_path)
+    changed(Path(path), b"of another run")
+    with pytest.raises(FileNotFoundError):
+        remote.publish("run", [path], "attempt", [inodes[0] + 10**9])
+
+
+def test_gnu_parallel_answers_the_same(million: Million, tmp_path: Path) -> None:
+    if not shutil.which("parallel"):
+        pytest.skip("no GNU parallel is here")
+    for at in range(FRONTS):
+        million.written(tmp_path, at)
+    recipe = DOCUMENT.split("```sh parallel\n")[1].split("```")[0]
+    environment = {**os.environ, "DIR": str(million.folder), "PATH": f"{tmp_path}/bin:{os.environ['PATH']}"}
+    (tmp_path / "bin").mkdir()
+    for it in ("HSPLAN", "HSPLAN_STREAM"):
+        (tmp_path / "bin" / it.lower().replace("_", "-")).symlink_to(os.environ[it])
+    done = subprocess.run(["bash", "-e", "-c", recipe], cwd=tmp_path, env=environment, capture_output=True, text=True)
+    assert done.returncode == 0, done.stderr
+    assert million.are_answered(tmp_path)
+
+
+def test_progress_is_shown_on_a_terminal(million: Million, tmp_path: Path) -> None:
+    log = million.written(tmp_path, 0)
+    own, its = os.openpty()
+    run = started("dispatch", million.folder, "--fronts", FRONTS, "--workers", 1, f"0={log}", stderr=its)
+    out, _ = run.communicate(timeout=60)
+    os.close(its)
+    shown = os.read(own, 1 << 16).decode()
+    os.close(own)
+    assert run.returncode == 0 and " rows: " in out
+    assert "1 of 1 front, " in shown and " rows a second, 1 worker" in shown and shown.endswith("\r\x1b[K")
+
+
+def test_words_that_are_no_run(million: Million, monkeypatch: pytest.MonkeyPatch, tmp_path: Path) -> None:
+    folder = str(million.folder)
+    wrong = {
+        ("0=a", "0@node=b"): "front 0 has logs at two hosts",
+        ("2=a",): "front 2 isn't one of 2: the first one is 0",
+        ("0=a", "b"): "'b' names no front",
+        ("0=a", "1=a"): "a log is given twice",
+        ("--unit", "3", "0=a"): "--unit needs --any-handle",
+        ("--scheduler", "tls://h:1", "0=a"): "a scheduler at tls:// needs --tls-ca, --tls-cert and --tls-key",
+        ("--tls-ca", "f", "0=a"): "are for a --scheduler",
+        ("--scheduler", "tcp://h:1", "--workers", "2", "0=a"): "--workers is for this machine",
+    }
+    for words, line in wrong.items():
+        assert line in invoke("fleet", "dispatch", folder, "--fronts", "2", *words, status=2).stderr
+    (tmp_path / "empty").mkdir()
+    absent = invoke("fleet", "dispatch", tmp_path / "empty", "--fronts", "2", "0=a", status=5).stderr
+    assert "no such file: hsp plan " in absent
+    monkeypatch.setitem(sys.modules, "distributed", None)
+    line = invoke("fleet", "dispatch", folder, "--fronts", "2", "0=a", status=5).stderr
+    assert line == "hsp: Python has no distributed: install it (Debian: python3-distributed)\n"
