@@ -2,7 +2,7 @@
 
 _hsp_options() {
     local files="--settings --values --demand --costs --capacity --unit --help"
-    local lines="--format --regex --client --handle --path --prefix --elsewhere --by --unit"
+    local lines="--format --regex --client --handle --path --prefix --elsewhere --by --unit --settings --values --costs"
     local place="--workers --scheduler --tls-ca --tls-cert --tls-key --installed --patience --help"
     case $1 in
         plan) echo "$files --all --output --no-save --csv --json" ;;

@@ -43,6 +43,9 @@ complete -c hsp -n "__fish_seen_subcommand_from demand" -l prefix -x -d "count o
 complete -c hsp -n "__fish_seen_subcommand_from demand" -l elsewhere -x -d "region of other clients"
 complete -c hsp -n "__fish_seen_subcommand_from demand" -l by -x -d "field of a MaxMind database"
 complete -c hsp -n "__fish_seen_subcommand_from demand" -l unit -x -d "count in units"
+complete -c hsp -n "__fish_seen_subcommand_from demand" -l settings -r -F -d "the sites"
+complete -c hsp -n "__fish_seen_subcommand_from demand" -l values -r -F -d "a value list"
+complete -c hsp -n "__fish_seen_subcommand_from demand" -l costs -r -F -d "by which handles are joined"
 
 # hsp fleet: its own demand has the options of hsp demand, above.
 set -l of_fleet "__fish_seen_subcommand_from fleet"

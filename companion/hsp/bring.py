@@ -27,6 +27,7 @@ from hsp.sitefiles import Files, Found
 from hsp.tally import Tally
 
 FOLDER = click.Path(exists=True, file_okay=False)
+FILE = click.Path(exists=True, dir_okay=False)
 LOG_HEADER = b"region,handle\n"
 Command = TypeVar("Command", bound=Callable[..., Any])
 
@@ -153,14 +154,17 @@ def skipped_lines(reading: Reading) -> list[str]:
     return [f"skipped {some(reading.skipped.sum, 'line')}", *lines]
 
 
-def service_of(folder: str | None) -> Inputs | None:
-    """The sites and the costs of a folder, where both are there."""
-    if folder is None:
+def service_of(folder: str | None, given: dict[str, Any]) -> Inputs | None:
+    """The sites and the costs by which handles of one kind are joined, where both are there."""
+
+    def path_of(kind: str, name: str) -> str | None:
+        beside = os.path.normpath(os.path.join(folder, name)) if folder else ""
+        return given[kind] or (beside if os.path.isfile(beside) else None)
+
+    settings, costs = path_of("settings", NAMES["settings"]), path_of("costs", NAMES["costs"])
+    if settings is None or costs is None:
         return None
-    settings, costs = (os.path.normpath(os.path.join(folder, NAMES[it])) for it in ("settings", "costs"))
-    values = os.path.join(folder, VALUES)
-    there = os.path.isfile(settings) and os.path.isfile(costs)
-    return Inputs(settings, "", costs, "", values if os.path.isfile(values) else None) if there else None
+    return Inputs(settings, "", costs, "", path_of("values", VALUES))
 
 
 def counted(logs: tuple[str, ...], reading: Reading, tally: Tally, into: Any) -> None:
@@ -215,6 +219,9 @@ FORM_OPTIONS = [
     click.option(
         "--unit", type=click.IntRange(1, 1_000_000), metavar="N", help="count in units of N queries, rounded up"
     ),
+    click.option("--settings", type=FILE, metavar="FILE", help="the sites, in place of DIR's"),
+    click.option("--values", type=FILE, metavar="FILE", help="a value list, in place of DIR's"),
+    click.option("--costs", type=FILE, metavar="FILE", help="by which handles are joined, in place of DIR's"),
 ]
 
 
@@ -252,7 +259,7 @@ def demand(logs: tuple[str, ...], regions: str, into: str | None, kept: str | No
     reading = Reading(form_of(given), regions_in(regions, given["by"], given["elsewhere"]), Judge(desk))
     if sys.stderr.isatty():
         reading.progress = shown_progress()
-    tally, inputs = Tally(desk), service_of(into)
+    tally, inputs = Tally(desk), service_of(into, given)
     with growing(kept) if kept else contextlib.nullcontext() as file:
         counted(logs, reading, tally, file)
         text, is_joined = tally.demand(inputs, given["unit"])

@@ -158,8 +158,8 @@ class Form:
 
         def take(line: bytes) -> Taken:
             try:
-                told: Any = load(line.decode())
-                return told[client].encode(), handles[told[name].encode()]
+                said: Any = load(line.decode())
+                return said[client].encode(), handles[said[name].encode()]
             except (ValueError, KeyError, TypeError, AttributeError, RecursionError):
                 raise Odd from None
 

@@ -62,10 +62,10 @@ class Joined:
 def _settings_in(path: str, octets: bytes) -> list[tuple[str, str | None]]:
     """The name of each site of the settings, and its record in lower case."""
     try:
-        told = tomllib.loads(octets.decode("utf-8-sig"))
+        said = tomllib.loads(octets.decode("utf-8-sig"))
     except (tomllib.TOMLDecodeError, UnicodeDecodeError, RecursionError) as error:
         raise Unfit(f"{path}: not TOML: {error}") from None
-    sites = told.get("site", [])
+    sites = said.get("site", [])
     if not isinstance(sites, list) or not all(isinstance(it, dict) for it in sites):
         raise Unfit(f"{path}: site isn't a list of tables; each site begins with [[site]]")
     return [(str(it.get("name")), str(it["record"]).lower() if "record" in it else None) for it in sites]

@@ -156,13 +156,13 @@ def diverted(plan: Planned) -> int:
 
 def changes_between(old: Service, new: Service) -> list[str]:
     """What was changed between the files of two plans."""
-    told = _changed("capacity of {} {}", _texts(old.capacities), _texts(new.capacities))
-    told += _changed("cost {} to {}", _texts(old.costs), _texts(new.costs))
+    said = _changed("capacity of {} {}", _texts(old.capacities), _texts(new.capacities))
+    said += _changed("cost {} to {}", _texts(old.costs), _texts(new.costs))
     rows = [{(it.region, it.handle): it.count for it in service.rows} for service in (old, new)]
     other = sum(rows[0].get(key) != rows[1].get(key) for key in {*rows[0], *rows[1]})
     if other:
-        told.append(f"demand: {some(other, 'row')}, {old.asked:,} → {new.asked:,} queries")
-    return told + _changed("limit of {}{}", _limits(old), _limits(new))
+        said.append(f"demand: {some(other, 'row')}, {old.asked:,} → {new.asked:,} queries")
+    return said + _changed("limit of {}{}", _limits(old), _limits(new))
 
 
 def _texts(table: Mapping[tuple[str, str], int] | Mapping[tuple[str, int], int]) -> dict[tuple[str, str], int]:

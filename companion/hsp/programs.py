@@ -101,9 +101,9 @@ class Certificate:
     def __init__(self, text: str) -> None:
         self.text = text
         head = text[:200].split("\n")
-        told = dict(it.split(" ") for it in head[2:4] if it.count(" ") == 1)
+        said = dict(it.split(" ") for it in head[2:4] if it.count(" ") == 1)
         self.is_plan = head[1] == "PLAN"
-        self.cost, self.demand, self.capacity = (int(told.get(it, 0)) for it in ("cost", "demand", "capacity"))
+        self.cost, self.demand, self.capacity = (int(said.get(it, 0)) for it in ("cost", "demand", "capacity"))
 
     @functools.cached_property
     def _lines(self) -> dict[str, list[tuple[int, ...]]]:

@@ -159,14 +159,14 @@ class Database:
             return NO_ADDRESS
         family = socket.AF_INET if len(octets) == 4 else socket.AF_INET6
         try:
-            told = self._reader.get(socket.inet_ntop(family, octets))
+            said = self._reader.get(socket.inet_ntop(family, octets))
         except self._damaged as error:
             raise Unfit(f"{self.path}: damaged: {error}") from None
         except ValueError:
-            told = None  # an address of IPv6 in a database of IPv4
+            said = None  # an address of IPv6 in a database of IPv4
         for name in self.by:
-            told = told.get(name) if isinstance(told, dict) else None
-        found = told.encode() if isinstance(told, str) else self.elsewhere
+            said = said.get(name) if isinstance(said, dict) else None
+        found = said.encode() if isinstance(said, str) else self.elsewhere
         return NO_REGION if found is None else found
 
 

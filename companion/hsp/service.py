@@ -148,15 +148,15 @@ def dotted(address: str) -> str:
 def titles_in(folder: str, title: str | None, cost: str | None) -> Titles:
     """The names of the service and its units: those given, or those of `hsp.toml`, or the folder's name."""
     path = os.path.join(folder, TITLES)
-    told: dict[str, Any] = {}
+    said: dict[str, Any] = {}
     if os.path.isfile(path):
         with open(path, "rb") as file:
             try:
-                told = tomllib.load(file)
+                said = tomllib.load(file)
             except (tomllib.TOMLDecodeError, UnicodeDecodeError) as error:
                 raise Missing(f"{path}: not TOML: {error}") from error
     names = [it for it in os.path.abspath(folder).split(os.sep) if it not in ("out", "")]
-    plain: dict[str, str] = {key: str(told[key]) for key in ("title", "cost", "time") if key in told}
+    plain: dict[str, str] = {key: str(said[key]) for key in ("title", "cost", "time") if key in said}
     fallback = names[-1] if names else folder
     own_title = title if title else plain.get("title", fallback)
     own_cost = cost if cost else plain.get("cost", "")

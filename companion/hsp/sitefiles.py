@@ -120,23 +120,23 @@ class Files:
             for it in part.items():
                 yield from self._of_json(notes, it)
             return
-        told = part.fields()
-        if "servers" in told:
+        said = part.fields()
+        if "servers" in said:
             yield self._made(notes, part, None)
-        elif "data" in told and "type" in told:
+        elif "data" in said and "type" in said:
             yield from self._of_value(notes, part)
-        elif "values" in told or "responseCode" in told:
-            yield from self._of_answer(notes, part, told)
+        elif "values" in said or "responseCode" in said:
+            yield from self._of_answer(notes, part, said)
         else:
-            keys = ", ".join(list(told)[:5]) or "nothing"
+            keys = ", ".join(list(said)[:5]) or "nothing"
             raise part.unfit(f"neither values of a handle nor servers of a site; it has {ascii(keys)}")
 
-    def _of_answer(self, notes: Notes, part: Part, told: dict[str, Part]) -> Iterator[Found]:
-        code = told["responseCode"].value if "responseCode" in told else 1
+    def _of_answer(self, notes: Notes, part: Part, said: dict[str, Part]) -> Iterator[Found]:
+        code = said["responseCode"].value if "responseCode" in said else 1
         if code != 1:
             why = " (no such handle)" if code == NO_SUCH_HANDLE else ""
             raise part.unfit(f"the proxy answered with the code {shown(code)}{why}, so no site is in it")
-        values = list(told["values"].items()) if "values" in told else []
+        values = list(said["values"].items()) if "values" in said else []
         kinds = sorted({str(it.fields()["type"].value) for it in values if "type" in it.fields()})
         if not set(kinds) & set(KINDS):
             has = f"its values are of the types {', '.join(map(ascii, kinds))}" if kinds else "it has no values"
@@ -148,22 +148,22 @@ class Files:
 
     def _of_value(self, notes: Notes, part: Part) -> Iterator[Found]:
         """The site of a value. A value of another type is left out."""
-        told = part.fields()
-        kind = told["type"].value if "type" in told else None
+        said = part.fields()
+        kind = said["type"].value if "type" in said else None
         if kind not in KINDS:
             notes.leave(part.path, f"a value of the type {shown(kind)}")
             return
-        if "data" not in told:
+        if "data" not in said:
             raise part.unfit("no data")
-        data = told["data"].fields()
+        data = said["data"].fields()
         form, value = (data.get(it) for it in ("format", "value"))
-        index = told["index"].value if "index" in told else None
+        index = said["index"].value if "index" in said else None
         if value and isinstance(value.value, dict):
             yield self._made(notes, value, index)
         elif value and form and form.value in ("hex", "base64") and isinstance(value.value, str):
             yield self._written(notes, value, form.value == "hex", f"{stem(notes.file)}-{index}")
         else:
-            raise told["data"].unfit(
+            raise said["data"].unfit(
                 f"data of the format {shown(form.value if form else None)}; wanted: site, hex or base64"
             )
 

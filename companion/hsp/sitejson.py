@@ -115,8 +115,8 @@ def key_of_web_key(key: dict[str, Any]) -> bytes:
 
 def key_of(part: Part) -> bytes:
     """The octets of a public key record, or none where they can't be carried over."""
-    told = part.value if isinstance(part.value, dict) else {"value": part.value}
-    form, value = told.get("format"), told.get("value", told)
+    said = part.value if isinstance(part.value, dict) else {"value": part.value}
+    form, value = said.get("format"), said.get("value", said)
     try:
         if isinstance(value, dict):
             return key_of_web_key(value)
@@ -143,28 +143,28 @@ def address_of(part: Part) -> bytes:
 
 def interface_of(part: Part) -> Interface | None:
     """An interface, or none where its protocol has no number."""
-    told = part.fields("query", "admin", "protocol", "port")
-    protocol = told.get("protocol", Part("TCP", part.path, part.notes))
+    said = part.fields("query", "admin", "protocol", "port")
+    protocol = said.get("protocol", Part("TCP", part.path, part.notes))
     name = str(protocol.value).upper()
     if name not in PROTOCOLS and not isinstance(protocol.value, int):
         part.notes.leave(part.path, f"the protocol {shown(protocol.value)} has no known number")
         return None
     number = PROTOCOLS[name] if name in PROTOCOLS else protocol.number(1)
-    admin, query = (it in told and told[it].flag() for it in ("admin", "query"))
+    admin, query = (it in said and said[it].flag() for it in ("admin", "query"))
     return Interface(
-        admin * ADMINISTRATION + query * RESOLUTION, number, told["port"].number(4) if "port" in told else 0
+        admin * ADMINISTRATION + query * RESOLUTION, number, said["port"].number(4) if "port" in said else 0
     )
 
 
 def server_of(part: Part) -> ServerRecord:
-    told = part.fields("serverId", "address", "publicKey", "interfaces")
+    said = part.fields("serverId", "address", "publicKey", "interfaces")
     for name in ("serverId", "address"):
-        if name not in told:
+        if name not in said:
             raise part.unfit(f"no {name}")
-    interfaces = [interface_of(it) for it in told["interfaces"].items()] if "interfaces" in told else []
-    key = key_of(told["publicKey"]) if "publicKey" in told else b""
+    interfaces = [interface_of(it) for it in said["interfaces"].items()] if "interfaces" in said else []
+    key = key_of(said["publicKey"]) if "publicKey" in said else b""
     held = tuple(it for it in interfaces if it)
-    return ServerRecord(told["serverId"].number(4), address_of(told["address"]), key, held)
+    return ServerRecord(said["serverId"].number(4), address_of(said["address"]), key, held)
 
 
 def option_of(part: Part) -> int:
@@ -186,26 +186,26 @@ def protocol_of(part: Part) -> tuple[int, int]:
 
 
 def attribute_of(part: Part) -> tuple[bytes, bytes]:
-    told = part.fields("name", "value")
-    name, value = (told[it].text() if it in told else b"" for it in ("name", "value"))
+    said = part.fields("name", "value")
+    name, value = (said[it].text() if it in said else b"" for it in ("name", "value"))
     return name, value
 
 
 def record_of(part: Part) -> SiteRecord:
     """The record of a site in JSON."""
-    told = part.fields(*SITE_FIELDS)
-    if "servers" not in told or told["servers"].value == []:
+    said = part.fields(*SITE_FIELDS)
+    if "servers" not in said or said["servers"].value == []:
         raise part.unfit("no servers")
-    if "hashOption" not in told:
+    if "hashOption" not in said:
         part.notes.taken.append(f"{part.notes.at(part.path)}: no hashOption, taken for the whole handle")
-    primary, multi = (it in told and told[it].flag() for it in ("primarySite", "multiPrimary"))
+    primary, multi = (it in said and said[it].flag() for it in ("primarySite", "multiPrimary"))
     return SiteRecord(
-        version=told["version"].number(2) if "version" in told else 1,
-        protocol=protocol_of(told["protocolVersion"]) if "protocolVersion" in told else (2, 10),
-        serial=told["serialNumber"].number(2) if "serialNumber" in told else 1,
+        version=said["version"].number(2) if "version" in said else 1,
+        protocol=protocol_of(said["protocolVersion"]) if "protocolVersion" in said else (2, 10),
+        serial=said["serialNumber"].number(2) if "serialNumber" in said else 1,
         mask=primary * PRIMARY + multi * MULTI_PRIMARY,
-        option=option_of(told["hashOption"]) if "hashOption" in told else WHOLE_HANDLE,
-        filter=told["hashFilter"].text() if "hashFilter" in told else b"",
-        attributes=tuple(attribute_of(it) for it in told["attributes"].items()) if "attributes" in told else (),
-        servers=tuple(server_of(it) for it in told["servers"].items()),
+        option=option_of(said["hashOption"]) if "hashOption" in said else WHOLE_HANDLE,
+        filter=said["hashFilter"].text() if "hashFilter" in said else b"",
+        attributes=tuple(attribute_of(it) for it in said["attributes"].items()) if "attributes" in said else (),
+        servers=tuple(server_of(it) for it in said["servers"].items()),
     )

@@ -43,13 +43,13 @@ def _put(root: _Node, bits: str, leaf: bytes) -> None:
 
 
 def database(networks: dict[str, Any]) -> bytes:
-    """The octets of a database of networks of IPv4 and IPv6 with what is told of each."""
+    """The octets of a database of networks of IPv4 and IPv6 with what is said of each."""
     root = _Node(None)
-    parsed = [(ipaddress.ip_network(it), told) for it, told in networks.items()]
-    for network, told in sorted(parsed, key=lambda it: it[0].prefixlen + 96 * (it[0].version == 4)):
+    parsed = [(ipaddress.ip_network(it), said) for it, said in networks.items()]
+    for network, said in sorted(parsed, key=lambda it: it[0].prefixlen + 96 * (it[0].version == 4)):
         whole = f"{int(network.network_address):0128b}"
         length = network.prefixlen + 96 * (network.version == 4)
-        _put(root, whole[:length], _value(told))
+        _put(root, whole[:length], _value(said))
     nodes, leaves = [root], {}
     for node in nodes:
         nodes += [it for it in node.below if isinstance(it, _Node)]
@@ -59,9 +59,9 @@ def database(networks: dict[str, Any]) -> bytes:
         if it not in leaves:
             leaves[it] = len(nodes) + 16 + len(data)
             data += it
-    told = {id(None): len(nodes)}
+    said = {id(None): len(nodes)}
     records = [
-        numbers[id(it)] if isinstance(it, _Node) else leaves.get(it, told[id(None)]) for n in nodes for it in n.below
+        numbers[id(it)] if isinstance(it, _Node) else leaves.get(it, said[id(None)]) for n in nodes for it in n.below
     ]
     metadata = {
         "node_count": (6, len(nodes)),

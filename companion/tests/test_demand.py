@@ -329,12 +329,12 @@ def test_regions_are_those_of_ipaddress(tmp_path: Path) -> None:
 
 def test_regions_of_a_maxmind_database(tmp_path: Path) -> None:
     pytest.importorskip("maxminddb")
-    told = {
+    said = {
         it: {"continent": {"code": region.upper()}, "country": {"iso_code": region}}
         for it, region in NETWORKS.items()
     }
     path = tmp_path / "base.mmdb"
-    path.write_bytes(maxmind.database({**told, "198.51.100.0/24": {"continent": {}}}))
+    path.write_bytes(maxmind.database({**said, "198.51.100.0/24": {"continent": {}}}))
     base = Database(str(path), "country.iso_code", None)
     table = regions_in(regions_file(tmp_path), "", None)
     draw = random.Random(13)
@@ -494,6 +494,8 @@ def test_any_number_of_handles_is_joined_by_kinds(tmp_path: Path) -> None:
     desk = Desk()
     direct = desk.kinds(inputs_of(folder), str(folder / "log.csv"), None)
     assert direct == (folder / "demand.csv").read_text()
+    files = ("--settings", folder / "settings.toml", "--costs", folder / "costs.csv")
+    assert invoke(*words, *files).stdout == direct
     (folder / "costs.csv").write_text("region,site,cost\neu,paris,1\n")
     assert "no cost of asia and us. Put in the costs first" in invoke(*words, "--into", folder, status=1).stderr
 

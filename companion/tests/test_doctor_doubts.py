@@ -103,8 +103,8 @@ def test_strict_makes_warnings_a_status(hsp: Hsp, example: Example) -> None:
     lines = hsp("doctor", str(folder), "--strict", status=1).stdout.splitlines()
     assert lines[0] == "warning: eu asks 0 times for '20.500.1234/report-2024'"
     assert lines[-1].startswith("no fault  two-sites  2 sites")
-    (told,) = json.loads(hsp("doctor", str(folder), "--json", "--strict", status=1).stdout)
-    assert (told["severity"], told["hsplan"]) == ("warning", "")
+    (said,) = json.loads(hsp("doctor", str(folder), "--json", "--strict", status=1).stdout)
+    assert (said["severity"], said["hsplan"]) == ("warning", "")
 
 
 def test_a_plan_older_than_its_inputs(hsp: Hsp, example: Example) -> None:

@@ -41,11 +41,11 @@ def started(*words: object, **more: object) -> "subprocess.Popen[str]":
 
 def ended(run: "subprocess.Popen[str]", status: int) -> str:
     """What a run printed, with no trace of Python."""
-    out, told = run.communicate(timeout=100)
-    assert run.returncode == status, out + told
-    assert "Traceback" not in told and "Error" not in told, told
+    out, said = run.communicate(timeout=100)
+    assert run.returncode == status, out + said
+    assert "Traceback" not in said and "Error" not in said, said
     assert status == 0 or not out, out
-    return out + told
+    return out + said
 
 
 def fleet(*words: object, status: int = 0) -> str:
@@ -147,10 +147,10 @@ def test_a_worker_is_killed_while_a_million_rows_are_answered(million: Million, 
     logs = million.all_written(tmp_path)
     run = started("dispatch", million.folder, "--fronts", FRONTS, "--workers", 4, *logs)
     os.kill(at_work(run), signal.SIGKILL)
-    told = ended(run, 0)
-    assert told.startswith("1,000,000 rows: ") and million.are_answered(tmp_path)
+    said = ended(run, 0)
+    assert said.startswith("1,000,000 rows: ") and million.are_answered(tmp_path)
     spent = million.answers.count(b"spent")
-    assert f", {spent:,} spent, " in told
+    assert f", {spent:,} spent, " in said
 
 
 @pytest.mark.parametrize("seconds", [0.0, 0.8])
@@ -199,8 +199,8 @@ def test_any_handle_is_answered_by_the_other_program(million: Million, tmp_path:
         done = subprocess.run([*words, "--fronts", "2", "--front", str(at)], capture_output=True, check=True)
         wanted[f"{log}.answers"] = done.stdout
     named = [f"{at}={log}" for at, log in enumerate(logs)]
-    told = fleet("dispatch", million.folder, "--fronts", 2, "--workers", 1, "--any-handle", *named)
-    assert " 2 refused; " in told
+    said = fleet("dispatch", million.folder, "--fronts", 2, "--workers", 1, "--any-handle", *named)
+    assert " 2 refused; " in said
     assert all(Path(path).read_bytes() == answers for path, answers in wanted.items())
 
 
@@ -212,8 +212,8 @@ def test_a_bad_row_in_the_third_file_ends_the_run_with_its_line(million: Million
     lines[77] = b"eu,no handle"
     changed(third, b"\n".join(lines))
     changed(tmp_path / "front-6.csv", b"region,handle\n,20.1/a\n")
-    told = fleet("dispatch", million.folder, "--fronts", FRONTS, "--workers", 2, *logs, status=1)
-    assert told == f"hsp: {third}: line 78: BadHandle\n"
+    said = fleet("dispatch", million.folder, "--fronts", FRONTS, "--workers", 2, *logs, status=1)
+    assert said == f"hsp: {third}: line 78: BadHandle\n"
     assert not list(tmp_path.glob("*.answers*")) and not left(tmp_path)
 
 
@@ -231,9 +231,9 @@ def test_rows_that_cannot_be_parted_are_answered_by_one_run(
 def test_a_bad_row_of_all_fronts_is_the_first_of_the_log(million: Million, tmp_path: Path) -> None:
     log = tmp_path / "bad.csv"
     log.write_bytes(b"front,region,handle\n0,eu,20.1/a\n\n1,eu,20.1/b\n1,eu,none\n0,eu,none\n")
-    told = fleet("dispatch", million.folder, "--fronts", 2, "--workers", 1, log, status=1)
+    said = fleet("dispatch", million.folder, "--fronts", 2, "--workers", 1, log, status=1)
     assert one_run(million.folder, log, 2).stderr == b"hsplan: log: BadHandle row 2\n"
-    assert told == f"hsp: {log}: line 5: BadHandle\n"
+    assert said == f"hsp: {log}: line 5: BadHandle\n"
 
 
 # Rows of a log of two fronts: good ones, odd ones, and such as hsplan refuses.
@@ -323,9 +323,9 @@ def logs(tmp_path: Path) -> Logs:
 def test_a_worker_is_killed_while_logs_are_counted(logs: Logs, tmp_path: Path) -> None:
     run = started("demand", *logs.paths, *logs.options, "--workers", 1, "--keep", ".rows")
     os.kill(at_work(run), signal.SIGKILL)
-    told = ended(run, 0)
+    said = ended(run, 0)
     assert (tmp_path / "service" / "demand.csv").read_bytes() == logs.table
-    assert told.startswith("11 logs, ") and not left(tmp_path)
+    assert said.startswith("11 logs, ") and not left(tmp_path)
     words = ["--regions", logs.options[1], "-o", tmp_path / "t", "--log", tmp_path / "rows"]
     invoke("demand", logs.paths[3], *words)
     assert (tmp_path / "3.log.rows").read_bytes() == (tmp_path / "rows").read_bytes()
@@ -339,10 +339,10 @@ def test_what_is_counted_is_planned_and_answered(logs: Logs, tmp_path: Path, hsp
     (folder / "capacity.csv").write_text(capacity)
     hsp("plan", str(folder))
     options = ["--fronts", 1, "--any-handle", "--unit", 2, "--workers", 1]
-    told = fleet("dispatch", folder, *options, *(f"0={it}.csv" for it in paths))
+    said = fleet("dispatch", folder, *options, *(f"0={it}.csv" for it in paths))
     rows = sum(it.read_bytes().count(b"\n") for it in paths)
     answers = b"".join((tmp_path / f"{it.name}.csv.answers").read_bytes() for it in paths)
-    assert told.startswith(f"{rows:,} rows: {rows:,} assigned; ") and answers.count(b"assigned ") == rows
+    assert said.startswith(f"{rows:,} rows: {rows:,} assigned; ") and answers.count(b"assigned ") == rows
 
 
 def test_few_pairs_have_the_table_of_one_run(tmp_path: Path) -> None:
@@ -354,8 +354,8 @@ def test_few_pairs_have_the_table_of_one_run(tmp_path: Path) -> None:
     options = ["--networks", regions_file(tmp_path)]
     one = invoke("demand", *paths, "--regions", options[1])
     run = started("demand", *paths, *options, "--workers", 1)
-    out, told = run.communicate(timeout=60)
-    assert (out, told) == (one.stdout, one.stderr) and "  3  not a line of this form; first " in told
+    out, said = run.communicate(timeout=60)
+    assert (out, said) == (one.stdout, one.stderr) and "  3  not a line of this form; first " in said
 
 
 def test_a_log_of_no_form_ends_the_count_and_is_named(tmp_path: Path) -> None:
@@ -364,10 +364,10 @@ def test_a_log_of_no_form_ends_the_count_and_is_named(tmp_path: Path) -> None:
     bad.write_text("what is this\n")
     empty.write_text("")
     options = ["--regions", regions_file(tmp_path), "--workers", 1, "-o", tmp_path / "t.csv"]
-    told = fleet("demand", good, bad, *options, status=1)
-    assert told.startswith(f"hsp: {bad}: line 1: a log of no known form; ") and told.count("\n") == 1
-    told = fleet("demand", empty, *options, status=1)
-    assert told == f"hsp: no query is in {empty}: they have no line\n"
+    said = fleet("demand", good, bad, *options, status=1)
+    assert said.startswith(f"hsp: {bad}: line 1: a log of no known form; ") and said.count("\n") == 1
+    said = fleet("demand", empty, *options, status=1)
+    assert said == f"hsp: no query is in {empty}: they have no line\n"
     assert not (tmp_path / "t.csv").exists() and not left(tmp_path)
 
 
@@ -389,12 +389,12 @@ def test_a_scheduler_that_goes_away_is_one_line(million: Million, tmp_path: Path
     at_work(run)
     scheduler = next(it for it in children(run.pid) if named(it, "dask_scheduler"))
     os.kill(scheduler, signal.SIGKILL)
-    told = ended(run, 5)
-    assert told.startswith("hsp: the scheduler of this machine has ended") and told.count("\n") == 1
+    said = ended(run, 5)
+    assert said.startswith("hsp: the scheduler of this machine has ended") and said.count("\n") == 1
     assert not list(tmp_path.glob("*.answers*"))
     words = ("--scheduler", "tcp://127.0.0.1:9", "--patience", 1)
-    told = fleet("dispatch", million.folder, "--fronts", FRONTS, *words, *logs, status=5)
-    assert told.startswith("hsp: no scheduler answers at tcp://127.0.0.1:9: ") and told.count("\n") == 1
+    said = fleet("dispatch", million.folder, "--fronts", FRONTS, *words, *logs, status=5)
+    assert said.startswith("hsp: no scheduler answers at tcp://127.0.0.1:9: ") and said.count("\n") == 1
 
 
 @pytest.fixture
@@ -412,8 +412,8 @@ def test_a_full_disk_is_one_line(million: Million, tmp_path: Path, small_disk: P
     log = million.written(tmp_path, 0)
     own = small_disk / "front-0.csv"
     own.symlink_to(log)
-    told = fleet("dispatch", million.folder, "--fronts", FRONTS, "--workers", 1, f"0={own}", status=5)
-    assert told.count("\n") == 1 and str(own) in told
+    said = fleet("dispatch", million.folder, "--fronts", FRONTS, "--workers", 1, f"0={own}", status=5)
+    assert said.count("\n") == 1 and str(own) in said
     assert [it.name for it in small_disk.iterdir()] == ["front-0.csv"]
 
 
@@ -479,16 +479,16 @@ def test_a_worker_whose_program_has_one_octet_more_gets_no_part(
     log = million.written(tmp_path, 3)
     options = ["--fronts", FRONTS, "--scheduler", cluster.address, "--installed", "--patience", 30]
     cluster.worker("bad", paths["bad"])
-    told = fleet("dispatch", million.folder, *options, f"3={log}", status=3)
+    said = fleet("dispatch", million.folder, *options, f"3={log}", status=3)
     reason = f"gets no part: {tmp_path}/bin-bad/hsplan has another SHA-256 sum\n"
-    assert reason in told and told.endswith("hsp: no worker is fit\n") and told.count("\n") == 2
+    assert reason in said and said.endswith("hsp: no worker is fit\n") and said.count("\n") == 2
     cluster.worker("good", paths["good"])
     until = time.monotonic() + 60
     while (tmp_path / "dask_scheduler.log").read_text().count("Starting worker compute stream") < 2:
         assert time.monotonic() < until
         time.sleep(0.05)
-    told = fleet("dispatch", million.folder, *options, f"3@127.0.0.1={log}", status=0)
-    assert reason in told and (tmp_path / "front-3.csv.answers").read_bytes() == million.of_front[3]
+    said = fleet("dispatch", million.folder, *options, f"3@127.0.0.1={log}", status=0)
+    assert reason in said and (tmp_path / "front-3.csv.answers").read_bytes() == million.of_front[3]
     assert "no fit worker is at 192.0.2.1" in fleet(
         "dispatch", million.folder, *options, f"3@192.0.2.1={log}", status=3
     )
@@ -534,8 +534,8 @@ def test_a_cluster_with_keys_answers_who_has_one(million: Million, cluster: Clus
         *keys[:2],
         *(it if str(it).startswith("--") else tmp_path / "other" / Path(it).name for it in keys[2:]),
     ]
-    told = fleet("dispatch", million.folder, *options, *strange, f"1={log}", status=5)
-    assert told.startswith(f"hsp: no scheduler answers at {cluster.address}: ") and told.count("\n") == 1
+    said = fleet("dispatch", million.folder, *options, *strange, f"1={log}", status=5)
+    assert said.startswith(f"hsp: no scheduler answers at {cluster.address}: ") and said.count("\n") == 1
 
 
 def test_a_cluster_whose_scheduler_goes_away_is_one_line(cluster: Cluster, tmp_path: Path) -> None:
@@ -548,8 +548,8 @@ def test_a_cluster_whose_scheduler_goes_away_is_one_line(cluster: Cluster, tmp_p
     while not left(tmp_path) and run.poll() is None and time.monotonic() < until:
         time.sleep(0.01)
     os.kill(cluster.scheduler, signal.SIGKILL)
-    told = ended(run, 5)
-    assert told.startswith("hsp: the scheduler has ") and told.count("\n") == 1 and not (tmp_path / "t").exists()
+    said = ended(run, 5)
+    assert said.startswith("hsp: the scheduler has ") and said.count("\n") == 1 and not (tmp_path / "t").exists()
 
 
 def test_sums_above_the_greatest_count_are_joined_exactly(tmp_path: Path) -> None:

@@ -151,10 +151,10 @@ def test_a_page_has_the_numbers_of_the_reports(browser: Any, pages: dict[str, Pa
         for at, share in enumerate(shares):
             sent = plan.shares.get((region, at), 0)
             exact = 100 * sent / asked
-            told = (
+            said = (
                 {"": 0.0, "<1%": 0.5, ">99%": 99.5}.get(share) if share in ("", "<1%", ">99%") else float(share[:-1])
             )
-            assert told is not None and abs(told - exact) <= 0.5
+            assert said is not None and abs(said - exact) <= 0.5
 
 
 def test_rows_are_sorted_and_searched(browser: Any, pages: dict[str, Path]) -> None:

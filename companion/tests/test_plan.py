@@ -74,16 +74,16 @@ def test_titles_of_hsp_toml(hsp: Hsp, example: Example) -> None:
 @pytest.mark.parametrize("name", ["two-sites", "base"])
 def test_csv_and_json_have_the_sums_of_the_reports(hsp: Hsp, example: Example, name: str) -> None:
     folder = example(name)
-    told = json.loads(hsp("plan", str(folder), "--json").stdout)
+    said = json.loads(hsp("plan", str(folder), "--json").stdout)
     rows = list(csv.DictReader(io.StringIO(hsp("plan", str(folder), "--csv").stdout)))
     *regions, total = report(folder, "region")
     for demand, cost, region in regions:
         own = [it for it in rows if it["region"] == region]
         assert sum(int(it["queries"]) for it in own) == int(demand)
-        assert {"region": region, "queries": int(demand), "cost": int(cost)} in told["regions"]
-    assert total == ["total", str(told["queries"]), str(told["cost"])]
+        assert {"region": region, "queries": int(demand), "cost": int(cost)} in said["regions"]
+    assert total == ["total", str(said["queries"]), str(said["cost"])]
     loads = report(folder, "load")[:-1]
-    assert [(it["site"], it["load"], it["capacity"], it["price"]) for it in told["servers"]] == [
+    assert [(it["site"], it["load"], it["capacity"], it["price"]) for it in said["servers"]] == [
         (site, int(load), int(capacity), int(price)) for _, _, load, capacity, price, site in loads
     ]
     for it in rows:
@@ -97,9 +97,9 @@ def test_a_shortage_has_status_3_and_the_least_purchase(hsp: Hsp, example: Examp
     lines = hsp(*words, status=3).stdout.splitlines()
     assert lines[1].startswith("short 270 queries can't be served")
     assert lines[-1].split() == ["reston", "2", "270", "more:", "1,460", "to", "1,730"]
-    told = json.loads(hsp(*words, "--json", status=3).stdout)
-    assert (told["served"], told["lack"]) == (False, 270)
-    assert told["least_purchase"] == [{"site": "reston", "server_id": 2, "more": 270}]
+    said = json.loads(hsp(*words, "--json", status=3).stdout)
+    assert (said["served"], said["lack"]) == (False, 270)
+    assert said["least_purchase"] == [{"site": "reston", "server_id": 2, "more": 270}]
 
 
 def with_capacities(service: Service, desk: Desk, changed: dict[tuple[str, int], int]) -> Any:

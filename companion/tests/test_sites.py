@@ -214,9 +214,9 @@ def test_keys_of_all_forms(tmp_path: Path) -> None:
         json.dumps(of_dsa): of_dsa,
         "null": "",
     }
-    for told, octets in wanted.items():
-        found, notes = octets_of(tmp_path, {"servers": [server_json(publicKey=json.loads(told))], "hashOption": 2})
-        assert (key(found).hex(), notes) == (octets, ""), told
+    for said, octets in wanted.items():
+        found, notes = octets_of(tmp_path, {"servers": [server_json(publicKey=json.loads(said))], "hashOption": 2})
+        assert (key(found).hex(), notes) == (octets, ""), said
 
 
 def test_what_is_left_out_is_named_by_its_path(tmp_path: Path) -> None:

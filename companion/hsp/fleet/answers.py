@@ -120,11 +120,11 @@ def _ran(request: dict[str, Any], out: IO[bytes]) -> tuple[int, str, list[int]]:
         try:
             assert run.stdin and run.stderr
             counts = _feed(run.stdin, request)
-            told = run.stderr.read().decode("utf-8", "replace").strip()
+            said = run.stderr.read().decode("utf-8", "replace").strip()
         except BaseException:
             run.kill()
             raise
-    return run.returncode, told, counts
+    return run.returncode, said, counts
 
 
 def _place(request: dict[str, Any], counts: list[int], row: int) -> str:
@@ -136,9 +136,9 @@ def _place(request: dict[str, Any], counts: list[int], row: int) -> str:
     return f"{request['logs'][-1]}: row {row}"
 
 
-def _refused(request: dict[str, Any], status: int, told: str, counts: list[int]) -> dict[str, Any]:
+def _refused(request: dict[str, Any], status: int, said: str, counts: list[int]) -> dict[str, Any]:
     """The fault of a run that has ended with a status of its own."""
-    line = re.sub(r"^hsplan(-stream)?: ", "", told)
+    line = re.sub(r"^hsplan(-stream)?: ", "", said)
     found = re.fullmatch(r"log: (.+?) row ([0-9]+)(.*)", line)
     if status not in LASTING:
         name = f"signal {-status}" if status < 0 else f"status {status}"
@@ -182,10 +182,10 @@ def answer(request: dict[str, Any]) -> dict[str, Any]:
     paths = request["staged"]
     whole = paths[0] if len(paths) == 1 else f"{paths[0]}-all"
     with open(whole, "wb") as out:
-        status, told, counts = _ran(request, out)
+        status, said, counts = _ran(request, out)
         os.fsync(out.fileno())
     if status:
-        return _refused(request, status, told, counts)
+        return _refused(request, status, said, counts)
     sums = sums_of(whole)
     if counts and sum(sums.values()) != sum(counts):
         logs = ", ".join(request["logs"])

@@ -14,7 +14,7 @@ from hsp.faults import Unfit, printable
 from hsp.files import replace_all
 from hsp.fleet import kit
 from hsp.fleet.engine import Engine, Reply
-from hsp.fleet.parts import told_of
+from hsp.fleet.parts import fields_of_form
 from hsp.fleet.progress import shown
 from hsp.fleet.session import Targets, place_of, session, with_cluster
 from hsp.fleet.tables import counts_in, skipped_of
@@ -101,8 +101,8 @@ def demand(logs: tuple[str, ...], regions: str, into: str | None, keep: str | No
     named = [log_of(it, keep) for it in logs]
     _checked(named, regions, output)
     form, seek = form_of(given), regions_in(regions, given["by"], given["elsewhere"])
-    reading, tally, inputs = Reading(form, seek, Judge(desk)), Tally(desk), service_of(into)
-    asked = {"form": told_of(form), "by": given["by"], "elsewhere": given["elsewhere"]}
+    reading, tally, inputs = Reading(form, seek, Judge(desk)), Tally(desk), service_of(into, given)
+    asked = {"form": fields_of_form(form), "by": given["by"], "elsewhere": given["elsewhere"]}
     targets: Targets = [(it.kept, it.host) for it in named]
     with session(place, targets) as engine:
         engine.ship(_files(regions, inputs), given["installed"])

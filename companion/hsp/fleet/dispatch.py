@@ -64,8 +64,8 @@ def fronts_of(words: tuple[str, ...], most: int) -> list[Front]:
 
 
 def request_of(front: Front, options: dict[str, Any], targets: list[str]) -> Reply:
-    told = {name: options[name] for name in ("fronts", "any_handle", "unit")}
-    return {**told, "what": "answer", "front": front.number, "logs": front.logs, "targets": targets}
+    said = {name: options[name] for name in ("fronts", "any_handle", "unit")}
+    return {**said, "what": "answer", "front": front.number, "logs": front.logs, "targets": targets}
 
 
 def _rows(reply: Reply) -> int:

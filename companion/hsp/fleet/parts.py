@@ -32,13 +32,13 @@ def inputs_of(files: dict[str, str]) -> Inputs | None:
     return Inputs(files["settings"], "", files["costs"], "", files.get("values"))
 
 
-def form_of(told: Request) -> Form:
-    pattern = re.compile(os.fsencode(told["pattern"])) if told["pattern"] else None
-    prefixes = frozenset(os.fsencode(it) for it in told["prefixes"])
-    return Form(told["name"], told["client"], told["handle"], told["path"], pattern, prefixes)
+def form_of(said: Request) -> Form:
+    pattern = re.compile(os.fsencode(said["pattern"])) if said["pattern"] else None
+    prefixes = frozenset(os.fsencode(it) for it in said["prefixes"])
+    return Form(said["name"], said["client"], said["handle"], said["path"], pattern, prefixes)
 
 
-def told_of(form: Form) -> Request:
+def fields_of_form(form: Form) -> Request:
     """A form as a request has it."""
     pattern = os.fsdecode(form.pattern.pattern) if form.pattern else None
     prefixes = sorted(map(os.fsdecode, form.prefixes))
@@ -70,15 +70,15 @@ def count(request: Request) -> Reply:
         if kept:
             kept.close()
     skipped = {"counts": reading.skipped.counts, "first": reading.skipped.first}
-    return {**table.told(), "asked": asked, "skipped": [skipped]}
+    return {**table.said(), "asked": asked, "skipped": [skipped]}
 
 
 def merge(request: Request) -> Reply:
     """Adds up the tables of parts."""
     before = request["before"]
     table = merged(before, Table(Desk(), inputs_of(request["files"])))
-    skipped = [it for told in before for it in told["skipped"]]
-    return {**table.told(), "asked": sum(it["asked"] for it in before), "skipped": skipped}
+    skipped = [it for said in before for it in said["skipped"]]
+    return {**table.said(), "asked": sum(it["asked"] for it in before), "skipped": skipped}
 
 
 WORK: dict[str, Callable[[Request], Reply]] = {"count": count, "merge": merge, "answer": answers.answer}

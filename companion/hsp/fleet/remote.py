@@ -167,7 +167,7 @@ def _reply(child: "subprocess.Popen[bytes]", worker: Any) -> bytes:
         try:
             while True:
                 try:
-                    out, told = child.communicate(timeout=0.2)
+                    out, said = child.communicate(timeout=0.2)
                     break
                 except subprocess.TimeoutExpired:
                     if not _is_wanted(worker, key):
@@ -177,7 +177,7 @@ def _reply(child: "subprocess.Popen[bytes]", worker: Any) -> bytes:
     if child.returncode < 0:
         raise ChildProcessError(f"a part of the run ended by signal {signal.Signals(-child.returncode).name}")
     if child.returncode:
-        last = told.decode("utf-8", "replace").strip().rpartition("\n")[2]
+        last = said.decode("utf-8", "replace").strip().rpartition("\n")[2]
         raise ChildProcessError(f"a part of the run ended with status {child.returncode}: {last}")
     return out
 

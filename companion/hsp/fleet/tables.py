@@ -77,7 +77,7 @@ class Table:
             raise Unfit(advice(fault)) from None
         self.is_joined = True
 
-    def told(self) -> dict[str, object]:
+    def said(self) -> dict[str, object]:
         """The table as a part returns it, short enough to be passed on."""
         if len(self.counts) > MOST_ROWS:
             self.join()
