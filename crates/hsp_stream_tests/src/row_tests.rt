@@ -89,7 +89,10 @@ fn a_reader_reads_line_after_line(rt: HostRuntime) {
         (b"\r", (0, b"", b"")),
     ];
     for (line, wanted) in cases {
-        // Where this growth is refused, nothing is asked of the fields.
+        // Where memory ran out once, it is there again.
+        if reader.read(rt.alloc(), line).is_err() {
+            is_same(&rt, reader.read(rt.alloc(), line).is_ok(), true);
+        }
         if let Ok(fields) = reader.read(rt.alloc(), line) {
             is_same(&rt, shown(fields), wanted);
         }
