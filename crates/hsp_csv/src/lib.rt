@@ -5,9 +5,11 @@
 #![tactic(auto)]
 
 mod fault;
+mod fields;
 mod header;
 mod records;
 
 pub use fault::RecordsFault;
+pub use fields::{three_fields, two_fields};
 pub use header::{is_header, take_header};
 pub use records::{read_records, take_record};

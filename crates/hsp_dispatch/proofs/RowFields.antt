@@ -1,32 +1,13 @@
 -- The fields of a record of a log.
-use Rattle.std.proofs.Common.{◌≡◌, ◌≢◌, ℕ, true, false, List, [], ◌∷◌, length, Some, arith, refl}
+use Rattle.std.proofs.Common.{◌≡◌, ◌≢◌, true, false, [], ◌∷◌, refl}
 use Rattle.std.specs.Cmp.Lexicographic.{bytes_decides}
 use Rattle.std.specs.Str.{bytes_eq}
-use Rattle.csv.specs.Records.{field_at}
 use Rattle.hsp_csv.specs.Header.{same_fields}
 use Rattle.hsp_csv.specs.Records.{Fields}
 use Rattle.hsp_tables.specs.LentKeys.{both}
 use Rattle.hsp_dispatch.specs.Log.{header_of}
 use Rattle.hsp_dispatch.specs.declared.form.Form.{Form}
 use Rattle.hsp_dispatch.specs.declared.form.Form.TheVariants.{Handles, Bodies}
-
--- two fields, by their places
-pub two_fields_are : (fields : Fields) (a b : List ℕ) → length fields ≡ 2 → Some a ≡ field_at fields 0 → Some b ≡ field_at fields 1 → fields ≡ a ∷ b ∷ []
-unfolding field_at
-two_fields_are [] a b n p q = absurd (omega arith)
-two_fields_are (x ∷ []) a b n p q = absurd (omega arith)
-two_fields_are (x ∷ y ∷ []) a b n p q = cc
-two_fields_are (x ∷ y ∷ z ∷ fields) a b n p q = absurd (omega arith)
-
--- three fields, by their places
-pub three_fields_are : (fields : Fields) (a b c : List ℕ) → length fields ≡ 3 → Some a ≡ field_at fields 0 → Some b ≡ field_at fields 1
-    → Some c ≡ field_at fields 2 → fields ≡ a ∷ b ∷ c ∷ []
-unfolding field_at
-three_fields_are [] a b c n p q r = absurd (omega arith)
-three_fields_are (x ∷ []) a b c n p q r = absurd (omega arith)
-three_fields_are (x ∷ y ∷ []) a b c n p q r = absurd (omega arith)
-three_fields_are (x ∷ y ∷ z ∷ []) a b c n p q r = cc
-three_fields_are (x ∷ y ∷ z ∷ w ∷ fields) a b c n p q r = absurd (omega arith)
 
 -- records of the same fields are one
 pub same_fields_are : (one other : Fields) → same_fields one other ≡ true → one ≡ other

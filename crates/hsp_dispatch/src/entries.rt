@@ -18,8 +18,8 @@ use crate::desk::{Desk, Place};
 use crate::dispatcher::Dispatcher;
 use crate::fault::LogFault;
 use crate::form::{Form, form_of};
-use crate::reading::two_fields;
 use csv::ByteRecord;
+use hsp_csv::two_fields;
 use hsp_instance::Instance;
 use std::alloc::Global;
 

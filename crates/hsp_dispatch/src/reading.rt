@@ -1,7 +1,6 @@
-// The header of a log, and the fields of its rows.
+// The header of a log.
 
-ghost use Rattle.std.specs.Prelude.{◌≡◌, ◌≢◌, IfErr, IfNone, IfOk, IfSome, OnOk, length, [], ◌∷◌};
-ghost use Rattle.csv.specs.Records.{fields_of};
+ghost use Rattle.std.specs.Prelude.{IfErr, IfOk, OnOk};
 ghost use Rattle.hsp_csv.specs.Records.{IsReading};
 ghost use Rattle.hsp_dispatch.specs.Steps.{FailsHeader, TakesHeader};
 
@@ -30,33 +29,4 @@ pub(crate) fn take_form<D: Desk, R: Read>(
         Some(form) => Ok(form),
         None => Err(LogFault::Header),
     }
-}
-
-/// The fields of a record, where there are two.
-#[tactic(auto, using(crate::proofs::RowFields::two_fields_are, hsp_tables::proofs::RecordFields::field_is_missing))]
-pub(crate) fn two_fields(fields: &ByteRecord) -> Option<(&[u8], &[u8])>
-    ensures found { IfSome result (λ t. fields_of fields.now ≡ t.0.now ∷ t.1.now ∷ []) }
-    ensures none { IfNone result (length (fields_of fields.now) ≢ 2) }
-{
-    let first = fields.get(0)?;
-    let second = fields.get(1)?;
-    if fields.len() != 2 {
-        return None;
-    }
-    Some((first, second))
-}
-
-/// The fields of a record, where there are three.
-#[tactic(auto, using(crate::proofs::RowFields::three_fields_are, hsp_tables::proofs::RecordFields::field_is_missing))]
-pub(crate) fn three_fields(fields: &ByteRecord) -> Option<(&[u8], &[u8], &[u8])>
-    ensures found { IfSome result (λ t. fields_of fields.now ≡ t.0.now ∷ t.1.now ∷ t.2.now ∷ []) }
-    ensures none { IfNone result (length (fields_of fields.now) ≢ 3) }
-{
-    let first = fields.get(0)?;
-    let second = fields.get(1)?;
-    let third = fields.get(2)?;
-    if fields.len() != 3 {
-        return None;
-    }
-    Some((first, second, third))
 }

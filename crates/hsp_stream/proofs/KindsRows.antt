@@ -1,10 +1,8 @@
 -- The rows of a log: their fields, and the table with each.
-use Rattle.std.proofs.Common.{◌≡◌, ◌≢◌, ◌+◌, ◌≤◌, ℕ, true, List, [], ◌∷◌, Option, Some, None, Ok, Err, length, refl, arith}
-use Rattle.csv.specs.Records.{field_at}
+use Rattle.std.proofs.Common.{◌≡◌, ◌≢◌, ◌+◌, ℕ, true, List, [], ◌∷◌, Option, Some, None, Ok, Err, length, refl}
 use Rattle.hsp_csv.specs.Records.{Fields}
 use Rattle.hsp_names.specs.Handle as names
 use Rattle.hsp_tables.specs.Costs.{CostEntry}
-use Rattle.hsp_tables.proofs.RecordFields.{field_is_missing, three_fields_are}
 use Rattle.hsp_text.specs.Name.{is_name}
 use Rattle.hsp_instance.specs.Instance.{Row, Site}
 use Rattle.hsp_tally.specs.Tally.{with_counted}
@@ -18,19 +16,11 @@ use Rattle.hsp_stream.specs.declared.kinds_log.CountForm.TheVariants.{Counts, On
 
 -- ---- fields
 
-two_are : (fields : Fields) (a b : List ℕ) → length fields ≡ 2 → Some a ≡ field_at fields 0 → Some b ≡ field_at fields 1 → fields ≡ a ∷ b ∷ []
-unfolding field_at
-two_are [] a b n p q = absurd (omega arith)
-two_are (x ∷ []) a b n p q = absurd (omega arith)
-two_are (x ∷ y ∷ []) a b n p q = cc
-two_are (x ∷ y ∷ z ∷ fields) a b n p q = absurd (omega arith)
+pub ones_are : (fields : Fields) (a b : List ℕ) → fields ≡ a ∷ b ∷ [] → Some (record { region = a; handle = b; count = None }) ≡ parts_in Ones fields
+ones_are fields a b e = rw e refl
 
-pub ones_are : (fields : Fields) (a b : List ℕ) → length fields ≡ 2 → Some a ≡ field_at fields 0 → Some b ≡ field_at fields 1 → Some (record { region = a; handle = b; count = None }) ≡ parts_in Ones fields
-ones_are fields a b n p q = rw (two_are fields a b n p q) refl
-
-pub counts_are : (fields : Fields) (a b c : List ℕ) → length fields ≡ 3 → Some a ≡ field_at fields 0 → Some b ≡ field_at fields 1 → Some c ≡ field_at fields 2
-    → Some (record { region = a; handle = b; count = Some c }) ≡ parts_in Counts fields
-counts_are fields a b c n p q r = rw (three_fields_are fields a b c n p q r) refl
+pub counts_are : (fields : Fields) (a b c : List ℕ) → fields ≡ a ∷ b ∷ c ∷ [] → Some (record { region = a; handle = b; count = Some c }) ≡ parts_in Counts fields
+counts_are fields a b c e = rw e refl
 
 pub no_ones : (fields : Fields) → length fields ≢ 2 → ◌≡◌ {A = Option Parts} None (parts_in Ones fields)
 no_ones [] n = refl
@@ -46,14 +36,9 @@ no_counts (x ∷ y ∷ z ∷ []) n = absurd (n refl)
 no_counts (x ∷ y ∷ z ∷ v ∷ fields) n = refl
 
 -- what the fields of a record need to be a row's
-pub ruleset ones = (ones_are, no_ones, field_is_missing)
+pub ruleset ones = (ones_are, no_ones)
 
-pub ruleset counts = (counts_are, no_counts, field_is_missing)
-
--- fewer than two fields are no row's
-pub too_few : (form : CountForm) (fields : Fields) → length fields ≤ 1 → ◌≡◌ {A = Option Parts} None (parts_in form fields)
-too_few Ones fields n = no_ones fields (λ e. omega arith)
-too_few Counts fields n = no_counts fields (λ e. omega arith)
+pub ruleset counts = (counts_are, no_counts)
 
 -- ---- a row that was seen
 

@@ -13,7 +13,7 @@ ghost use Rattle.hsp_stream.specs.declared.kinds_log.CountForm.TheVariants.{Coun
 
 use crate::fault::{RowFault, StreamFault};
 use csv::{ByteRecord, Reader};
-use hsp_csv::{RecordsFault, is_header, read_records, take_record};
+use hsp_csv::{RecordsFault, is_header, read_records, take_record, three_fields, two_fields};
 use hsp_names::HandleRef;
 use hsp_tally::{Kinds, KindsFault};
 use hsp_text::{is_name, read_whole};
@@ -79,11 +79,7 @@ fn form_of(record: &ByteRecord) -> Result<CountForm, StreamFault>
 fn two_in(record: &ByteRecord) -> Option<Parts<'_>>
     ensures { option_map parts_shown result ≡ parts_in Ones (fields_of «record».now) }
 {
-    let region = record.get(0)?;
-    let handle = record.get(1)?;
-    if record.len() != 2 {
-        return None;
-    }
+    let (region, handle) = two_fields(record)?;
     Some(Parts {
         region,
         handle,
@@ -96,12 +92,7 @@ fn two_in(record: &ByteRecord) -> Option<Parts<'_>>
 fn three_in(record: &ByteRecord) -> Option<Parts<'_>>
     ensures { option_map parts_shown result ≡ parts_in Counts (fields_of «record».now) }
 {
-    let region = record.get(0)?;
-    let handle = record.get(1)?;
-    let count = record.get(2)?;
-    if record.len() != 3 {
-        return None;
-    }
+    let (region, handle, count) = three_fields(record)?;
     Some(Parts {
         region,
         handle,

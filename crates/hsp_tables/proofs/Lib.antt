@@ -1,4 +1,3 @@
-pub mod RecordFields
 pub mod KeyedMaps
 pub mod Lookups
 pub mod SeenNames

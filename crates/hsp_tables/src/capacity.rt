@@ -13,10 +13,10 @@ ghost use Rattle.hsp_tables.specs.Capacities.{AreCapacities, CapacityEntry, capa
 ghost use Rattle.hsp_tables.specs.Rows.{capacity_shown};
 
 use crate::fault::TableFault;
-use crate::fields::{name_in, number_in, three_fields};
+use crate::fields::{name_in, number_in};
 use crate::keyed::ServerRows;
 use csv::ByteRecord;
-use hsp_csv::{read_records, take_header, take_record};
+use hsp_csv::{read_records, take_header, take_record, three_fields};
 use hsp_text::limits::{GREATEST_CAPACITY, MOST_CAPACITY_ROWS};
 use std::alloc::Global;
 use std::marker::Model;

@@ -14,10 +14,10 @@ ghost use Rattle.hsp_tables.specs.Keyed.{cost_entry};
 ghost use Rattle.hsp_tables.specs.Rows.{cost_shown};
 
 use crate::fault::TableFault;
-use crate::fields::{name_in, number_in, three_fields};
+use crate::fields::{name_in, number_in};
 use crate::keyed::{PairRow, PairRows, Regions};
 use csv::ByteRecord;
-use hsp_csv::{read_records, take_header, take_record};
+use hsp_csv::{read_records, take_header, take_record, three_fields};
 use hsp_text::limits::{GREATEST_COST, MOST_COST_ROWS, MOST_REGIONS};
 use std::alloc::Global;
 use std::marker::Model;

@@ -12,10 +12,10 @@ ghost use Rattle.hsp_tables.specs.Keyed.{demand_entry};
 ghost use Rattle.hsp_tables.specs.Rows.{demand_shown};
 
 use crate::fault::TableFault;
-use crate::fields::{handle_in, name_in, number_in, three_fields};
+use crate::fields::{handle_in, name_in, number_in};
 use crate::keyed::{PairRow, PairRows, Regions};
 use csv::ByteRecord;
-use hsp_csv::{read_records, take_header, take_record};
+use hsp_csv::{read_records, take_header, take_record, three_fields};
 use hsp_names::HandleRef;
 use hsp_text::limits::{GREATEST_COUNT, MOST_DEMAND_ROWS, MOST_REGIONS};
 use std::alloc::Global;

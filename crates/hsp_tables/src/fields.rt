@@ -1,30 +1,13 @@
-// The fields of a record, and what each of them spells.
+// What the fields of a record spell.
 
-ghost use Rattle.std.specs.Prelude.{◌≡◌, ◌≢◌, ◌≤◌, ◌∷◌, [], length, IfNone, IfOk, IfSome};
-ghost use Rattle.csv.specs.Records.{fields_of};
+ghost use Rattle.std.specs.Prelude.{◌≤◌, IfOk};
 ghost use Rattle.hsp_names.specs.Lent.{octets_of};
 ghost use Rattle.hsp_text.specs.Answers.{Gives};
 ghost use Rattle.hsp_tables.specs.Fields.{handle_in, name_in, number_in};
 
 use crate::fault::TableFault;
-use csv::ByteRecord;
 use hsp_names::HandleRef;
 use hsp_text::{is_name, read_whole};
-
-// The fields of a record, where there are three.
-#[tactic(auto, using(crate::proofs::RecordFields::three_fields_are, crate::proofs::RecordFields::field_is_missing))]
-pub(crate) fn three_fields(fields: &ByteRecord) -> Option<(&[u8], &[u8], &[u8])>
-    ensures found { IfSome result (λ t. fields_of fields.now ≡ t.0.now ∷ t.1.now ∷ t.2.now ∷ []) }
-    ensures none { IfNone result (length (fields_of fields.now) ≢ 3) }
-{
-    let first = fields.get(0)?;
-    let second = fields.get(1)?;
-    let third = fields.get(2)?;
-    if fields.len() != 3 {
-        return None;
-    }
-    Some((first, second, third))
-}
 
 // A field that is the name of a region or a site.
 pub(crate) fn name_in(row: u32, octets: &[u8]) -> Result<&[u8], TableFault>

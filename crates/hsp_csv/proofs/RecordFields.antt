@@ -1,7 +1,15 @@
--- Records of three fields.
+-- Records of two and of three fields.
 use Rattle.std.proofs.Common.{◌≡◌, ◌≤◌, ℕ, List, [], ◌∷◌, length, zero, suc, Option, None, Some, arith}
 use Rattle.csv.specs.Records.{field_at}
 use Rattle.hsp_csv.specs.Records.{Fields}
+
+-- two fields, each known, are the record
+pub two_fields_are : (fields : Fields) (a b : List ℕ) → length fields ≡ 2 → Some a ≡ field_at fields 0 → Some b ≡ field_at fields 1 → fields ≡ a ∷ b ∷ []
+unfolding field_at
+two_fields_are [] a b n p q = absurd (omega arith)
+two_fields_are (x ∷ []) a b n p q = absurd (omega arith)
+two_fields_are (x ∷ y ∷ []) a b n p q = cc
+two_fields_are (x ∷ y ∷ z ∷ fields) a b n p q = absurd (omega arith)
 
 -- three fields, each known, are the record
 pub three_fields_are : (fields : Fields) (a b c : List ℕ) → length fields ≡ 3 → Some a ≡ field_at fields 0 → Some b ≡ field_at fields 1 → Some c ≡ field_at fields 2 → fields ≡ a ∷ b ∷ c ∷ []
