@@ -1,3 +1,4 @@
 mod Reading
 mod Headers
 mod RecordFields
+pub mod SameFields

@@ -1,32 +1,11 @@
 -- The fields of a record of a log.
-use Rattle.std.proofs.Common.{◌≡◌, ◌≢◌, true, false, [], ◌∷◌, refl}
-use Rattle.std.specs.Cmp.Lexicographic.{bytes_decides}
-use Rattle.std.specs.Str.{bytes_eq}
+use Rattle.std.proofs.Common.{◌≡◌, false}
 use Rattle.hsp_csv.specs.Header.{same_fields}
 use Rattle.hsp_csv.specs.Records.{Fields}
-use Rattle.hsp_tables.specs.LentKeys.{both}
+use Rattle.hsp_csv.proofs.SameFields.{is_other}
 use Rattle.hsp_dispatch.specs.Log.{header_of}
 use Rattle.hsp_dispatch.specs.declared.form.Form.{Form}
 use Rattle.hsp_dispatch.specs.declared.form.Form.TheVariants.{Handles, Bodies}
-
--- records of the same fields are one
-pub same_fields_are : (one other : Fields) → same_fields one other ≡ true → one ≡ other
-same_fields_are [] [] same = refl
-same_fields_are [] (b ∷ bs) same = cc same
-same_fields_are (a ∷ as') [] same = cc same
-same_fields_are (a ∷ as') (b ∷ bs) same =
-    let is = both (bytes_eq a b) (same_fields as' bs) same in
-    let first = (bytes_decides a b).0 is.0 in
-    let more = same_fields_are as' bs is.1 in
-    cc (first, more)
-
-pub are_same_fields : (fields : Fields) → same_fields fields fields ≡ true
-are_same_fields [] = refl
-are_same_fields (a ∷ as') = rw ((bytes_decides a a).1 refl, are_same_fields as') refl
-
--- a record that is not the header
-pub is_other : (fields header : Fields) → same_fields fields header ≡ false → fields ≢ header
-is_other fields header other same = let is = are_same_fields header in let bad = rw same at other in cc (is, bad)
 
 -- a record that is neither of the headers
 pub is_no_header : (fields : Fields) → same_fields fields (header_of Handles) ≡ false → same_fields fields (header_of Bodies) ≡ false → (form : Form) → fields ≡ header_of form → ⊥

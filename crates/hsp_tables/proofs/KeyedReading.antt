@@ -1,14 +1,29 @@
 -- Rows that are read in turn by their numbers and keys are just those that the items spell.
 use Rattle.std.proofs.Common.{◌≡◌, ◌∙◌, ◌≤◌, ◌<◌, ◌+◌, ℕ, Bool, false, List, [], ◌∷◌, ◌++◌, length, nat_le, Result, Ok, append_assoc, refl, sym, ap, arith}
 use Rattle.std.proofs.lemmas.Bool.{leb-false}
+use Rattle.std.proofs.lemmas.Bool.Decides.{nat_tests}
 use Rattle.std.proofs.lemmas.List.{append-nil, length-append}
 use Rattle.std.specs.Cmp.{IsEquivalence}
-use Rattle.std.specs.List.{IsDistinct, list_any}
+use Rattle.std.specs.List.{AllByRecursion, IsDistinct, list_any}
 use Rattle.hsp_tables.specs.declared.fault.TableFault.{TableFault}
 use Rattle.hsp_tables.specs.InTurn.{AreKeyed, Reading, ReadsAsSpelled, SpellInTurn, keyed_after, rows_after, with_row}
-use Rattle.hsp_tables.proofs.TableLaws.{nat_le-over}
-use Rattle.hsp_tables.proofs.TableReading.{new_among}
 use Rattle.hsp_tables.proofs.TurnLaws.{first_step, keyed_and_one, none_keyed, row_joins, rows_keep, test_passed}
+
+-- a row in the middle, of rows of which something holds
+middle : {Row : Type 0} (P : Row → Type 0) (a : List Row) (row : Row) (b : List Row) → AllByRecursion P (a ++ row ∷ b) → P row
+middle P [] row b all = all.0
+middle P (x ∷ a) row b all = middle P a row b all.1
+
+-- among distinct keys a row has no key of an earlier row
+new_among : {Row : Type 0} (same : Row → Row → Bool) → IsEquivalence same → (earlier : List Row) (row : Row) (rest : List Row) → IsDistinct same (earlier ++ row ∷ rest) → list_any (same row) earlier ≡ false
+unfolding IsDistinct
+new_among same laws [] row rest apart = refl
+new_among same laws (x ∷ earlier) row rest apart =
+    let other : same row x ≡ false = laws.symm row x ∙ middle (λ y. same x y ≡ false) earlier row rest apart.0 in
+    rw (other, new_among same laws earlier row rest apart.1) refl
+
+nat_le-over : (m n : ℕ) → n < m → nat_le m n ≡ false
+nat_le-over m n below = grind (arith, nat_tests)
 
 module _ (Item Row : Type 0) (most : ℕ) (many : TableFault) (row_in : ℕ → Item → Result Row TableFault) (same : Row → Row → Bool) (twice : ℕ → TableFault) where
   abbrev read : Reading Item Row

@@ -1,7 +1,6 @@
-pub mod KeyedMaps
+pub mod KeptRows
 pub mod Lookups
 pub mod SeenNames
-pub mod PairTables
 pub mod TurnLaws
 pub mod TableLaws
 pub mod TableRows

@@ -1,5 +1,5 @@
--- What a map has at a key is the number of the first row of these names.
-use Rattle.std.proofs.Common.{◌≡◌, ◌&&◌, ◌==◌, ℕ, Bool, true, false, List, [], ◌∷◌, Option, Some, map, option_map, refl, sym, ap, if◌then◌else◌}
+-- What a map has at a key is the number of the row of the key.
+use Rattle.std.proofs.Common.{◌≡◌, ◌&&◌, ◌==◌, ℕ, Bool, true, false, List, [], ◌∷◌, Some, map, option_map, refl, sym, ap, if◌then◌else◌}
 use Rattle.std.proofs.lemmas.Bool.{false≢true}
 use Rattle.std.proofs.lemmas.Cmp.{nat_list_eq_equiv}
 use Rattle.std.specs.List.{find}
@@ -7,9 +7,8 @@ use Rattle.std.specs.Map.{lookup}
 use Rattle.std.specs.Str.{bytes_eq}
 use Rattle.hsp_tables.specs.Capacities.{CapacityEntry}
 use Rattle.hsp_tables.specs.Costs.{CostEntry}
-use Rattle.hsp_tables.specs.Keyed.{PairEntry, cost_entry}
-use Rattle.hsp_tables.specs.KeyedRows.{pair_entry, server_entry}
-use Rattle.hsp_tables.specs.declared.keyed.PairKey.{PairKey}
+use Rattle.hsp_tables.specs.Keyed.{PairName, cost_entry}
+use Rattle.hsp_tables.specs.KeyedRows.{server_entry}
 use Rattle.hsp_tables.specs.declared.keyed.ServerKey.{ServerKey}
 
 -- two pairs of names are compared in either order
@@ -30,12 +29,12 @@ value_found test is row_of number tells has (e ∷ es) = chosen (test e.0) (is (
     chosen false true same later = absurd (false≢true same)
     chosen false false same later = later
 
-pub pair_found : (first second : List ℕ) (es : List (PairKey × ℕ)) → lookup (λ (k : PairKey). bytes_eq first k.first.items && bytes_eq second k.second.items) es
-    ≡ option_map (λ (row : PairEntry). row.number) (find (λ (row : PairEntry). bytes_eq row.first first && bytes_eq row.second second) (map pair_entry es))
-pair_found first second es =
-    value_found (λ (k : PairKey). bytes_eq first k.first.items && bytes_eq second k.second.items)
-    (λ (row : PairEntry). bytes_eq row.first first && bytes_eq row.second second) pair_entry (λ (row : PairEntry). row.number)
-    (λ e. flipped first e.0.first.items second e.0.second.items) (λ e. refl) es
+pub cost_found : (region site : List ℕ) (es : List (PairName × ℕ)) → lookup (λ (k : PairName). bytes_eq region k.first && bytes_eq site k.second) es
+    ≡ option_map (λ (row : CostEntry). row.cost) (find (λ (row : CostEntry). bytes_eq row.region region && bytes_eq row.site site) (map cost_entry es))
+cost_found region site es =
+    value_found (λ (k : PairName). bytes_eq region k.first && bytes_eq site k.second)
+    (λ (row : CostEntry). bytes_eq row.region region && bytes_eq row.site site) cost_entry (λ (row : CostEntry). row.cost)
+    (λ e. flipped region e.0.first site e.0.second) (λ e. refl) es
 
 pub server_found : (site : List ℕ) (id : ℕ) (es : List (ServerKey × ℕ)) → lookup (λ (k : ServerKey). bytes_eq site k.site.items && (k.server_id == id)) es
     ≡ option_map (λ (row : CapacityEntry). row.capacity) (find (λ (row : CapacityEntry). bytes_eq row.site site && (row.server_id == id)) (map server_entry es))
@@ -43,27 +42,3 @@ server_found site id es =
     value_found (λ (k : ServerKey). bytes_eq site k.site.items && (k.server_id == id))
     (λ (row : CapacityEntry). bytes_eq row.site site && (row.server_id == id)) server_entry (λ (row : CapacityEntry). row.capacity)
     (λ e. rw (nat_list_eq_equiv.symm site e.0.site.items) refl) (λ e. refl) es
-
--- the costs of rows of names are their numbers
-pub cost_found : (region site : List ℕ) (rows : List PairEntry)
-    → option_map (λ (row : PairEntry). row.number) (find (λ (row : PairEntry). bytes_eq row.first region && bytes_eq row.second site) rows)
-    ≡ option_map (λ (row : CostEntry). row.cost) (find (λ (row : CostEntry). bytes_eq row.region region && bytes_eq row.site site) (map cost_entry rows))
-cost_found region site [] = refl
-cost_found region site (row ∷ rows) = chosen (bytes_eq row.first region && bytes_eq row.second site) (cost_found region site rows)
-  where
-    numbers : Option PairEntry → Option ℕ
-    numbers = option_map (λ (row : PairEntry). row.number)
-
-    costs : Option CostEntry → Option ℕ
-    costs = option_map (λ (row : CostEntry). row.cost)
-
-    later_number : Option PairEntry
-    later_number = find (λ (row : PairEntry). bytes_eq row.first region && bytes_eq row.second site) rows
-
-    later_cost : Option CostEntry
-    later_cost = find (λ (row : CostEntry). bytes_eq row.region region && bytes_eq row.site site) (map cost_entry rows)
-
-    chosen : (is : Bool) → numbers later_number ≡ costs later_cost
-        → numbers (if is then Some row else later_number) ≡ costs (if is then Some (cost_entry row) else later_cost)
-    chosen true later = refl
-    chosen false later = later

@@ -1,25 +1,98 @@
 -- Tables: what their records read as, and what their rows are.
-use Rattle.std.proofs.Common.{◌≡◌, ◌≤◌, ◌<◌, ℕ, Bool, true, false, cond, List, [], ◌∷◌, ◌++◌, length, Ok, Err, nat_le, nat_lt, refl, arith}
-use Rattle.std.proofs.lemmas.Bool.{leb-false, ltb-false}
+use Rattle.std.proofs.Common.{◌≡◌, ◌≤◌, ◌↔◌, ℕ, Bool, true, false, cond, List, [], ◌∷◌, ◌++◌, length, map, fold, Ok, Err, nat_lt, refl, arith}
+use Rattle.std.proofs.lemmas.Bool.{ltb-false}
 use Rattle.std.proofs.lemmas.Bool.Decides.{nat_tests}
+use Rattle.std.proofs.lemmas.List.{length-append, map-append}
+use Rattle.std.proofs.lemmas.List.Sums.{fold-append}
 use Rattle.std.specs.Cmp.{IsEquivalence}
 use Rattle.std.specs.List.{list_any}
+use Rattle.std.specs.Str.{bytes_eq}
+use Rattle.indexmap.specs.IndexSet.{insert_key}
 use Rattle.hsp_csv.specs.Header.{IsHeaded, IsHeadless, same_fields}
 use Rattle.hsp_csv.specs.Records.{Fields}
 use Rattle.hsp_text.specs.declared.limits.TheConstants.{MOST_REGIONS}
-use Rattle.hsp_tables.specs.declared.fault.TableFault.TheVariants.{Header, RowTwice, TooManyRegions}
-use Rattle.hsp_tables.specs.InTurn.{rows_after, with_row}
-use Rattle.hsp_tables.specs.Table.{AreRows, Table, new_row, row_after, table_of}
-use Rattle.hsp_tables.proofs.TurnLaws.{first_step, keyed_and_one, none_keyed, rows_keep, test_passed}
+use Rattle.hsp_tables.specs.declared.fault.TableFault.TheVariants.{Header, RowTwice, TooManyRegions, TooManyRows}
+use Rattle.hsp_tables.specs.InTurn.{Reading, SpellKeyed, keyed_after, rows_after}
+use Rattle.hsp_tables.specs.Table.{AreRows, Table, first_seen, regions_of, row_after, seen_with, table_of}
+use Rattle.hsp_tables.proofs.KeyedReading.{reads_as_spelled}
+use Rattle.hsp_tables.proofs.SeenNames.{first_seen-append}
+use Rattle.hsp_tables.proofs.TurnLaws.{all_spelled, good_are_passed, passed_are_good, passed_are_read}
 
-pub nat_le-over : (m n : ℕ) → n < m → nat_le m n ≡ false
-nat_le-over m n below = grind (arith, nat_tests)
+-- ---- regions
 
-nat_lt-below : (m n : ℕ) → m < n → nat_lt m n ≡ true
-nat_lt-below m n below = grind (arith, nat_tests)
+-- a further name takes none away
+names_grow : (names more : List (List ℕ)) → length names ≤ length (fold (insert_key bytes_eq) names more)
+names_grow names [] = omega arith
+names_grow names (name ∷ more) = omega (arith, one_more (list_any (bytes_eq name) names), names_grow (insert_key bytes_eq names name) more)
+  where
+    one_more : (b : Bool) → length names ≤ length (cond b names (names ++ name ∷ []))
+    one_more true = omega arith
+    one_more false = simp length-append (omega arith)
 
-nat_lt-upto : (m n : ℕ) → n ≤ m → nat_lt m n ≡ false
+module _ {Row : Type 0} (table : Table Row) where
+  -- more rows are of no fewer regions
+  regions_of-grow : (a b : List Row) → length (regions_of table a) ≤ length (regions_of table (a ++ b))
+  regions_of-grow a b = by_kind table.has_regions
+    where
+      by_kind : (has : Bool) → length (cond has (first_seen (map table.region_of a)) []) ≤ length (cond has (first_seen (map table.region_of (a ++ b))) [])
+      by_kind true = rw (map-append, fold-append) (names_grow (first_seen (map table.region_of a)) (map table.region_of b))
+      by_kind false = omega arith
+
+  -- the regions of rows and of a further one
+  pub regions_of-append : (rows : List Row) (row : Row) → regions_of table (rows ++ row ∷ []) ≡ seen_with table (regions_of table rows) row
+  regions_of-append rows row = by_kind table.has_regions
+    where
+      by_kind : (has : Bool) → cond has (first_seen (map table.region_of (rows ++ row ∷ []))) []
+          ≡ cond has (insert_key bytes_eq (cond has (first_seen (map table.region_of rows)) []) (table.region_of row)) (cond has (first_seen (map table.region_of rows)) [])
+      by_kind true = rw map-append (first_seen-append (map table.region_of rows) (table.region_of row))
+      by_kind false = refl
+
+  -- no rows are of no regions
+  pub regions_of-none : regions_of table [] ≡ []
+  regions_of-none = by_kind table.has_regions
+    where
+      by_kind : (has : Bool) → cond has (first_seen []) [] ≡ []
+      by_kind true = refl
+      by_kind false = refl
+
+-- ---- rows
+
+abbrev too_many : {Row : Type 0} → Table Row → List Row → Bool
+too_many table rows = nat_lt MOST_REGIONS (length (regions_of table rows))
+
+pub nat_lt-upto : (m n : ℕ) → n ≤ m → nat_lt m n ≡ false
 nat_lt-upto m n upto = grind (arith, nat_tests)
+
+module _ {Row : Type 0} (table : Table Row) (keys : IsEquivalence table.same_key) where
+  abbrev keyed : Reading Fields Row
+  keyed = keyed_after table.most_rows TooManyRows table.row_in table.same_key RowTwice
+
+  -- records are read as the rows that they spell, where these are of few regions
+  pub body_reads : (body : List Fields) (rows : List Row) → (rows_after (row_after table) [] body ≡ Ok rows)
+      ↔ (SpellKeyed table.most_rows table.row_in table.same_key body rows × (length (regions_of table rows) ≤ MOST_REGIONS))
+  body_reads body rows =
+      let spelled = reads_as_spelled Fields Row table.most_rows TooManyRows table.row_in table.same_key RowTwice keys body rows in
+      let none : too_many table [] ≡ false = rw (regions_of-none table) refl in
+      let fewer = λ (a b : List Row) (e : too_many table (a ++ b) ≡ false).
+      let few = ltb-false MOST_REGIONS (length (regions_of table (a ++ b))) e in
+      nat_lt-upto MOST_REGIONS (length (regions_of table a)) (omega (arith, few, regions_of-grow table a b)) in (
+        λ e. (spelled.0 (passed_are_read keyed (too_many table) TooManyRegions body [] rows e), ltb-false MOST_REGIONS (length (regions_of table rows)) (passed_are_good keyed (too_many table) TooManyRegions body rows none e)),
+        λ is. good_are_passed keyed (too_many table) TooManyRegions fewer body [] rows (spelled.1 is.0) (nat_lt-upto MOST_REGIONS (length (regions_of table rows)) is.1),
+      )
+
+  -- the rows of a table that is read are within its limits, each as it should be, and no two have one key
+  pub rows_are : (Is : Row → Type 0) → ((n : ℕ) (fields : Fields) (row : Row) → table.row_in n fields ≡ Ok row → Is row)
+      → (records : List Fields) (rows : List Row) → table_of table records ≡ Ok rows → AreRows table Is rows
+  rows_are Is each [] rows e = cc e
+  rows_are Is each (first ∷ body) rows e = by_header (same_fields first table.header) e
+    where
+      by_header : (b : Bool) → cond b (rows_after (row_after table) [] body) (Err Header) ≡ Ok rows → AreRows table Is rows
+      by_header true e =
+          let is = (body_reads body rows).0 e in
+          record { keyed = record { few = is.0.few; each = all_spelled Is table.row_in each 0 body rows is.0.spelled; apart = is.0.apart }; regions = is.1 }
+      by_header false e = cc e
+
+-- ---- headers
 
 -- under the header the records are read in turn
 pub table_of_headed : {Row : Type 0} (table : Table Row) (records body : List Fields) → IsHeaded table.header records body → table_of table records ≡ rows_after (row_after table) [] body
@@ -30,45 +103,3 @@ table_of_headed table (first ∷ more) body headed = rw (headed.0, headed.1) ref
 pub table_of_headless : {Row : Type 0} (table : Table Row) (records : List Fields) → IsHeadless table.header records → table_of table records ≡ Err Header
 table_of_headless table [] headless = refl
 table_of_headless table (first ∷ more) headless = rw headless refl
-
--- what a record that spells a row does, where there is room for one more row: its key is an earlier one's
-pub row_is_twice : {Row : Type 0} (table : Table Row) (earlier : List Row) (fields : Fields) (row : Row) → length earlier < table.most_rows → table.row_in (length earlier) fields ≡ Ok row
-    → list_any (table.same_key row) earlier ≡ true → with_row (row_after table) earlier fields ≡ Err (RowTwice (length earlier))
-row_is_twice table earlier fields row room spells twice = rw (nat_le-over _ _ room, spells, twice) refl
-
--- its region is one too many
-pub region_is_too_many : {Row : Type 0} (table : Table Row) (earlier : List Row) (fields : Fields) (row : Row) → length earlier < table.most_rows → table.row_in (length earlier) fields ≡ Ok row
-    → list_any (table.same_key row) earlier ≡ false → MOST_REGIONS < length (table.regions_of (earlier ++ row ∷ [])) → with_row (row_after table) earlier fields ≡ Err TooManyRegions
-region_is_too_many table earlier fields row room spells new many = rw (nat_le-over _ _ room, spells, new, nat_lt-below _ _ many) refl
-
--- or it is the next row
-pub row_is_next : {Row : Type 0} (table : Table Row) (earlier : List Row) (fields : Fields) (row : Row) → length earlier < table.most_rows → table.row_in (length earlier) fields ≡ Ok row
-    → list_any (table.same_key row) earlier ≡ false → length (table.regions_of (earlier ++ row ∷ [])) ≤ MOST_REGIONS → with_row (row_after table) earlier fields ≡ Ok (earlier ++ row ∷ [])
-row_is_next table earlier fields row room spells new few = rw (nat_le-over _ _ room, spells, new, nat_lt-upto _ _ few) refl
-
--- one more row of a table
-row_keeps : {Row : Type 0} (table : Table Row) (Is : Row → Type 0) → IsEquivalence table.same_key → ((n : ℕ) (fields : Fields) (row : Row) → table.row_in n fields ≡ Ok row → Is row)
-    → (earlier : List Row) (fields : Fields) (row : Row) → AreRows table Is earlier → row_after table earlier fields ≡ Ok row → AreRows table Is (earlier ++ row ∷ [])
-row_keeps table Is laws spelled earlier fields row are e =
-    let few = test_passed (nat_le table.most_rows (length earlier)) _ _ row e in
-    let spells = first_step (table.row_in (length earlier) fields) (new_row table earlier) row few.1 in
-    let new = test_passed (list_any (table.same_key spells.0) earlier) _ _ row spells.2 in
-    let regions = test_passed (nat_lt MOST_REGIONS (length (table.regions_of (earlier ++ spells.0 ∷ [])))) _ _ row new.1 in
-    let same : spells.0 ≡ row = cc (regions.1) in
-    let is_new : list_any (table.same_key row) earlier ≡ false = rw same at new.0 in
-    let is_seen : nat_lt MOST_REGIONS (length (table.regions_of (earlier ++ row ∷ []))) ≡ false = rw same at regions.0 in
-    record {
-      keyed = keyed_and_one table.most_rows Is table.same_key laws earlier row are.keyed (leb-false table.most_rows (length earlier) few.0)
-          (spelled (length earlier) fields row (rw same at spells.1)) is_new;
-      regions = ltb-false MOST_REGIONS (length (table.regions_of (earlier ++ row ∷ []))) is_seen;
-    }
-
--- the rows of a table that is read are within its limits, each as it should be, and no two have one key
-pub rows_are : {Row : Type 0} (table : Table Row) (Is : Row → Type 0) → IsEquivalence table.same_key → ((n : ℕ) (fields : Fields) (row : Row) → table.row_in n fields ≡ Ok row → Is row)
-    → length (table.regions_of []) ≤ MOST_REGIONS → (records : List Fields) (rows : List Row) → table_of table records ≡ Ok rows → AreRows table Is rows
-rows_are table Is laws spelled none [] rows e = cc e
-rows_are {Row = Row} table Is laws spelled none (first ∷ body) rows e = by_header (same_fields first table.header) e
-  where
-    by_header : (b : Bool) → cond b (rows_after (row_after table) [] body) (Err Header) ≡ Ok rows → AreRows table Is rows
-    by_header true e = rows_keep (λ (t : List Row). AreRows table Is t) (row_after table) (row_keeps table Is laws spelled) body [] rows (record { keyed = none_keyed table.most_rows Is table.same_key; regions = none }) e
-    by_header false e = cc e

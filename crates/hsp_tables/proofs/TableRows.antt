@@ -1,5 +1,5 @@
 -- The rows of the three tables, by what their fields spell.
-use Rattle.std.proofs.Common.{◌≡◌, ◌∙◌, ◌≤◌, inl, inr, ℕ, Bool, true, false, cond, List, [], ◌∷◌, length, map, zero, suc, Option, None, Some, not, Result, Ok, Err, nat_le, nat_lt, refl, ap, arith, rules}
+use Rattle.std.proofs.Common.{◌≡◌, ◌∙◌, ◌≤◌, inl, inr, ℕ, Bool, true, false, cond, List, [], ◌∷◌, length, zero, suc, Option, None, Some, not, Result, Ok, Err, nat_le, nat_lt, refl, ap, rules}
 use Rattle.std.proofs.lemmas.Bool.{cases_Bool, leb-true}
 use Rattle.std.specs.Cmp.{IsEquivalence}
 use Rattle.std.specs.Cmp.Rules.{comparing}
@@ -16,11 +16,10 @@ use Rattle.hsp_text.specs.declared.whole.WholeFault.{WholeFault}
 use Rattle.hsp_text.specs.declared.whole.WholeFault.TheVariants.{NotWhole, TooLarge}
 use Rattle.hsp_tables.specs.declared.fault.TableFault.{TableFault}
 use Rattle.hsp_text.specs.Answers.{◌>>=◌}
-use Rattle.hsp_tables.specs.Capacities.{AreCapacities, CapacityEntry, IsCapacityEntry, capacity_in, capacity_table, same_capacity}
-use Rattle.hsp_tables.specs.Costs.{AreCosts, CostEntry, IsCostEntry, cost_in, cost_table, same_cost}
-use Rattle.hsp_tables.specs.Demand.{AreDemand, DemandEntry, IsDemandEntry, demand_in, demand_table, same_demand}
-use Rattle.hsp_tables.specs.Keyed.{PairEntry, demand_entry}
-use Rattle.hsp_tables.specs.Fields.{greatest_of_32_bits, handle_in, handle_or, name_in, number_in, number_or}
+use Rattle.hsp_tables.specs.Capacities.{AreCapacities, CapacityEntry, IsCapacityEntry, capacity_in, capacity_of, capacity_table, same_capacity}
+use Rattle.hsp_tables.specs.Costs.{AreCosts, CostEntry, IsCostEntry, cost_in, cost_of, cost_table, same_cost}
+use Rattle.hsp_tables.specs.Demand.{AreDemand, DemandEntry, IsDemandEntry, demand_in, demand_of, demand_table, same_demand}
+use Rattle.hsp_tables.specs.Fields.{greatest_of_32_bits, handle_in, handle_or, name_in, number_in, number_or, of_three}
 use Rattle.hsp_tables.specs.Table.{table_of}
 use Rattle.hsp_tables.proofs.TableLaws.{rows_are}
 use Rattle.hsp_tables.proofs.TurnLaws.{test_held}
@@ -81,35 +80,34 @@ handle_is row octets handle e = by_reading (names.handle_in octets) refl e
         rw (handle_is_its_octets octets handle read) at read
     by_reading (Err fault) is e = cc e
 
-demand_is : (row : ℕ) (fields : Fields) (demand : DemandEntry) → demand_in row fields ≡ Ok demand → IsDemandEntry demand
-demand_is row [] demand e = cc e
-demand_is row (r ∷ []) demand e = cc e
-demand_is row (r ∷ h ∷ []) demand e = cc e
-demand_is row (r ∷ h ∷ n ∷ []) demand e =
-    let made = λ (r : List ℕ) (h : List ℕ) (n : ℕ). let d : DemandEntry = record { region = r; handle = h; count = n } in d in
-    let t = three_steps (name_in row r) (handle_in row h) (number_in row GREATEST_COUNT n) made demand e in
-    rw (← t.6) (record { region = name_is row r t.0 t.3; handle = handle_is row h t.1 t.4; count = number_within row GREATEST_COUNT n t.2 t.5 })
-demand_is row (r ∷ h ∷ n ∷ x ∷ more) demand e = cc e
+-- a record that spells a row has three fields, which spell it
+three_were : {Row : Type 0} (read : ℕ → List ℕ → List ℕ → List ℕ → Result Row TableFault) (n : ℕ) (fields : Fields) (row : Row) → of_three read n fields ≡ Ok row → (a : List ℕ) × (b : List ℕ) × (c : List ℕ) × (read n a b c ≡ Ok row)
+three_were read n [] row e = cc e
+three_were read n (a ∷ []) row e = cc e
+three_were read n (a ∷ b ∷ []) row e = cc e
+three_were read n (a ∷ b ∷ c ∷ []) row e = (a, b, c, e)
+three_were read n (a ∷ b ∷ c ∷ d ∷ more) row e = cc e
 
-cost_is : (row : ℕ) (fields : Fields) (cost : CostEntry) → cost_in row fields ≡ Ok cost → IsCostEntry cost
-cost_is row [] cost e = cc e
-cost_is row (r ∷ []) cost e = cc e
-cost_is row (r ∷ s ∷ []) cost e = cc e
-cost_is row (r ∷ s ∷ n ∷ []) cost e =
-    let made = λ (r : List ℕ) (s : List ℕ) (n : ℕ). let c : CostEntry = record { region = r; site = s; cost = n } in c in
-    let t = three_steps (name_in row r) (name_in row s) (number_in row GREATEST_COST n) made cost e in
-    rw (← t.6) (record { region = name_is row r t.0 t.3; site = name_is row s t.1 t.4; cost = number_within row GREATEST_COST n t.2 t.5 })
-cost_is row (r ∷ s ∷ n ∷ x ∷ more) cost e = cc e
+demand_is : (n : ℕ) (fields : Fields) (row : DemandEntry) → demand_in n fields ≡ Ok row → IsDemandEntry row
+demand_is n fields row e =
+    let f = three_were demand_of n fields row e in
+    let made = λ (r : List ℕ) (h : List ℕ) (c : ℕ). let d : DemandEntry = record { region = r; handle = h; count = c } in d in
+    let t = three_steps (name_in n f.0) (handle_in n f.1) (number_in n GREATEST_COUNT f.2) made row f.3 in
+    rw (← t.6) (record { region = name_is n f.0 t.0 t.3; handle = handle_is n f.1 t.1 t.4; count = number_within n GREATEST_COUNT f.2 t.2 t.5 })
 
-capacity_is : (row : ℕ) (fields : Fields) (capacity : CapacityEntry) → capacity_in row fields ≡ Ok capacity → IsCapacityEntry capacity
-capacity_is row [] capacity e = cc e
-capacity_is row (s ∷ []) capacity e = cc e
-capacity_is row (s ∷ i ∷ []) capacity e = cc e
-capacity_is row (s ∷ i ∷ n ∷ []) capacity e =
-    let made = λ (s : List ℕ) (i : ℕ) (n : ℕ). let c : CapacityEntry = record { site = s; server_id = i; capacity = n } in c in
-    let t = three_steps (name_in row s) (number_in row greatest_of_32_bits i) (number_in row GREATEST_CAPACITY n) made capacity e in
-    rw (← t.6) (record { site = name_is row s t.0 t.3; server_id = number_within row greatest_of_32_bits i t.1 t.4; capacity = number_within row GREATEST_CAPACITY n t.2 t.5 })
-capacity_is row (s ∷ i ∷ n ∷ x ∷ more) capacity e = cc e
+cost_is : (n : ℕ) (fields : Fields) (row : CostEntry) → cost_in n fields ≡ Ok row → IsCostEntry row
+cost_is n fields row e =
+    let f = three_were cost_of n fields row e in
+    let made = λ (r : List ℕ) (s : List ℕ) (c : ℕ). let d : CostEntry = record { region = r; site = s; cost = c } in d in
+    let t = three_steps (name_in n f.0) (name_in n f.1) (number_in n GREATEST_COST f.2) made row f.3 in
+    rw (← t.6) (record { region = name_is n f.0 t.0 t.3; site = name_is n f.1 t.1 t.4; cost = number_within n GREATEST_COST f.2 t.2 t.5 })
+
+capacity_is : (n : ℕ) (fields : Fields) (row : CapacityEntry) → capacity_in n fields ≡ Ok row → IsCapacityEntry row
+capacity_is n fields row e =
+    let f = three_were capacity_of n fields row e in
+    let made = λ (s : List ℕ) (i : ℕ) (c : ℕ). let d : CapacityEntry = record { site = s; server_id = i; capacity = c } in d in
+    let t = three_steps (name_in n f.0) (number_in n greatest_of_32_bits f.1) (number_in n GREATEST_CAPACITY f.2) made row f.3 in
+    rw (← t.6) (record { site = name_is n f.0 t.0 t.3; server_id = number_within n greatest_of_32_bits f.1 t.1 t.4; capacity = number_within n GREATEST_CAPACITY f.2 t.2 t.5 })
 
 pub demand_keys : IsEquivalence same_demand
 demand_keys = search (rules, comparing)
@@ -122,25 +120,21 @@ capacity_keys = search (rules, comparing)
 
 -- what the rows of a table that is read are
 pub demand_is_read : (records : List Fields) (rows : List DemandEntry) → table_of demand_table records ≡ Ok rows → AreDemand rows
-demand_is_read = rows_are demand_table IsDemandEntry demand_keys demand_is (omega arith)
+demand_is_read = rows_are demand_table demand_keys IsDemandEntry demand_is
 
 pub costs_are : (records : List Fields) (rows : List CostEntry) → table_of cost_table records ≡ Ok rows → AreCosts rows
-costs_are = rows_are cost_table IsCostEntry cost_keys cost_is (omega arith)
+costs_are = rows_are cost_table cost_keys IsCostEntry cost_is
 
 pub capacities_are : (records : List Fields) (rows : List CapacityEntry) → table_of capacity_table records ≡ Ok rows → AreCapacities rows
-capacities_are = rows_are capacity_table IsCapacityEntry capacity_keys capacity_is (omega arith)
+capacities_are = rows_are capacity_table capacity_keys IsCapacityEntry capacity_is
 
-row_is : (pairs : List PairEntry) (place : ℕ) (pair : PairEntry) → AllByRecursion IsDemandEntry (map demand_entry pairs) → slice_get pairs place ≡ Some pair → IsDemandEntry (demand_entry pair)
-row_is [] place pair all e = let none : ◌≡◌ {A = Option PairEntry} None (Some pair) = e in cc
-row_is (p ∷ pairs) zero pair all e = let same : p ≡ pair = cc (e) in rw same at all.0
-row_is (p ∷ pairs) (suc place) pair all e = row_is pairs place pair all.1 e
+-- what holds of all rows holds of the row at a place
+at_place : {Row : Type 0} (Is : Row → Type 0) (rows : List Row) (place : ℕ) (row : Row) → AllByRecursion Is rows → slice_get rows place ≡ Some row → Is row
+at_place {Row} Is [] place row all e = let none : ◌≡◌ {A = Option Row} None (Some row) = e in cc
+at_place Is (r ∷ rows) zero row all e = let same : r ≡ row = cc (e) in rw same at all.0
+at_place Is (r ∷ rows) (suc place) row all e = at_place Is rows place row all.1 e
 
--- the handle of a row that is kept was read
-pub handle_was_read : (pairs : List PairEntry) (place : ℕ) (pair : PairEntry) → AreDemand (map demand_entry pairs) → slice_get pairs place ≡ Some pair → names.handle_in pair.second ≡ Ok pair.second
-handle_was_read pairs place pair are e = (row_is pairs place pair are.keyed.each e).handle
-
--- a row that is kept, as one of demand
-pub row_at : (pairs : List PairEntry) (place : ℕ) (pair : PairEntry) → slice_get pairs place ≡ Some pair → slice_get (map demand_entry pairs) place ≡ Some (demand_entry pair)
-row_at [] place pair e = let none : ◌≡◌ {A = Option PairEntry} None (Some pair) = e in cc
-row_at (p ∷ pairs) zero pair e = let same : p ≡ pair = cc (e) in ap (λ (t : PairEntry). Some (demand_entry t)) same
-row_at (p ∷ pairs) (suc place) pair e = row_at pairs place pair e
+-- the handle of a row was read
+pub handle_was_read : (rows : List DemandEntry) (place : ℕ) (region handle : List ℕ) (count : ℕ) → AreDemand rows → slice_get rows place ≡ Some (record { region = region; handle = handle; count = count })
+    → names.handle_in handle ≡ Ok handle
+handle_was_read rows place region handle count are e = (at_place IsDemandEntry rows place _ are.keyed.each e).handle

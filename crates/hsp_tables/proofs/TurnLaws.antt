@@ -1,12 +1,12 @@
 -- Rows that are read in turn: what the rows and the first fault are, and what holds of the rows.
-use Rattle.std.proofs.Common.{◌≡◌, ◌∙◌, ◌<◌, ℕ, Bool, true, false, cond, List, [], ◌∷◌, ◌++◌, length, Result, Ok, Err, refl, sym, ap, subst, arith}
-use Rattle.std.proofs.lemmas.List.{length-append}
+use Rattle.std.proofs.Common.{◌≡◌, ◌∙◌, ◌<◌, ◌+◌, ℕ, Bool, true, false, cond, List, [], ◌∷◌, ◌++◌, length, Result, Ok, Err, append_assoc, refl, sym, ap, subst, arith}
+use Rattle.std.proofs.lemmas.List.{append-nil, length-append}
 use Rattle.std.proofs.lemmas.Map.Keys.{IsDistinct-push}
 use Rattle.std.specs.Cmp.{IsEquivalence}
 use Rattle.std.specs.List.{AllByRecursion, IsDistinct, list_any}
 use Rattle.hsp_tables.specs.declared.fault.TableFault.{TableFault}
 use Rattle.hsp_text.specs.Answers.{◌>>=◌}
-use Rattle.hsp_tables.specs.InTurn.{AreKeyed, FaultStays, Reading, rows_after, with_row}
+use Rattle.hsp_tables.specs.InTurn.{AreKeyed, FaultStays, Reading, SpellInTurn, rows_after, with_row}
 
 -- a second step that ended well came after a first one that did
 pub first_step : {A B : Type 0} (r : Result A TableFault) (f : A → Result B TableFault) (y : B) → (r >>= f) ≡ Ok y → (x : A) × (r ≡ Ok x) × (f x ≡ Ok y)
@@ -100,3 +100,55 @@ keyed_and_one most Is same_key laws rows row are few is new = record {
 pub none_keyed : {Row : Type 0} (most : ℕ) (Is : Row → Type 0) (same_key : Row → Row → Bool) → AreKeyed most Is same_key []
 unfolding IsDistinct
 none_keyed most Is same_key = record { few = omega arith; each = tt; apart = tt }
+
+-- rows that are read stand after those before them
+pub rows_extend : {Item Row : Type 0} (read : Reading Item Row) (items : List Item) (earlier rows : List Row) → rows_after read earlier items ≡ Ok rows → (more : List Row) × (rows ≡ earlier ++ more)
+rows_extend read [] earlier rows e = let same : earlier ≡ rows = cc (e) in ([], sym same ∙ sym (append-nil earlier))
+rows_extend read (item ∷ items) earlier rows e =
+    let step = first_step (with_row read earlier item) (λ t. rows_after read t items) rows e in
+    let joins = row_joins read earlier item step.0 step.1 in
+    let later = rows_extend read items step.0 rows step.2 in
+    (joins.0 ∷ later.0, later.1 ∙ ap (λ t. t ++ later.0) joins.2 ∙ append_assoc earlier (joins.0 ∷ []) later.0)
+
+-- what each item spells holds of each row
+pub all_spelled : {Item Row : Type 0} (Is : Row → Type 0) (row_in : ℕ → Item → Result Row TableFault) → ((n : ℕ) (item : Item) (row : Row) → row_in n item ≡ Ok row → Is row)
+    → (n : ℕ) (items : List Item) (rows : List Row) → SpellInTurn row_in n items rows → AllByRecursion Is rows
+all_spelled Is row_in is n [] [] spelled = tt
+all_spelled Is row_in is n [] (row ∷ rows) spelled = absurd spelled
+all_spelled Is row_in is n (item ∷ items) [] spelled = absurd spelled
+all_spelled Is row_in is n (item ∷ items) (row ∷ rows) spelled = (is n item row spelled.0, all_spelled Is row_in is (n + 1) items rows spelled.1)
+
+-- a reading with a further test, which the rows with each further one have to fail
+module _ {Item Row : Type 0} (read : Reading Item Row) (bad : List Row → Bool) (fault : TableFault) where
+  abbrev pub tested : Reading Item Row
+  tested earlier item = read earlier item >>= λ row. cond (bad (earlier ++ row ∷ [])) (Err fault) (Ok row)
+
+  -- a row that passes the test was read
+  row_passed : (earlier : List Row) (item : Item) (row : Row) → tested earlier item ≡ Ok row → (read earlier item ≡ Ok row) × (bad (earlier ++ row ∷ []) ≡ false)
+  row_passed earlier item row e =
+      let first = first_step (read earlier item) _ row e in
+      let held = test_passed (bad (earlier ++ first.0 ∷ [])) fault (Ok first.0) row first.2 in
+      let same : first.0 ≡ row = cc (held.1) in
+      (rw same at first.1, rw same at held.0)
+
+  -- the rows that pass it are those that are read
+  pub passed_are_read : (items : List Item) (earlier rows : List Row) → rows_after tested earlier items ≡ Ok rows → rows_after read earlier items ≡ Ok rows
+  passed_are_read [] earlier rows e = e
+  passed_are_read (item ∷ items) earlier rows e =
+      let step = first_step (with_row tested earlier item) (λ t. rows_after tested t items) rows e in
+      let joins = row_joins tested earlier item step.0 step.1 in
+      rw ((row_passed earlier item joins.0 joins.1).0, ← joins.2) (passed_are_read items step.0 rows step.2)
+
+  pub passed_are_good : (items : List Item) (rows : List Row) → bad [] ≡ false → rows_after tested [] items ≡ Ok rows → bad rows ≡ false
+  passed_are_good items rows none e = rows_keep (λ (t : List Row). bad t ≡ false) tested (λ earlier item row good is. (row_passed earlier item row is).1) items [] rows none e
+
+  -- where rows fail it, so do the first of them
+  pub good_are_passed : ((a b : List Row) → bad (a ++ b) ≡ false → bad a ≡ false)
+      → (items : List Item) (earlier rows : List Row) → rows_after read earlier items ≡ Ok rows → bad rows ≡ false → rows_after tested earlier items ≡ Ok rows
+  good_are_passed grow [] earlier rows e good = e
+  good_are_passed grow (item ∷ items) earlier rows e good =
+      let step = first_step (with_row read earlier item) (λ t. rows_after read t items) rows e in
+      let joins = row_joins read earlier item step.0 step.1 in
+      let more = rows_extend read items step.0 rows step.2 in
+      let here : bad (earlier ++ joins.0 ∷ []) ≡ false = rw joins.2 at (grow step.0 more.0 (rw more.1 at good)) in
+      rw (joins.1, here, ← joins.2) (good_are_passed grow items step.0 rows step.2 good)

@@ -1,13 +1,12 @@
 -- The table of capacities: how many queries the server of an identifier can take at a site.
-use Rattle.std.specs.Prelude.{◌≡◌, ◌≤◌, ◌==◌, ◌&&◌, Bool, true, ℕ, List, [], ◌∷◌, Result, Ok, Err, codes}
+use Rattle.std.specs.Prelude.{◌≡◌, ◌≤◌, ◌==◌, ◌&&◌, Bool, true, false, ℕ, List, [], ◌∷◌, Result, Ok, codes}
 use Rattle.std.specs.Str.{bytes_eq}
 use Rattle.hsp_csv.specs.Records.{Fields}
 use Rattle.hsp_text.specs.Name.{is_name}
 use Rattle.hsp_text.specs.declared.limits.TheConstants.{GREATEST_CAPACITY, MOST_CAPACITY_ROWS}
 use Rattle.hsp_tables.specs.declared.fault.TableFault.{TableFault}
-use Rattle.hsp_tables.specs.declared.fault.TableFault.TheVariants as fault
 use Rattle.hsp_text.specs.Answers.{◌>>=◌}
-use Rattle.hsp_tables.specs.Fields.{greatest_of_32_bits, name_in, number_in}
+use Rattle.hsp_tables.specs.Fields.{greatest_of_32_bits, name_in, number_in, of_three}
 use Rattle.hsp_tables.specs.Table.{AreRows, Table}
 
 pub record CapacityEntry : Type 0 where
@@ -15,26 +14,20 @@ pub record CapacityEntry : Type 0 where
   pub server_id : ℕ
   pub capacity : ℕ
 
--- the entry of these fields
-abbrev pub capacity_entry : List ℕ → ℕ → ℕ → CapacityEntry
-capacity_entry site server_id capacity = record { site = site; server_id = server_id; capacity = capacity }
-
--- the row that the fields of a record spell
-abbrev pub capacity_in : ℕ → Fields → Result CapacityEntry TableFault
-capacity_in row (site ∷ server_id ∷ capacity ∷ []) = do
+-- the row that fields spell
+abbrev pub capacity_of : ℕ → List ℕ → List ℕ → List ℕ → Result CapacityEntry TableFault
+capacity_of row site server_id capacity = do
   s ← name_in row site
   i ← number_in row greatest_of_32_bits server_id
   c ← number_in row GREATEST_CAPACITY capacity
   Ok (record { site = s; server_id = i; capacity = c })
-capacity_in row _ = Err (fault.Fields row)
+
+abbrev pub capacity_in : ℕ → Fields → Result CapacityEntry TableFault
+capacity_in row fields = of_three capacity_of row fields
 
 -- the key is the site and the identifier
 abbrev pub same_capacity : CapacityEntry → CapacityEntry → Bool
 same_capacity a b = bytes_eq a.site b.site && (a.server_id == b.server_id)
-
--- the table names no region
-abbrev pub no_regions : List CapacityEntry → List (List ℕ)
-no_regions rows = []
 
 abbrev pub capacity_table : Table CapacityEntry
 capacity_table = record {
@@ -42,7 +35,8 @@ capacity_table = record {
   most_rows = MOST_CAPACITY_ROWS;
   row_in = capacity_in;
   same_key = same_capacity;
-  regions_of = no_regions;
+  has_regions = false;
+  region_of = λ (row : CapacityEntry). [];
 }
 
 -- what each row is

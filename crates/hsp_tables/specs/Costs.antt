@@ -1,35 +1,33 @@
 -- The table of costs: what a query from a region costs at a site.
-use Rattle.std.specs.Prelude.{◌≡◌, ◌≤◌, ◌&&◌, Bool, true, ℕ, List, [], ◌∷◌, map, Result, Ok, Err, codes}
+use Rattle.std.specs.Prelude.{◌≡◌, ◌≤◌, ◌&&◌, Bool, true, ℕ, List, [], ◌∷◌, Result, Ok, codes}
 use Rattle.std.specs.Str.{bytes_eq}
 use Rattle.hsp_csv.specs.Records.{Fields}
 use Rattle.hsp_text.specs.Name.{is_name}
 use Rattle.hsp_text.specs.declared.limits.TheConstants.{GREATEST_COST, MOST_COST_ROWS}
 use Rattle.hsp_tables.specs.declared.fault.TableFault.{TableFault}
-use Rattle.hsp_tables.specs.declared.fault.TableFault.TheVariants as fault
 use Rattle.hsp_text.specs.Answers.{◌>>=◌}
-use Rattle.hsp_tables.specs.Fields.{name_in, number_in}
-use Rattle.hsp_tables.specs.Table.{AreRows, Table, first_seen}
+use Rattle.hsp_tables.specs.Fields.{name_in, number_in, of_three}
+use Rattle.hsp_tables.specs.Table.{AreRows, Table}
 
 pub record CostEntry : Type 0 where
   pub region : List ℕ
   pub site : List ℕ
   pub cost : ℕ
 
--- the row that the fields of a record spell
-abbrev pub cost_in : ℕ → Fields → Result CostEntry TableFault
-cost_in row (region ∷ site ∷ cost ∷ []) = do
+-- the row that fields spell
+abbrev pub cost_of : ℕ → List ℕ → List ℕ → List ℕ → Result CostEntry TableFault
+cost_of row region site cost = do
   r ← name_in row region
   s ← name_in row site
   c ← number_in row GREATEST_COST cost
   Ok (record { region = r; site = s; cost = c })
-cost_in row _ = Err (fault.Fields row)
+
+abbrev pub cost_in : ℕ → Fields → Result CostEntry TableFault
+cost_in row fields = of_three cost_of row fields
 
 -- the key is the region and the site
 abbrev pub same_cost : CostEntry → CostEntry → Bool
 same_cost a b = bytes_eq a.region b.region && bytes_eq a.site b.site
-
-abbrev pub cost_regions : List CostEntry → List (List ℕ)
-cost_regions rows = first_seen (map (λ (row : CostEntry). row.region) rows)
 
 abbrev pub cost_table : Table CostEntry
 cost_table = record {
@@ -37,7 +35,8 @@ cost_table = record {
   most_rows = MOST_COST_ROWS;
   row_in = cost_in;
   same_key = same_cost;
-  regions_of = cost_regions;
+  has_regions = true;
+  region_of = λ (row : CostEntry). row.region;
 }
 
 -- what each row is

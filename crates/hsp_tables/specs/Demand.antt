@@ -1,36 +1,34 @@
 -- The table of demand: how many queries for a handle come from a region.
-use Rattle.std.specs.Prelude.{◌≡◌, ◌≤◌, ◌&&◌, Bool, true, ℕ, List, [], ◌∷◌, map, Result, Ok, Err, codes}
+use Rattle.std.specs.Prelude.{◌≡◌, ◌≤◌, ◌&&◌, Bool, true, ℕ, List, [], ◌∷◌, Result, Ok, codes}
 use Rattle.std.specs.Str.{bytes_eq}
 use Rattle.hsp_csv.specs.Records.{Fields}
 use Rattle.hsp_names.specs.Handle as names
 use Rattle.hsp_text.specs.Name.{is_name}
 use Rattle.hsp_text.specs.declared.limits.TheConstants.{GREATEST_COUNT, MOST_DEMAND_ROWS}
 use Rattle.hsp_tables.specs.declared.fault.TableFault.{TableFault}
-use Rattle.hsp_tables.specs.declared.fault.TableFault.TheVariants as fault
 use Rattle.hsp_text.specs.Answers.{◌>>=◌}
-use Rattle.hsp_tables.specs.Fields.{handle_in, name_in, number_in}
-use Rattle.hsp_tables.specs.Table.{AreRows, Table, first_seen}
+use Rattle.hsp_tables.specs.Fields.{handle_in, name_in, number_in, of_three}
+use Rattle.hsp_tables.specs.Table.{AreRows, Table}
 
 pub record DemandEntry : Type 0 where
   pub region : List ℕ
   pub handle : List ℕ
   pub count : ℕ
 
--- the row that the fields of a record spell
-abbrev pub demand_in : ℕ → Fields → Result DemandEntry TableFault
-demand_in row (region ∷ handle ∷ count ∷ []) = do
+-- the row that fields spell
+abbrev pub demand_of : ℕ → List ℕ → List ℕ → List ℕ → Result DemandEntry TableFault
+demand_of row region handle count = do
   r ← name_in row region
   h ← handle_in row handle
   c ← number_in row GREATEST_COUNT count
   Ok (record { region = r; handle = h; count = c })
-demand_in row _ = Err (fault.Fields row)
+
+abbrev pub demand_in : ℕ → Fields → Result DemandEntry TableFault
+demand_in row fields = of_three demand_of row fields
 
 -- the key is the region and the handle
 abbrev pub same_demand : DemandEntry → DemandEntry → Bool
 same_demand a b = bytes_eq a.region b.region && bytes_eq a.handle b.handle
-
-abbrev pub demand_regions : List DemandEntry → List (List ℕ)
-demand_regions rows = first_seen (map (λ (row : DemandEntry). row.region) rows)
 
 abbrev pub demand_table : Table DemandEntry
 demand_table = record {
@@ -38,7 +36,8 @@ demand_table = record {
   most_rows = MOST_DEMAND_ROWS;
   row_in = demand_in;
   same_key = same_demand;
-  regions_of = demand_regions;
+  has_regions = true;
+  region_of = λ (row : DemandEntry). row.region;
 }
 
 -- what each row is

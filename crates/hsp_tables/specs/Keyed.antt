@@ -1,20 +1,19 @@
--- Rows of two octet strings, which are their key, and a number.
-use Rattle.std.specs.Prelude.{◌&&◌, Bool, ℕ, List}
-use Rattle.std.specs.Str.{bytes_eq}
+-- Two names by which a row is kept, and the rows that are kept by them.
+use Rattle.std.specs.Prelude.{ℕ, List, drop, take}
 use Rattle.hsp_tables.specs.Costs.{CostEntry}
 use Rattle.hsp_tables.specs.Demand.{DemandEntry}
 
-pub record PairEntry : Type 0 where
+pub record PairName : Type 0 where
   pub first : List ℕ
   pub second : List ℕ
-  pub number : ℕ
 
-abbrev pub same_pair : PairEntry → PairEntry → Bool
-same_pair a b = bytes_eq a.first b.first && bytes_eq a.second b.second
+-- the names whose octets lie one after the other, so many of them the first's
+abbrev pub names_cut : ℕ → List ℕ → PairName
+names_cut cut octets = record { first = take cut octets; second = drop cut octets }
 
 -- a row of demand is kept by its region and handle, a row of costs by its region and site
-abbrev pub demand_entry : PairEntry → DemandEntry
-demand_entry pair = record { region = pair.first; handle = pair.second; count = pair.number }
+abbrev pub demand_entry : PairName × ℕ → DemandEntry
+demand_entry e = record { region = e.0.first; handle = e.0.second; count = e.1 }
 
-abbrev pub cost_entry : PairEntry → CostEntry
-cost_entry pair = record { region = pair.first; site = pair.second; cost = pair.number }
+abbrev pub cost_entry : PairName × ℕ → CostEntry
+cost_entry e = record { region = e.0.first; site = e.0.second; cost = e.1 }

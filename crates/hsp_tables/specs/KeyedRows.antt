@@ -2,16 +2,7 @@
 use Rattle.std.specs.Prelude.{ℕ, List, Vec, map}
 use Rattle.std.specs.declared.alloc.Global.{Global}
 use Rattle.hsp_tables.specs.Capacities.{CapacityEntry}
-use Rattle.hsp_tables.specs.Keyed.{PairEntry}
-use Rattle.hsp_tables.specs.declared.keyed.PairKey.{PairKey}
-use Rattle.hsp_tables.specs.declared.keyed.PairRow.{PairRow}
 use Rattle.hsp_tables.specs.declared.keyed.ServerKey.{ServerKey}
-
-abbrev pub pair_entry : PairKey × ℕ → PairEntry
-pair_entry e = record { first = e.0.first.items; second = e.0.second.items; number = e.1 }
-
-abbrev pub pair_of : PairRow → PairEntry
-pair_of row = record { first = row.first.now; second = row.second.now; number = row.number }
 
 abbrev pub server_entry : ServerKey × ℕ → CapacityEntry
 server_entry e = record { site = e.0.site.items; server_id = e.0.server_id; capacity = e.1 }

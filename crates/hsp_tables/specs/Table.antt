@@ -1,6 +1,6 @@
 -- A table: the records of a text as rows under a header, or the first fault.
-use Rattle.std.specs.Prelude.{◌≡◌, ◌≢◌, ◌≤◌, ◌↔◌, ◌⊎◌, Bool, ℕ, List, [], ◌∷◌, ◌++◌, length, fold, nat_le, nat_lt, Result, Ok, Err, if◌then◌else◌}
-use Rattle.std.specs.List.{IsDistinct, list_any}
+use Rattle.std.specs.Prelude.{◌≡◌, ◌≢◌, ◌≤◌, ◌↔◌, ◌⊎◌, Bool, ℕ, List, [], ◌∷◌, ◌++◌, length, fold, map, nat_lt, Result, Ok, Err, if◌then◌else◌}
+use Rattle.std.specs.List.{IsDistinct}
 use Rattle.std.specs.Str.{bytes_eq}
 use Rattle.indexmap.specs.IndexSet.{insert_key}
 use Rattle.hsp_csv.specs.Header.{same_fields}
@@ -9,33 +9,38 @@ use Rattle.hsp_tables.specs.declared.fault.TableFault.{TableFault}
 use Rattle.hsp_tables.specs.declared.fault.TableFault.TheVariants.{Header, RowTwice, TooManyRows, TooManyRegions}
 use Rattle.hsp_text.specs.declared.limits.TheConstants.{MOST_REGIONS}
 use Rattle.hsp_text.specs.Answers.{◌>>=◌}
-use Rattle.hsp_tables.specs.InTurn.{AreKeyed, Reading, SpellInTurn, rows_after}
+use Rattle.hsp_tables.specs.InTurn.{AreKeyed, Reading, SpellInTurn, keyed_after, rows_after}
 
 -- a kind of table: its header, the limit of its rows, the row that the fields of a record spell by its number, when two rows
--- have one key, and the regions of its rows, each once
+-- have one key, whether its rows are of regions, and the region of a row
 pub record Table (Row : Type 0) : Type 0 where
   pub header : Fields
   pub most_rows : ℕ
   pub row_in : ℕ → Fields → Result Row TableFault
   pub same_key : Row → Row → Bool
-  pub regions_of : List Row → List (List ℕ)
+  pub has_regions : Bool
+  pub region_of : Row → List ℕ
 
 -- names in first-seen order, each once
 abbrev pub first_seen : List (List ℕ) → List (List ℕ)
 first_seen names = fold (insert_key bytes_eq) [] names
 
--- a row whose key is new and whose region is not one too many
-abbrev pub new_row : {Row : Type 0} → Table Row → List Row → Row → Result Row TableFault
-new_row table earlier row =
-    if list_any (table.same_key row) earlier then Err (RowTwice (length earlier))
-    else if nat_lt MOST_REGIONS (length (table.regions_of (earlier ++ row ∷ []))) then Err TooManyRegions
-    else Ok row
+-- the regions of rows, each once, where they are of regions
+abbrev pub regions_of : {Row : Type 0} → Table Row → List Row → List (List ℕ)
+regions_of table rows = if table.has_regions then first_seen (map table.region_of rows) else []
+
+-- the regions that were seen, and that of a further row
+abbrev pub seen_with : {Row : Type 0} → Table Row → List (List ℕ) → Row → List (List ℕ)
+seen_with table seen row = if table.has_regions then insert_key bytes_eq seen (table.region_of row) else seen
+
+-- a row whose region is not one too many
+abbrev pub of_few_regions : {Row : Type 0} → Table Row → List Row → Row → Result Row TableFault
+of_few_regions table earlier row = if nat_lt MOST_REGIONS (length (regions_of table (earlier ++ row ∷ []))) then Err TooManyRegions else Ok row
 
 -- the row of a record after the rows before it, or its first fault
 abbrev pub row_after : {Row : Type 0} → Table Row → Reading Fields Row
 row_after table earlier fields =
-    if nat_le table.most_rows (length earlier) then Err TooManyRows
-    else table.row_in (length earlier) fields >>= new_row table earlier
+    keyed_after table.most_rows TooManyRows table.row_in table.same_key RowTwice earlier fields >>= of_few_regions table earlier
 
 -- the rows that the records give, or the first fault
 abbrev pub table_of : {Row : Type 0} → Table Row → List Fields → Result (List Row) TableFault
@@ -45,7 +50,7 @@ table_of table (first ∷ body) = if same_fields first table.header then rows_af
 -- what the rows of a table are: within its limits, each as it should be, and no two with one key
 pub record AreRows {Row : Type 0} (table : Table Row) (Is : Row → Type 0) (rows : List Row) : Type 0 where
   pub keyed : AreKeyed table.most_rows Is table.same_key rows
-  pub regions : length (table.regions_of rows) ≤ MOST_REGIONS
+  pub regions : length (regions_of table rows) ≤ MOST_REGIONS
 
 -- records under the header spell rows, each by its number
 abbrev pub SpellRows : {Row : Type 0} → Table Row → ℕ → List Fields → List Row → Type 0
@@ -58,7 +63,7 @@ pub record IsTable {Row : Type 0} (table : Table Row) (records : List Fields) (r
   pub spelled : SpellRows table 0 body rows
   pub few : length rows ≤ table.most_rows
   pub apart : IsDistinct table.same_key rows
-  pub regions : length (table.regions_of rows) ≤ MOST_REGIONS
+  pub regions : length (regions_of table rows) ≤ MOST_REGIONS
 
 -- the first record is not the header, or there is none
 abbrev pub LacksHeader : {Row : Type 0} → Table Row → List Fields → Type 0

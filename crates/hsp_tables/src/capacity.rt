@@ -1,28 +1,23 @@
 // The table of capacities: how many queries the server of an identifier can take at a site.
 
-ghost use Rattle.std.specs.Prelude.{◌≡◌, ◌<◌, ◌==◌, ◌&&◌, ◌⊎◌, Some, Ok, Err, length, option_map, slice_get, OnOk, IfErr};
+ghost use Rattle.std.specs.Prelude.{◌≡◌, ◌<◌, ◌==◌, ◌&&◌, Some, length, option_map, refl, slice_get};
 ghost use Rattle.std.specs.List.{find};
 ghost use Rattle.std.specs.Str.{bytes_eq};
-ghost use Rattle.csv.specs.Records.{fields_of};
 ghost use Rattle.hsp_csv.specs.Records.{records_of};
 ghost use Rattle.hsp_tables.specs.declared.fault.TableFault.TheVariants.{OutOfMemory};
-ghost use Rattle.hsp_text.specs.Answers.{Gives, GivesUnless};
-ghost use Rattle.hsp_tables.specs.InTurn.{with_row};
-ghost use Rattle.hsp_tables.specs.Table.{row_after, table_of};
-ghost use Rattle.hsp_tables.specs.Capacities.{AreCapacities, CapacityEntry, capacity_in, capacity_table};
+ghost use Rattle.hsp_text.specs.Answers.{GivesUnless};
+ghost use Rattle.hsp_tables.specs.Table.{table_of};
+ghost use Rattle.hsp_tables.specs.Capacities.{AreCapacities, CapacityEntry, capacity_table};
 ghost use Rattle.hsp_tables.specs.Rows.{capacity_shown};
 
 use crate::fault::TableFault;
 use crate::fields::{name_in, number_in};
-use crate::keyed::ServerRows;
-use csv::ByteRecord;
-use hsp_csv::{read_records, take_header, take_record, three_fields};
+use crate::keyed::{LentServer, ServerKey};
+use crate::table::{Kind, Three, read_table};
 use hsp_text::limits::{GREATEST_CAPACITY, MOST_CAPACITY_ROWS};
+use indexmap::IndexMap;
 use std::alloc::Global;
 use std::marker::Model;
-
-// The names of the fields.
-const HEADER: [&[u8]; 3] = [b"site", b"server_id", b"capacity"];
 
 /// The capacities. Each row has a site, the identifier of a server and its capacity; each pair of site and identifier
 /// stands once.
@@ -30,18 +25,19 @@ const HEADER: [&[u8]; 3] = [b"site", b"server_id", b"capacity"];
 /// There are at most 1,024 rows.
 #[derive(Drop)]
 pub struct Capacities {
-    rows: ServerRows,
+    rows: IndexMap<ServerKey, u64>,
 }
 
 impl Model for Capacities {
-    ghost use Rattle.std.specs.Prelude.{List};
+    ghost use Rattle.std.specs.Prelude.{List, map};
     ghost use Rattle.hsp_tables.specs.Capacities.{AreCapacities, CapacityEntry};
+    ghost use Rattle.hsp_tables.specs.KeyedRows.{server_entry};
 
     ghost Value = { List CapacityEntry };
 
-    ghost view = { λ t. t.rows };
+    ghost view = { λ t. map server_entry t.rows.entries };
 
-    ghost invariant = { λ t. AreCapacities t.rows };
+    ghost invariant = { λ t. AreCapacities (map server_entry t.rows.entries) };
 }
 
 /// A row of the capacities.
@@ -70,11 +66,11 @@ impl Capacities {
         requires { number < length self.now }
         ensures { slice_get self.now number ≡ Some (capacity_shown result) }
     {
-        let (site, server_id, capacity) = self.rows.row(number as usize);
+        let (key, capacity) = self.rows.get_index(number as usize).unwrap();
         CapacityRow {
-            site,
-            server_id,
-            capacity,
+            site: key.site.as_slice(),
+            server_id: key.server_id,
+            capacity: *capacity,
         }
     }
 
@@ -83,41 +79,44 @@ impl Capacities {
         ensures { result ≡ option_map (λ (row : CapacityEntry). row.capacity)
             (find (λ (row : CapacityEntry). bytes_eq row.site site.now && (row.server_id == server_id)) self.now) }
     {
-        self.rows.capacity(site, server_id)
+        let capacity = self.rows.get(LentServer { site, server_id })?;
+        Some(*capacity)
     }
 }
 
-// The row that the fields of a record spell.
-fn capacity_in(number: u32, fields: &ByteRecord) -> Result<CapacityRow<'_>, TableFault>
-    ensures { Gives capacity_shown result (capacity_in number (fields_of fields.now)) }
-{
-    let Some((site, server_id, capacity)) = three_fields(fields) else {
-        return Err(TableFault::Fields { row: number });
-    };
-    Ok(CapacityRow {
-        site: name_in(number, site)?,
-        server_id: number_in(number, server_id, u32::MAX as u64)? as u32,
-        capacity: number_in(number, capacity, GREATEST_CAPACITY)?,
-    })
-}
+impl Kind for Capacities {
+    ghost use Rattle.hsp_tables.specs.Capacities.{CapacityEntry, capacity_of, capacity_table};
+    ghost use Rattle.hsp_tables.specs.Fields.{not_three};
+    ghost use Rattle.hsp_tables.specs.KeyedRows.{server_entry};
 
-// Adds the row of a further record to the rows.
-fn add_record(alloc: Global, rows: &mut ServerRows, fields: &ByteRecord) -> Result<(), TableFault>
-    ensures ok { OnOk result
-        (with_row (row_after capacity_table) rows.old (fields_of fields.now) ≡ Ok rows.new) }
-    ensures err { IfErr result (λ e. (e ≡ OutOfMemory)
-        ⊎ (with_row (row_after capacity_table) rows.old (fields_of fields.now) ≡ Err e)) }
-{
-    let number = rows.len();
-    if number >= MOST_CAPACITY_ROWS {
-        return Err(TableFault::TooManyRows);
+    type Key = ServerKey;
+
+    ghost Entry = { CapacityEntry };
+
+    ghost entry = { server_entry };
+
+    ghost table = { capacity_table };
+
+    fn most_rows() -> u32 {
+        MOST_CAPACITY_ROWS as u32
     }
-    let number = number as u32;
-    let row = capacity_in(number, fields)?;
-    if !rows.insert(alloc, row.site, row.server_id, row.capacity)? {
-        return Err(TableFault::RowTwice { row: number });
+
+    fn row_of(alloc: Global, row: u32, fields: Three<'_>) -> Result<(ServerKey, u64), TableFault> {
+        let (site, server_id, capacity) = fields;
+        let site = name_in(row, site)?;
+        let server_id = number_in(row, server_id, u32::MAX as u64)? as u32;
+        let capacity = number_in(row, capacity, GREATEST_CAPACITY)?;
+        let site = Vec::from_slice(alloc, site)?;
+        Ok((ServerKey { site, server_id }, capacity))
     }
-    Ok(())
+
+    fn region_of(_key: &ServerKey) -> Option<&[u8]> {
+        None
+    }
+
+    ghost of_three = { not_three capacity_of };
+
+    ghost same = { λ _ _. refl };
 }
 
 /// The capacities that a text of comma-separated values spells, or its first fault.
@@ -128,14 +127,6 @@ pub fn read_capacity(alloc: Global, text: &[u8]) -> Result<Capacities, TableFaul
     ensures { GivesUnless OutOfMemory (λ x. x) result (
         table_of capacity_table (records_of text.now)) }
 {
-    let mut records = read_records(alloc, text);
-    let mut fields = ByteRecord::new(alloc);
-    if !take_header(&mut records, &mut fields, &HEADER)? {
-        return Err(TableFault::Header);
-    }
-    let mut rows = ServerRows::new(alloc);
-    'rows: while take_record(&mut records, &mut fields)? {
-        add_record(alloc, &mut rows, &fields)?;
-    }
+    let rows = read_table::<Capacities>(alloc, text, &[b"site", b"server_id", b"capacity"])?;
     Ok(Capacities { rows })
 }

@@ -1,36 +1,30 @@
 // The table of costs: what a query from a region costs at a site.
 
-ghost use Rattle.std.specs.Prelude.{◌≡◌, ◌<◌, ◌&&◌, ◌⊎◌, Some, Ok, Err, length, map, option_map, slice_get, OnOk, IfErr};
+ghost use Rattle.std.specs.Prelude.{◌≡◌, ◌<◌, ◌&&◌, Some, length, option_map, refl, slice_get};
 ghost use Rattle.std.specs.List.{find};
 ghost use Rattle.std.specs.Str.{bytes_eq};
-ghost use Rattle.csv.specs.Records.{fields_of};
 ghost use Rattle.hsp_csv.specs.Records.{records_of};
 ghost use Rattle.hsp_tables.specs.declared.fault.TableFault.TheVariants.{OutOfMemory};
-ghost use Rattle.hsp_text.specs.Answers.{Gives, GivesUnless};
-ghost use Rattle.hsp_tables.specs.InTurn.{with_row};
-ghost use Rattle.hsp_tables.specs.Table.{row_after, table_of};
-ghost use Rattle.hsp_tables.specs.Costs.{AreCosts, CostEntry, cost_in, cost_regions, cost_table};
-ghost use Rattle.hsp_tables.specs.Keyed.{cost_entry};
+ghost use Rattle.hsp_text.specs.Answers.{GivesUnless};
+ghost use Rattle.hsp_tables.specs.Table.{table_of};
+ghost use Rattle.hsp_tables.specs.Costs.{AreCosts, CostEntry, cost_table};
 ghost use Rattle.hsp_tables.specs.Rows.{cost_shown};
 
 use crate::fault::TableFault;
 use crate::fields::{name_in, number_in};
-use crate::keyed::{PairRow, PairRows, Regions};
-use csv::ByteRecord;
-use hsp_csv::{read_records, take_header, take_record, three_fields};
-use hsp_text::limits::{GREATEST_COST, MOST_COST_ROWS, MOST_REGIONS};
+use crate::keyed::{LentPair, PairKey};
+use crate::table::{Kind, Three, read_table};
+use hsp_text::limits::{GREATEST_COST, MOST_COST_ROWS};
+use indexmap::IndexMap;
 use std::alloc::Global;
 use std::marker::Model;
-
-// The names of the fields.
-const HEADER: [&[u8]; 3] = [b"region", b"site", b"cost"];
 
 /// The costs. Each row has a region, a site and a cost; each pair of region and site stands once.
 ///
 /// There are at most 2,048 rows and 64 regions.
 #[derive(Drop)]
 pub struct Costs {
-    rows: PairRows,
+    rows: IndexMap<PairKey, u64>,
 }
 
 impl Model for Costs {
@@ -40,9 +34,9 @@ impl Model for Costs {
 
     ghost Value = { List CostEntry };
 
-    ghost view = { λ t. map cost_entry t.rows };
+    ghost view = { λ t. map cost_entry t.rows.entries };
 
-    ghost invariant = { λ t. AreCosts (map cost_entry t.rows) };
+    ghost invariant = { λ t. AreCosts (map cost_entry t.rows.entries) };
 }
 
 /// A row of the costs.
@@ -71,11 +65,11 @@ impl Costs {
         requires { number < length self.now }
         ensures { slice_get self.now number ≡ Some (cost_shown result) }
     {
-        let row = self.rows.row(number as usize);
+        let (key, cost) = self.rows.get_index(number as usize).unwrap();
         CostRow {
-            region: row.first,
-            site: row.second,
-            cost: row.number,
+            region: key.first(),
+            site: key.second(),
+            cost: *cost,
         }
     }
 
@@ -84,57 +78,44 @@ impl Costs {
         ensures { result ≡ option_map (λ (row : CostEntry). row.cost)
             (find (λ (row : CostEntry). bytes_eq row.region region.now && bytes_eq row.site site.now) self.now) }
     {
-        self.rows.number(region, site)
+        let (first, second) = (region, site);
+        let cost = self.rows.get(LentPair { first, second })?;
+        Some(*cost)
     }
 }
 
-// The row that the fields of a record spell.
-fn cost_in(number: u32, fields: &ByteRecord) -> Result<CostRow<'_>, TableFault>
-    ensures { Gives cost_shown result (cost_in number (fields_of fields.now)) }
-{
-    let Some((region, site, cost)) = three_fields(fields) else {
-        return Err(TableFault::Fields { row: number });
-    };
-    Ok(CostRow {
-        region: name_in(number, region)?,
-        site: name_in(number, site)?,
-        cost: number_in(number, cost, GREATEST_COST)?,
-    })
-}
+impl Kind for Costs {
+    ghost use Rattle.hsp_tables.specs.Costs.{CostEntry, cost_of, cost_table};
+    ghost use Rattle.hsp_tables.specs.Fields.{not_three};
+    ghost use Rattle.hsp_tables.specs.Keyed.{cost_entry};
 
-// Adds the row of a further record to the rows and its region to the regions.
-fn add_record(
-    alloc: Global,
-    rows: &mut PairRows,
-    regions: &mut Regions,
-    fields: &ByteRecord,
-) -> Result<(), TableFault>
-    requires { regions.old ≡ cost_regions (map cost_entry rows.old) }
-    ensures ok { OnOk result (
-        with_row (row_after cost_table) (map cost_entry rows.old) (fields_of fields.now) ≡ Ok (map cost_entry rows.new)) }
-    ensures regions { OnOk result (regions.new ≡ cost_regions (map cost_entry rows.new)) }
-    ensures err { IfErr result (λ e. (e ≡ OutOfMemory)
-        ⊎ (with_row (row_after cost_table) (map cost_entry rows.old) (fields_of fields.now) ≡ Err e)) }
-{
-    let number = rows.len();
-    if number >= MOST_COST_ROWS {
-        return Err(TableFault::TooManyRows);
+    type Key = PairKey;
+
+    ghost Entry = { CostEntry };
+
+    ghost entry = { cost_entry };
+
+    ghost table = { cost_table };
+
+    fn most_rows() -> u32 {
+        MOST_COST_ROWS as u32
     }
-    let number = number as u32;
-    let row = cost_in(number, fields)?;
-    let kept = PairRow {
-        first: row.region,
-        second: row.site,
-        number: row.cost,
-    };
-    if !rows.insert(alloc, kept)? {
-        return Err(TableFault::RowTwice { row: number });
+
+    fn row_of(alloc: Global, row: u32, fields: Three<'_>) -> Result<(PairKey, u64), TableFault> {
+        let (region, site, cost) = fields;
+        let region = name_in(row, region)?;
+        let site = name_in(row, site)?;
+        let cost = number_in(row, cost, GREATEST_COST)?;
+        Ok((PairKey::new(alloc, region, site)?, cost))
     }
-    regions.see(alloc, row.region)?;
-    if regions.len() > MOST_REGIONS {
-        return Err(TableFault::TooManyRegions);
+
+    fn region_of(key: &PairKey) -> Option<&[u8]> {
+        Some(key.first())
     }
-    Ok(())
+
+    ghost of_three = { not_three cost_of };
+
+    ghost same = { λ _ _. refl };
 }
 
 /// The costs that a text of comma-separated values spells, or its first fault.
@@ -145,15 +126,6 @@ pub fn read_costs(alloc: Global, text: &[u8]) -> Result<Costs, TableFault>
     ensures { GivesUnless OutOfMemory (λ x. x) result (
         table_of cost_table (records_of text.now)) }
 {
-    let mut records = read_records(alloc, text);
-    let mut fields = ByteRecord::new(alloc);
-    if !take_header(&mut records, &mut fields, &HEADER)? {
-        return Err(TableFault::Header);
-    }
-    let mut rows = PairRows::new(alloc);
-    let mut regions = Regions::new(alloc);
-    'rows: while take_record(&mut records, &mut fields)? {
-        add_record(alloc, &mut rows, &mut regions, &fields)?;
-    }
+    let rows = read_table::<Costs>(alloc, text, &[b"region", b"site", b"cost"])?;
     Ok(Costs { rows })
 }

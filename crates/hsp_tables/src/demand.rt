@@ -1,35 +1,30 @@
 // The table of demand: how many queries for a handle come from a region.
 
-ghost use Rattle.std.specs.Prelude.{◌≡◌, ◌<◌, ◌⊎◌, Some, Ok, Err, length, map, slice_get, OnOk, IfErr};
-ghost use Rattle.csv.specs.Records.{fields_of};
+ghost use Rattle.std.specs.Prelude.{◌≡◌, ◌<◌, Ok, Some, length, refl, slice_get};
 ghost use Rattle.hsp_csv.specs.Records.{records_of};
+ghost use Rattle.hsp_names.specs.Handle.{handle_in};
 ghost use Rattle.hsp_tables.specs.declared.fault.TableFault.TheVariants.{OutOfMemory};
-ghost use Rattle.hsp_text.specs.Answers.{Gives, GivesUnless};
-ghost use Rattle.hsp_tables.specs.InTurn.{with_row};
-ghost use Rattle.hsp_tables.specs.Table.{row_after, table_of};
-ghost use Rattle.hsp_tables.specs.Demand.{AreDemand, demand_in, demand_regions, demand_table};
-ghost use Rattle.hsp_tables.specs.Keyed.{demand_entry};
+ghost use Rattle.hsp_text.specs.Answers.{GivesUnless};
+ghost use Rattle.hsp_tables.specs.Table.{table_of};
+ghost use Rattle.hsp_tables.specs.Demand.{AreDemand, demand_table};
 ghost use Rattle.hsp_tables.specs.Rows.{demand_shown};
 
 use crate::fault::TableFault;
 use crate::fields::{handle_in, name_in, number_in};
-use crate::keyed::{PairRow, PairRows, Regions};
-use csv::ByteRecord;
-use hsp_csv::{read_records, take_header, take_record, three_fields};
+use crate::keyed::PairKey;
+use crate::table::{Kind, Three, read_table};
 use hsp_names::HandleRef;
-use hsp_text::limits::{GREATEST_COUNT, MOST_DEMAND_ROWS, MOST_REGIONS};
+use hsp_text::limits::{GREATEST_COUNT, MOST_DEMAND_ROWS};
+use indexmap::IndexMap;
 use std::alloc::Global;
 use std::marker::Model;
-
-// The names of the fields.
-const HEADER: [&[u8]; 3] = [b"region", b"handle", b"count"];
 
 /// The demand. Each row has a region, a handle and a count; each pair of region and handle stands once.
 ///
 /// There are at most 8,192 rows and 64 regions.
 #[derive(Drop)]
 pub struct Demand {
-    rows: PairRows,
+    rows: IndexMap<PairKey, u64>,
 }
 
 impl Model for Demand {
@@ -39,9 +34,9 @@ impl Model for Demand {
 
     ghost Value = { List DemandEntry };
 
-    ghost view = { λ t. map demand_entry t.rows };
+    ghost view = { λ t. map demand_entry t.rows.entries };
 
-    ghost invariant = { λ t. AreDemand (map demand_entry t.rows) };
+    ghost invariant = { λ t. AreDemand (map demand_entry t.rows.entries) };
 }
 
 /// A row of the demand.
@@ -65,67 +60,63 @@ impl Demand {
         self.rows.len() as u32
     }
 
+    /// The region, the octets of the handle and the count of the row with this number, which is below [`Demand::len`].
+    pub fn octets(&self, number: u32) -> (&[u8], &[u8], u64)
+        requires { number < length self.now }
+        ensures row { slice_get self.now number
+            ≡ Some (record { region = result.0.now; handle = result.1.now; count = result.2 }) }
+        ensures handle { handle_in result.1.now ≡ Ok result.1.now }
+    {
+        let (key, count) = self.rows.get_index(number as usize).unwrap();
+        (key.first(), key.second(), *count)
+    }
+
     /// The row with this number, which is below [`Demand::len`].
     pub fn row(&self, number: u32) -> DemandRow<'_>
         requires { number < length self.now }
         ensures { slice_get self.now number ≡ Some (demand_shown result) }
     {
-        let row = self.rows.row(number as usize);
+        let (region, handle, count) = self.octets(number);
         DemandRow {
-            region: row.first,
-            handle: HandleRef::accepted(row.second),
-            count: row.number,
+            region,
+            handle: HandleRef::accepted(handle),
+            count,
         }
     }
 }
 
-// The row that the fields of a record spell.
-fn demand_in(number: u32, fields: &ByteRecord) -> Result<DemandRow<'_>, TableFault>
-    ensures { Gives demand_shown result (demand_in number (fields_of fields.now)) }
-{
-    let Some((region, handle, count)) = three_fields(fields) else {
-        return Err(TableFault::Fields { row: number });
-    };
-    Ok(DemandRow {
-        region: name_in(number, region)?,
-        handle: handle_in(number, handle)?,
-        count: number_in(number, count, GREATEST_COUNT)?,
-    })
-}
+impl Kind for Demand {
+    ghost use Rattle.hsp_tables.specs.Demand.{DemandEntry, demand_of, demand_table};
+    ghost use Rattle.hsp_tables.specs.Fields.{not_three};
+    ghost use Rattle.hsp_tables.specs.Keyed.{demand_entry};
 
-// Adds the row of a further record to the rows and its region to the regions.
-fn add_record(
-    alloc: Global,
-    rows: &mut PairRows,
-    regions: &mut Regions,
-    fields: &ByteRecord,
-) -> Result<(), TableFault>
-    requires { regions.old ≡ demand_regions (map demand_entry rows.old) }
-    ensures ok { OnOk result (
-        with_row (row_after demand_table) (map demand_entry rows.old) (fields_of fields.now) ≡ Ok (map demand_entry rows.new)) }
-    ensures regions { OnOk result (regions.new ≡ demand_regions (map demand_entry rows.new)) }
-    ensures err { IfErr result (λ e. (e ≡ OutOfMemory)
-        ⊎ (with_row (row_after demand_table) (map demand_entry rows.old) (fields_of fields.now) ≡ Err e)) }
-{
-    let number = rows.len();
-    if number >= MOST_DEMAND_ROWS {
-        return Err(TableFault::TooManyRows);
+    type Key = PairKey;
+
+    ghost Entry = { DemandEntry };
+
+    ghost entry = { demand_entry };
+
+    ghost table = { demand_table };
+
+    fn most_rows() -> u32 {
+        MOST_DEMAND_ROWS as u32
     }
-    let number = number as u32;
-    let row = demand_in(number, fields)?;
-    let kept = PairRow {
-        first: row.region,
-        second: row.handle.bytes(),
-        number: row.count,
-    };
-    if !rows.insert(alloc, kept)? {
-        return Err(TableFault::RowTwice { row: number });
+
+    fn row_of(alloc: Global, row: u32, fields: Three<'_>) -> Result<(PairKey, u64), TableFault> {
+        let (region, handle, count) = fields;
+        let region = name_in(row, region)?;
+        let handle = handle_in(row, handle)?;
+        let count = number_in(row, count, GREATEST_COUNT)?;
+        Ok((PairKey::new(alloc, region, handle.bytes())?, count))
     }
-    regions.see(alloc, row.region)?;
-    if regions.len() > MOST_REGIONS {
-        return Err(TableFault::TooManyRegions);
+
+    fn region_of(key: &PairKey) -> Option<&[u8]> {
+        Some(key.first())
     }
-    Ok(())
+
+    ghost of_three = { not_three demand_of };
+
+    ghost same = { λ _ _. refl };
 }
 
 /// The demand that a text of comma-separated values spells, or its first fault.
@@ -136,15 +127,6 @@ pub fn read_demand(alloc: Global, text: &[u8]) -> Result<Demand, TableFault>
     ensures { GivesUnless OutOfMemory (λ x. x) result (
         table_of demand_table (records_of text.now)) }
 {
-    let mut records = read_records(alloc, text);
-    let mut fields = ByteRecord::new(alloc);
-    if !take_header(&mut records, &mut fields, &HEADER)? {
-        return Err(TableFault::Header);
-    }
-    let mut rows = PairRows::new(alloc);
-    let mut regions = Regions::new(alloc);
-    'rows: while take_record(&mut records, &mut fields)? {
-        add_record(alloc, &mut rows, &mut regions, &fields)?;
-    }
+    let rows = read_table::<Demand>(alloc, text, &[b"region", b"handle", b"count"])?;
     Ok(Demand { rows })
 }

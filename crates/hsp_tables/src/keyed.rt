@@ -1,157 +1,125 @@
-// Rows that are found by their keys, in the order in which they came.
+// Keys by which rows are found, and the regions that were seen.
 
-ghost use Rattle.std.specs.Prelude.{◌≡◌, ◌<◌, ◌==◌, ◌&&◌, ◌∷◌, ◌++◌, [], Some, true, not, length, map, option_map, slice_get, OnOk, IfOk, IfErr};
-ghost use Rattle.std.specs.List.{find, list_any};
+ghost use Rattle.std.specs.Prelude.{◌≡◌, ◌++◌, [], length, OnOk, IfOk, IfErr};
+ghost use Rattle.std.specs.Cmp.Rules.{comparing, hashing};
+ghost use Rattle.std.specs.Hash as fed;
 ghost use Rattle.std.specs.Str.{bytes_eq};
+ghost use Rattle.std.proofs.Common.{rules};
 ghost use Rattle.indexmap.specs.IndexSet.{insert_key};
 ghost use Rattle.hsp_tables.specs.declared.fault.TableFault.TheVariants.{OutOfMemory};
-ghost use Rattle.hsp_tables.specs.Capacities.{CapacityEntry, capacity_entry, same_capacity};
-ghost use Rattle.hsp_tables.specs.Keyed.{PairEntry, same_pair};
-ghost use Rattle.hsp_tables.specs.KeyedRows.{names_in, pair_entry, pair_of, server_entry};
+ghost use Rattle.hsp_tables.specs.KeyedRows.{names_in};
 
 use crate::fault::TableFault;
-use indexmap::{Equivalent, IndexMap, IndexSet};
-use std::alloc::Global;
-use std::hash::Hash;
+use indexmap::{Equivalent, IndexSet};
+use std::alloc::{AllocError, Global};
+use std::hash::{Hash, Hasher};
 use std::marker::Model;
 
-// The two names by which a row is found.
-#[derive(Debug, PartialEq, Eq, Hash, Drop)]
-struct PairKey {
-    first: Vec<u8>,
-    second: Vec<u8>,
+// The two names by which a row is found. Their octets lie one after the other, so that a lookup reads one place.
+#[derive(Drop)]
+pub(crate) struct PairKey {
+    octets: Vec<u8>,
+    cut: usize,
+}
+
+impl Model for PairKey {
+    ghost use Rattle.std.specs.Prelude.{◌≤◌, length};
+    ghost use Rattle.hsp_tables.specs.Keyed.{PairName, names_cut};
+
+    ghost Value = { PairName };
+
+    ghost view = { λ k. names_cut k.cut k.octets.items };
+
+    ghost invariant = { λ k. k.cut ≤ length k.octets.items };
+}
+
+impl PairKey {
+    pub(crate) fn new(alloc: Global, first: &[u8], second: &[u8]) -> Result<PairKey, AllocError>
+        ensures { IfOk result (λ key. key ≡ record { first = first.now; second = second.now }) }
+    {
+        let cut = first.len();
+        let mut octets = Vec::with_capacity(alloc, cut.saturating_add(second.len()))?;
+        octets.extend_from_slice(first)?;
+        octets.extend_from_slice(second)?;
+        Ok(PairKey { octets, cut })
+    }
+
+    pub(crate) fn first(&self) -> &[u8]
+        ensures { result.now ≡ self.now.first }
+    {
+        &self.octets[..self.cut]
+    }
+
+    pub(crate) fn second(&self) -> &[u8]
+        ensures { result.now ≡ self.now.second }
+    {
+        &self.octets[self.cut..]
+    }
+}
+
+impl PartialEq for PairKey {
+    ghost use Rattle.std.specs.Prelude.{◌&&◌};
+
+    ghost eq = { λ a b. bytes_eq a.first b.first && bytes_eq a.second b.second };
+
+    ghost laws = { Prim.search (comparing, rules) };
+
+    fn eq(&self, other: &PairKey) -> bool {
+        self.first() == other.first() && self.second() == other.second()
+    }
+}
+
+impl Eq for PairKey {
+    ghost laws = { Prim.search (comparing, rules) };
+}
+
+impl Hash for PairKey {
+    ghost hash_input = { λ k. fed.slice fed.u8 k.first ++ fed.slice fed.u8 k.second };
+
+    ghost respects_eq = { Prim.search (hashing, rules) };
+
+    fn hash<H: Hasher>(&self, state: &mut H) {
+        self.first().hash(state);
+        self.second().hash(state);
+    }
 }
 
 // The same, lent.
-#[derive(Clone, Copy, Debug, PartialEq, Eq, Hash)]
-struct LentPair<'a> {
-    first: &'a [u8],
-    second: &'a [u8],
+#[derive(Clone, Copy, PartialEq, Eq, Hash)]
+pub(crate) struct LentPair<'a> {
+    pub(crate) first: &'a [u8],
+    pub(crate) second: &'a [u8],
 }
 
 impl Equivalent<PairKey> for LentPair<'_> {
     ghost use Rattle.std.specs.Prelude.{◌≡◌, ◌&&◌};
     ghost use Rattle.std.specs.Str.{bytes_eq};
 
-    ghost equivalent = { λ q k. bytes_eq q.first.now k.first.items && bytes_eq q.second.now k.second.items };
+    ghost equivalent = { λ q k. bytes_eq q.first.now k.first && bytes_eq q.second.now k.second };
 
     ghost use Rattle.hsp_tables.specs.LentKeys.{hashed_alike, compared_alike};
 
-    ghost respects_hash = { λ q k h. hashed_alike q.first.now k.first.items q.second.now k.second.items h };
+    ghost respects_hash = { λ q k h. hashed_alike q.first.now k.first q.second.now k.second h };
 
-    ghost respects_eq = { λ q x y h. compared_alike q.first.now x.first.items q.second.now x.second.items
-        y.first.items y.second.items h };
+    ghost respects_eq = { λ q x y h. compared_alike q.first.now x.first q.second.now x.second y.first y.second h };
 
     fn equivalent(&self, key: &PairKey) -> bool {
-        self.first == key.first.as_slice() && self.second == key.second.as_slice()
-    }
-}
-
-// A row of two names and a number.
-#[derive(Clone, Copy, Debug)]
-pub(crate) struct PairRow<'a> {
-    pub(crate) first: &'a [u8],
-    pub(crate) second: &'a [u8],
-    pub(crate) number: u64,
-}
-
-// Rows of two names, which are their key, and a number.
-#[derive(Drop)]
-pub(crate) struct PairRows {
-    rows: IndexMap<PairKey, u64>,
-}
-
-impl Model for PairRows {
-    ghost use Rattle.std.specs.Prelude.{List, map};
-    ghost use Rattle.hsp_tables.specs.Keyed.{PairEntry};
-
-    ghost Value = { List PairEntry };
-
-    ghost use Rattle.hsp_tables.specs.KeyedRows.{pair_entry};
-
-    ghost view = { λ t. map pair_entry t.rows.entries };
-}
-
-// Adds a row if its key is new, and returns whether it is new.
-fn insert_pair(
-    alloc: Global,
-    rows: &mut IndexMap<PairKey, u64>,
-    row: PairRow<'_>,
-) -> Result<bool, TableFault>
-    ensures found { IfOk result (λ new.
-        new ≡ not (list_any (same_pair (pair_of row.entry)) (map pair_entry rows.old.entries))) }
-    ensures added { IfOk result (λ new. new ≡ true
-        → map pair_entry rows.new.entries ≡ map pair_entry rows.old.entries ++ pair_of row.entry ∷ []) }
-    ensures err { IfErr result (λ e. e ≡ OutOfMemory) }
-{
-    let key = PairKey {
-        first: Vec::from_slice(alloc, row.first)?,
-        second: Vec::from_slice(alloc, row.second)?,
-    };
-    Ok(rows.insert(key, row.number)?.is_none())
-}
-
-impl PairRows {
-    pub(crate) fn new(alloc: Global) -> PairRows
-        ensures { result ≡ [] }
-    {
-        PairRows {
-            rows: IndexMap::new(alloc),
-        }
-    }
-
-    pub(crate) fn len(&self) -> usize
-        ensures { result ≡ length self.now }
-    {
-        self.rows.len()
-    }
-
-    // A row, by its place.
-    pub(crate) fn row(&self, place: usize) -> PairRow<'_>
-        requires { place < length self.now }
-        ensures { slice_get self.now place ≡ Some (pair_of result) }
-    {
-        let (key, number) = self.rows.get_index(place).unwrap();
-        PairRow {
-            first: key.first.as_slice(),
-            second: key.second.as_slice(),
-            number: *number,
-        }
-    }
-
-    // The number of the row of two names.
-    pub(crate) fn number(&self, first: &[u8], second: &[u8]) -> Option<u64>
-        ensures { result ≡ option_map (λ (row : PairEntry). row.number)
-            (find (λ (row : PairEntry). bytes_eq row.first first.now && bytes_eq row.second second.now) self.now) }
-    {
-        let number = self.rows.get(LentPair { first, second })?;
-        Some(*number)
-    }
-
-    // Adds a row if its key is new, and returns whether it is new.
-    pub(crate) fn insert(&mut self, alloc: Global, row: PairRow<'_>) -> Result<bool, TableFault>
-        ensures found { IfOk result
-            (λ new. new ≡ not (list_any (same_pair (pair_of row.entry)) self.old)) }
-        ensures added { IfOk result
-            (λ new. new ≡ true → self.new ≡ self.old ++ pair_of row.entry ∷ []) }
-        ensures err { IfErr result (λ e. e ≡ OutOfMemory) }
-    {
-        insert_pair(alloc, &mut self.rows, row)
+        self.first == key.first() && self.second == key.second()
     }
 }
 
 // The site and the identifier by which a server is found.
 #[derive(Debug, PartialEq, Eq, Hash, Drop)]
-struct ServerKey {
-    site: Vec<u8>,
-    server_id: u32,
+pub(crate) struct ServerKey {
+    pub(crate) site: Vec<u8>,
+    pub(crate) server_id: u32,
 }
 
 // The same, lent.
 #[derive(Clone, Copy, Debug, PartialEq, Eq, Hash)]
-struct LentServer<'a> {
-    site: &'a [u8],
-    server_id: u32,
+pub(crate) struct LentServer<'a> {
+    pub(crate) site: &'a [u8],
+    pub(crate) server_id: u32,
 }
 
 impl Equivalent<ServerKey> for LentServer<'_> {
@@ -169,95 +137,6 @@ impl Equivalent<ServerKey> for LentServer<'_> {
 
     fn equivalent(&self, key: &ServerKey) -> bool {
         self.site == key.site.as_slice() && key.server_id == self.server_id
-    }
-}
-
-// Capacities of servers.
-#[derive(Drop)]
-pub(crate) struct ServerRows {
-    rows: IndexMap<ServerKey, u64>,
-}
-
-impl Model for ServerRows {
-    ghost use Rattle.std.specs.Prelude.{List, map};
-    ghost use Rattle.hsp_tables.specs.Capacities.{CapacityEntry};
-
-    ghost Value = { List CapacityEntry };
-
-    ghost use Rattle.hsp_tables.specs.KeyedRows.{server_entry};
-
-    ghost view = { λ t. map server_entry t.rows.entries };
-}
-
-// Adds the capacity of a server if the server is new, and returns whether it is new.
-fn insert_server(
-    alloc: Global,
-    rows: &mut IndexMap<ServerKey, u64>,
-    site: &[u8],
-    server_id: u32,
-    capacity: u64,
-) -> Result<bool, TableFault>
-    ensures found { IfOk result (λ new. new ≡ not (
-        list_any (same_capacity (capacity_entry site.now server_id capacity)) (map server_entry rows.old.entries))) }
-    ensures added { IfOk result (λ new. new ≡ true
-        → map server_entry rows.new.entries ≡ map server_entry rows.old.entries ++ capacity_entry site.now server_id capacity ∷ []) }
-    ensures err { IfErr result (λ e. e ≡ OutOfMemory) }
-{
-    let key = ServerKey {
-        site: Vec::from_slice(alloc, site)?,
-        server_id,
-    };
-    Ok(rows.insert(key, capacity)?.is_none())
-}
-
-impl ServerRows {
-    pub(crate) fn new(alloc: Global) -> ServerRows
-        ensures { result ≡ [] }
-    {
-        ServerRows {
-            rows: IndexMap::new(alloc),
-        }
-    }
-
-    pub(crate) fn len(&self) -> usize
-        ensures { result ≡ length self.now }
-    {
-        self.rows.len()
-    }
-
-    // The site, the identifier and the capacity of a server, by its place.
-    pub(crate) fn row(&self, place: usize) -> (&[u8], u32, u64)
-        requires { place < length self.now }
-        ensures { slice_get self.now place ≡ Some (capacity_entry result.0.now result.1 result.2) }
-    {
-        let (key, capacity) = self.rows.get_index(place).unwrap();
-        (key.site.as_slice(), key.server_id, *capacity)
-    }
-
-    // The capacity of a server.
-    pub(crate) fn capacity(&self, site: &[u8], server_id: u32) -> Option<u64>
-        ensures { result ≡ option_map (λ (row : CapacityEntry). row.capacity)
-            (find (λ (row : CapacityEntry). bytes_eq row.site site.now && (row.server_id == server_id)) self.now) }
-    {
-        let capacity = self.rows.get(LentServer { site, server_id })?;
-        Some(*capacity)
-    }
-
-    // Adds the capacity of a server if the server is new, and returns whether it is new.
-    pub(crate) fn insert(
-        &mut self,
-        alloc: Global,
-        site: &[u8],
-        server_id: u32,
-        capacity: u64,
-    ) -> Result<bool, TableFault>
-        ensures found { IfOk result (λ new.
-            new ≡ not (list_any (same_capacity (capacity_entry site.now server_id capacity)) self.old)) }
-        ensures added { IfOk result (λ new. new ≡ true
-            → self.new ≡ self.old ++ capacity_entry site.now server_id capacity ∷ []) }
-        ensures err { IfErr result (λ e. e ≡ OutOfMemory) }
-    {
-        insert_server(alloc, &mut self.rows, site, server_id, capacity)
     }
 }
 

@@ -18,7 +18,7 @@ pub fn reading_is_the_relation()
 {}
 
 /// The records up to a fault decide it: it stays, whatever records follow.
-#[tactic(auto, using(crate::proofs::TableKinds::demand_keeps_first_fault, crate::proofs::TableKinds::costs_keep_first_fault, crate::proofs::TableKinds::capacities_keep_first_fault))]
+#[tactic(auto, using(crate::proofs::TableReading::keeps_first_fault))]
 pub fn fault_is_first()
     ensures demand { KeepsFirstFault demand_table }
     ensures costs { KeepsFirstFault cost_table }

@@ -14,6 +14,7 @@ pub mod laws;
 mod members;
 mod settings;
 mod sites;
+mod table;
 
 pub use capacity::{Capacities, CapacityRow, read_capacity};
 pub use costs::{CostRow, Costs, read_costs};

@@ -2,7 +2,8 @@ use Rattle.std.proofs.Common.{◌∙◌, sym}
 use Rattle.csv.specs.Records.{fields_of}
 use Rattle.hsp_dispatch.specs.Log.{header_of}
 use Rattle.hsp_dispatch.specs.declared.form.Form.TheVariants.{Handles, Bodies}
-use Rattle.hsp_dispatch.proofs.RowFields.{is_no_header, same_fields_are}
+use Rattle.hsp_csv.proofs.SameFields.{same_fields_are}
+use Rattle.hsp_dispatch.proofs.RowFields.{is_no_header}
 use Rattle.hsp_dispatch.proofs.form.form_of.Goals as goal
 
 pub returns-then-is_header-clause-header : goal.returns-then-is_header-clause-header

@@ -1,5 +1,0 @@
-use Rattle.std.proofs.Common.{rules}
-use Rattle.hsp_tables.proofs.capacity.Capacities.row.Goals as goal
-
-pub returns : goal.returns
-returns c = search rules
