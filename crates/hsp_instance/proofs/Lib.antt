@@ -7,9 +7,7 @@ pub mod FirstSeen
 pub mod SiteSums
 pub mod SiteNames
 pub mod SitesInTurn
-pub mod RowPlaces
 pub mod TableChecks
-pub mod NewRows
 pub mod NextServers
 pub mod Reading
 pub mod BuiltParts

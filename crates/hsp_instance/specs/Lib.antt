@@ -1,5 +1,4 @@
 pub mod Instance
-pub mod KeyedRows
 pub mod Building
 pub mod Parts
 pub mod RegionCosts

@@ -3,6 +3,7 @@
 ghost use Rattle.std.specs.Prelude.{◌≡◌, ◌≤◌, ◌<◌, ◌+◌, ◌++◌, length, map, OnOk, IfOk};
 ghost use Rattle.std.specs.List.{AllByRecursion};
 ghost use Rattle.hsp_names.specs.Lent.{octets_of};
+ghost use Rattle.hsp_tables.specs.Demand.{AreDemand};
 ghost use Rattle.hsp_tables.specs.Rows.{demand_shown};
 ghost use Rattle.hsp_text.specs.declared.limits.TheConstants.{MOST_SERVERS};
 ghost use Rattle.hsp_instance.specs.Building.{arc_to};
@@ -106,7 +107,9 @@ pub(crate) fn arcs_of(
     costs: &Costs,
 ) -> Result<Vec<ArcList>, AllocError>
     requires { AreSites sites.now }
-    ensures { IfOk result (λ v. v.items ≡ map (arcs_of costs.now sites.now) demand.now) }
+    ensures arcs { IfOk result (λ v. v.items ≡ map (arcs_of costs.now sites.now) demand.now) }
+    // The demand is within its limits.
+    ensures within { AreDemand demand.now }
 {
     let mut known: RegionCosts = RegionCosts::new(alloc);
     let mut lists = Vec::with_capacity(alloc, demand.len() as usize)?;

@@ -10,7 +10,6 @@ use crate::arc_building::arcs_of;
 use crate::checks::{check_capacities, check_cost_rows};
 use crate::fault::BuildFault;
 use crate::instance::Instance;
-use crate::rows::rows_of;
 use crate::server_building::{hosts_of, servers_of};
 use crate::site_reading::build_sites;
 use crate::sites::Sites;
@@ -47,10 +46,10 @@ fn instance_with(
     check_capacities(list, tables.capacity)?;
     let hosts = hosts_of(alloc, settings)?;
     let servers = servers_of(alloc, list, tables.capacity, hosts.as_slice())?;
-    let rows = rows_of(alloc, tables.demand)?;
     let arcs = arcs_of(alloc, tables.demand, list, tables.costs)?;
+    let demand = tables.demand.clone()?;
     Ok(Instance {
-        rows,
+        demand,
         sites,
         servers,
         hosts,

@@ -4,8 +4,8 @@ ghost use Rattle.std.specs.Prelude.{◌≡◌, ◌<◌, Some, length, option_map
 ghost use Rattle.hsp_instance.specs.Instance.{IsInstance, has_keys};
 
 use crate::arc::Arc;
-use crate::rows::Rows;
 use crate::sites::Sites;
+use hsp_tables::Demand;
 use std::marker::Model;
 
 // A server.
@@ -67,7 +67,7 @@ impl Model for ArcList {
 /// There are at most 8,192 rows, 32 sites, 1,024 servers and 1,024 hosts.
 #[derive(Drop)]
 pub struct Instance {
-    pub(crate) rows: Rows,
+    pub(crate) demand: Demand,
     pub(crate) sites: Sites,
     pub(crate) servers: Vec<Server>,
     pub(crate) hosts: Vec<Host>,
@@ -75,12 +75,14 @@ pub struct Instance {
 }
 
 impl Model for Instance {
+    ghost use Rattle.std.specs.Prelude.{map};
+    ghost use Rattle.hsp_instance.specs.Building.{row_of};
     ghost use Rattle.hsp_instance.specs.Instance.{Instance, IsInstance};
 
     ghost Value = { Instance };
 
     ghost view = { λ i. record {
-      rows = i.rows;
+      rows = map row_of i.demand;
       sites = i.sites;
       servers = i.servers.items;
       hosts = i.hosts.items;
@@ -88,7 +90,7 @@ impl Model for Instance {
     } };
 
     ghost invariant = { λ i. IsInstance (record {
-      rows = i.rows;
+      rows = map row_of i.demand;
       sites = i.sites;
       servers = i.servers.items;
       hosts = i.hosts.items;
@@ -103,7 +105,7 @@ impl Instance {
         // The instance is within its limits.
         ensures within { IsInstance self.now }
     {
-        self.rows.len() as u32
+        self.demand.len()
     }
 
     /// The region, the handle and the count of the row with this number, which is below [`Instance::rows`].
@@ -112,7 +114,7 @@ impl Instance {
         ensures { slice_get self.now.rows row
             ≡ Some (record { region = result.0.now; handle = result.1.now; count = result.2 }) }
     {
-        self.rows.row(row as usize)
+        self.demand.octets(row)
     }
 
     /// The sites.
@@ -189,6 +191,6 @@ impl Instance {
     pub fn find_row(&self, region: &[u8], handle: &[u8]) -> Option<u32>
         ensures { result ≡ position (has_keys region.now handle.now) self.now.rows }
     {
-        self.rows.find(region, handle)
+        self.demand.find(region, handle)
     }
 }

@@ -13,7 +13,6 @@ mod grouping;
 mod instance;
 pub mod laws;
 mod region_costs;
-mod rows;
 mod runs;
 mod server_building;
 mod site_reading;

@@ -27,8 +27,11 @@ abbrev pub demand_in : ℕ → Fields → Result DemandEntry TableFault
 demand_in row fields = of_three demand_of row fields
 
 -- the key is the region and the handle
+abbrev pub is_demand : List ℕ → List ℕ → DemandEntry → Bool
+is_demand region handle row = bytes_eq region row.region && bytes_eq handle row.handle
+
 abbrev pub same_demand : DemandEntry → DemandEntry → Bool
-same_demand a b = bytes_eq a.region b.region && bytes_eq a.handle b.handle
+same_demand a b = is_demand a.region a.handle b
 
 abbrev pub demand_table : Table DemandEntry
 demand_table = record {

@@ -1,30 +1,31 @@
 // The table of demand: how many queries for a handle come from a region.
 
-ghost use Rattle.std.specs.Prelude.{◌≡◌, ◌<◌, Ok, Some, length, refl, slice_get};
+ghost use Rattle.std.specs.Prelude.{◌≡◌, ◌<◌, Ok, Some, length, position, refl, slice_get};
 ghost use Rattle.hsp_csv.specs.Records.{records_of};
 ghost use Rattle.hsp_names.specs.Handle.{handle_in};
 ghost use Rattle.hsp_tables.specs.declared.fault.TableFault.TheVariants.{OutOfMemory};
 ghost use Rattle.hsp_text.specs.Answers.{GivesUnless};
 ghost use Rattle.hsp_tables.specs.Table.{table_of};
-ghost use Rattle.hsp_tables.specs.Demand.{AreDemand, demand_table};
+ghost use Rattle.hsp_tables.specs.Demand.{AreDemand, demand_table, is_demand};
 ghost use Rattle.hsp_tables.specs.Rows.{demand_shown};
 
 use crate::fault::TableFault;
 use crate::fields::{handle_in, name_in, number_in};
-use crate::keyed::PairKey;
+use crate::keyed::{LentPair, PairKey};
 use crate::table::{Kind, Three, read_table};
 use hsp_names::HandleRef;
 use hsp_text::limits::{GREATEST_COUNT, MOST_DEMAND_ROWS};
 use indexmap::IndexMap;
-use std::alloc::Global;
+use std::alloc::{AllocError, Global};
 use std::marker::Model;
+use std::rc::Rc;
 
 /// The demand. Each row has a region, a handle and a count; each pair of region and handle stands once.
 ///
-/// There are at most 8,192 rows and 64 regions.
+/// There are at most 8,192 rows and 64 regions. A clone shares them, and copies none.
 #[derive(Drop)]
 pub struct Demand {
-    rows: IndexMap<PairKey, u64>,
+    rows: Rc<IndexMap<PairKey, u64>>,
 }
 
 impl Model for Demand {
@@ -34,9 +35,18 @@ impl Model for Demand {
 
     ghost Value = { List DemandEntry };
 
-    ghost view = { λ t. map demand_entry t.rows.entries };
+    ghost view = { λ t. map demand_entry t.rows.value.entries };
 
-    ghost invariant = { λ t. AreDemand (map demand_entry t.rows.entries) };
+    ghost invariant = { λ t. AreDemand (map demand_entry t.rows.value.entries) };
+}
+
+impl Clone for Demand {
+    ghost is_clone = { λ demand copy. copy ≡ demand };
+
+    fn clone(&self) -> Result<Demand, AllocError> {
+        let rows = self.rows.clone()?;
+        Ok(Demand { rows })
+    }
 }
 
 /// A row of the demand.
@@ -83,6 +93,15 @@ impl Demand {
             count,
         }
     }
+
+    /// The number of the row of a region and a handle, or None where there is no such row.
+    pub fn find(&self, region: &[u8], handle: &[u8]) -> Option<u32>
+        ensures { result ≡ position (is_demand region.now handle.now) self.now }
+    {
+        let (first, second) = (region, handle);
+        let number = self.rows.get_index_of(LentPair { first, second })?;
+        Some(number as u32)
+    }
 }
 
 impl Kind for Demand {
@@ -128,5 +147,6 @@ pub fn read_demand(alloc: Global, text: &[u8]) -> Result<Demand, TableFault>
         table_of demand_table (records_of text.now)) }
 {
     let rows = read_table::<Demand>(alloc, text, &[b"region", b"handle", b"count"])?;
+    let rows = Rc::new(alloc, rows)?;
     Ok(Demand { rows })
 }

@@ -5,18 +5,18 @@ use Rattle.std.specs.Map.{lookup}
 use Rattle.std.specs.Str.{bytes_eq}
 use Rattle.std.specs.Cmp.Lexicographic.{bytes_decides}
 use Rattle.indexmap.specs.IndexMap.{insert_entry}
-use Rattle.hsp_instance.specs.KeyedRows.{RowName}
+use Rattle.hsp_tables.specs.Keyed.{PairName}
 use Rattle.hsp_tables.specs.LentKeys.{both}
 use Rattle.hsp_tally.specs.Seen.{IsPut, Seen, number_of, of_row, seen_with}
 use Rattle.hsp_tally.specs.SeenKeys.{seen_entry}
 
 -- what the map has at a region and a handle is the number of their row
-pub seen_found : (region handle : List ℕ) (es : List (RowName × ℕ)) → lookup (λ (k : RowName). bytes_eq region k.region && bytes_eq handle k.handle) es ≡ option_map number_of (find (of_row region handle) (map seen_entry es))
+pub seen_found : (region handle : List ℕ) (es : List (PairName × ℕ)) → lookup (λ (k : PairName). bytes_eq region k.first && bytes_eq handle k.second) es ≡ option_map number_of (find (of_row region handle) (map seen_entry es))
 seen_found region handle [] = refl
-seen_found region handle (e ∷ es) = chosen (bytes_eq region e.0.region && bytes_eq handle e.0.handle) (seen_found region handle es)
+seen_found region handle (e ∷ es) = chosen (bytes_eq region e.0.first && bytes_eq handle e.0.second) (seen_found region handle es)
   where
     rest : Option ℕ
-    rest = lookup (λ (k : RowName). bytes_eq region k.region && bytes_eq handle k.handle) es
+    rest = lookup (λ (k : PairName). bytes_eq region k.first && bytes_eq handle k.second) es
 
     rows : Option Seen
     rows = find (of_row region handle) (map seen_entry es)
@@ -25,19 +25,19 @@ seen_found region handle (e ∷ es) = chosen (bytes_eq region e.0.region && byte
     chosen true more = refl
     chosen false more = more
 
-abbrev pub same : RowName → RowName → Bool
-same a b = bytes_eq a.region b.region && bytes_eq a.handle b.handle
+abbrev pub same : PairName → PairName → Bool
+same a b = bytes_eq a.first b.first && bytes_eq a.second b.second
 
 -- a number that is inserted is put in
-pub seen_put : (key : RowName) (number : ℕ) (es : List (RowName × ℕ)) → map seen_entry (insert_entry same es key number) ≡ seen_with (map seen_entry es) (seen_entry (key, number))
+pub seen_put : (key : PairName) (number : ℕ) (es : List (PairName × ℕ)) → map seen_entry (insert_entry same es key number) ≡ seen_with (map seen_entry es) (seen_entry (key, number))
 seen_put key number [] = refl
 seen_put key number (e ∷ es) = chosen (same key e.0) (seen_put key number es)
   where
-    rest : List (RowName × ℕ)
+    rest : List (PairName × ℕ)
     rest = insert_entry same es key number
 
     chosen : (b : Bool) → map seen_entry rest ≡ seen_with (map seen_entry es) (seen_entry (key, number))
-        → map seen_entry (cond b ((e.0, number) ∷ es) (e ∷ rest)) ≡ cond b (record { region = e.0.region; handle = e.0.handle; number = number } ∷ map seen_entry es) (seen_entry e ∷ seen_with (map seen_entry es) (seen_entry (key, number)))
+        → map seen_entry (cond b ((e.0, number) ∷ es) (e ∷ rest)) ≡ cond b (record { region = e.0.first; handle = e.0.second; number = number } ∷ map seen_entry es) (seen_entry e ∷ seen_with (map seen_entry es) (seen_entry (key, number)))
     chosen true more = refl
     chosen false more = ap (λ t. seen_entry e ∷ t) more
 

@@ -27,11 +27,11 @@ struct SeenKey {
 
 impl Model for SeenKey {
     ghost use Rattle.std.specs.Prelude.{◌≤◌, length};
-    ghost use Rattle.hsp_instance.specs.KeyedRows.{RowName, name_in};
+    ghost use Rattle.hsp_tables.specs.Keyed.{PairName, names_cut};
 
-    ghost Value = { RowName };
+    ghost Value = { PairName };
 
-    ghost view = { λ k. name_in k.cut k.octets.items };
+    ghost view = { λ k. names_cut k.cut k.octets.items };
 
     ghost invariant = { λ k. k.cut ≤ length k.octets.items };
 }
@@ -39,7 +39,7 @@ impl Model for SeenKey {
 impl SeenKey {
     fn new(alloc: Global, region: &[u8], handle: &[u8]) -> Result<SeenKey, AllocError>
         ensures { IfOk result
-            (λ key. key ≡ record { region = region.now; handle = handle.now }) }
+            (λ key. key ≡ record { first = region.now; second = handle.now }) }
     {
         let cut = region.len();
         let mut octets = Vec::with_capacity(alloc, cut.saturating_add(handle.len()))?;
@@ -49,13 +49,13 @@ impl SeenKey {
     }
 
     fn region(&self) -> &[u8]
-        ensures { result.now ≡ self.now.region }
+        ensures { result.now ≡ self.now.first }
     {
         &self.octets[..self.cut]
     }
 
     fn handle(&self) -> &[u8]
-        ensures { result.now ≡ self.now.handle }
+        ensures { result.now ≡ self.now.second }
     {
         &self.octets[self.cut..]
     }
@@ -65,7 +65,7 @@ impl PartialEq for SeenKey {
     ghost use Rattle.std.specs.Prelude.{◌&&◌};
     ghost use Rattle.std.specs.Str.{bytes_eq};
 
-    ghost eq = { λ a b. bytes_eq a.region b.region && bytes_eq a.handle b.handle };
+    ghost eq = { λ a b. bytes_eq a.first b.first && bytes_eq a.second b.second };
 
     ghost laws = { Prim.search (comparing, rules) };
 
@@ -81,7 +81,7 @@ impl Eq for SeenKey {
 impl Hash for SeenKey {
     ghost use Rattle.std.specs.Prelude.{◌++◌};
 
-    ghost hash_input = { λ k. fed.slice fed.u8 k.region ++ fed.slice fed.u8 k.handle };
+    ghost hash_input = { λ k. fed.slice fed.u8 k.first ++ fed.slice fed.u8 k.second };
 
     ghost respects_eq = { Prim.search (hashing, rules) };
 
@@ -102,13 +102,13 @@ impl Equivalent<SeenKey> for LentSeen<'_> {
     ghost use Rattle.std.specs.Prelude.{◌≡◌, ◌&&◌};
     ghost use Rattle.std.specs.Str.{bytes_eq};
 
-    ghost equivalent = { λ q k. bytes_eq q.region.now k.region && bytes_eq q.handle.now k.handle };
+    ghost equivalent = { λ q k. bytes_eq q.region.now k.first && bytes_eq q.handle.now k.second };
 
     ghost use Rattle.hsp_tables.specs.LentKeys.{hashed_alike, compared_alike};
 
-    ghost respects_hash = { λ q k h. hashed_alike q.region.now k.region q.handle.now k.handle h };
+    ghost respects_hash = { λ q k h. hashed_alike q.region.now k.first q.handle.now k.second h };
 
-    ghost respects_eq = { λ q x y h. compared_alike q.region.now x.region q.handle.now x.handle y.region y.handle h };
+    ghost respects_eq = { λ q x y h. compared_alike q.region.now x.first q.handle.now x.second y.first y.second h };
 
     fn equivalent(&self, key: &SeenKey) -> bool {
         self.region == key.region() && self.handle == key.handle()
