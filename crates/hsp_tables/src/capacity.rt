@@ -97,10 +97,12 @@ impl Kind for Capacities {
 
     ghost table = { capacity_table };
 
+    /// The limit of the rows.
     fn most_rows() -> u32 {
         MOST_CAPACITY_ROWS as u32
     }
 
+    /// The key and the number of the row that a site, an identifier and a capacity spell.
     fn row_of(alloc: Global, row: u32, fields: Three<'_>) -> Result<(ServerKey, u64), TableFault> {
         let (site, server_id, capacity) = fields;
         let site = name_in(row, site)?;

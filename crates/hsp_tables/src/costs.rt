@@ -97,10 +97,12 @@ impl Kind for Costs {
 
     ghost table = { cost_table };
 
+    /// The limit of the rows.
     fn most_rows() -> u32 {
         MOST_COST_ROWS as u32
     }
 
+    /// The key and the number of the row that a region, a site and a cost spell.
     fn row_of(alloc: Global, row: u32, fields: Three<'_>) -> Result<(PairKey, u64), TableFault> {
         let (region, site, cost) = fields;
         let region = name_in(row, region)?;

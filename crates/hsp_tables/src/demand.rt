@@ -117,10 +117,12 @@ impl Kind for Demand {
 
     ghost table = { demand_table };
 
+    /// The limit of the rows.
     fn most_rows() -> u32 {
         MOST_DEMAND_ROWS as u32
     }
 
+    /// The key and the number of the row that a region, a handle and a count spell.
     fn row_of(alloc: Global, row: u32, fields: Three<'_>) -> Result<(PairKey, u64), TableFault> {
         let (region, handle, count) = fields;
         let region = name_in(row, region)?;
