@@ -1,4 +1,5 @@
 mod RowFields
+pub mod Lists
 pub mod Bodies
 mod InTurn
 mod Running
