@@ -221,15 +221,6 @@ module _ (it : Instance) (fronts : ℕ) (rows : List (List Cell)) (lefts : List 
     ];
   }
 
--- an entry without a row takes nothing
-pub none_taken : (tables : Tables) (front : ℕ) (entry : Entry) → row_of tables.instance entry ≡ None → IsTakenAt front entry tables tables
-none_taken tables front entry none = record {
-  instance = refl;
-  many = refl;
-  own = λ inside row site. rest_unknown tables.instance (left_of (held_at tables front)) entry none row site;
-  others = λ other apart row site. refl;
-}
-
 -- ---- answers by what is taken
 
 -- what is taken of the row of an entry answers it

@@ -123,37 +123,6 @@ stands fronts front left here k cells standing some all as_many at own = elim (c
   | inr more ↦ rw (at, own, ne_eqb here 0 more) (stands_at fronts front left here k cells more all as_many)
 ]
 
--- the first of what is left
-pub first_left : (fronts front : ℕ) (cells : List Cell) (cell : Cell) (standing : Standing) → standing.left ≢ 0 → slice_get cells standing.cell ≡ Some cell
-    → option_map (λ (own : Cell). own.server) (first_of (cells_left fronts front cells standing)) ≡ Some cell.server
-first_left fronts front cells cell standing some e = rw (ne_eqb standing.left 0 some, drop_at cells standing.cell cell e) refl
-
-drop_past : (cells : List Cell) (k : ℕ) → slice_get cells k ≡ None → drop k cells ≡ []
-drop_past [] zero e = refl
-drop_past [] (suc k) e = refl
-drop_past (cell ∷ cells) zero e = absurd (cc)
-drop_past (cell ∷ cells) (suc k) e = drop_past cells k e
-
-pub none_left_there : (fronts front : ℕ) (cells : List Cell) (standing : Standing) → slice_get cells standing.cell ≡ None → cells_left fronts front cells standing ≡ []
-none_left_there fronts front cells standing e = elim (cases_eq standing.left 0) [
-  | inl none ↦ rw (eq-eqb standing.left 0 none) refl
-  | inr some ↦ rw (ne_eqb standing.left 0 some, drop_past cells standing.cell e) refl
-]
-
-pub none_left_of : (fronts front : ℕ) (cells : List Cell) (standing : Standing) → standing.left ≡ 0 → cells_left fronts front cells standing ≡ []
-none_left_of fronts front cells standing none = rw (eq-eqb standing.left 0 none) refl
-
--- what is left at the site of the cell, and at others
-pub left_here : (fronts front site : ℕ) (cells : List Cell) (cell : Cell) (standing : Standing) → standing.left ≢ 0 → slice_get cells standing.cell ≡ Some cell
-    → cell.site ≡ site → left_at (cells_left fronts front cells standing) site ≡ standing.left
-left_here fronts front site cells cell standing some e at =
-    rw (ne_eqb standing.left 0 some, drop_at cells standing.cell cell e) (rw (eq-eqb cell.site site at) refl)
-
-pub left_later : (fronts front site : ℕ) (cells : List Cell) (cell : Cell) (standing : Standing) → standing.left ≢ 0 → slice_get cells standing.cell ≡ Some cell
-    → cell.site ≢ site → left_at (cells_left fronts front cells standing) site ≡ left_at (shares_in fronts front (drop (standing.cell + 1) cells)) site
-left_later fronts front site cells cell standing some e away =
-    rw (ne_eqb standing.left 0 some, drop_at cells standing.cell cell e) (rw (ne_eqb cell.site site away) refl)
-
 -- ---- the numbers of all fronts for all rows
 
 -- the place of a front's number is there

@@ -2,7 +2,7 @@
 use Rattle.std.specs.Prelude.{◌≡◌, ◌≢◌, ◌<◌, ◌+◌, ◌-◌, ◌/◌, ◌%◌, ◌==◌, nat_lt, Bool, true, false, ℕ, List, [], ◌∷◌, ◌++◌, count_by, map, slice_index_or, Some, if◌then◌else◌}
 use Rattle.hsp_instance.specs.Instance.{Instance, IsInstance}
 use Rattle.hsp_check.specs.Plan.{Plan}
-use Rattle.hsp_dispatch.specs.Dispatch.{Entry, IsSame, answer_to, is_assigned, is_in, is_spent, is_unknown, rest, row_of}
+use Rattle.hsp_dispatch.specs.Dispatch.{Entry, IsSame, answer_to, each_after, is_assigned, is_in, is_spent, is_unknown, rest, row_of}
 use Rattle.hsp_dispatch.specs.Shares.{Held, IsHeld, left_of}
 use Rattle.hsp_dispatch.specs.declared.answer.Answer.{Answer}
 use Rattle.hsp_dispatch.specs.declared.answer.FrontAnswer.{FrontAnswer}
@@ -39,9 +39,7 @@ event_answer it fronts tables earlier event =
 
 -- the answers to events, after earlier ones
 unfoldable pub event_answers_after : Instance → ℕ → (ℕ → Plan) → List Event → List Event → List FrontAnswer
-event_answers_after it fronts tables earlier [] = []
-event_answers_after it fronts tables earlier (event ∷ more) =
-    event_answer it fronts tables earlier event ∷ event_answers_after it fronts tables (earlier ++ event ∷ []) more
+event_answers_after it fronts tables earlier events = each_after (event_answer it fronts tables) earlier events
 
 abbrev pub event_answers : Instance → ℕ → (ℕ → Plan) → List Event → List FrontAnswer
 event_answers it fronts tables events = event_answers_after it fronts tables [] events
