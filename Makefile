@@ -44,6 +44,7 @@ test:
 	tools/list_proof.py --check
 	tools/check_manual.py
 	tools/check_completions.py
+	tools/check_modules.py
 	RT_JOBS=$${RT_JOBS:-$$(tools/lanes.py)} rt ci
 	tools/check_docs.py
 	tools/check_examples.py

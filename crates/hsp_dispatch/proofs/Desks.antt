@@ -22,6 +22,8 @@ use Rattle.hsp_dispatch.specs.declared.answer.Given.{Given}
 use Rattle.hsp_dispatch.specs.declared.answer.Given.TheVariants as given
 use Rattle.hsp_dispatch.specs.declared.form.Form.{Form}
 use Rattle.hsp_dispatch.proofs.Counting.{counted_answer, counted_more, is_there}
+use Rattle.hsp_dispatch.proofs.Each.{each_parts}
+use Rattle.hsp_dispatch.proofs.Lists.{zip_push}
 use Rattle.hsp_dispatch.proofs.FrontLaws.{answered_by, left_on}
 use Rattle.hsp_dispatch.proofs.Resting.{answer_after, answers_more, rest_more, rest_none}
 
@@ -44,13 +46,6 @@ pub no_entries : (it : Instance) (x : Plan) → BeginsWithNone (AnswersEntries i
 unfolding answers_after
 no_entries it x form = ([], tt, refl, refl, rest_none it x)
 
-entries_more : (form : Form) (rows : List Fields) (entries : List Entry) (row : Fields) (entry : Entry) → AreEntries form rows entries → IsEntryIn form row entry
-    → AreEntries form (rows ++ row ∷ []) (entries ++ entry ∷ [])
-entries_more form [] [] row entry are is = (is, tt)
-entries_more form [] (e ∷ entries) row entry are is = absurd are
-entries_more form (r ∷ rows) [] row entry are is = absurd are
-entries_more form (r ∷ rows) (e ∷ entries) row entry are is = (are.0, entries_more form rows entries row entry are.1 is)
-
 pub spells : (form : Form) (row : Fields) (region field : List ℕ) (entry : Entry) → row ≡ region ∷ field ∷ [] → entry.region ≡ region → Gives form field entry.handle
     → handle_in entry.handle ≡ Ok entry.handle → IsEntryIn form row entry
 spells form row region field entry is same gives handle = rw is (same, gives, handle)
@@ -67,7 +62,7 @@ entry_on it x middle left form rows lines sums row entry how is answer takes amo
     let all : answers it x (entries ++ entry ∷ []) ≡ answers it x entries ++ answer_to it x entries entry ∷ [] = answers_more it x [] entries entry in
     let line : line_by (lines_of it) how ≡ line_of it (answer_to it x entries entry) = line_is it how among ∙ ap (front_line it) given in (
       entries ++ entry ∷ [],
-      entries_more form rows entries row entry so_far.1 is,
+      zip_push (IsEntryIn form) rows entries row entry so_far.1 is,
       rw (so_far.2, line, all) (sym (map_push (line_of it) (answers it x entries) (answer_to it x entries entry))),
       counted_answer it how (answers it x entries) (answer_to it x entries entry) sums among so_far.3 given ∙ ap (λ (given : List Answer). all_of (sums_of given)) (sym all),
       rest_more it x middle left entries entry so_far.4 takes,
@@ -92,13 +87,6 @@ no_events tables form = (
   record { instance = refl; many = refl; each = λ front inside. rest_none tables.instance (left_at_front tables front) },
 )
 
-events_more : (rows : List Fields) (events : List Event) (row : Fields) (event : Event) → AreEvents rows events → IsEventIn row event
-    → AreEvents (rows ++ row ∷ []) (events ++ event ∷ [])
-events_more [] [] row event are is = (is, tt)
-events_more [] (e ∷ events) row event are is = absurd are
-events_more (r ∷ rows) [] row event are is = absurd are
-events_more (r ∷ rows) (e ∷ events) row event are is = (are.0, events_more rows events row event are.1 is)
-
 pub spells_event : (row : Fields) (front region handle : List ℕ) (event : Event) → row ≡ front ∷ region ∷ handle ∷ [] → IsFront front event.front
     → event.entry.region ≡ region → event.entry.handle ≡ handle → handle_in handle ≡ Ok handle → IsEventIn row event
 spells_event row front region handle event is number same own good = rw is (number, same, own, good)
@@ -106,12 +94,7 @@ spells_event row front region handle event is number same own good = rw is (numb
 answers_on : (it : Instance) (fronts : ℕ) (tables : ℕ → Plan) (before events : List Event) (event : Event)
     → event_answers_after it fronts tables before (events ++ event ∷ []) ≡ event_answers_after it fronts tables before events ++ event_answer it fronts tables (before ++ events) event ∷ []
 unfolding event_answers_after
-answers_on it fronts tables before [] event = rw (append-nil before) refl
-answers_on it fronts tables before (first ∷ events) event =
-    ap (λ (more : List FrontAnswer). event_answer it fronts tables before first ∷ more) (
-    answers_on it fronts tables (before ++ first ∷ []) events event
-    ∙ ap (λ (earlier : List Event). event_answers_after it fronts tables (before ++ first ∷ []) events ++ event_answer it fronts tables earlier event ∷ [])
-    (append_assoc before (first ∷ []) events))
+answers_on it fronts tables before events event = each_parts (event_answer it fronts tables) before events (event ∷ [])
 
 pub event_more : (old new : Tables) (form : Form) (row : Fields) (event : Event) (how : Given) → IsEventIn row event → TakesAt event.front old event.entry new how
     → IsAmong (length old.instance.servers) how
@@ -128,7 +111,7 @@ event_more old new form row event how is takes among start rows lines sums same 
     let line : line_by (lines_of old.instance) how ≡ front_line it (event_answer it fronts tables events event) =
     line_is old.instance how among ∙ ap (λ (i : Instance). front_line i (answer_of i how)) same ∙ ap (front_line it) given in (
       events ++ event ∷ [],
-      events_more rows events row event so_far.1 is,
+      zip_push IsEventIn rows events row event so_far.1 is,
       rw (so_far.2, line, all) (sym (map_push (front_line it) (answers_by start events) (event_answer it fronts tables events event))),
       counted_more it how (answers_by start events) sums (rw same at among) so_far.3
           ∙ ap (λ (last : FrontAnswer). front_sums_of (answers_by start events ++ last ∷ [])) given ∙ ap front_sums_of (sym all),

@@ -9,6 +9,7 @@ use Rattle.hsp_dispatch.specs.Dispatch.{Entry, answer_at, answer_in, answer_to, 
 use Rattle.hsp_dispatch.specs.Laws.{GoesOnWithTheRest, IsSpentAfterAll, NeverExceeds}
 use Rattle.hsp_dispatch.specs.declared.answer.Answer.{Answer}
 use Rattle.hsp_dispatch.specs.declared.answer.Answer.TheVariants.{Spent}
+use Rattle.hsp_dispatch.proofs.Each.{each_goes_on}
 use Rattle.hsp_dispatch.proofs.Resting.{answer_parts, assigned_is, none_from}
 use Rattle.hsp_dispatch.proofs.Spreads.{is_site, times, times_in, times_within}
 
@@ -42,26 +43,6 @@ is_spent_after_all it x earlier entry row site found spent inside =
         ∙ times_in (length it.sites) 0 site (x row) (omega arith) (omega arith)
     by_element (Some element) e spent = absurd (not_spent element (server_to it row element) spent)
 
--- the answers to a log in two parts
-answers_parts : (it : Instance) (x : Plan) (before a b : List Entry) → answers_after it x before (a ++ b) ≡ answers_after it x before a ++ answers_after it x (before ++ a) b
-unfolding answers_after
-answers_parts it x before [] b = rw (append-nil before) refl
-answers_parts it x before (entry ∷ a) b =
-    ap (λ (more : List Answer). answer_to it x before entry ∷ more) (
-    answers_parts it x (before ++ entry ∷ []) a b
-    ∙ ap (λ (earlier : List Entry). answers_after it x (before ++ entry ∷ []) a ++ answers_after it x earlier b) (append_assoc before (entry ∷ []) a))
-
--- what comes after the first part is answered by what that part leaves
-later_answers : (it : Instance) (x : Plan) (a earlier b : List Entry) → answers_after it x (a ++ earlier) b ≡ answers_after it (rest it x a) earlier b
-unfolding answers_after
-later_answers it x a earlier [] = refl
-later_answers it x a earlier (entry ∷ b) =
-    ap (λ (first : Answer). first ∷ answers_after it x ((a ++ earlier) ++ entry ∷ []) b) (sym (answer_parts it x a earlier entry))
-    ∙ ap (λ (more : List Answer). answer_to it (rest it x a) earlier entry ∷ more) (
-    ap (λ (before : List Entry). answers_after it x before b) (append_assoc a earlier (entry ∷ []))
-    ∙ later_answers it x a (earlier ++ entry ∷ []) b)
-
 pub goes_on : GoesOnWithTheRest
-goes_on it x a b =
-    answers_parts it x [] a b
-    ∙ ap (λ (more : List Answer). answers it x a ++ more) (ap (λ (before : List Entry). answers_after it x before b) (sym (append-nil a)) ∙ later_answers it x a [] b)
+unfolding answers_after
+goes_on it x a b = each_goes_on (answer_to it x) (answer_to it (rest it x a)) a (λ earlier entry. sym (answer_parts it x a earlier entry)) b

@@ -1,18 +1,20 @@
 -- The entries at a front, and what fronts assign, counted in the answers to all events.
 use Rattle.std.proofs.Common.{◌≡◌, ◌≢◌, ◌<◌, ◌≤◌, ◌+◌, ◌-◌, ◌∙◌, ◌++◌, ◌==◌, ℕ, List, [], ◌∷◌, map, if◌then◌else◌, arith, refl, sym, ap, ap₂, eq-eqb, zero-add}
 use Rattle.std.proofs.Common.{inl, inr}
+use Rattle.std.specs.Prelude.{nat_lt}
 use Rattle.std.proofs.lemmas.Bool.{cases_eq, cases_lt, le-ltb, lt-ltb, ne_eqb}
 use Rattle.std.proofs.lemmas.List.{append-nil}
 use Rattle.hsp_instance.specs.Instance.{Instance}
 use Rattle.hsp_check.specs.Plan.{Plan}
 use Rattle.hsp_sums.specs.Sums.{sum_below}
 use Rattle.hsp_sums.proofs.Summing.{sum_below_add, sum_below_one, sum_below_same, sum_below_zero}
-use Rattle.hsp_dispatch.specs.Dispatch.{Entry, IsSame, answer_to, answers, answers_after, assigned_in, count_in, is_in, rest}
+use Rattle.hsp_dispatch.specs.Dispatch.{Entry, IsSame, answer_to, answers, answers_after, assigned_in, count_in, each_after, is_in, rest}
 use Rattle.hsp_dispatch.specs.FrontLaws.{AnswersAsDispatchers}
 use Rattle.hsp_dispatch.specs.Fronts.{Event, answers_at, assigned_at, assigned_by_all, count_in_fronts, entries_at, entries_of, event_answer, event_answers_after, is_in_fronts, rest_at, share_of, shares_of}
 use Rattle.hsp_dispatch.specs.declared.answer.Answer.{Answer}
 use Rattle.hsp_dispatch.specs.declared.answer.FrontAnswer.{FrontAnswer}
-use Rattle.hsp_dispatch.specs.declared.answer.FrontAnswer.TheVariants.{Answered}
+use Rattle.hsp_dispatch.specs.declared.answer.FrontAnswer.TheVariants.{Answered, NoFront}
+use Rattle.hsp_dispatch.proofs.Each.{each_map}
 
 -- ---- the entries at a front
 
@@ -31,26 +33,31 @@ more_elsewhere front events event other = entries_append front events (event ∷
 
 -- ---- the answers at a front
 
--- they are those of its share to its own entries
-by_share : (it : Instance) (fronts : ℕ) (x : Plan) (front : ℕ) → front < fronts → (before events : List Event)
-    → answers_at front events (event_answers_after it fronts (shares_of fronts x) before events)
-    ≡ map Answered (answers_after it (share_of fronts front x) (entries_at front before) (entries_at front events))
-unfolding event_answers_after answers_after
-by_share it fronts x front inside before [] = refl
-by_share it fronts x front inside before (event ∷ events) =
-    let later = by_share it fronts x front inside (before ++ event ∷ []) events in
-    let over : List Entry → List FrontAnswer = λ entries. map Answered (answers_after it (share_of fronts front x) entries (entries_at front events)) in
+-- the answer of a front to an entry, by its table and its earlier entries
+abbrev pub own_answer : Instance → ℕ → (ℕ → Plan) → ℕ → List Entry → Entry → FrontAnswer
+own_answer it fronts tables front earlier entry = if nat_lt front fronts then Answered (answer_to it (tables front) earlier entry) else NoFront
+
+-- the answers at a front are those to its own entries
+pub at_front : (it : Instance) (fronts : ℕ) (tables : ℕ → Plan) (front : ℕ) (before events : List Event)
+    → answers_at front events (event_answers_after it fronts tables before events) ≡ each_after (own_answer it fronts tables front) (entries_at front before) (entries_at front events)
+unfolding event_answers_after
+at_front it fronts tables front before [] = refl
+at_front it fronts tables front before (event ∷ events) =
+    let later = at_front it fronts tables front (before ++ event ∷ []) events in
+    let over : List Entry → List FrontAnswer = λ (entries : List Entry). each_after (own_answer it fronts tables front) entries (entries_at front events) in
     elim (cases_eq event.front front) [
       | inl here ↦
-          let first : event_answer it fronts (shares_of fronts x) before event ≡ Answered (answer_to it (share_of fronts front x) (entries_at front before) event.entry) =
-          rw here (rw (lt-ltb front fronts inside) refl) in
+          let first = ap (λ (n : ℕ). own_answer it fronts tables n (entries_at n before) event.entry) here in
           rw (eq-eqb event.front front here)
-          (ap₂ (λ (a : FrontAnswer) (rest : List FrontAnswer). a ∷ rest) first (later ∙ ap over (more_here front before event here)))
+          (ap₂ (λ (a : FrontAnswer) (more : List FrontAnswer). a ∷ more) first (later ∙ ap over (more_here front before event here)))
       | inr other ↦ rw (ne_eqb event.front front other) (later ∙ ap over (more_elsewhere front before event other))
     ]
 
 pub as_dispatchers : AnswersAsDispatchers
-as_dispatchers it fronts x front events inside = by_share it fronts x front inside [] events
+unfolding answers_after
+as_dispatchers it fronts x front events inside =
+    at_front it fronts (shares_of fronts x) front [] events
+    ∙ each_map Answered (answer_to it (share_of fronts front x)) (own_answer it fronts (shares_of fronts x) front) (λ earlier entry. rw (lt-ltb front fronts inside) refl) [] (entries_at front events)
 
 -- ---- how many are assigned at a front
 

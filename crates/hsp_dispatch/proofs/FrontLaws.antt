@@ -7,7 +7,7 @@ use Rattle.hsp_instance.specs.Instance.{Instance}
 use Rattle.hsp_check.specs.Plan.{Plan}
 use Rattle.hsp_sums.specs.Sums.{sum_below}
 use Rattle.hsp_sums.proofs.Summing.{sum_below_le, sum_below_same}
-use Rattle.hsp_dispatch.specs.Dispatch.{Entry, IsSame, answer_to, assigned_in, count_for, rest, spread}
+use Rattle.hsp_dispatch.specs.Dispatch.{Entry, IsSame, answer_to, assigned_in, each_after, rest}
 use Rattle.hsp_dispatch.specs.FrontLaws.{AnswersByShares, AreFrontsAfter, BeginsWithShares, EndsInTheSame, GoesByItsEntries, IsSpentTogether, NeverExceedsTogether, WasSpentAt}
 use Rattle.hsp_dispatch.specs.Fronts.{Event, IsTakenAt, Tables, answer_among, answers_at, assigned_at, count_in_fronts, entries_at, event_answer, event_answers_after, front_answers, fronts_of, left_at_front, share, share_of, shares_of}
 use Rattle.hsp_dispatch.specs.declared.answer.Answer.{Answer}
@@ -15,9 +15,9 @@ use Rattle.hsp_dispatch.specs.declared.answer.Answer.TheVariants.{Spent}
 use Rattle.hsp_dispatch.specs.declared.answer.FrontAnswer.{FrontAnswer}
 use Rattle.hsp_dispatch.specs.declared.answer.FrontAnswer.TheVariants.{Answered, NoFront}
 use Rattle.hsp_dispatch.proofs.Dispatching.{is_spent_after_all, never_exceeds}
-use Rattle.hsp_dispatch.proofs.FrontCounts.{assigned_at_is, assigned_together, entries_append, more_elsewhere, more_here, rest_at_is}
+use Rattle.hsp_dispatch.proofs.FrontCounts.{assigned_at_is, assigned_together, at_front, entries_append, more_elsewhere, more_here, own_answer, rest_at_is}
 use Rattle.hsp_dispatch.proofs.FrontShares.{shares_add_up}
-use Rattle.hsp_dispatch.proofs.Resting.{answer_after, assigned_is, count_append, rest_more, rest_none, take_over}
+use Rattle.hsp_dispatch.proofs.Resting.{answer_after, assigned_is, rest_more, rest_none, times_parts}
 use Rattle.hsp_dispatch.proofs.Spreads.{times, times_append}
 
 -- ---- fronts that answer one event after the other
@@ -85,32 +85,12 @@ answers_by_shares it x fronts events event old new are taken =
 
 -- ---- each front apart
 
-abbrev own_answers : Instance → ℕ → Plan → ℕ → List Entry → List Entry → List FrontAnswer
-own_answers it fronts x front before [] = []
-own_answers it fronts x front before (entry ∷ entries) =
-    (if nat_lt front fronts then Answered (answer_to it (share_of fronts front x) before entry) else NoFront) ∷ own_answers it fronts x front (before ++ entry ∷ []) entries
-
-at_front : (it : Instance) (fronts : ℕ) (x : Plan) (front : ℕ) (before events : List Event)
-    → answers_at front events (event_answers_after it fronts (shares_of fronts x) before events) ≡ own_answers it fronts x front (entries_at front before) (entries_at front events)
-unfolding event_answers_after
-at_front it fronts x front before [] = refl
-at_front it fronts x front before (event ∷ events) =
-    let later = at_front it fronts x front (before ++ event ∷ []) events in
-    elim (cases_eq event.front front) [
-      | inl here ↦
-          let first = ap (λ (n : ℕ). if nat_lt n fronts then Answered (answer_to it (share_of fronts n x) (entries_at n before) event.entry) else NoFront) here in
-          rw (eq-eqb event.front front here)
-          (ap₂ (λ (a : FrontAnswer) (more : List FrontAnswer). a ∷ more) first
-          (later ∙ ap (λ (entries : List Entry). own_answers it fronts x front entries (entries_at front events)) (more_here front before event here)))
-      | inr other ↦
-          rw (ne_eqb event.front front other)
-          (later ∙ ap (λ (entries : List Entry). own_answers it fronts x front entries (entries_at front events)) (more_elsewhere front before event other))
-    ]
-
 pub by_its_entries : GoesByItsEntries
 by_its_entries it fronts x front a b same =
     let given : answers_at front a (front_answers it fronts x a) ≡ answers_at front b (front_answers it fronts x b) =
-    at_front it fronts x front [] a ∙ ap (λ (entries : List Entry). own_answers it fronts x front [] entries) same ∙ sym (at_front it fronts x front [] b) in (
+    at_front it fronts (shares_of fronts x) front [] a
+    ∙ ap (λ (entries : List Entry). each_after (own_answer it fronts (shares_of fronts x) front) [] entries) same
+    ∙ sym (at_front it fronts (shares_of fronts x) front [] b) in (
       given,
       λ row site.
           ap₂ (λ (entries : List Entry) (answers : List FrontAnswer). share_of fronts front x row site - count_in_fronts it row site entries answers) same given,
@@ -137,15 +117,7 @@ never_exceeds_together it fronts x events row site some =
 
 -- more entries have no less assigned
 grows : (it : Instance) (x : Plan) (a b : List Entry) (row site : ℕ) → assigned_in it x a row site ≤ assigned_in it x (a ++ b) row site
-grows it x a b row site =
-    let own = spread it x row in
-    let first = count_for it row a in
-    let second = count_for it row b in
-    let whole : times site (take (count_for it row (a ++ b)) own) ≡ times site (take first own) + times site (take second (drop first own)) =
-    ap (λ (k : ℕ). times site (take k own)) (count_append it row a b)
-    ∙ ap (λ (taken : List ℕ). times site taken) (take_over first second own)
-    ∙ times_append site (take first own) (take second (drop first own)) in
-    omega (arith, assigned_is it x a row site, assigned_is it x (a ++ b) row site, whole)
+grows it x a b row site = omega (arith, assigned_is it x a row site, assigned_is it x (a ++ b) row site, times_parts it x a b row site)
 
 inner : (a b : Answer) → Answered a ≡ Answered b → a ≡ b
 inner a b e = cc e
@@ -154,8 +126,8 @@ inner a b e = cc e
 spent_at : (it : Instance) (fronts : ℕ) (x : Plan) (events : List Event) (row site front : ℕ) → front < fronts → WasSpentAt it fronts x row front events → site < length it.sites
     → assigned_at it fronts x front events row site ≡ share fronts front (x row site)
 spent_at it fronts x events row site front there was inside =
-    let at_own : (if nat_lt front fronts then Answered (answer_to it (share_of fronts front x) (entries_at front was.earlier) was.event.entry) else NoFront) ≡ Answered Spent =
-    sym (ap (λ (n : ℕ). if nat_lt n fronts then Answered (answer_to it (share_of fronts n x) (entries_at n was.earlier) was.event.entry) else NoFront) was.at) ∙ was.spent in
+    let at_own : own_answer it fronts (shares_of fronts x) front (entries_at front was.earlier) was.event.entry ≡ Answered Spent =
+    sym (ap (λ (n : ℕ). own_answer it fronts (shares_of fronts x) n (entries_at n was.earlier) was.event.entry) was.at) ∙ was.spent in
     let spent : answer_to it (share_of fronts front x) (entries_at front was.earlier) was.event.entry ≡ Spent = inner _ _ (rw (lt-ltb front fronts there) at at_own) in
     let all : assigned_in it (share_of fronts front x) (entries_at front was.earlier) row site ≡ share fronts front (x row site) =
     is_spent_after_all it (share_of fronts front x) (entries_at front was.earlier) was.event.entry row site was.of_row spent inside in

@@ -1,4 +1,6 @@
 mod RowFields
+pub mod Lists
+pub mod Each
 pub mod Bodies
 mod InTurn
 mod Running

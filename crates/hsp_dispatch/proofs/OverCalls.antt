@@ -13,7 +13,7 @@ use Rattle.hsp_dispatch.specs.Laws.{DispatcherGoesOn}
 use Rattle.hsp_dispatch.specs.declared.answer.Answer.{Answer}
 use Rattle.hsp_dispatch.specs.declared.answer.FrontAnswer.{FrontAnswer}
 use Rattle.hsp_dispatch.specs.declared.answer.FrontAnswer.TheVariants.{Answered}
-use Rattle.hsp_dispatch.proofs.Dispatching as lemmas
+use Rattle.hsp_dispatch.proofs.Each.{each_goes_on, each_same}
 use Rattle.hsp_dispatch.proofs.FrontCounts.{entries_append}
 use Rattle.hsp_dispatch.proofs.FrontLaws.{are_after, hold_rests}
 use Rattle.hsp_dispatch.proofs.Resting.{answer_parts, answer_same, rest_parts, rest_same}
@@ -23,27 +23,17 @@ use Rattle.hsp_dispatch.proofs.Resting.{answer_parts, answer_same, rest_parts, r
 -- plans that send alike answer alike
 pub same_answers : (it : Instance) (x y : Plan) (earlier entries : List Entry) → IsSame x y → answers_after it x earlier entries ≡ answers_after it y earlier entries
 unfolding answers_after
-same_answers it x y earlier [] same = refl
-same_answers it x y earlier (entry ∷ entries) same =
-    ap₂ (λ (a : Answer) (more : List Answer). a ∷ more) (answer_same it x y earlier entry same) (same_answers it x y (earlier ++ entry ∷ []) entries same)
+same_answers it x y earlier entries same = each_same (answer_to it x) (answer_to it y) [] (λ before entry. answer_same it x y before entry same) earlier entries
 
 pub dispatcher_goes_on : DispatcherGoesOn
+unfolding answers_after
 dispatcher_goes_on it x old new entries more held left = (
-  lemmas.goes_on it x entries more ∙ ap (λ (later : List Answer). answers it x entries ++ later) (sym (same_answers it old (rest it x entries) [] more held)),
+  each_goes_on (answer_to it x) (answer_to it old) entries
+      (λ earlier entry. sym (answer_same it old (rest it x entries) earlier entry held ∙ answer_parts it x entries earlier entry)) more,
   λ row site. left row site ∙ rest_same it old (rest it x entries) more held row site ∙ rest_parts it x entries more row site,
 )
 
 -- ---- fronts
-
-events_parts : (it : Instance) (fronts : ℕ) (tables : ℕ → Plan) (before a b : List Event)
-    → event_answers_after it fronts tables before (a ++ b) ≡ event_answers_after it fronts tables before a ++ event_answers_after it fronts tables (before ++ a) b
-unfolding event_answers_after
-events_parts it fronts tables before [] b = ap (λ (earlier : List Event). event_answers_after it fronts tables earlier b) (sym (append-nil before))
-events_parts it fronts tables before (event ∷ a) b =
-    ap (λ (more : List FrontAnswer). event_answer it fronts tables before event ∷ more) (
-    events_parts it fronts tables (before ++ event ∷ []) a b
-    ∙ ap (λ (earlier : List Event). event_answers_after it fronts tables (before ++ event ∷ []) a ++ event_answers_after it fronts tables earlier b)
-    (append_assoc before (event ∷ []) a))
 
 -- what each front holds is what events leave of its table
 module _ (it : Instance) (fronts : ℕ) (tables held : ℕ → Plan) (events : List Event)
@@ -60,20 +50,10 @@ module _ (it : Instance) (fronts : ℕ) (tables held : ℕ → Plan) (events : L
     | inr past ↦ rw (le-ltb event.front fronts past) refl
   ]
 
-  later_events : (earlier more : List Event) → event_answers_after it fronts tables (events ++ earlier) more ≡ event_answers_after it fronts held earlier more
-  unfolding event_answers_after
-  later_events earlier [] = refl
-  later_events earlier (event ∷ more) =
-      ap₂ (λ (a : FrontAnswer) (others : List FrontAnswer). a ∷ others) (later_event earlier event) (
-      ap (λ (before : List Event). event_answers_after it fronts tables before more) (append_assoc events earlier (event ∷ []))
-      ∙ later_events (earlier ++ event ∷ []) more)
-
   -- events after those are answered as they stand in one list
   in_one_list : (more : List Event) → event_answers it fronts tables (events ++ more) ≡ event_answers it fronts tables events ++ event_answers it fronts held more
-  in_one_list more =
-      events_parts it fronts tables [] events more
-      ∙ ap (λ (others : List FrontAnswer). event_answers it fronts tables events ++ others)
-      (ap (λ (before : List Event). event_answers_after it fronts tables before more) (sym (append-nil events)) ∙ later_events [] more)
+  unfolding event_answers_after
+  in_one_list more = each_goes_on (event_answer it fronts tables) (event_answer it fronts held) events later_event more
 
 pub fronts_go_on : FrontsGoOn
 fronts_go_on it x fronts events more old new are left =

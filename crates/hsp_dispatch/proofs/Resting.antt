@@ -10,6 +10,7 @@ use Rattle.std.specs.List.{slice_get}
 use Rattle.hsp_instance.specs.Instance.{Instance, Server}
 use Rattle.hsp_check.specs.Plan.{Plan}
 use Rattle.hsp_dispatch.specs.Dispatch.{Entry, IsSame, answer_at, answer_in, answer_to, answers_after, assigned_in, assigned_to, count_for, count_in, is_at, is_for, is_in, rest, row_of, server_to, spread}
+use Rattle.hsp_dispatch.proofs.Each.{each_parts}
 use Rattle.hsp_dispatch.proofs.Spreads.{same_spread, spread_left, times, times_append}
 
 -- ---- how many entries are for a row
@@ -17,7 +18,7 @@ use Rattle.hsp_dispatch.proofs.Spreads.{same_spread, spread_left, times, times_a
 count_more : (it : Instance) (row : ℕ) (before : List Entry) (entry : Entry) → count_for it row (before ++ entry ∷ []) ≡ count_for it row before + cond (is_for it row entry) 1 0
 count_more it row before entry = sum_by_push (λ (e : Entry). cond (is_for it row e) 1 0) before entry
 
-pub count_append : (it : Instance) (row : ℕ) (a b : List Entry) → count_for it row (a ++ b) ≡ count_for it row a + count_for it row b
+count_append : (it : Instance) (row : ℕ) (a b : List Entry) → count_for it row (a ++ b) ≡ count_for it row a + count_for it row b
 count_append it row a b = sum_by-append (λ (e : Entry). cond (is_for it row e) 1 0) a b
 
 -- ---- the entries that are assigned to a site: those of the front of the spread
@@ -105,7 +106,7 @@ get_left zero m xs = rw (zero-add m) refl
 get_left (suc k) m [] = refl
 get_left (suc k) m (x ∷ xs) = rw (suc-add k m) (get_left k m xs)
 
-pub take_over : (k m : ℕ) (xs : List ℕ) → take (k + m) xs ≡ take k xs ++ take m (drop k xs)
+take_over : (k m : ℕ) (xs : List ℕ) → take (k + m) xs ≡ take k xs ++ take m (drop k xs)
 take_over k m xs =
     sym (take-append-drop k (take (k + m) xs))
     ∙ ap (λ (front : List ℕ). front ++ drop k (take (k + m) xs)) (take-take k (k + m) xs (omega arith))
@@ -148,22 +149,26 @@ rest_same it x y entries same row site =
     ∙ ap (λ (n : ℕ). n - times site (take (count_for it row entries) (spread it y row))) (same row site)
     ∙ sym (rest_is it y entries row site)
 
--- what is left after the second part of a log, of what the first leaves
-pub rest_parts : (it : Instance) (x : Plan) (a b : List Entry) → IsSame (rest it (rest it x a) b) (rest it x (a ++ b))
-rest_parts it x a b row site =
+-- how often a site is in the front that the entries of both parts of a log take of a spread
+pub times_parts : (it : Instance) (x : Plan) (a b : List Entry) (row site : ℕ) → times site (take (count_for it row (a ++ b)) (spread it x row))
+    ≡ times site (take (count_for it row a) (spread it x row)) + times site (take (count_for it row b) (drop (count_for it row a) (spread it x row)))
+times_parts it x a b row site =
     let own = spread it x row in
     let first = count_for it row a in
     let second = count_for it row b in
-    let left : rest it (rest it x a) b row site ≡ rest it x a row site - times site (take second (drop first own)) =
-    rest_is it (rest it x a) b row site ∙ ap (λ (rest_own : List ℕ). rest it x a row site - times site (take second rest_own)) (spread_rest it x a row) in
-    let whole : times site (take (count_for it row (a ++ b)) own) ≡ times site (take first own) + times site (take second (drop first own)) =
     ap (λ (k : ℕ). times site (take k own)) (count_append it row a b)
     ∙ ap (λ (front : List ℕ). times site front) (take_over first second own)
-    ∙ times_append site (take first own) (take second (drop first own)) in
-    left ∙ ap (λ (n : ℕ). n - times site (take second (drop first own))) (rest_is it x a row site) ∙ minus (x row site) (times site (take first own)) (times site (take second (drop first own))) (times site (take (count_for it row (a ++ b)) own)) whole ∙ sym (rest_is it x (a ++ b) row site)
+    ∙ times_append site (take first own) (take second (drop first own))
+
+-- what is left after the second part of a log, of what the first leaves
+pub rest_parts : (it : Instance) (x : Plan) (a b : List Entry) → IsSame (rest it (rest it x a) b) (rest it x (a ++ b))
+rest_parts it x a b row site =
+    minus _ _ _ _ _ _ (x row site)
+    (rest_is it (rest it x a) b row site ∙ ap (λ (own : List ℕ). rest it x a row site - times site (take (count_for it row b) own)) (spread_rest it x a row))
+    (rest_is it x a row site) (rest_is it x (a ++ b) row site) (times_parts it x a b row site)
   where
-    minus : (n a b c : ℕ) → c ≡ a + b → n - a - b ≡ n - c
-    minus n a b c e = omega arith
+    minus : (all left whole a b c : ℕ) (n : ℕ) → all ≡ left - b → left ≡ n - a → whole ≡ n - c → c ≡ a + b → all ≡ whole
+    minus all left whole a b c n e f g h = omega arith
 
 pub rest_more : (it : Instance) (x y z : Plan) (before : List Entry) (entry : Entry) → IsSame y (rest it x before) → IsSame z (rest it y (entry ∷ [])) → IsSame z (rest it x (before ++ entry ∷ []))
 rest_more it x y z before entry same next row site =
@@ -195,7 +200,4 @@ rest_other it x row other site entry found apart =
 pub answers_more : (it : Instance) (x : Plan) (before entries : List Entry) (entry : Entry)
     → answers_after it x before (entries ++ entry ∷ []) ≡ answers_after it x before entries ++ answer_to it x (before ++ entries) entry ∷ []
 unfolding answers_after
-answers_more it x before [] entry = rw (append-nil before) refl
-answers_more it x before (first ∷ entries) entry =
-    rw (answers_more it x (before ++ first ∷ []) entries entry)
-    (ap (λ (earlier : List Entry). answer_to it x before first ∷ (answers_after it x (before ++ first ∷ []) entries ++ answer_to it x earlier entry ∷ [])) (append_assoc before (first ∷ []) entries))
+answers_more it x before entries entry = each_parts (answer_to it x) before entries (entry ∷ [])

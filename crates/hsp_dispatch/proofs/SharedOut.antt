@@ -4,7 +4,7 @@ use Rattle.std.proofs.Common.{inl, inr}
 use Rattle.std.specs.Prelude.{nat_le, nat_lt}
 use Rattle.std.specs.List.{AllByRecursion, list_all, list_any, slice_get}
 use Rattle.std.proofs.lemmas.Bool.{and_parts, cases_Bool, cases_eq, cases_lt, leb-true, ltb-true, ne_eqb, or_cases}
-use Rattle.std.proofs.lemmas.List.{append-nil, length-replicate, length-set, take_more}
+use Rattle.std.proofs.lemmas.List.{append-nil, get_or-set_other, get_or-set_same, length-replicate, length-set}
 use Rattle.std.proofs.lemmas.List.Folds.{list_any-append}
 use Rattle.std.proofs.lemmas.List.Sums.{sum_by-cons}
 use Rattle.std.proofs.lemmas.Option.{get_or_from_slice_get, same_Some, slice_get_past, slice_get_within}
@@ -21,11 +21,12 @@ use Rattle.hsp_check.specs.Network.{is_allowed}
 use Rattle.hsp_check.specs.Uses.{table}
 use Rattle.hsp_dispatch.specs.Dispatch.{IsSame, arc_to}
 use Rattle.hsp_dispatch.specs.Portions.{AreSharesOf, part_of, parts_in, portion_of, with_part}
-use Rattle.hsp_dispatch.specs.Shares.{AreCells, AreUsesOf, IsCellOf, IsHeld, cell_of, cells_of, left_at, left_of, number_of, with_first}
+use Rattle.hsp_dispatch.specs.Shares.{AreCells, AreUsesOf, IsCellOf, IsHeld, cell_of, cells_at, cells_of, holding, left_at, left_of, number_of, with_first}
 use Rattle.hsp_dispatch.specs.Standings.{AreBounded}
 use Rattle.hsp_dispatch.specs.declared.share.Cell.{Cell}
 use Rattle.hsp_dispatch.specs.declared.portion.Portion.{Portion}
 use Rattle.hsp_dispatch.proofs.Parts.{part_left, part_none, parts_are, parts_bounded, parts_more, parts_of_row}
+use Rattle.hsp_dispatch.proofs.Lists.{all_so, all_take, take_next}
 use Rattle.hsp_dispatch.proofs.Shares.{none_at}
 
 -- ---- uses in order
@@ -65,11 +66,7 @@ order_from one (next ∷ uses) order =
     let parts = and_parts (is_before one next) (ascends_from is_before (Some next) uses) order in
     let first = before_is one next parts.0 in
     let rest = order_from next uses parts.1 in
-    ((first, all_of_uses (Before next) (Before one) (λ later after. before_both one next later first after) uses rest.0), rest)
-  where
-    all_of_uses : (P Q : UseLine → Type 0) → ((u : UseLine) → P u → Q u) → (us : List UseLine) → AllByRecursion P us → AllByRecursion Q us
-    all_of_uses P Q so [] all = tt
-    all_of_uses P Q so (u ∷ us) all = (so u all.0, all_of_uses P Q so us all.1)
+    ((first, all_so (Before next) (Before one) (λ later after. before_both one next later first after) uses rest.0), rest)
 
 pub in_order : (uses : List UseLine) → ascends is_before uses ≡ true → InOrder uses
 in_order [] order = tt
@@ -240,20 +237,6 @@ each_is it row (one ∷ uses) is goes = elim (cases_eq one.row row) [
   | inr other ↦ rw (ne_eqb one.row row other) (each_is it row uses is goes.1)
 ]
 
--- ---- lists with one element written
-
-pub set_here : {X : Type 0} (xs : List X) (i : ℕ) (x : X) → i < length xs → slice_get (set xs i x) i ≡ Some x
-set_here [] i x l = absurd (omega arith)
-set_here (y ∷ xs) zero x l = refl
-set_here (y ∷ xs) (suc i) x l = set_here xs i x (omega arith)
-
-pub set_other : {X : Type 0} (xs : List X) (i j : ℕ) (x : X) → i ≢ j → slice_get (set xs i x) j ≡ slice_get xs j
-set_other [] i j x other = refl
-set_other (y ∷ xs) zero zero x other = absurd (other refl)
-set_other (y ∷ xs) zero (suc j) x other = refl
-set_other (y ∷ xs) (suc i) zero x other = refl
-set_other (y ∷ xs) (suc i) (suc j) x other = set_other xs i j x (λ same. other (ap suc same))
-
 -- ---- one use after the other
 
 cells_more : (it : Instance) (row : ℕ) (uses : List UseLine) (one : UseLine)
@@ -270,11 +253,6 @@ record AreGiven (it : Instance) (uses : List UseLine) : Type 0 where
   counts : AllByRecursion IsCounted uses
   goes : AllByRecursion (Goes it) uses
 
-all_take : (P : UseLine → Type 0) (n : ℕ) (uses : List UseLine) → AllByRecursion P uses → AllByRecursion P (take n uses)
-all_take P zero uses all = tt
-all_take P (suc n) [] all = tt
-all_take P (suc n) (one ∷ uses) all = (all.0, all_take P n uses all.1)
-
 order_take : (n : ℕ) (uses : List UseLine) → InOrder uses → InOrder (take n uses)
 order_take zero uses order = tt
 order_take (suc n) [] order = tt
@@ -289,10 +267,6 @@ use_there it uses k one is are e =
     let goes = all_at (Goes it) uses k one (are_given it uses are).goes e in
     let inside = row_there one.site one.row it.arcs (has_arc it one.row one.site goes) in
     omega (arith, is.one_list_a_row)
-
-pub take_next : (uses : List UseLine) (k : ℕ) (one : UseLine) → slice_get uses k ≡ Some one → take (k + 1) uses ≡ take k uses ++ one ∷ []
-take_next uses k one e =
-    take_more uses k one (slice_get_within uses k one e) ∙ ap (λ (x : UseLine). take k uses ++ x ∷ []) (get_or_from_slice_get uses k one one e)
 
 own_more : (it : Instance) (uses : List UseLine) (k : ℕ) (one : UseLine) → slice_get uses k ≡ Some one
     → cells_of it one.row (take (k + 1) uses) ≡ cells_of it one.row (take k uses) ++ cell_of it one ∷ []
@@ -315,10 +289,10 @@ cells_stay part it uses k one are e =
 pub shared_none : (part : ℕ → ℕ) (it : Instance) → AreSharesOf part it [] (replicate (length it.rows) [])
 shared_none part it = record { one_a_row = length-replicate (length it.rows) []; each = none_at_row (length it.rows) }
   where
-    none_at_row : (n row : ℕ) → row < n → slice_get (replicate {A = List Cell} n []) row ≡ Some []
-    none_at_row zero row l = absurd (omega arith)
-    none_at_row (suc n) zero l = refl
-    none_at_row (suc n) (suc row) l = none_at_row n row (omega arith)
+    none_at_row : (n row : ℕ) → cells_at (replicate n []) row ≡ []
+    none_at_row zero row = refl
+    none_at_row (suc n) zero = refl
+    none_at_row (suc n) (suc row) = none_at_row n row
 
 -- one use more: its cell is added to those of its row
 pub shared_more : (part : ℕ → ℕ) (it : Instance) (uses : List UseLine) (k : ℕ) (one : UseLine) (shares : List (List Cell)) (cells : List Cell) → slice_get uses k ≡ Some one
@@ -327,50 +301,16 @@ pub shared_more : (part : ℕ → ℕ) (it : Instance) (uses : List UseLine) (k 
     → AreSharesOf part it (take (k + 1) uses) (set shares one.row cells)
 shared_more part it uses k one shares cells e are inside new = record {
   one_a_row = length-set shares one.row cells ∙ are.one_a_row;
-  each = λ row l. elim (cases_eq one.row row) [
-    | inl here ↦ rw (← here) (set_here shares one.row cells (omega (arith, are.one_a_row)) ∙ ap Some (new ∙ sym (part_more part it uses k one e)))
+  each = λ row. elim (cases_eq one.row row) [
+    | inl here ↦ rw (← here) (get_or-set_same shares one.row cells [] (omega (arith, are.one_a_row)) ∙ new ∙ sym (part_more part it uses k one e))
     | inr other ↦
-        set_other shares one.row row cells other ∙ are.each row l
-        ∙ ap (λ (own : List Cell). Some (parts_in part own))
+        get_or-set_other shares one.row row cells [] (λ same. other (sym same)) ∙ are.each row
+        ∙ ap (parts_in part)
         (sym (ap (λ (us : List UseLine). cells_of it row us) (take_next uses k one e) ∙ cells_more it row (take k uses) one ∙ rw (ne_eqb one.row row other) (append-nil (cells_of it row (take k uses)))))
   ];
 }
 
 -- ---- all uses
-
-no_cells : (it : Instance) (row : ℕ) (uses : List UseLine) → AllByRecursion (λ (one : UseLine). one.row < row) uses → cells_of it row uses ≡ []
-no_cells it row [] all = refl
-no_cells it row (one ∷ uses) all = rw (ne_eqb one.row row (λ same. absurd (omega (arith, all.0, same)))) (no_cells it row uses all.1)
-
-pub are_held : (part : ℕ → ℕ) (it : Instance) (uses : List UseLine) (shares : List (List Cell)) → IsInstance it → AreUsesOf it uses → AreSharesOf part it uses shares
-    → IsHeld (record { instance = it; shares = shares })
-are_held part it uses shares is are shared =
-    let given = are_given it uses are in
-    record {
-      within = is;
-      one_a_row = shared.one_a_row;
-      each = λ row cells e.
-          let inside : row < length it.rows = omega (arith, slice_get_within shares row cells e, shared.one_a_row) in
-          let same : cells ≡ parts_in part (cells_of it row uses) = same_Some cells (parts_in part (cells_of it row uses)) (sym e ∙ shared.each row inside) in
-          rw same (parts_of_row part it row (cells_of it row uses) (record { each = each_is it row uses is given.goes; are = are_cells it row uses given.order given.counts }));
-    }
-
-pub table_held : (portion : Portion) (it : Instance) (uses : List UseLine) (shares : List (List Cell)) → IsInstance it → AreUsesOf it uses
-    → AreSharesOf (part_of portion) it uses shares → IsSame (left_of (record { instance = it; shares = shares })) (portion_of portion (table uses))
-table_held portion it uses shares is are shared row site =
-    let given = are_given it uses are in
-    let left : part_of portion (left_at (cells_of it row uses) site) ≡ part_of portion (table uses row site) = ap (part_of portion) (left_is it row site uses given.order) in
-    elim (cases_lt row (length it.rows)) [
-      | inl inside ↦
-          rw (shared.each row inside)
-          (part_left (part_of portion) (part_none portion) site (cells_of it row uses) (are_cells it row uses given.order given.counts) ∙ left)
-      | inr past ↦
-          let before : AllByRecursion (λ (one : UseLine). one.row < row) uses = all_from (λ (one : UseLine). one.row < row) uses (λ k one e. omega (arith, use_there it uses k one is are e)) in
-          let none : left_at (cells_of it row uses) site ≡ 0 = rw (no_cells it row uses before) refl in
-          rw (slice_get_past shares row (omega (arith, shared.one_a_row))) (sym (part_none portion) ∙ ap (part_of portion) (sym none) ∙ left)
-    ]
-
--- ---- each cell has no more than a row's count may be
 
 bounded_row : (it : Instance) (row : ℕ) (uses : List UseLine) → list_all is_use uses ≡ true → AreBounded (cells_of it row uses)
 bounded_row it row [] all = tt
@@ -381,11 +321,29 @@ bounded_row it row (one ∷ uses) all =
       | inr other ↦ rw (ne_eqb one.row row other) (bounded_row it row uses parts.1)
     ]
 
-pub all_bounded : (portion : Portion) (it : Instance) (uses : List UseLine) (shares : List (List Cell)) → 0 < portion.fronts → portion.unit ≡ 1
-    → AreUsesOf it uses → AreSharesOf (part_of portion) it uses shares → AllByRecursion AreBounded shares
-all_bounded portion it uses shares some one are shared =
-    all_from AreBounded shares (λ row cells e.
-    let inside : row < length it.rows = omega (arith, slice_get_within shares row cells e, shared.one_a_row) in
-    let own = cells_of it row uses in
-    let same : cells ≡ parts_in (part_of portion) own = same_Some cells (parts_in (part_of portion) own) (sym e ∙ shared.each row inside) in
-    rw same (parts_bounded portion own some one (bounded_row it row uses are.ranges)))
+module _ (portion : Portion) (it : Instance) (uses : List UseLine) (shares : List (List Cell)) (are : AreUsesOf it uses)
+    (shared : AreSharesOf (part_of portion) it uses shares) where
+  pub are_held : IsInstance it → IsHeld (holding it shares)
+  are_held is =
+      let given = are_given it uses are in
+      record {
+        within = is;
+        one_a_row = shared.one_a_row;
+        each = λ row.
+            rw (shared.each row)
+            (parts_of_row (part_of portion) it row (cells_of it row uses) (record { each = each_is it row uses is given.goes; are = are_cells it row uses given.order given.counts }));
+      }
+
+  pub table_held : IsSame (left_of (holding it shares)) (portion_of portion (table uses))
+  table_held row site =
+      let given = are_given it uses are in
+      ap (λ (cells : List Cell). left_at cells site) (shared.each row)
+      ∙ part_left (part_of portion) (part_none portion) site (cells_of it row uses) (are_cells it row uses given.order given.counts)
+      ∙ ap (part_of portion) (left_is it row site uses given.order)
+
+  -- each cell has no more than a row's count may be
+  pub all_bounded : 0 < portion.fronts → portion.unit ≡ 1 → AllByRecursion AreBounded shares
+  all_bounded some one =
+      all_from AreBounded shares (λ row cells e.
+      let same : cells ≡ parts_in (part_of portion) (cells_of it row uses) = sym (get_or_from_slice_get shares row cells [] e) ∙ shared.each row in
+      rw same (parts_bounded portion (cells_of it row uses) some one (bounded_row it row uses are.ranges)))

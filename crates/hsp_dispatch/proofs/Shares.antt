@@ -3,6 +3,7 @@ use Rattle.std.proofs.Common.{◌≡◌, ◌<◌, ◌≤◌, ◌+◌, ◌-◌, �
 use Rattle.std.proofs.Common.{inl, inr}
 use Rattle.std.proofs.lemmas.Bool.{ne_eqb, cases_eq}
 use Rattle.std.specs.List.{AllByRecursion}
+use Rattle.hsp_dispatch.proofs.Lists.{all_so}
 use Rattle.hsp_dispatch.proofs.Spreads.{same_spread}
 use Rattle.hsp_dispatch.specs.Dispatch.{spread_from}
 use Rattle.hsp_dispatch.specs.Shares.{AreCells, without_first, left_at}
@@ -16,10 +17,6 @@ sites_of (cell ∷ cells) = replicate cell.left cell.site ++ sites_of cells
 -- every cell is of a site from s on and before s + n
 abbrev pub Within : ℕ → ℕ → List Cell → Type 0
 Within n s cells = AllByRecursion (λ (cell : Cell). (s ≤ cell.site) × (cell.site < s + n)) cells
-
-pub all_so : (P Q : Cell → Type 0) → ((cell : Cell) → P cell → Q cell) → (cells : List Cell) → AllByRecursion P cells → AllByRecursion Q cells
-all_so P Q so [] all = tt
-all_so P Q so (cell ∷ cells) all = (so cell all.0, all_so P Q so cells all.1)
 
 both_so : (P Q R : Cell → Type 0) → ((cell : Cell) → P cell → Q cell → R cell) → (cells : List Cell) → AllByRecursion P cells → AllByRecursion Q cells → AllByRecursion R cells
 both_so P Q R so [] p q = tt
@@ -63,17 +60,3 @@ first_site cells cell are = some cell.left are.0 refl
     some : (n : ℕ) → 0 < n → cell.left ≡ n → (rest : List ℕ) × (sites_of (cell ∷ cells) ≡ cell.site ∷ rest)
     some zero h e = absurd (omega arith)
     some (suc n) h e = (replicate n cell.site ++ sites_of cells, rw e refl)
-
--- what is left after one was taken: one less at the first site, and the spread without its first element
-pub without_first_spread : (cells : List Cell) → AreCells cells → sites_of (without_first cells) ≡ drop 1 (sites_of cells)
-without_first_spread [] are = refl
-without_first_spread (cell ∷ cells) are = elim (cases_eq cell.left 1) [
-  | inl last ↦ rw (eq-eqb cell.left 1 last, last) refl
-  | inr more ↦ rw (ne_eqb cell.left 1 more) (some cell.left are.0 more refl)
-]
-  where
-    some : (n : ℕ) → 0 < n → (n ≡ 1 → ⊥) → cell.left ≡ n → replicate (cell.left - 1) cell.site ++ sites_of cells ≡ drop 1 (replicate cell.left cell.site ++ sites_of cells)
-    some zero h more e = absurd (omega arith)
-    some (suc n) h more e =
-        let less : suc n - 1 ≡ n = omega arith in
-        rw (e, less) refl

@@ -1,10 +1,10 @@
 -- What a query takes of what is held.
-use Rattle.std.proofs.Common.{◌≡◌, ◌<◌, ◌≤◌, ◌+◌, ◌-◌, ◌∙◌, ◌++◌, true, ℕ, zero, suc, List, [], ◌∷◌, length, position, take, replicate, Option, Some, None, Ok, IfSome, option_map, arith, refl, sym, ap, subst, eq-eqb}
+use Rattle.std.proofs.Common.{◌≡◌, ◌≢◌, ◌<◌, ◌≤◌, ◌+◌, ◌-◌, ◌∙◌, ◌++◌, true, ℕ, zero, suc, List, [], ◌∷◌, length, position, take, replicate, Option, Some, None, Ok, IfSome, option_map, arith, refl, sym, ap, subst, eq-eqb}
 use Rattle.std.proofs.Common.{inl, inr}
 use Rattle.std.specs.List.{slice_get}
 use Rattle.std.specs.Str.{bytes_eq}
 use Rattle.std.proofs.lemmas.Bool.{and_parts, cases_eq, ne_eqb}
-use Rattle.std.proofs.lemmas.List.{length-set}
+use Rattle.std.proofs.lemmas.List.{get_or-set_other, get_or-set_same, length-set}
 use Rattle.std.proofs.lemmas.List.Quantifiers.{position-Some}
 use Rattle.std.proofs.lemmas.Option.{get_or_from_slice_get, same_Some, slice_get_within}
 use Rattle.std.proofs.lemmas.Slice.Eq.{bytes_eq-Decides}
@@ -15,38 +15,25 @@ use Rattle.hsp_instance.specs.declared.arc.Arc.{Arc}
 use Rattle.hsp_instance.proofs.Lists.{all_at, there}
 use Rattle.hsp_dispatch.specs.Dispatch.{answer_at, arc_to, assigned_to, end_of, server_to, spread}
 use Rattle.hsp_dispatch.specs.Lines.{served_by}
-use Rattle.hsp_dispatch.specs.Shares.{AreCells, AreCellsOf, Held, IsCellOf, IsHeld, IsRestOf, cells_in, first_answer, first_of, left_at, left_of, taken_answer, without_first}
+use Rattle.hsp_dispatch.specs.Shares.{AreCells, AreCellsOf, Held, IsCellOf, IsHeld, IsRestOf, cells_at, first_answer, first_of, holding, left_at, left_of, taken_answer, without_first}
 use Rattle.hsp_dispatch.specs.declared.answer.Answer.TheVariants.{Assigned, Spent}
 use Rattle.hsp_dispatch.specs.declared.share.Cell.{Cell}
 use Rattle.hsp_dispatch.proofs.Resting.{rest_here, rest_other}
-use Rattle.hsp_dispatch.proofs.Shares.{Within, all_so, none_at, sites_of, spread_is}
-use Rattle.hsp_dispatch.proofs.SharedOut.{found_so, set_here, set_other}
+use Rattle.hsp_dispatch.proofs.Lists.{all_so}
+use Rattle.hsp_dispatch.proofs.Shares.{Within, first_site, none_at, sites_of, spread_is}
+use Rattle.hsp_dispatch.proofs.SharedOut.{found_so}
 use Rattle.hsp_dispatch.proofs.Spreads.{same_spread, times}
 
--- the cells of a row are those that are held for it
-own_left : (held : Held) (row : ℕ) (cells : List Cell) → slice_get held.shares row ≡ Some cells → (site : ℕ) → left_of held row site ≡ left_at cells site
-own_left held row cells e site = rw e refl
-
 -- the spread of what is left of a row
-spread_held : (held : Held) (row : ℕ) (cells : List Cell) → IsHeld held → slice_get held.shares row ≡ Some cells → spread held.instance (left_of held) row ≡ sites_of cells
-spread_held held row cells is e =
+spread_held : (held : Held) (row : ℕ) → IsHeld held → spread held.instance (left_of held) row ≡ sites_of (cells_at held.shares row)
+spread_held held row is =
     let many = length held.instance.sites in
-    let own = is.each row cells e in
-    let within : Within many 0 cells = all_so (IsCellOf held.instance row) (λ (cell : Cell). (0 ≤ cell.site) × (cell.site < 0 + many)) (λ cell is. (omega arith, omega (arith, is.site))) cells own.each in
-    same_spread many 0 (left_of held row) (left_at cells) (λ t h. own_left held row cells e t) ∙ spread_is many 0 cells own.are within
+    let own = is.each row in
+    let within : Within many 0 (cells_at held.shares row) =
+    all_so (IsCellOf held.instance row) (λ (cell : Cell). (0 ≤ cell.site) × (cell.site < 0 + many)) (λ cell is. (omega arith, omega (arith, is.site))) (cells_at held.shares row) own.each in
+    spread_is many 0 (cells_at held.shares row) own.are within
 
 -- ---- the answer
-
-pub none_left : (held : Held) (row : ℕ) (cells : List Cell) → IsHeld held → slice_get held.shares row ≡ Some cells → first_of cells ≡ None → first_answer held row ≡ Spent
-none_left held row [] is e none = ap (λ (own : List ℕ). answer_at held.instance row (slice_get own 0)) (spread_held held row [] is e)
-none_left held row (cell ∷ cells) is e none = absurd (cc)
-
-first_elem : (cell : Cell) (cells : List Cell) → 0 < cell.left → slice_get (sites_of (cell ∷ cells)) 0 ≡ Some cell.site
-first_elem cell cells left = by_number cell.left left
-  where
-    by_number : (n : ℕ) → 0 < n → slice_get (replicate n cell.site ++ sites_of cells) 0 ≡ Some cell.site
-    by_number zero l = absurd (omega arith)
-    by_number (suc n) l = refl
 
 own_arc : (it : Instance) (row site : ℕ) (arc : Arc) (own : Option (List Arc)) → slice_get it.arcs row ≡ own → IsInstance it → arc_to site own ≡ Some arc
     → IsArc it.servers arc × (arc.site ≡ site)
@@ -62,47 +49,41 @@ served it row cell is own =
     let to : server_to it row cell.site ≡ Some server = ap (λ (o : Option Arc). end_of it o) own.is_arc ∙ arc.0.is_server in
     ap served_by at ∙ ap (λ (site : ℕ). Assigned site server.place server.id) (sym arc.0.same_site ∙ arc.1) ∙ sym (ap (λ (o : Option Server). assigned_to cell.site o) to)
 
-pub first_taken : (held : Held) (row : ℕ) (cells : List Cell) (cell : Cell) → IsHeld held → slice_get held.shares row ≡ Some cells → first_of cells ≡ Some cell
-    → served_by (slice_get held.instance.servers cell.server) ≡ first_answer held row
-first_taken held row [] cell is e first = absurd (cc)
-first_taken held row (own ∷ cells) cell is e first =
-    let same : own ≡ cell = same_Some own cell first in
-    let are = is.each row (own ∷ cells) e in
-    let at : slice_get (spread held.instance (left_of held) row) 0 ≡ Some cell.site =
-    ap (λ (sites : List ℕ). slice_get sites 0) (spread_held held row (own ∷ cells) is e) ∙ first_elem own cells are.are.0 ∙ ap (λ (c : Cell). Some c.site) same in
-    served held.instance row cell is.within (subst (λ (c : Cell). IsCellOf held.instance row c) same are.each.0) ∙ ap (λ (given : Option ℕ). answer_at held.instance row given) (sym at)
-
-pub first_there : (held : Held) (row : ℕ) (cells : List Cell) (cell : Cell) → IsHeld held → slice_get held.shares row ≡ Some cells → first_of cells ≡ Some cell
-    → cell.server < length held.instance.servers
-first_there held row [] cell is e first = absurd (cc)
-first_there held row (own ∷ cells) cell is e first =
-    let same : own ≡ cell = same_Some own cell first in
-    subst (λ (c : Cell). c.server < length held.instance.servers) same (is.each row (own ∷ cells) e).each.0.there
+-- what is taken of the cells of a row answers a query for it, and its server is there
+pub taken_by : (held : Held) (row : ℕ) (taken : Option ℕ) → IsHeld held → taken ≡ option_map (λ (cell : Cell). cell.server) (first_of (cells_at held.shares row))
+    → (taken_answer held.instance taken ≡ first_answer held row) × IfSome taken (λ server. server < length held.instance.servers)
+taken_by held row taken is first =
+    rw (first, spread_held held row is) (by_cells (cells_at held.shares row) (is.each row))
+  where
+    by_cells : (cells : List Cell) → AreCellsOf held.instance row cells
+        → (taken_answer held.instance (option_map (λ (cell : Cell). cell.server) (first_of cells)) ≡ answer_at held.instance row (slice_get (sites_of cells) 0))
+        × IfSome (option_map (λ (cell : Cell). cell.server) (first_of cells)) (λ server. server < length held.instance.servers)
+    by_cells [] are = (refl, tt)
+    by_cells (cell ∷ cells) are = (
+      served held.instance row cell is.within are.each.0
+          ∙ sym (ap (λ (sites : List ℕ). answer_at held.instance row (slice_get sites 0)) (first_site cells cell are.are).1),
+      are.each.0.there,
+    )
 
 -- ---- what is left
-
-first_site : (cell : Cell) (cells : List Cell) → 0 < cell.left → take 1 (sites_of (cell ∷ cells)) ≡ cell.site ∷ []
-first_site cell cells left = by_number cell.left left
-  where
-    by_number : (n : ℕ) → 0 < n → take 1 (replicate n cell.site ++ sites_of cells) ≡ cell.site ∷ []
-    by_number zero l = absurd (omega arith)
-    by_number (suc n) l = refl
 
 -- one less at the first site
 left_after : (cells : List Cell) (site : ℕ) → AreCells cells → left_at (without_first cells) site ≡ left_at cells site - times site (take 1 (sites_of cells))
 left_after [] site are = omega arith
-left_after (cell ∷ cells) site are = elim (cases_eq cell.left 1) [
-  | inl last ↦ rw (eq-eqb cell.left 1 last, first_site cell cells are.0) (elim (cases_eq cell.site site) [
-    | inl at ↦
-        let none : left_at cells site ≡ 0 = none_at cells site (rw at at are.1.0) in
-        rw (eq-eqb cell.site site at) (omega (arith, none))
-    | inr away ↦ rw (ne_eqb cell.site site away) (omega arith)
-  ])
-  | inr more ↦ rw (ne_eqb cell.left 1 more, first_site cell cells are.0) (elim (cases_eq cell.site site) [
-    | inl at ↦ rw (eq-eqb cell.site site at) (omega arith)
-    | inr away ↦ rw (ne_eqb cell.site site away) (omega arith)
-  ])
-]
+left_after (cell ∷ cells) site are =
+    let first : take 1 (sites_of (cell ∷ cells)) ≡ cell.site ∷ [] = ap (λ (sites : List ℕ). take 1 sites) (first_site cells cell are).1 in
+    rw first (elim (cases_eq cell.left 1) [
+      | inl last ↦ rw (eq-eqb cell.left 1 last) (elim (cases_eq cell.site site) [
+        | inl at ↦
+            let none : left_at cells site ≡ 0 = none_at cells site (rw at at are.1.0) in
+            rw (eq-eqb cell.site site at) (omega (arith, none))
+        | inr away ↦ rw (ne_eqb cell.site site away) (omega arith)
+      ])
+      | inr more ↦ rw (ne_eqb cell.left 1 more) (elim (cases_eq cell.site site) [
+        | inl at ↦ rw (eq-eqb cell.site site at) (omega arith)
+        | inr away ↦ rw (ne_eqb cell.site site away) (omega arith)
+      ])
+    ])
 
 cells_after : (it : Instance) (row : ℕ) (cells : List Cell) → AreCellsOf it row cells → AreCellsOf it row (without_first cells)
 cells_after it row [] are = are
@@ -115,32 +96,40 @@ cells_after it row (cell ∷ cells) are = elim (cases_eq cell.left 1) [
       record { each = (same, are.each.1); are = (omega arith, are.are.1) })
 ]
 
-pub held_after : (held : Held) (row : ℕ) (cells new : List Cell) → IsHeld held → slice_get held.shares row ≡ Some cells → new ≡ without_first cells
-    → IsHeld (record { instance = held.instance; shares = set held.shares row new })
-held_after held row cells new is e same = record {
+-- one query is taken of the cells of a row
+pub record IsTakenFrom (old : List (List Cell)) (row : ℕ) (new : List (List Cell)) : Type 0 where
+  pub many : length new ≡ length old
+  pub own : cells_at new row ≡ without_first (cells_at old row)
+  pub others : (other : ℕ) → row ≢ other → cells_at new other ≡ cells_at old other
+
+-- so it is where the first cell of one row is written anew
+pub taken_one : (shares : List (List Cell)) (row : ℕ) (cells : List Cell) → row < length shares → cells ≡ without_first (cells_at shares row)
+    → IsTakenFrom shares row (set shares row cells)
+taken_one shares row cells inside is = record {
+  many = length-set shares row cells;
+  own = get_or-set_same shares row cells [] inside ∙ is;
+  others = λ other apart. get_or-set_other shares row other cells [] (λ same. apart (sym same));
+}
+
+pub held_after : (it : Instance) (old : List (List Cell)) (row : ℕ) (new : List (List Cell)) → IsHeld (holding it old) → IsTakenFrom old row new → IsHeld (holding it new)
+held_after it old row new is taken = record {
   within = is.within;
-  one_a_row = length-set held.shares row new ∙ is.one_a_row;
-  each = λ other others at. elim (cases_eq row other) [
-    | inl here ↦
-        let own : others ≡ without_first cells =
-        same_Some others (without_first cells) (sym at ∙ rw (← here) (set_here held.shares row new (slice_get_within held.shares row cells e) ∙ ap Some same)) in
-        rw (own, ← here) (cells_after held.instance row cells (is.each row cells e))
-    | inr apart ↦ is.each other others (sym (set_other held.shares row other new apart) ∙ at)
+  one_a_row = taken.many ∙ is.one_a_row;
+  each = λ other. elim (cases_eq row other) [
+    | inl here ↦ rw (← here, taken.own) (cells_after it row (cells_at old row) (is.each row))
+    | inr apart ↦ rw (taken.others other apart) (is.each other)
   ];
 }
 
-pub rest_after : (held : Held) (row : ℕ) (cells new : List Cell) → IsHeld held → slice_get held.shares row ≡ Some cells → new ≡ without_first cells
-    → IsRestOf held row (record { instance = held.instance; shares = set held.shares row new })
-rest_after held row cells new is e same entry found other site = elim (cases_eq row other) [
+pub rest_after : (it : Instance) (old : List (List Cell)) (row : ℕ) (new : List (List Cell)) → IsHeld (holding it old) → IsTakenFrom old row new
+    → IsRestOf (holding it old) row (holding it new)
+rest_after it old row new is taken entry found other site = elim (cases_eq row other) [
   | inl here ↦ rw (← here) (
-      ap (λ (own : Option (List Cell)). left_at (cells_in own) site) (set_here held.shares row new (slice_get_within held.shares row cells e) ∙ ap Some same)
-      ∙ left_after cells site (is.each row cells e).are
-      ∙ ap (λ (n : ℕ). n - times site (take 1 (sites_of cells))) (sym (own_left held row cells e site))
-      ∙ ap (λ (sites : List ℕ). left_of held row site - times site (take 1 sites)) (sym (spread_held held row cells is e))
-      ∙ sym (rest_here held.instance (left_of held) row site entry found))
+      ap (λ (cells : List Cell). left_at cells site) taken.own ∙ left_after (cells_at old row) site (is.each row).are
+      ∙ ap (λ (sites : List ℕ). left_of (holding it old) row site - times site (take 1 sites)) (sym (spread_held (holding it old) row is))
+      ∙ sym (rest_here it (left_of (holding it old)) row site entry found))
   | inr apart ↦
-      ap (λ (own : Option (List Cell)). left_at (cells_in own) site) (set_other held.shares row other new apart)
-      ∙ sym (rest_other held.instance (left_of held) row other site entry found apart)
+      ap (λ (cells : List Cell). left_at cells site) (taken.others other apart) ∙ sym (rest_other it (left_of (holding it old)) row other site entry found apart)
 ]
 
 -- ---- the row of a query
@@ -158,14 +147,3 @@ pub row_handle : (it : Instance) (region handle : List ℕ) (row : ℕ) → IsIn
 row_handle it region handle row is found =
     let own = row_found it region handle row found in
     subst (λ (octets : List ℕ). handle_in octets ≡ Ok octets) (sym own.2) (all_at IsNamed it.rows row own.0 is.rows.named own.1).handle
-
--- what is taken of the cells of a row answers a query for it
-pub taken_by : (held : Held) (row : ℕ) (cells : List Cell) → IsHeld held → slice_get held.shares row ≡ Some cells
-    → taken_answer held.instance (option_map (λ (cell : Cell). cell.server) (first_of cells)) ≡ first_answer held row
-taken_by held row [] is e = sym (none_left held row [] is e refl)
-taken_by held row (cell ∷ cells) is e = first_taken held row (cell ∷ cells) cell is e refl
-
-pub taken_there : (held : Held) (row : ℕ) (cells : List Cell) → IsHeld held → slice_get held.shares row ≡ Some cells
-    → IfSome (option_map (λ (cell : Cell). cell.server) (first_of cells)) (λ server. server < length held.instance.servers)
-taken_there held row [] is e = tt
-taken_there held row (cell ∷ cells) is e = first_there held row (cell ∷ cells) cell is e refl

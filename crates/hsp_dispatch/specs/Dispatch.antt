@@ -73,10 +73,14 @@ answer_in it x earlier (Some row) = answer_at it row (slice_get (spread it x row
 abbrev pub answer_to : Instance → Plan → List Entry → Entry → Answer
 answer_to it x earlier entry = answer_in it x earlier (row_of it entry)
 
+-- the answers to questions, each after all those before it
+abbrev pub each_after : {A B : Type 0} → (List A → A → B) → List A → List A → List B
+each_after answer earlier [] = []
+each_after answer earlier (one ∷ more) = answer earlier one ∷ each_after answer (earlier ++ one ∷ []) more
+
 -- the answers to entries, after earlier ones
 unfoldable pub answers_after : Instance → Plan → List Entry → List Entry → List Answer
-answers_after it x earlier [] = []
-answers_after it x earlier (entry ∷ more) = answer_to it x earlier entry ∷ answers_after it x (earlier ++ entry ∷ []) more
+answers_after it x earlier entries = each_after (answer_to it x) earlier entries
 
 -- the answers to the entries of a log
 abbrev pub answers : Instance → Plan → List Entry → List Answer

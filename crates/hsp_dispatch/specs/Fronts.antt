@@ -1,10 +1,9 @@
 -- Fronts: dispatchers that share one plan, each with a fixed share of it.
-use Rattle.std.specs.Prelude.{◌≡◌, ◌≢◌, ◌<◌, ◌+◌, ◌-◌, ◌/◌, ◌%◌, ◌==◌, nat_lt, Bool, true, false, ℕ, List, [], ◌∷◌, ◌++◌, count_by, length, map, Some, if◌then◌else◌}
-use Rattle.std.specs.List.{AllByRecursion, slice_get}
+use Rattle.std.specs.Prelude.{◌≡◌, ◌≢◌, ◌<◌, ◌+◌, ◌-◌, ◌/◌, ◌%◌, ◌==◌, nat_lt, Bool, true, false, ℕ, List, [], ◌∷◌, ◌++◌, count_by, map, slice_index_or, Some, if◌then◌else◌}
 use Rattle.hsp_instance.specs.Instance.{Instance, IsInstance}
 use Rattle.hsp_check.specs.Plan.{Plan}
-use Rattle.hsp_dispatch.specs.Dispatch.{Entry, IsSame, answer_to, is_assigned, is_in, is_spent, is_unknown, rest, row_of}
-use Rattle.hsp_dispatch.specs.Shares.{Held, IsHeld, cells_in, left_of}
+use Rattle.hsp_dispatch.specs.Dispatch.{Entry, IsSame, answer_to, each_after, is_assigned, is_in, is_spent, is_unknown, rest, row_of}
+use Rattle.hsp_dispatch.specs.Shares.{Held, IsHeld, left_of}
 use Rattle.hsp_dispatch.specs.declared.answer.Answer.{Answer}
 use Rattle.hsp_dispatch.specs.declared.answer.FrontAnswer.{FrontAnswer}
 use Rattle.hsp_dispatch.specs.declared.answer.FrontAnswer.TheVariants.{Answered, NoFront}
@@ -40,9 +39,7 @@ event_answer it fronts tables earlier event =
 
 -- the answers to events, after earlier ones
 unfoldable pub event_answers_after : Instance → ℕ → (ℕ → Plan) → List Event → List Event → List FrontAnswer
-event_answers_after it fronts tables earlier [] = []
-event_answers_after it fronts tables earlier (event ∷ more) =
-    event_answer it fronts tables earlier event ∷ event_answers_after it fronts tables (earlier ++ event ∷ []) more
+event_answers_after it fronts tables earlier events = each_after (event_answer it fronts tables) earlier events
 
 abbrev pub event_answers : Instance → ℕ → (ℕ → Plan) → List Event → List FrontAnswer
 event_answers it fronts tables events = event_answers_after it fronts tables [] events
@@ -114,19 +111,15 @@ front_sums_of given = record {
 
 -- ---- what the fronts hold
 
--- an instance, how many fronts there are, and for each row of the instance the cells that each front has left
+-- an instance, how many fronts there are, and for each front the cells that it has left of each row of the instance
 pub record Tables : Type 0 where
   pub instance : Instance
   pub fronts : ℕ
-  pub lefts : List (List (List Cell))
+  pub shares : List (List (List Cell))
 
--- the cells that a front has left of a row, none where there is no such front
-abbrev pub cells_at : ℕ → List (List Cell) → List Cell
-cells_at front lefts = cells_in (slice_get lefts front)
-
--- what a front holds
+-- what a front holds, nothing where there is no such front
 abbrev pub held_at : Tables → ℕ → Held
-held_at tables front = record { instance = tables.instance; shares = map (cells_at front) tables.lefts }
+held_at tables front = record { instance = tables.instance; shares = slice_index_or tables.shares front [] }
 
 -- how many fronts there are
 abbrev pub fronts_of : Tables → ℕ
@@ -136,11 +129,10 @@ fronts_of tables = tables.fronts
 abbrev pub left_at_front : Tables → ℕ → Plan
 left_at_front tables front = left_of (held_at tables front)
 
--- what each front holds is in order, and no other front holds anything
+-- what each front holds is in order
 pub record AreHeld (tables : Tables) : Type 0 where
   pub within : IsInstance tables.instance
   pub each : (front : ℕ) → front < tables.fronts → IsHeld (held_at tables front)
-  pub many : AllByRecursion (λ (lefts : List (List Cell)). length lefts ≡ tables.fronts) tables.lefts
 
 -- `fronts` fronts, each of which holds its share of the plan
 pub record AreFrontsOf (it : Instance) (x : Plan) (fronts : ℕ) (tables : Tables) : Type 0 where

@@ -1,6 +1,7 @@
 -- The records of a log: a header, which states the form of the log, and rows, each of which spells an entry, or an
 -- event at a front.
-use Rattle.std.specs.Prelude.{◌≡◌, ◌≢◌, ⊤, ℕ, List, [], ◌∷◌, codes, Ok}
+use Rattle.std.specs.List.{AllZip}
+use Rattle.std.specs.Prelude.{◌≡◌, ◌≢◌, ℕ, List, [], ◌∷◌, codes, Ok}
 use Rattle.hex.specs.Hex.{decode_of}
 use Rattle.hsp_csv.specs.Records.{Fields}
 use Rattle.hsp_csv.specs.declared.fault.RecordsFault.{RecordsFault}
@@ -40,10 +41,7 @@ IsEntryIn form (region ∷ field ∷ third ∷ more) entry = ⊥
 
 -- rows with their entries
 abbrev pub AreEntries : Form → List Fields → List Entry → Type 0
-AreEntries form [] [] = ⊤
-AreEntries form [] (entry ∷ entries) = ⊥
-AreEntries form (row ∷ rows) [] = ⊥
-AreEntries form (row ∷ rows) (entry ∷ entries) = IsEntryIn form row entry × AreEntries form rows entries
+AreEntries form rows entries = AllZip (IsEntryIn form) rows entries
 
 -- a row whose second field gives no octets, or octets that are no handle
 abbrev pub IsBadBody : Form → Fields → Type 0
@@ -79,10 +77,7 @@ IsEventIn (front ∷ region ∷ handle ∷ fourth ∷ more) event = ⊥
 
 -- rows with their events
 abbrev pub AreEvents : List Fields → List Event → Type 0
-AreEvents [] [] = ⊤
-AreEvents [] (event ∷ events) = ⊥
-AreEvents (row ∷ rows) [] = ⊥
-AreEvents (row ∷ rows) (event ∷ events) = IsEventIn row event × AreEvents rows events
+AreEvents rows events = AllZip IsEventIn rows events
 
 -- a row whose first field is no number of a front, or whose third is no handle
 abbrev pub IsBadFront : Fields → Type 0

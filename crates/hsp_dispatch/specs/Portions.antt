@@ -1,11 +1,10 @@
 -- Portions of a plan: the share of one front, each query of which stands for so many answers.
-use Rattle.std.specs.Prelude.{◌≡◌, ◌*◌, ◌<◌, ◌==◌, ℕ, List, [], ◌∷◌, length, Some, if◌then◌else◌}
-use Rattle.std.specs.List.{slice_get}
+use Rattle.std.specs.Prelude.{◌≡◌, ◌*◌, ◌==◌, ℕ, List, [], ◌∷◌, length, if◌then◌else◌}
 use Rattle.hsp_cert.specs.declared.use_line.UseLine.{UseLine}
 use Rattle.hsp_check.specs.Plan.{Plan}
 use Rattle.hsp_instance.specs.Instance.{Instance}
 use Rattle.hsp_dispatch.specs.Fronts.{share}
-use Rattle.hsp_dispatch.specs.Shares.{cells_of}
+use Rattle.hsp_dispatch.specs.Shares.{cells_at, cells_of}
 use Rattle.hsp_dispatch.specs.declared.portion.Portion.{Portion}
 use Rattle.hsp_dispatch.specs.declared.share.Cell.{Cell}
 
@@ -33,4 +32,4 @@ parts_in part (cell ∷ cells) = if part cell.left == 0 then parts_in part cells
 -- for each row the cells that the uses give it, with a part of what each has
 pub record AreSharesOf (part : ℕ → ℕ) (it : Instance) (uses : List UseLine) (shares : List (List Cell)) : Type 0 where
   pub one_a_row : length shares ≡ length it.rows
-  pub each : (row : ℕ) → row < length it.rows → slice_get shares row ≡ Some (parts_in part (cells_of it row uses))
+  pub each : (row : ℕ) → cells_at shares row ≡ parts_in part (cells_of it row uses)

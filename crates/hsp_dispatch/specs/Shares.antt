@@ -1,5 +1,5 @@
 -- What a dispatcher holds: for each row, how many of its queries are left for which site.
-use Rattle.std.specs.Prelude.{◌≡◌, ◌-◌, ◌<◌, ◌==◌, ⊤, true, ℕ, List, [], ◌∷◌, length, All, Option, None, Some, if◌then◌else◌}
+use Rattle.std.specs.Prelude.{◌≡◌, ◌-◌, ◌<◌, ◌==◌, ⊤, true, ℕ, List, [], ◌∷◌, length, slice_index_or, All, Option, None, Some, if◌then◌else◌}
 use Rattle.std.specs.List.{AllByRecursion, list_all, slice_get}
 use Rattle.hsp_instance.specs.Instance.{Instance, IsInstance}
 use Rattle.hsp_instance.specs.declared.arc.Arc.{Arc}
@@ -48,13 +48,13 @@ pub record Held : Type 0 where
   pub instance : Instance
   pub shares : List (List Cell)
 
-abbrev pub cells_in : Option (List Cell) → List Cell
-cells_in None = []
-cells_in (Some cells) = cells
+-- the cells of a row, none where there is no such row
+abbrev pub cells_at : List (List Cell) → ℕ → List Cell
+cells_at shares row = slice_index_or shares row []
 
 -- the table that is held
 abbrev pub left_of : Held → Plan
-left_of held row site = left_at (cells_in (slice_get held.shares row)) site
+left_of held row site = left_at (cells_at held.shares row) site
 
 -- a cell is of a site of the instance, and of the server at which the row's arc to it ends
 pub record IsCellOf (it : Instance) (row : ℕ) (cell : Cell) : Type 0 where
@@ -72,7 +72,7 @@ pub record AreCellsOf (it : Instance) (row : ℕ) (cells : List Cell) : Type 0 w
 pub record IsHeld (held : Held) : Type 0 where
   pub within : IsInstance held.instance
   pub one_a_row : length held.shares ≡ length held.instance.rows
-  pub each : (row : ℕ) (cells : List Cell) → slice_get held.shares row ≡ Some cells → AreCellsOf held.instance row cells
+  pub each : (row : ℕ) → AreCellsOf held.instance row (cells_at held.shares row)
 
 -- the claim is that of a plan, and valid for the instance
 abbrev pub IsPlanFor : Instance → Claim → Type 0

@@ -1,6 +1,6 @@
 -- Where fronts stand among the cells of a row.
-use Rattle.std.specs.Prelude.{Option, Some, None, ⊤, IfSome, ◌≡◌, ◌≤◌, ◌+◌, ◌-◌, ◌==◌, nat_lt, ℕ, zero, suc, List, [], ◌∷◌, ◌++◌, drop, take, if◌then◌else◌}
-use Rattle.std.specs.List.{AllByRecursion}
+use Rattle.std.specs.Prelude.{Option, Some, None, IfSome, ◌≡◌, ◌≤◌, ◌+◌, ◌-◌, ◌*◌, ◌==◌, nat_lt, slice_index, ℕ, zero, suc, List, [], ◌∷◌, ◌++◌, drop, map, if◌then◌else◌}
+use Rattle.std.specs.List.{AllByRecursion, AllZip, flat_map, range_with_len}
 use Rattle.hsp_text.specs.declared.limits.TheConstants.{GREATEST_COUNT}
 use Rattle.hsp_dispatch.specs.Fronts.{share}
 use Rattle.hsp_dispatch.specs.Portions.{parts_in}
@@ -37,15 +37,19 @@ cells_left fronts front cells standing = if standing.left == 0 then [] else left
 
 -- ---- all fronts and rows
 
--- the cells that each front has left of a row, from a front on, by how many it has left in all
-abbrev pub lefts_from : ℕ → ℕ → List Cell → List ℕ → List (List Cell)
-lefts_from fronts front cells [] = []
-lefts_from fronts front cells (left ∷ lefts) = left_among fronts front left cells ∷ lefts_from fronts (front + 1) cells lefts
+-- the place of a front's number for a row: the numbers of the fronts stand side by side, row after row
+abbrev pub place_of : ℕ → ℕ → ℕ → ℕ
+place_of fronts front row = row * fronts + front
 
--- the same of each row; the numbers of a row stand behind those of the rows before it
+-- the cells that a front has left of each row, from a row on, by how many it has left in all
+abbrev pub lefts_from : ℕ → ℕ → ℕ → List (List Cell) → List ℕ → List (List Cell)
+lefts_from fronts front row [] lefts = []
+lefts_from fronts front row (cells ∷ rows) lefts =
+    left_among fronts front (slice_index lefts (place_of fronts front row)) cells ∷ lefts_from fronts front (row + 1) rows lefts
+
+-- the same of each front
 abbrev pub lefts_of : ℕ → List (List Cell) → List ℕ → List (List (List Cell))
-lefts_of fronts [] lefts = []
-lefts_of fronts (cells ∷ rows) lefts = lefts_from fronts 0 cells (take fronts lefts) ∷ lefts_of fronts rows (drop fronts lefts)
+lefts_of fronts rows lefts = map (λ front. lefts_from fronts front 0 rows lefts) (range_with_len 0 fronts)
 
 -- how many each of the first fronts has of a row
 abbrev pub sums_of : ℕ → ℕ → List Cell → List ℕ
@@ -54,8 +58,7 @@ sums_of fronts (suc many) cells = sums_of fronts many cells ++ shares_sum fronts
 
 -- how many each front has of each row
 abbrev pub all_sums : ℕ → List (List Cell) → List ℕ
-all_sums fronts [] = []
-all_sums fronts (cells ∷ rows) = sums_of fronts fronts cells ++ all_sums fronts rows
+all_sums fronts rows = flat_map (sums_of fronts fronts) rows
 
 -- ---- how they are kept
 
@@ -73,12 +76,13 @@ IsSole server (cell ∷ second ∷ more) = ⊥
 abbrev pub sole_in : ℕ → Option ℕ
 sole_in sole = if sole == 65535 then None else Some sole
 
--- where a server is named for a row, the row's one cell is of it
+-- where a number names a server for a row, the row's one cell is of it
+abbrev pub Names : ℕ → List Cell → Type 0
+Names sole cells = IfSome (sole_in sole) (λ server. IsSole server cells)
+
+-- so it is of the numbers of all rows
 abbrev pub AreSoles : List ℕ → List (List Cell) → Type 0
-AreSoles [] [] = ⊤
-AreSoles [] (cells ∷ rows) = ⊥
-AreSoles (sole ∷ soles) [] = ⊥
-AreSoles (sole ∷ soles) (cells ∷ rows) = IfSome (sole_in sole) (λ server. IsSole server cells) × AreSoles soles rows
+AreSoles soles rows = AllZip Names soles rows
 
 -- the counts, however wide they are
 abbrev pub numbers_in : Widths → List ℕ

@@ -8,7 +8,7 @@ ghost use Rattle.hsp_check.specs.Uses.{table};
 ghost use Rattle.hsp_dispatch.specs.Fronts.{AreFrontsOf, IsTakenAt, IsTakenOf, answer_among, fronts_of, held_at, left_at_front};
 ghost use Rattle.hsp_dispatch.specs.Lines.{IsAmong};
 ghost use Rattle.hsp_dispatch.specs.Shares.{AreUsesOf, HoldsTable, IsHeld, IsPlanFor, first_answer, holding, plan_of, query, taken_answer};
-ghost use Rattle.hsp_dispatch.specs.Standings.{all_sums, sums_of};
+ghost use Rattle.hsp_dispatch.specs.Standings.{all_sums, place_of, sums_of};
 ghost use Rattle.hsp_dispatch.specs.Steps.{TakesAt, entry_of};
 ghost use Rattle.hsp_dispatch.specs.declared.fault.LogFault.TheVariants.{BadHandle};
 
@@ -52,13 +52,13 @@ impl<'a> Model for Fronts<'a> {
     ghost view = { λ f. record {
       instance = f.instance.now;
       fronts = f.fronts;
-      lefts = lefts_of f.fronts f.plan f.lefts;
+      shares = lefts_of f.fronts f.plan f.lefts;
     } };
 
     ghost invariant = { λ f. AreHeld (record {
       instance = f.instance.now;
       fronts = f.fronts;
-      lefts = lefts_of f.fronts f.plan f.lefts;
+      shares = lefts_of f.fronts f.plan f.lefts;
     })
         × (length f.lefts ≡ length f.plan * f.fronts) };
 }
@@ -200,7 +200,7 @@ impl<'a> Fronts<'a> {
 
     // The place of the number that a front has left of a row.
     fn place(&self, front: u32, row: u32) -> usize
-        ensures { result ≡ row * fronts_of self.now + front }
+        ensures { result ≡ place_of (fronts_of self.now) front row }
     {
         row as usize * self.fronts as usize + front as usize
     }

@@ -1,7 +1,7 @@
 // The cells that a plan gives all rows.
 
-ghost use Rattle.std.specs.Prelude.{◌≡◌, ◌<◌, IfOk, length, option_map, slice_get};
-ghost use Rattle.hsp_dispatch.specs.Shares.{cells_in, first_of, left_at};
+ghost use Rattle.std.specs.Prelude.{◌≡◌, ◌<◌, IfOk, length, option_map};
+ghost use Rattle.hsp_dispatch.specs.Shares.{cells_at, first_of, left_at};
 ghost use Rattle.hsp_dispatch.specs.Standings.{left_among, sole_in};
 ghost use Rattle.hsp_dispatch.specs.declared.share.Cell.{Cell};
 
@@ -61,7 +61,7 @@ impl PlanCells {
         requires row { row < length self.now }
         ensures { result ≡ option_map (λ (cell : Cell). cell.server)
             (first_of
-            (left_among front.fronts front.number left (cells_in (slice_get self.now row)))) }
+            (left_among front.fronts front.number left (cells_at self.now row))) }
     {
         if left == 0 {
             return None;
@@ -78,7 +78,7 @@ impl PlanCells {
         requires row { row < length self.now }
         ensures { result ≡
             left_at
-            (left_among front.fronts front.number left (cells_in (slice_get self.now row))) site }
+            (left_among front.fronts front.number left (cells_at self.now row)) site }
     {
         self.rows[row as usize].left(left, site, front)
     }
