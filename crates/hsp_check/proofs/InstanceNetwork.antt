@@ -44,7 +44,7 @@ homes_there it is j h l on =
 pub is_network : (it : Instance) → IsInstance it → IsNetwork (network_of it)
 is_network it is =
     let arcs = all_within it is in
-    record { rows = λ k d l. (arcs k d l).row; servers = λ k d l. (arcs k d l).server; homes = homes_there it is }
+    record { sources = λ k d l. (arcs k d l).row; servers = λ k d l. (arcs k d l).server; hosts = homes_there it is }
 
 pub are_cheap : (it : Instance) → IsInstance it → All (λ a. a.cost ≤ 1000000) (network_of it).arcs
 are_cheap it is k d l = (all_within it is k d l).cost

@@ -1,13 +1,13 @@
 -- The sums of what is laid are those of the plan.
 use Rattle.std.proofs.Common.{◌≡◌, ℕ, ◌<◌, ◌==◌, ◌∙◌, length, sum_by, slice_index, All, if◌then◌else◌, ap}
 use Rattle.hsp_check.specs.declared.lists.NetworkLists.{NetworkLists}
-use Rattle.hsp_sums.specs.Sums.{sum_below}
+use Rattle.hsp_transport.specs.Sums.{sum_below}
 use Rattle.hsp_check.specs.Plan.{Plan, is_on, planned, load}
 use Rattle.hsp_check.specs.Laid.{home_in}
 use Rattle.hsp_check.specs.Reach.{network_in}
 use Rattle.hsp_check.specs.Loads.{AreLoads}
 use Rattle.hsp_check.specs.declared.loads.Loads.{Loads}
-use Rattle.hsp_sums.proofs.Summing.{sum_below_same}
+use Rattle.hsp_transport.proofs.Summing.{sum_below_same}
 use Rattle.hsp_check.proofs.LaidSums.{laid_sum}
 
 -- the loads of what is laid, as they are added up

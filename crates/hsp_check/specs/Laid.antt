@@ -5,7 +5,7 @@ use Rattle.hsp_check.specs.declared.sums.LaidArc.{LaidArc}
 use Rattle.hsp_check.specs.declared.sums.End.{End}
 use Rattle.hsp_check.specs.declared.sums.End.TheVariants as end
 use Rattle.hsp_check.specs.Plan.{Plan, planned}
-pub use Rattle.hsp_sums.specs.Lists.{flag_at}
+pub use Rattle.hsp_transport.specs.Lists.{flag_at}
 
 -- the row of an arc, or its server
 abbrev pub end_of : End → NetworkArc → ℕ

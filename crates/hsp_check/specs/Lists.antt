@@ -3,9 +3,9 @@ use Rattle.std.specs.Prelude.{◌≡◌, ℕ, ◌<◌, ◌==◌, Bool, List, Opt
 use Rattle.hsp_check.specs.declared.sums.LaidArc.{LaidArc}
 use Rattle.hsp_check.specs.declared.sums.End.{End}
 use Rattle.hsp_check.specs.Laid.{end_of, home_in}
-use Rattle.hsp_sums.specs.Sums.{sum_below}
-use Rattle.hsp_sums.specs.Lists.{flag_at, is_on}
-pub use Rattle.hsp_sums.specs.Lists.{AreIdle, AreWithin, AreZero}
+use Rattle.hsp_transport.specs.Sums.{sum_below}
+use Rattle.hsp_transport.specs.Lists.{flag_at, is_on}
+pub use Rattle.hsp_transport.specs.Lists.{AreIdle, AreWithin, AreZero}
 
 -- each host that a server stands on is below the count
 abbrev pub HomesAreBelow : ℕ → List (Option ℕ) → Type 0

@@ -2,7 +2,7 @@
 
 ghost use Rattle.std.specs.Prelude.{◌≡◌, ℕ, ◌+◌, ◌*◌, ◌<◌, ◌≤◌, ◌==◌, ◌^◌, length, slice_index, slice_get, sum_by, option_and_then, All, IfOk, Some, vec_len, if◌then◌else◌};
 ghost use Rattle.hsp_text.specs.declared.limits.TheConstants.{GREATEST_COST};
-ghost use Rattle.hsp_sums.specs.Sums.{sum_below, times};
+ghost use Rattle.hsp_transport.specs.Sums.{sum_below, times};
 ghost use Rattle.hsp_check.specs.Laid.{end_of};
 ghost use Rattle.hsp_check.specs.Lists.{AreEndSums, AreHostSums, AreSmall, AreZero, HomesAreBelow};
 ghost use Rattle.hsp_check.specs.Prices.{ArePrices};

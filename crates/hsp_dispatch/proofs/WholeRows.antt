@@ -14,8 +14,8 @@ use Rattle.hsp_check.specs.Instance.{arc_of, arcs_from, network_of}
 use Rattle.hsp_check.specs.Network.{is_allowed}
 use Rattle.hsp_check.specs.Plan.{Feasible, Plan}
 use Rattle.hsp_check.specs.declared.arc.NetworkArc.{NetworkArc}
-use Rattle.hsp_sums.specs.Sums.{sum_below}
-use Rattle.hsp_sums.proofs.Summing.{by_key, sum_below_same, sum_by_same_all}
+use Rattle.hsp_transport.specs.Sums.{sum_below}
+use Rattle.hsp_transport.proofs.Summing.{by_key, sum_below_same, sum_by_same_all}
 use Rattle.hsp_dispatch.specs.Dispatch.{arc_to, assigned_in}
 use Rattle.hsp_dispatch.specs.FrontLaws.{IsServedTogether}
 use Rattle.hsp_dispatch.specs.Fronts.{assigned_by_all}

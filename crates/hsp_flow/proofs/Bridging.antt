@@ -9,7 +9,7 @@ use Rattle.std.proofs.lemmas.Bool.{cases_eq, cases_Bool, and_parts, and_from}
 use Rattle.hsp_cert.specs.declared.use_line.UseLine.{UseLine}
 use Rattle.hsp_check.specs.declared.arc.NetworkArc.{NetworkArc}
 use Rattle.hsp_check.specs.Uses.{table}
-use Rattle.hsp_sums.proofs.Summing.{sum_below_same, sum_below_zero, sum_below_one, by_place}
+use Rattle.hsp_transport.proofs.Summing.{sum_below_same, sum_below_zero, sum_below_one, by_place}
 use Rattle.hsp_network.specs.Sums.{sum_below, only}
 use Rattle.hsp_flow.specs.Ordered.{AreOrdered}
 use Rattle.hsp_flow.specs.Planning.{use_of, uses_of, cost_of}

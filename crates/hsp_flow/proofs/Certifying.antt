@@ -16,7 +16,7 @@ use Rattle.hsp_check.specs.Prices as priced
 use Rattle.hsp_check.specs.Prices.{Prices, ArePrices, at_host as host_price_by}
 use Rattle.hsp_check.specs.Valid.{IsValidPlan}
 use Rattle.hsp_check.specs.Uses.{table}
-use Rattle.hsp_sums.proofs.Summing.{sum_below_same}
+use Rattle.hsp_transport.proofs.Summing.{sum_below_same}
 use Rattle.hsp_network.specs.Sums.{sum_below}
 use Rattle.hsp_network.specs.Network.{IsFeasible, HasPrices, HasLowPrices, at_host, is_on, host_of, load, host_load, price_at}
 use Rattle.hsp_flow.specs.Ordered.{AreOrdered}

@@ -14,7 +14,7 @@ use Rattle.hsp_check.specs.declared.arc.NetworkArc.{NetworkArc}
 use Rattle.hsp_check.specs.Instance.{arc_of, arcs_from, network_of}
 use Rattle.hsp_check.specs.Plan.{Plan, Feasible, planned, served, total}
 use Rattle.hsp_instance.proofs.Lists.{all_append, all_at}
-use Rattle.hsp_sums.proofs.Summing.{sum_by_le_all, by_key}
+use Rattle.hsp_transport.proofs.Summing.{sum_by_le_all, by_key}
 use Rattle.hsp_mincost.specs.Layout.{IsSmall}
 use Rattle.hsp_network.specs.Network.{IsNetwork, Transport, demand_of, host_of}
 use Rattle.hsp_flow.specs.Nodes.{nodes_by}

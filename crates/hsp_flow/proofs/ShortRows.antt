@@ -13,7 +13,7 @@ use Rattle.hsp_check.specs.Plan as plans
 use Rattle.hsp_check.specs.Short as shorts
 use Rattle.hsp_check.specs.Verdict.{is_one_of}
 use Rattle.hsp_check.specs.Valid.{IsValidSet}
-use Rattle.hsp_sums.proofs.Summing.{sum_below_same}
+use Rattle.hsp_transport.proofs.Summing.{sum_below_same}
 use Rattle.hsp_network.specs.Sums.{any_below}
 use Rattle.hsp_network.specs.Network.{IsShort, reaches, reached_capacity, capacity_of, demand_of, on_host, is_on, host_of}
 use Rattle.hsp_flow.specs.Planning.{transport_of, flagged_from, row_of, server_of}

@@ -5,8 +5,8 @@ use Rattle.std.proofs.lemmas.Bool.{cases_eq, and_parts, and_from, or_cases, or_l
 use Rattle.std.proofs.lemmas.List.Elements.{All-head, All-tail}
 use Rattle.hsp_instance.specs.declared.arc.Arc.{Arc}
 use Rattle.hsp_check.specs.declared.arc.NetworkArc.{NetworkArc}
-use Rattle.hsp_sums.specs.Sums.{sum_below}
-use Rattle.hsp_sums.proofs.Summing.{sum_below_same, sum_below_le, sum_below_zero}
+use Rattle.hsp_transport.specs.Sums.{sum_below}
+use Rattle.hsp_transport.proofs.Summing.{sum_below_same, sum_below_le, sum_below_zero}
 use Rattle.hsp_check.specs.Network.{Network, IsNetwork}
 use Rattle.hsp_check.specs.Plan.{is_on, on_host}
 use Rattle.hsp_check.specs.Short.{reaches, room_of, capacity_of, demand_of}

@@ -3,8 +3,8 @@ use Rattle.std.proofs.Common.{◌≡◌, ℕ, ◌*◌, ◌<◌, ◌==◌, inl, i
 use Rattle.std.specs.List.{list_any}
 use Rattle.std.proofs.lemmas.Bool.{cases_eq}
 use Rattle.hsp_instance.specs.declared.arc.Arc.{Arc}
-use Rattle.hsp_sums.specs.Sums.{sum_below}
-use Rattle.hsp_sums.proofs.Summing.{sum_below_same, sum_below_zero}
+use Rattle.hsp_transport.specs.Sums.{sum_below}
+use Rattle.hsp_transport.proofs.Summing.{sum_below_same, sum_below_zero}
 use Rattle.hsp_check.specs.Network.{Network, IsNetwork, is_allowed}
 use Rattle.hsp_check.specs.Plan.{Plan, planned, served, load, Feasible, is_on}
 use Rattle.hsp_kinds.specs.Kinds.{without_row, arcs_of, together, AreKinds, pooled, AreAlikeIn}

@@ -9,8 +9,8 @@ use Rattle.std.proofs.lemmas.List.Sums.{sum_by-cons}
 use Rattle.std.proofs.lemmas.List.Elements.{All-cons, All-nil, All-weaker}
 use Rattle.hsp_instance.specs.declared.arc.Arc.{Arc}
 use Rattle.hsp_check.specs.declared.arc.NetworkArc.{NetworkArc}
-use Rattle.hsp_sums.specs.Sums.{sum_below}
-use Rattle.hsp_sums.proofs.Summing.{sum_below_same, by_key, sum_by_same_all}
+use Rattle.hsp_transport.specs.Sums.{sum_below}
+use Rattle.hsp_transport.proofs.Summing.{sum_below_same, by_key, sum_by_same_all}
 use Rattle.hsp_check.specs.Network.{Network, IsNetwork, is_allowed}
 use Rattle.hsp_check.specs.Plan.{Plan, served, Feasible, Best}
 use Rattle.hsp_kinds.specs.Kinds.{without_row, arcs_in, arcs_of, arcs_to, AreKinds, HasOneArcASite, IsPooled, pooled, AreAlikeIn}

@@ -15,8 +15,8 @@ use Rattle.hsp_instance.specs.Instance.{Row, Site}
 use Rattle.hsp_check.specs.declared.arc.NetworkArc.{NetworkArc}
 use Rattle.hsp_check.specs.Instance.{arc_of, arcs_from as arcs_of_rows}
 use Rattle.hsp_check.specs.Network.{IsNetwork}
-use Rattle.hsp_sums.specs.Sums.{sum_below}
-use Rattle.hsp_sums.proofs.Summing.{by_place, sum_below_same}
+use Rattle.hsp_transport.specs.Sums.{sum_below}
+use Rattle.hsp_transport.proofs.Summing.{by_place, sum_below_same}
 use Rattle.hsp_kinds.specs.Kinds.{AreKinds, HasOneArcASite, without_row, arcs_in, arcs_of, arcs_to}
 use Rattle.hsp_kinds.specs.Tables.{IsKinding}
 use Rattle.hsp_kinds.specs.Rows.{KindsAreClasses, KindsHaveArcs, Service, TablesAreOfKinds, by_kind, is_same_kind, kinds_of, network_for, places_at, sites_for, with_count_of}

@@ -5,7 +5,7 @@ use Rattle.hsp_network.specs.Sums.{any_below, only, sum_below}
 use Rattle.hsp_mincost.specs.Sums.{through}
 use Rattle.hsp_network.specs.Network.{is_on}
 use Rattle.hsp_mincost.proofs.Sums.{only_here, only_split, only_there, only_zero, sum_below_same}
-pub use Rattle.hsp_sums.proofs.Summing.{sum_below_zero, sum_below_one, sum_below_add}
+pub use Rattle.hsp_transport.proofs.Summing.{sum_below_zero, sum_below_one, sum_below_add}
 
 pub sum_split : (a n : ℕ) (f : ℕ → ℕ) → sum_below (a + n) f ≡ sum_below a f + sum_below n (λ k. f (a + k))
 sum_split a zero f =

@@ -4,7 +4,7 @@ use Rattle.hsp_network.specs.Accepted.{AreKept, ArePlanPaid, HasLengths, IsBalan
 use Rattle.hsp_network.specs.Network.{Transport, IsNetwork, host_load, host_of, is_on, load, price_at}
 use Rattle.hsp_network.specs.Sums.{AreCarried, AreHosted, carried, hosted}
 use Rattle.hsp_network.specs.declared.network.PricedFlow.{PricedFlow}
-use Rattle.hsp_sums.proofs.Summing.{sum_below_same}
+use Rattle.hsp_transport.proofs.Summing.{sum_below_same}
 
 -- the tests of an arc, over plain lists
 pub record AreFair (net : Transport) (flows u paid : List ℕ) : Type 0 where

@@ -3,7 +3,7 @@ use Rattle.std.proofs.Common.{◌≡◌, ℕ, ◌+◌, ◌<◌, ◌∙◌, Bool,
 use Rattle.hsp_network.specs.Network.{Transport, IsNetwork, capacity_of, host_of, is_on, reached_capacity}
 use Rattle.hsp_network.specs.Reached.{AreReached, AreRooms, flag_at, free_sum, hosted_sum}
 use Rattle.hsp_network.specs.Sums.{AreHosted, hosted}
-use Rattle.hsp_sums.proofs.Summing.{sum_below_same}
+use Rattle.hsp_transport.proofs.Summing.{sum_below_same}
 
 module _ (net : Transport) (is : IsNetwork net) (set reached : List Bool) (rooms hosts : List ℕ)
     (many : length reached ≡ length net.capacities) (hosts_many : length hosts ≡ length net.limits)

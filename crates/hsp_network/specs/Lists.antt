@@ -1,6 +1,6 @@
 -- What the lists of a network hold.
 use Rattle.std.specs.Prelude.{◌≡◌, ℕ, ◌+◌, ◌<◌, ◌≤◌, List, Option, None, Some, length, slice_index, slice_index_or}
-pub use Rattle.hsp_sums.specs.Lists.{AreIdle, AreWithin}
+pub use Rattle.hsp_transport.specs.Lists.{AreIdle, AreWithin}
 use Rattle.hsp_network.specs.Network.{at_host}
 
 abbrev pub AreBelow : ℕ → List ℕ → Type 0

@@ -1,6 +1,6 @@
 -- What a set of sources may use, by flags.
 use Rattle.std.specs.Prelude.{◌≡◌, ℕ, ◌<◌, Bool, List, Option, None, length, slice_index, slice_index_or, is_none, min, if◌then◌else◌}
-pub use Rattle.hsp_sums.specs.Lists.{flag_at}
+pub use Rattle.hsp_transport.specs.Lists.{flag_at}
 use Rattle.hsp_network.specs.Network.{Transport, reaches}
 use Rattle.hsp_network.specs.Sums.{sum_below}
 

@@ -1,7 +1,7 @@
 -- Sums over numbers.
 use Rattle.std.specs.Prelude.{◌≡◌, ℕ, suc, zero, ◌<◌, ◌==◌, ◌||◌, Bool, false, List, Option, None, length, slice_index, slice_index_or, if◌then◌else◌}
-pub use Rattle.hsp_sums.specs.Lists.{AreZero, is_on}
-pub use Rattle.hsp_sums.specs.Sums.{sum_below}
+pub use Rattle.hsp_transport.specs.Lists.{AreZero, is_on}
+pub use Rattle.hsp_transport.specs.Sums.{sum_below}
 
 -- n where the two numbers are one, and 0 otherwise
 abbrev pub only : ℕ → ℕ → ℕ → ℕ

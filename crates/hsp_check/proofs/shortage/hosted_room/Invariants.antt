@@ -1,5 +1,5 @@
 use Rattle.std.proofs.Common.{◌≡◌, ◌≤◌, ◌*◌, ◌^◌, slice_index, min}
-use Rattle.hsp_sums.specs.Sums.{sum_below}
+use Rattle.hsp_transport.specs.Sums.{sum_below}
 use Rattle.hsp_check.proofs.shortage.hosted_room.Given as goal
 
 abbrev pub invariant-loop-host : goal.invariant-loop-host

@@ -1,5 +1,5 @@
 use Rattle.std.proofs.Common.{◌≡◌, ◌≤◌, ◌*◌, ◌^◌, slice_index, if◌then◌else◌}
-use Rattle.hsp_sums.specs.Sums.{sum_below}
+use Rattle.hsp_transport.specs.Sums.{sum_below}
 use Rattle.hsp_check.specs.Laid.{flag_at}
 use Rattle.hsp_check.proofs.shortage.sum_flagged.Given as goal
 

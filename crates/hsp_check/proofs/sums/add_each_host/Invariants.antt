@@ -1,5 +1,5 @@
 use Rattle.std.proofs.Common.{◌≡◌, ℕ, ◌<◌, ◌≤◌, ◌*◌, ◌^◌, length, slice_index, if◌then◌else◌}
-use Rattle.hsp_sums.specs.Sums.{sum_below}
+use Rattle.hsp_transport.specs.Sums.{sum_below}
 use Rattle.hsp_check.specs.Plan.{is_on}
 use Rattle.hsp_check.specs.Laid.{home_in}
 use Rattle.hsp_check.proofs.sums.add_each_host.Given as goal

@@ -1,0 +1,3 @@
+pub mod Summing
+pub mod Duality
+pub mod Places
