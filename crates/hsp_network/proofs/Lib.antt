@@ -1,2 +1,3 @@
 pub mod Balancing
 pub mod Capacities
+pub mod Numbered

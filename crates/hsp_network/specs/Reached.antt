@@ -1,13 +1,14 @@
 -- What a set of sources may use, by flags.
 use Rattle.std.specs.Prelude.{◌≡◌, ℕ, ◌<◌, Bool, List, Option, None, length, slice_index, slice_index_or, is_none, min, if◌then◌else◌}
 pub use Rattle.hsp_transport.specs.Lists.{flag_at}
-use Rattle.hsp_network.specs.Network.{Transport, reaches}
+use Rattle.hsp_network.specs.Network.{Transport, numbered}
+use Rattle.hsp_transport.specs.Cut.{reaches}
 use Rattle.hsp_network.specs.Sums.{sum_below}
 
 -- whether each server may be used by a flagged source
 abbrev pub AreReached : Transport → List Bool → List Bool → Type 0
 AreReached net set reached = (j : ℕ) → j < length reached →
-    flag_at reached j ≡ reaches net (flag_at set) j
+    flag_at reached j ≡ reaches (numbered net) (flag_at set) j
 
 -- the capacity of each reached server, 0 for the others
 abbrev pub AreRooms : List ℕ → List Bool → List ℕ → Type 0

@@ -1,16 +1,7 @@
 -- Sums over numbers.
-use Rattle.std.specs.Prelude.{◌≡◌, ℕ, suc, zero, ◌<◌, ◌==◌, ◌||◌, Bool, false, List, Option, None, length, slice_index, slice_index_or, if◌then◌else◌}
+use Rattle.std.specs.Prelude.{◌≡◌, ℕ, ◌<◌, List, Option, None, length, slice_index, slice_index_or, if◌then◌else◌}
 pub use Rattle.hsp_transport.specs.Lists.{AreZero, is_on}
-pub use Rattle.hsp_transport.specs.Sums.{sum_below}
-
--- n where the two numbers are one, and 0 otherwise
-abbrev pub only : ℕ → ℕ → ℕ → ℕ
-only w v n = if w == v then n else 0
-
--- whether some number below n passes the test
-abbrev pub any_below : ℕ → (ℕ → Bool) → Bool
-any_below zero test = false
-any_below (suc n) test = any_below n test || test n
+pub use Rattle.hsp_transport.specs.Sums.{any_below, only, sum_below}
 
 -- what flows on the first n arcs whose end is v: `ends` has an end of each arc, `flows` the flow on it
 abbrev pub carried : List ℕ → List ℕ → ℕ → ℕ → ℕ

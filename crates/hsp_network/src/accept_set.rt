@@ -3,7 +3,8 @@
 ghost use Rattle.std.specs.Prelude.{◌≡◌, ℕ, ◌<◌, ◌≤◌, ◌*◌, ◌^◌, ◌↔◌, false, IfOk, IsTrue, length, vec_len};
 ghost use Rattle.hsp_network.specs.Answer.{IsShortSet};
 ghost use Rattle.hsp_network.specs.Lists.{HostsAreBelow};
-ghost use Rattle.hsp_network.specs.Network.{capacity_of};
+ghost use Rattle.hsp_network.specs.Network.{numbered};
+ghost use Rattle.hsp_transport.specs.Cut.{capacity_of};
 ghost use Rattle.hsp_network.specs.Problem.{problem_of};
 ghost use Rattle.hsp_network.specs.Reached.{AreReached, AreRooms, flag_at, flagged_sum, free_sum, hosted_sum};
 ghost use Rattle.hsp_network.specs.Sums.{AreHosted, AreZero};
@@ -143,7 +144,7 @@ pub fn reached_capacity(
 ) -> Result<u128, AllocError>
     requires set { length set.now ≡ length network.now.demands.now }
     ensures { IfOk result
-        (λ capacity. capacity ≡ capacity_of (problem_of network.now) (flag_at set.now)) }
+        (λ capacity. capacity ≡ capacity_of (numbered (problem_of network.now)) (flag_at set.now)) }
 {
     let reached = reached_by(alloc, network, set)?;
     let rooms = rooms_of(alloc, network.capacities, &reached)?;

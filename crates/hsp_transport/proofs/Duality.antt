@@ -36,7 +36,7 @@ by_host host_of w g (suc n) m in' =
     ap₂ (λ x y. x + y) a (sym b) ∙ sym sums ∙ sym split
 
 -- numbers of all servers: of those on no host, and of those on each host
-split_host : (host_of : ℕ → Option ℕ) (g : ℕ → ℕ) (n m : ℕ) → ((j h : ℕ) → j < n → host_of j ≡ Some h → h < m) →
+pub split_host : (host_of : ℕ → Option ℕ) (g : ℕ → ℕ) (n m : ℕ) → ((j h : ℕ) → j < n → host_of j ≡ Some h → h < m) →
     sum_below n g ≡ sum_below n (λ j. if is_none (host_of j) then g j else 0) + sum_below m (λ h. sum_below n (λ j. if is_on (host_of j) h then g j else 0))
 split_host host_of g n m in' =
     sum_below_same n _ _ (λ j l. each (host_of j) (g j))
