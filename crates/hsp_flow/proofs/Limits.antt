@@ -16,7 +16,8 @@ use Rattle.hsp_check.specs.Plan.{Plan, Feasible, planned, served, total}
 use Rattle.hsp_instance.proofs.Lists.{all_append, all_at}
 use Rattle.hsp_transport.proofs.Summing.{sum_by_le_all, by_key}
 use Rattle.hsp_mincost.specs.Layout.{IsSmall}
-use Rattle.hsp_network.specs.Network.{IsNetwork, Transport, demand_of, host_of}
+use Rattle.hsp_network.specs.Network.{IsNetwork, Transport, host_of, numbered}
+use Rattle.hsp_transport.specs.Cut.{demand_of}
 use Rattle.hsp_flow.specs.Nodes.{nodes_by}
 use Rattle.hsp_flow.specs.Planning.{transport_of, row_of, server_of, cost_of}
 use Rattle.hsp_flow.proofs.Ordering.{no_arc, each_weaker, each_at, all_ordered, rows_between, rows_ordered, arcs_many}
@@ -161,9 +162,9 @@ module _ (it : Instance) (is : IsInstance it) where
       (λ i l. omega (arith, counts_low it is i l))
 
   -- what a set of rows demands is within it, too
-  pub demand_low : (set : ℕ → Bool) → demand_of (transport_of it) set ≤ 8192000000
+  pub demand_low : (set : ℕ → Bool) → demand_of (numbered (transport_of it)) set ≤ 8192000000
   demand_low set =
-      let low : demand_of (transport_of it) set ≤ length (transport_of it).demands * 1000000 =
+      let low : demand_of (numbered (transport_of it)) set ≤ length (transport_of it).demands * 1000000 =
       sum_below_low (length (transport_of it).demands) _ 1000000 (λ i l. elim (cases_Bool (set i)) [ inl t ↦ rw t (counts_low it is i l) | inr f ↦ rw f (omega arith) ]) in
       omega (arith, rows_many, is.rows.few)
 
@@ -177,7 +178,7 @@ module _ (it : Instance) (is : IsInstance it) where
       by_key (λ (a : NetworkArc). a.row) (λ (a : NetworkArc). planned x a) (λ _. 1000000) (length (transport_of it).demands) (arcs_from 0 it.arcs)
       (All-from_get_or (λ (a : NetworkArc). a.row < length (transport_of it).demands) (arcs_from 0 it.arcs) no_arc (λ k l. omega (arith, row_at it is it.arcs is.arcs k l, rows_many, is.one_list_a_row))) in
       let low : sum_below (length (transport_of it).demands) (λ k. 1000000 * served (network_of it) x k) ≤ length (transport_of it).demands * 1000000000000 =
-      sum_below_low (length (transport_of it).demands) (λ k. 1000000 * served (network_of it) x k) 1000000000000 (λ k l. omega (arith, feasible.met k l, counts_low it is k l)) in
+      sum_below_low (length (transport_of it).demands) (λ k. 1000000 * served (network_of it) x k) 1000000000000 (λ k l. omega (arith, feasible.flow.met k l, counts_low it is k l)) in
       omega (arith, dear, keyed, low, rows_many, is.rows.few)
 
 -- how many nodes its network has

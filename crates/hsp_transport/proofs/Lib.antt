@@ -1,3 +1,4 @@
 pub mod Summing
 pub mod Duality
 pub mod Places
+pub mod Alike
