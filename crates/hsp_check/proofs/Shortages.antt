@@ -9,10 +9,11 @@ use Rattle.hsp_check.specs.declared.sums.LaidArc.{LaidArc}
 use Rattle.hsp_check.specs.declared.lists.NetworkLists.{NetworkLists}
 use Rattle.hsp_transport.specs.Sums.{sum_below}
 use Rattle.hsp_check.specs.Network.{Network, transport}
-use Rattle.hsp_check.specs.Plan.{is_on, on_host}
+use Rattle.hsp_check.specs.Plan.{on_host}
 use Rattle.hsp_check.specs.Short.{capacity_of, demand_of}
 use Rattle.hsp_transport.specs.Cut.{reached_capacity}
-use Rattle.hsp_check.specs.Laid.{flag_at, home_in}
+use Rattle.hsp_check.specs.Laid.{flag_at}
+use Rattle.hsp_check.specs.Reached.{AreRoomsOf}
 use Rattle.hsp_check.specs.Reach.{network_in}
 use Rattle.hsp_transport.proofs.Summing.{sum_below_same}
 use Rattle.hsp_check.proofs.LaidSums.{on_arcs}
@@ -22,20 +23,11 @@ pub any_of_arcs : (test : NetworkArc → Bool) (laid : List LaidArc) → list_an
 any_of_arcs test [] = refl
 any_of_arcs test (one ∷ laid) = ap (λ b. test one.arc || b) (any_of_arcs test laid)
 
-module _ (lists : NetworkLists) (rows : ℕ → Bool) (rooms hosted : List ℕ)
-    (many : length lists.capacities.now ≡ length lists.homes.now)
-    (given : (j : ℕ) → j < length lists.capacities.now → slice_index rooms j ≡ (if list_any (λ l. rows l.arc.row && l.arc.server == j) lists.laid.now then slice_index lists.capacities.now j else 0)) where
-  each : (j : ℕ) → j < length lists.capacities.now → slice_index rooms j ≡ reached_capacity (transport (network_in lists)) rows j
-  each j l = given j l ∙ ap (λ b. if b then slice_index lists.capacities.now j else 0) (sym (any_of_arcs (λ a. rows a.row && a.server == j) lists.laid.now))
-
-  -- what the rooms of servers add up to
-  pub capacity_sum : ((h : ℕ) → h < length lists.limits.now → slice_index hosted h ≡ sum_below (length lists.homes.now) (λ j. if is_on (home_in lists.homes.now j) h then slice_index rooms j else 0)) →
-      sum_below (length lists.homes.now) (λ j. if is_none (home_in lists.homes.now j) then slice_index rooms j else 0)
-      + sum_below (length lists.limits.now) (λ h. min (slice_index lists.limits.now h) (slice_index hosted h))
-      ≡ capacity_of (network_in lists) rows
-  capacity_sum hosts = rw (← many) (ap₂ (λ a b. a + b)
-      (sum_below_same (length lists.capacities.now) _ _ (λ j l. ap (λ r. if is_none (home_in lists.homes.now j) then r else 0) (each j l)))
-      (sum_below_same (length lists.limits.now) _ _ (λ h l. ap (λ s. min (slice_index lists.limits.now h) s) (hosts h l ∙ rw (← many) (sum_below_same (length lists.capacities.now) _ _ (λ j m. ap (λ r. if is_on (home_in lists.homes.now j) h then r else 0) (each j m)))))))
+-- the room of each server that the rows reach
+pub rooms_are : (lists : NetworkLists) (rows : ℕ → Bool) (rooms : List ℕ) → AreRoomsOf lists rows rooms →
+    (j : ℕ) → j < length lists.capacities.now → slice_index rooms j ≡ reached_capacity (transport (network_in lists)) rows j
+rooms_are lists rows rooms given j l =
+    given j l ∙ ap (λ b. if b then slice_index lists.capacities.now j else 0) (sym (any_of_arcs (λ a. rows a.row && a.server == j) lists.laid.now))
 
 -- tests that agree on the elements find the same
 pub any_same : {A : Type 0} (p q : A → Bool) (xs : List A) → All (λ x. p x ≡ q x) xs → list_any p xs ≡ list_any q xs

@@ -3,10 +3,10 @@ use Rattle.std.proofs.Common.{◌≡◌, ℕ, ◌+◌, ◌*◌, ◌<◌, ◌≤�
 use Rattle.std.specs.Prelude.{Some, None}
 use Rattle.std.specs.List.{AllByRecursion}
 use Rattle.std.proofs.Math.Nat.{le_trans, mul-le-mul_right}
-use Rattle.std.proofs.lemmas.List.{length-map, get_or-map, get_or_past}
+use Rattle.std.proofs.lemmas.List.{length-map, get_or-map}
 use Rattle.std.proofs.lemmas.List.Elements.{All-from_get_or}
 use Rattle.std.proofs.lemmas.Option.{slice_get_within}
-use Rattle.std.proofs.lemmas.Bool.{cases_lt, cases_Bool}
+use Rattle.std.proofs.lemmas.Bool.{cases_Bool}
 use Rattle.hsp_network.specs.Sums.{sum_below}
 use Rattle.hsp_instance.specs.declared.arc.Arc.{Arc}
 use Rattle.hsp_instance.specs.Instance.{Instance, Row, Server, Host, IsInstance, IsArc, AreArcs, IsAscending, IsCounted, IsServer, IsHostOf}
@@ -14,6 +14,8 @@ use Rattle.hsp_check.specs.declared.arc.NetworkArc.{NetworkArc}
 use Rattle.hsp_check.specs.Instance.{arc_of, arcs_from, network_of}
 use Rattle.hsp_check.specs.Plan.{Plan, Feasible, planned, served, total}
 use Rattle.hsp_instance.proofs.Lists.{all_append, all_at}
+use Rattle.hsp_transport.specs.Lists.{HostsAreBelow}
+use Rattle.hsp_transport.proofs.Places.{hosts_below}
 use Rattle.hsp_transport.proofs.Summing.{sum_by_le_all, by_key}
 use Rattle.hsp_mincost.specs.Layout.{IsSmall}
 use Rattle.hsp_network.specs.Network.{IsNetwork, Transport, host_of, numbered}
@@ -67,16 +69,12 @@ module _ (it : Instance) (is : IsInstance it) where
       (λ a h. (omega (arith, h.1.1, is.one_list_a_row, is.rows.few), h.0.site))
       (each_both (Fits it) (λ (a : NetworkArc). (0 ≤ a.row) × (a.row < 0 + length it.arcs)) (arcs_from 0 it.arcs) (fits_all 0 it.arcs is.arcs) (rows_between 0 it.arcs))
 
-  host_there : (j h : ℕ) → host_of (transport_of it) j ≡ Some h → h < length (transport_of it).limits
-  host_there j h e = elim (cases_lt j (length it.servers)) [
-    | inl inside ↦
-        let at : host_of (transport_of it) j ≡ (slice_index_or it.servers j no_server).host = get_or-map (λ (s : Server). s.host) it.servers j no_server None inside in
-        let on : IsHostOf (length it.hosts) (Some h) = subst (IsHostOf (length it.hosts)) (sym at ∙ e) ((each_at (IsServer it.sites (length it.hosts)) it.servers j no_server inside is.servers.each).host) in
-        omega (arith, on, length-map it.hosts (λ (x : Host). x.limit))
-    | inr past ↦
-        let none : host_of (transport_of it) j ≡ None = get_or_past (map (λ (s : Server). s.host) it.servers) j None (omega (arith, length-map it.servers (λ (s : Server). s.host))) in
-        absurd (let both : None ≡ Some h = sym none ∙ e in cc)
-  ]
+  host_there : HostsAreBelow (length (transport_of it).limits) (transport_of it).hosts
+  host_there = hosts_below (length (transport_of it).limits) (transport_of it).hosts (λ j h l e.
+      let inside : j < length it.servers = omega (arith, l, length-map it.servers (λ (s : Server). s.host)) in
+      let at : host_of (transport_of it) j ≡ (slice_index_or it.servers j no_server).host = get_or-map (λ (s : Server). s.host) it.servers j no_server None inside in
+      let on : IsHostOf (length it.hosts) (Some h) = subst (IsHostOf (length it.hosts)) (sym at ∙ e) ((each_at (IsServer it.sites (length it.hosts)) it.servers j no_server inside is.servers.each).host) in
+      omega (arith, on, length-map it.hosts (λ (x : Host). x.limit)))
 
 -- the network over the arcs of some lists
 abbrev pub network_over : Instance → List (List Arc) → List ℕ → Transport

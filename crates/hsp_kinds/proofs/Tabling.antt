@@ -251,11 +251,11 @@ module _ (at : Service) (rows : List Row) where
 
   pub rows_are : IsNetwork (network_for at table) → IsNetwork (network_for at rows)
   rows_are is = record {
-    rows = below;
+    sources = below;
     servers = of_all (λ i a. a.server < length (map (λ s. s.capacity) at.servers)) (length (map count rows)) (network_for at rows).arcs below
         (λ i l. subst (All (λ (a : Arc). a.server < length (map (λ s. s.capacity) at.servers))) (sym (alike i (in_rows i l)))
         (of_row (λ i a. a.server < length (map (λ s. s.capacity) at.servers)) (network_for at table).arcs is.servers (kind i)));
-    homes = is.homes;
+    hosts = is.hosts;
   }
     where
       below : All (λ (a : NetworkArc). a.row < length (map count rows)) (network_for at rows).arcs

@@ -1,3 +1,2 @@
 pub mod Balancing
-pub mod Capacities
 pub mod Numbered

@@ -1,6 +1,7 @@
 -- A network by columns, as the solver reads it: its arcs are numbered, and their ends and costs stand in lists.
-use Rattle.std.specs.Prelude.{◌≡◌, ℕ, ◌<◌, ◌≤◌, List, length, slice_index, slice_index_or, Option, Some, None}
+use Rattle.std.specs.Prelude.{◌≡◌, ℕ, ◌<◌, ◌≤◌, List, length, slice_index, Option, Some}
 use Rattle.std.specs.List.{range_with_len}
+use Rattle.hsp_transport.specs.Lists.{host_in}
 use Rattle.hsp_transport.specs.Network.{Network}
 
 -- the demand of each source, the capacity of each server, the limit of each host, the host of each server,
@@ -15,7 +16,7 @@ pub record Transport : Type 0 where
   pub costs : List ℕ
 
 abbrev pub host_of : Transport → ℕ → Option ℕ
-host_of net j = slice_index_or net.hosts j None
+host_of net j = host_in net.hosts j
 
 -- all ends are there, and the arcs stand in the order of their sources
 pub record IsNetwork (net : Transport) : Type 0 where

@@ -45,7 +45,7 @@ fn set_rooms(rooms: &mut [u64], capacities: &[u64], reached: &[bool])
     requires rooms { length rooms.old ≡ length capacities.now }
     requires reached { length reached.now ≡ length capacities.now }
     requires zero { AreZero rooms.old }
-    ensures { AreRooms capacities.now reached.now rooms.new }
+    ensures { AreRooms capacities.now (flag_at reached.now) rooms.new }
 {
     for server in 0..capacities.len() {
         if reached[server] {
@@ -112,7 +112,7 @@ fn reached_by(alloc: Global, network: &Network<'_>, set: &[bool]) -> Result<Vec<
 fn rooms_of(alloc: Global, capacities: &[u64], reached: &[bool]) -> Result<Vec<u64>, AllocError>
     requires many { length reached.now ≡ length capacities.now }
     ensures len { IfOk result (λ rooms. vec_len rooms ≡ length capacities.now) }
-    ensures rooms { IfOk result (λ rooms. AreRooms capacities.now reached.now rooms.items) }
+    ensures rooms { IfOk result (λ rooms. AreRooms capacities.now (flag_at reached.now) rooms.items) }
 {
     let mut rooms = vec![in alloc; 0; capacities.len()]?;
     set_rooms(&mut rooms, capacities, reached);

@@ -1,9 +1,12 @@
 -- What holds of a list, by its places; and of the numbers below a bound, as a list.
-use Rattle.std.proofs.Common.{◌≡◌, ℕ, zero, suc, ◌+◌, ◌<◌, ◌≤◌, ◌∙◌, Bool, List, length, All, sum_by, slice_index_or, refl, ap, ap₂, sym, subst, arith, add-one, zero-add, take, take_all}
+use Rattle.std.proofs.Common.{◌≡◌, ℕ, zero, suc, ◌+◌, ◌<◌, ◌≤◌, ◌∙◌, Bool, List, length, All, sum_by, slice_index_or, Option, Some, None, inl, inr, refl, ap, ap₂, sym, subst, arith, add-one, zero-add, take, take_all}
 use Rattle.std.specs.Prelude.{◌||◌}
 use Rattle.std.specs.List.{list_any, range_with_len}
 use Rattle.std.proofs.lemmas.List.Folds.{list_any_more}
 use Rattle.std.proofs.lemmas.List.FromFn.{length-range_with_len, get_or-range_with_len}
+use Rattle.std.proofs.lemmas.List.{get_or_past}
+use Rattle.std.proofs.lemmas.Bool.{cases_lt}
+use Rattle.hsp_transport.specs.Lists.{HostsAreBelow, host_in}
 use Rattle.hsp_transport.specs.Sums.{any_below, sum_below}
 use Rattle.hsp_transport.proofs.Summing.{by_place, sum_below_same}
 
@@ -45,3 +48,10 @@ all_numbers P n each k d l =
 
 pub each_number : (P : ℕ → Type 0) (n : ℕ) → All P (range_with_len 0 n) → (k : ℕ) → k < n → P k
 each_number P n all k l = subst P (at_place n k 0 l) (all k 0 (omega (arith, length-range_with_len 0 n)))
+
+-- what holds of the hosts of the servers that are there holds of all
+pub hosts_below : (bound : ℕ) (hosts : List (Option ℕ)) → ((j h : ℕ) → j < length hosts → host_in hosts j ≡ Some h → h < bound) → HostsAreBelow bound hosts
+hosts_below bound hosts each j h on = elim (cases_lt j (length hosts)) [
+  | inl inside ↦ each j h inside on
+  | inr past ↦ absurd (let both : None ≡ Some h = sym (get_or_past hosts j None past) ∙ on in cc)
+]
