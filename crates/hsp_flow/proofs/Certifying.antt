@@ -1,9 +1,8 @@
 -- A flow with prices through an instance's network is a valid certificate's plan.
 use Rattle.std.proofs.Common.{◌≡◌, ℕ, zero, suc, ◌+◌, ◌*◌, ◌<◌, ◌≤◌, ◌∙◌, Bool, true, false, List, [], ◌∷◌, length, map, slice_index, slice_index_or, refl, ap, sym, inl, inr, arith, eq-eqb, ne_eqb}
 use Rattle.std.specs.Prelude.{◌||◌}
-use Rattle.std.specs.List.{AllByRecursion, list_any, range_with_len}
+use Rattle.std.specs.List.{AllByRecursion, list_any}
 use Rattle.std.proofs.lemmas.List.Elements.{All-from_get_or, All-from_recursion, recursion_from_All}
-use Rattle.std.proofs.lemmas.List.FromFn.{length-range_with_len}
 use Rattle.std.proofs.lemmas.List.{length-map, get_or-map}
 use Rattle.std.proofs.lemmas.Bool.{cases_eq, and_from}
 use Rattle.hsp_cert.specs.declared.use_line.UseLine.{UseLine}
@@ -21,7 +20,6 @@ use Rattle.hsp_network.specs.declared.network.PricedFlow.{PricedFlow}
 use Rattle.hsp_transport.specs.Cut.{capacity_of, demand_of}
 use Rattle.hsp_transport.specs.Sums.{sum_below}
 use Rattle.hsp_transport.proofs.Alike.{capacity_alike, cost_alike, demand_alike, feasible_alike, prices_alike}
-use Rattle.hsp_transport.proofs.Places.{at_place, sum_numbers}
 use Rattle.hsp_flow.specs.Ordered.{AreOrdered}
 use Rattle.hsp_flow.specs.Planning.{transport_of, uses_of, row_of, server_of, cost_of}
 use Rattle.hsp_flow.proofs.Ordering.{no_arc, each_weaker, all_ordered}
@@ -50,61 +48,43 @@ of_uses P (a ∷ arcs) (flow ∷ flows) h = elim (cases_eq flow 0) [
 ]
 
 module _ (it : Instance) where
-  arcs_many : length (arcs_from 0 it.arcs) ≡ length (range_with_len 0 (length (transport_of it).sources))
-  arcs_many = sym (length-range_with_len 0 (length (transport_of it).sources) ∙ length-map (arcs_from 0 it.arcs) row_of)
+  arcs_many : length (arcs_from 0 it.arcs) ≡ length (transport_of it).sources
+  arcs_many = sym (length-map (arcs_from 0 it.arcs) row_of)
 
-  -- an arc by its place, and by the columns
-  column : (part : NetworkArc → ℕ) (k : ℕ) → k < length (arcs_from 0 it.arcs) →
-      part (arc (arcs_from 0 it.arcs) k) ≡ slice_index (map part (arcs_from 0 it.arcs)) (slice_index_or (range_with_len 0 (length (transport_of it).sources)) k 0)
-  column part k l = sym (
-      ap (λ place. slice_index (map part (arcs_from 0 it.arcs)) place) (at_place (length (transport_of it).sources) k 0 (rw (length-map (arcs_from 0 it.arcs) row_of) l))
-      ∙ get_or-map part (arcs_from 0 it.arcs) k no_arc 0 l)
+  -- a part of an arc, by its column
+  column : (part : NetworkArc → ℕ) (k : ℕ) → k < length (arcs_from 0 it.arcs) → part (arc (arcs_from 0 it.arcs) k) ≡ slice_index (map part (arcs_from 0 it.arcs)) k
+  column part k l = sym (get_or-map part (arcs_from 0 it.arcs) k no_arc 0 l)
 
   -- a set of rows by the checker, and of sources by the planner
   module _ (s t : ℕ → Bool) (same : (i : ℕ) → s i ≡ t i) where
     pub demand_is : demand_of (transport (network_of it)) s ≡ demand_of (numbered (transport_of it)) t
-    demand_is =
-        demand_alike (transport (network_of it)) (numbered (transport_of it)).arcs (numbered (transport_of it)).source (numbered (transport_of it)).server (numbered (transport_of it)).cost
-        no_arc 0 arcs_many (column row_of) (column server_of) (column cost_of) s t same
+    demand_is = demand_alike (transport (network_of it)) no_arc _ arcs_many _ _ _ (column row_of) (column server_of) (column cost_of) s t same
 
     pub capacity_is : capacity_of (transport (network_of it)) s ≡ capacity_of (numbered (transport_of it)) t
-    capacity_is =
-        capacity_alike (transport (network_of it)) (numbered (transport_of it)).arcs (numbered (transport_of it)).source (numbered (transport_of it)).server (numbered (transport_of it)).cost
-        no_arc 0 arcs_many (column row_of) (column server_of) (column cost_of) s t same
+    capacity_is = capacity_alike (transport (network_of it)) no_arc _ arcs_many _ _ _ (column row_of) (column server_of) (column cost_of) s t same
 
 module _ (it : Instance) (is : IsInstance it) (plan : PricedFlow) (met : IsMet (transport_of it) plan) where
   abbrev pub plan_of_flow : Plan
   plan_of_flow = table (uses_of (arcs_from 0 it.arcs) plan.flows.items)
 
   all : length plan.flows.items ≡ length (arcs_from 0 it.arcs)
-  all = met.many.flows ∙ length-map (arcs_from 0 it.arcs) row_of
+  all = met.many.flows ∙ sym (arcs_many it)
 
-  flow_is : (k : ℕ) → k < length (arcs_from 0 it.arcs) →
-      planned plan_of_flow (arc (arcs_from 0 it.arcs) k) ≡ slice_index plan.flows.items (slice_index_or (range_with_len 0 (length (transport_of it).sources)) k 0)
-  flow_is k l =
-      planned_is (arcs_from 0 it.arcs) plan.flows.items all (instance_ordered it is) k l
-      ∙ sym (ap (λ place. slice_index plan.flows.items place) (at_place (length (transport_of it).sources) k 0 (rw (length-map (arcs_from 0 it.arcs) row_of) l)))
+  flow_is : (k : ℕ) → k < length (arcs_from 0 it.arcs) → planned plan_of_flow (arc (arcs_from 0 it.arcs) k) ≡ slice_index plan.flows.items k
+  flow_is = planned_is (arcs_from 0 it.arcs) plan.flows.items all (instance_ordered it is)
 
   pub plan_feasible : Feasible (network_of it) plan_of_flow
   plan_feasible = record {
-    allowed = λ i s none. none_planned (arcs_from 0 it.arcs) plan.flows.items all i s none;
-    flow =
-        feasible_alike (transport (network_of it)) (numbered (transport_of it)).arcs (numbered (transport_of it)).source (numbered (transport_of it)).server (numbered (transport_of it)).cost
-        no_arc 0 (arcs_many it) (column it row_of) (column it server_of) (column it cost_of) (planned plan_of_flow) (λ k. slice_index plan.flows.items k) flow_is met.balanced.feasible;
+    allowed = none_planned (arcs_from 0 it.arcs) plan.flows.items all;
+    flow = feasible_alike (transport (network_of it)) no_arc _ (arcs_many it) _ _ _ (column it row_of) (column it server_of) (column it cost_of) (planned plan_of_flow) _ flow_is met.balanced.feasible;
   }
 
   plan_prices : Prices (network_of it) plan_of_flow plan.source_prices.items plan.server_prices.items plan.host_prices.items
-  plan_prices =
-      prices_alike (transport (network_of it)) (numbered (transport_of it)).arcs (numbered (transport_of it)).source (numbered (transport_of it)).server (numbered (transport_of it)).cost
-      no_arc 0 (arcs_many it) (column it row_of) (column it server_of) (column it cost_of) (planned plan_of_flow) (λ k. slice_index plan.flows.items k) flow_is _ _ _ met.balanced.prices
+  plan_prices = prices_alike (transport (network_of it)) no_arc _ (arcs_many it) _ _ _ (column it row_of) (column it server_of) (column it cost_of) (planned plan_of_flow) _ flow_is _ _ _ met.balanced.prices
 
   -- what the plan costs, by the columns
   pub cost_is : total (network_of it) plan_of_flow ≡ sum_below (length (arcs_from 0 it.arcs)) (λ k. slice_index (transport_of it).costs k * slice_index plan.flows.items k)
-  cost_is =
-      cost_alike (transport (network_of it)) (numbered (transport_of it)).arcs (numbered (transport_of it)).source (numbered (transport_of it)).server (numbered (transport_of it)).cost
-      no_arc 0 (arcs_many it) (column it row_of) (column it server_of) (column it cost_of) (planned plan_of_flow) (λ k. slice_index plan.flows.items k) flow_is
-      ∙ sum_numbers (λ k. slice_index (transport_of it).costs k * slice_index plan.flows.items k) (length (transport_of it).sources)
-      ∙ ap (λ n. sum_below n (λ k. slice_index (transport_of it).costs k * slice_index plan.flows.items k)) (length-map (arcs_from 0 it.arcs) row_of)
+  cost_is = cost_alike (transport (network_of it)) no_arc _ refl _ _ _ (column it row_of) (column it server_of) (column it cost_of) (planned plan_of_flow) _ flow_is
 
   pub plan_valid : (most : ℕ) → most ≤ 1000000000000 → HasLowPrices plan.source_prices.items plan.server_prices.items plan.host_prices.items most →
       (cost : ℕ) → cost ≡ sum_below (length (arcs_from 0 it.arcs)) (λ k. slice_index (transport_of it).costs k * slice_index plan.flows.items k) →

@@ -25,7 +25,7 @@ module _ {A : Type 0} (p : A → Bool) (d : A) (xs : List A) where
   any_place = ap (list_any p) (sym (take_all (length xs) xs (omega arith))) ∙ any_along (length xs) (omega arith)
 
 -- the number at a place of the numbers below a bound
-pub at_place : (n k d : ℕ) → k < n → slice_index_or (range_with_len 0 n) k d ≡ k
+at_place : (n k d : ℕ) → k < n → slice_index_or (range_with_len 0 n) k d ≡ k
 at_place n k d l = get_or-range_with_len 0 n k d l ∙ zero-add k
 
 -- a sum, a test and a statement of all numbers below a bound
