@@ -47,18 +47,19 @@ module _ {A : Type 0} (n : Network A) (d : A) (count : ℕ) (many : length n.arc
       hosted = λ h l. rw (host_alike h) (feasible.hosted h l);
     }
 
+    -- what a unit on an arc costs with all prices
+    abbrev whole : List ℕ → List ℕ → ℕ → ℕ
+    whole p q k = cost k + price_at n p q (server k)
+
     pub prices_alike : (u p q : List ℕ) → HasPrices numbered g u p q → HasPrices n f u p q
     prices_alike u p q prices = record {
       below = All-from_get_or (λ a. slice_index u (n.source a) ≤ n.cost a + price_at n p q (n.server a)) n.arcs d (λ k l.
-          rw (sources k l, servers k l, costs k l) (each_number (λ k. slice_index u (source k) ≤ whole k) count prices.below k (omega (arith, many))));
+          rw (sources k l, servers k l, costs k l) (each_number (λ k. slice_index u (source k) ≤ whole p q k) count prices.below k (omega (arith, many))));
       used = All-from_get_or (λ a. 0 < f a → slice_index u (n.source a) ≡ n.cost a + price_at n p q (n.server a)) n.arcs d (λ k l some.
-          rw (sources k l, servers k l, costs k l) (each_number (λ k. 0 < g k → slice_index u (source k) ≡ whole k) count prices.used k (omega (arith, many)) (rw (sym (flows k l)) some)));
+          rw (sources k l, servers k l, costs k l) (each_number (λ k. 0 < g k → slice_index u (source k) ≡ whole p q k) count prices.used k (omega (arith, many)) (rw (sym (flows k l)) some)));
       idle = λ j l less. prices.idle j l (rw (sym (load_alike j)) less);
       idle_host = λ h l less. prices.idle_host h l (rw (sym (host_alike h)) less);
     }
-      where
-        abbrev whole : ℕ → ℕ
-        whole k = cost k + price_at n p q (server k)
 
   module _ (s t : ℕ → Bool) (same : (i : ℕ) → s i ≡ t i) where
     room_alike : (j : ℕ) → reached_capacity n s j ≡ reached_capacity numbered t j
