@@ -96,13 +96,13 @@ impl Lists {
 
 // Adds the host of each of that many servers: one of that many hosts, or none.
 fn push_hosts(
-    homes: &mut Vec<Option<u32>>,
+    server_hosts: &mut Vec<Option<u32>>,
     generator: &mut Generator,
     servers: u32,
     hosts: u32,
 ) -> Result<(), AllocError> {
     for _ in 0..servers {
-        homes.push(generator.up_to(hosts).checked_sub(1))?;
+        server_hosts.push(generator.up_to(hosts).checked_sub(1))?;
     }
     Ok(())
 }

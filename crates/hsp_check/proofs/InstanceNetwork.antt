@@ -33,8 +33,8 @@ all_within it is =
     rw (length-map it.rows (λ (r : Row). r.count), length-map it.servers (λ (s : Server). s.capacity))
     (arcs_within it.servers 0 (length it.rows) it.arcs is.arcs (omega (arith, is.one_list_a_row)))
 
-homes_there : (it : Instance) → IsInstance it → (j h : ℕ) → j < length (network_of it).capacities → (network_of it).host_of j ≡ Some h → h < length (network_of it).limits
-homes_there it is j h l on =
+hosts_there : (it : Instance) → IsInstance it → (j h : ℕ) → j < length (network_of it).capacities → (network_of it).host_of j ≡ Some h → h < length (network_of it).limits
+hosts_there it is j h l on =
     let no_server : Server = record { site = 0; place = 0; id = 0; capacity = 0; host = None } in
     let inside : j < length it.servers = rw (length-map it.servers (λ (s : Server). s.capacity)) at l in
     let host : (slice_index_or it.servers j no_server).host ≡ Some h = sym (get_or-map (λ (s : Server). s.host) it.servers j no_server None inside) ∙ on in
@@ -44,12 +44,12 @@ homes_there it is j h l on =
 pub is_network : (it : Instance) → IsInstance it → IsNetwork (network_of it)
 is_network it is =
     let arcs = all_within it is in
-    record { rows = λ k d l. (arcs k d l).row; servers = λ k d l. (arcs k d l).server; homes = homes_there it is }
+    record { sources = λ k d l. (arcs k d l).row; servers = λ k d l. (arcs k d l).server; hosts = hosts_there it is }
 
 pub are_cheap : (it : Instance) → IsInstance it → All (λ a. a.cost ≤ 1000000) (network_of it).arcs
 are_cheap it is k d l = (all_within it is k d l).cost
 
 -- the numbers and the arcs of an instance are its network
 pub drawn : (it : Instance) (numbers : NetworkNumbers) (laid : List LaidArc) → numbers.demands.items ≡ map (λ r. r.count) it.rows → numbers.capacities.items ≡ map (λ s. s.capacity) it.servers →
-    numbers.limits.items ≡ map (λ h. h.limit) it.hosts → numbers.homes.items ≡ map (λ s. s.host) it.servers → map (λ l. l.arc) laid ≡ arcs_from 0 it.arcs → network_with numbers laid ≡ network_of it
-drawn it numbers laid demands capacities limits homes arcs = rw (demands, capacities, limits, homes, arcs) refl
+    numbers.limits.items ≡ map (λ h. h.limit) it.hosts → numbers.server_hosts.items ≡ map (λ s. s.host) it.servers → map (λ l. l.arc) laid ≡ arcs_from 0 it.arcs → network_with numbers laid ≡ network_of it
+drawn it numbers laid demands capacities limits server_hosts arcs = rw (demands, capacities, limits, server_hosts, arcs) refl

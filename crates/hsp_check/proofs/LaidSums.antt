@@ -7,7 +7,7 @@ use Rattle.std.proofs.lemmas.List.Elements.{All-map}
 use Rattle.hsp_check.specs.declared.arc.NetworkArc.{NetworkArc}
 use Rattle.hsp_check.specs.declared.sums.LaidArc.{LaidArc}
 use Rattle.hsp_check.specs.Plan.{Plan, planned}
-use Rattle.hsp_sums.proofs.Summing.{sum_by_same_all}
+use Rattle.hsp_transport.proofs.Summing.{sum_by_same_all}
 
 sum_of_map : {A B : Type 0} (f : A → B) (g : B → ℕ) (xs : List A) → sum_by g (map f xs) ≡ sum_by (λ x. g (f x)) xs
 sum_of_map f g [] = refl

@@ -1,13 +1,13 @@
 -- The sums of what is laid are those of the plan.
-use Rattle.std.proofs.Common.{◌≡◌, ℕ, ◌<◌, ◌==◌, ◌∙◌, length, sum_by, slice_index, All, if◌then◌else◌, ap}
+use Rattle.std.proofs.Common.{◌≡◌, ℕ, ◌<◌, ◌==◌, ◌∙◌, length, sum_by, slice_index, All, if◌then◌else◌, ap, arith}
 use Rattle.hsp_check.specs.declared.lists.NetworkLists.{NetworkLists}
-use Rattle.hsp_sums.specs.Sums.{sum_below}
+use Rattle.hsp_check.specs.Lists.{AreHosted}
 use Rattle.hsp_check.specs.Plan.{Plan, is_on, planned, load}
-use Rattle.hsp_check.specs.Laid.{home_in}
+use Rattle.hsp_check.specs.Laid.{host_in}
 use Rattle.hsp_check.specs.Reach.{network_in}
 use Rattle.hsp_check.specs.Loads.{AreLoads}
 use Rattle.hsp_check.specs.declared.loads.Loads.{Loads}
-use Rattle.hsp_sums.proofs.Summing.{sum_below_same}
+use Rattle.hsp_transport.proofs.Summing.{sum_below_same}
 use Rattle.hsp_check.proofs.LaidSums.{laid_sum}
 
 -- the loads of what is laid, as they are added up
@@ -17,9 +17,9 @@ pub record AreMade (lists : NetworkLists) (loads : Loads) : Type 0 where
   pub servers_many : length loads.servers.items ≡ length lists.capacities.now
   pub servers_are : (j : ℕ) → j < length lists.capacities.now → slice_index loads.servers.items j ≡ sum_by (λ l. if l.arc.server == j then l.flow else 0) lists.laid.now
   pub hosts_many : length loads.hosts.items ≡ length lists.limits.now
-  pub hosts_are : (h : ℕ) → h < length lists.limits.now → slice_index loads.hosts.items h ≡ sum_below (length lists.homes.now) (λ j. if is_on (home_in lists.homes.now j) h then slice_index loads.servers.items j else 0)
+  pub hosts_are : AreHosted lists.server_hosts.now loads.servers.items loads.hosts.items
 
-pub are_loads : (lists : NetworkLists) (loads : Loads) → length lists.capacities.now ≡ length lists.homes.now → AreMade lists loads →
+pub are_loads : (lists : NetworkLists) (loads : Loads) → length lists.capacities.now ≡ length lists.server_hosts.now → AreMade lists loads →
     (x : Plan) → All (λ l. l.flow ≡ planned x l.arc) lists.laid.now → AreLoads (network_in lists) x loads
 are_loads lists loads many made x laid = record {
   rows_many = made.rows_many;
@@ -27,7 +27,7 @@ are_loads lists loads many made x laid = record {
   servers_many = made.servers_many;
   servers_are = takes;
   hosts_many = made.hosts_many;
-  hosts_are = λ h l. made.hosts_are h l ∙ rw (← many) (sum_below_same (length lists.capacities.now) _ _ (λ j m. ap (λ s. if is_on (home_in lists.homes.now j) h then s else 0) (takes j m)));
+  hosts_are = λ h l. made.hosts_are h (omega (arith, l, made.hosts_many)) ∙ rw (← many) (sum_below_same (length lists.capacities.now) _ _ (λ j m. ap (λ s. if is_on (host_in lists.server_hosts.now j) h then s else 0) (takes j m)));
 }
   where
     takes : (j : ℕ) → j < length lists.capacities.now → slice_index loads.servers.items j ≡ load (network_in lists) x j

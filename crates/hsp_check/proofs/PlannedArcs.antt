@@ -17,7 +17,7 @@ are_planned it x bare laid is cheap few drawn is_laid =
     let many = sym (length-map laid (λ (l : LaidArc). l.arc)) ∙ ap length (is_laid.arcs_are ∙ sym drawn) ∙ length-map bare (λ (l : LaidArc). l.arc) in
     record {
       is_laid = is_laid;
-      rows = all_of_map (λ (l : LaidArc). l.arc) (λ (a : NetworkArc). a.row < length it.rows) laid (rw is_laid.arcs_are (rw (length-map it.rows (λ (r : Row). r.count)) at is.rows));
+      rows = all_of_map (λ (l : LaidArc). l.arc) (λ (a : NetworkArc). a.row < length it.rows) laid (rw is_laid.arcs_are (rw (length-map it.rows (λ (r : Row). r.count)) at is.sources));
       cheap = all_of_map (λ (l : LaidArc). l.arc) (λ (a : NetworkArc). a.cost ≤ 1000000) laid (rw is_laid.arcs_are cheap);
       few = omega arith;
     }

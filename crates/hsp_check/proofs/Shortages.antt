@@ -7,13 +7,15 @@ use Rattle.std.proofs.lemmas.List.Elements.{All-head, All-tail}
 use Rattle.hsp_check.specs.declared.arc.NetworkArc.{NetworkArc}
 use Rattle.hsp_check.specs.declared.sums.LaidArc.{LaidArc}
 use Rattle.hsp_check.specs.declared.lists.NetworkLists.{NetworkLists}
-use Rattle.hsp_sums.specs.Sums.{sum_below}
-use Rattle.hsp_check.specs.Network.{Network}
-use Rattle.hsp_check.specs.Plan.{is_on, on_host}
-use Rattle.hsp_check.specs.Short.{capacity_of, demand_of, room_of}
-use Rattle.hsp_check.specs.Laid.{flag_at, home_in}
+use Rattle.hsp_transport.specs.Sums.{sum_below}
+use Rattle.hsp_check.specs.Network.{Network, transport}
+use Rattle.hsp_check.specs.Plan.{on_host}
+use Rattle.hsp_check.specs.Short.{capacity_of, demand_of}
+use Rattle.hsp_transport.specs.Cut.{reached_capacity}
+use Rattle.hsp_check.specs.Laid.{flag_at}
+use Rattle.hsp_check.specs.Reached.{AreRoomsOf}
 use Rattle.hsp_check.specs.Reach.{network_in}
-use Rattle.hsp_sums.proofs.Summing.{sum_below_same}
+use Rattle.hsp_transport.proofs.Summing.{sum_below_same}
 use Rattle.hsp_check.proofs.LaidSums.{on_arcs}
 
 -- a test of the arcs alone
@@ -21,20 +23,11 @@ pub any_of_arcs : (test : NetworkArc → Bool) (laid : List LaidArc) → list_an
 any_of_arcs test [] = refl
 any_of_arcs test (one ∷ laid) = ap (λ b. test one.arc || b) (any_of_arcs test laid)
 
-module _ (lists : NetworkLists) (rows : ℕ → Bool) (rooms hosted : List ℕ)
-    (many : length lists.capacities.now ≡ length lists.homes.now)
-    (given : (j : ℕ) → j < length lists.capacities.now → slice_index rooms j ≡ (if list_any (λ l. rows l.arc.row && l.arc.server == j) lists.laid.now then slice_index lists.capacities.now j else 0)) where
-  each : (j : ℕ) → j < length lists.capacities.now → slice_index rooms j ≡ room_of (network_in lists) rows j
-  each j l = given j l ∙ ap (λ b. if b then slice_index lists.capacities.now j else 0) (sym (any_of_arcs (λ a. rows a.row && a.server == j) lists.laid.now))
-
-  -- what the rooms of servers add up to
-  pub capacity_sum : ((h : ℕ) → h < length lists.limits.now → slice_index hosted h ≡ sum_below (length lists.homes.now) (λ j. if is_on (home_in lists.homes.now j) h then slice_index rooms j else 0)) →
-      sum_below (length lists.homes.now) (λ j. if is_none (home_in lists.homes.now j) then slice_index rooms j else 0)
-      + sum_below (length lists.limits.now) (λ h. min (slice_index lists.limits.now h) (slice_index hosted h))
-      ≡ capacity_of (network_in lists) rows
-  capacity_sum hosts = rw (← many) (ap₂ (λ a b. a + b)
-      (sum_below_same (length lists.capacities.now) _ _ (λ j l. ap (λ r. if is_none (home_in lists.homes.now j) then r else 0) (each j l)))
-      (sum_below_same (length lists.limits.now) _ _ (λ h l. ap (λ s. min (slice_index lists.limits.now h) s) (hosts h l ∙ rw (← many) (sum_below_same (length lists.capacities.now) _ _ (λ j m. ap (λ r. if is_on (home_in lists.homes.now j) h then r else 0) (each j m)))))))
+-- the room of each server that the rows reach
+pub rooms_are : (lists : NetworkLists) (rows : ℕ → Bool) (rooms : List ℕ) → AreRoomsOf lists rows rooms →
+    (j : ℕ) → j < length lists.capacities.now → slice_index rooms j ≡ reached_capacity (transport (network_in lists)) rows j
+rooms_are lists rows rooms given j l =
+    given j l ∙ ap (λ b. if b then slice_index lists.capacities.now j else 0) (sym (any_of_arcs (λ a. rows a.row && a.server == j) lists.laid.now))
 
 -- tests that agree on the elements find the same
 pub any_same : {A : Type 0} (p q : A → Bool) (xs : List A) → All (λ x. p x ≡ q x) xs → list_any p xs ≡ list_any q xs
@@ -44,7 +37,7 @@ any_same p q (x ∷ xs) same = ap₂ (λ a b. a || b) (All-head (λ y. p y ≡ q
 -- sets that agree on the rows of the arcs reach the same
 pub same_capacity : (n : Network) (f g : ℕ → Bool) → All (λ a. f a.row ≡ g a.row) n.arcs → capacity_of n f ≡ capacity_of n g
 same_capacity n f g same =
-    let rooms : room_of n f ≡ room_of n g = fun_ext (λ j. ap (λ b. if b then slice_index n.capacities j else 0)
+    let rooms : reached_capacity (transport n) f ≡ reached_capacity (transport n) g = fun_ext (λ j. ap (λ b. if b then slice_index n.capacities j else 0)
     (any_same (λ a. f a.row && a.server == j) (λ a. g a.row && a.server == j) n.arcs (λ k d l. ap (λ b. b && (slice_index_or n.arcs k d).server == j) (same k d l)))) in
     ap (λ (r : ℕ → ℕ).
     sum_below (length n.capacities) (λ j. if is_none (n.host_of j) then r j else 0)

@@ -13,11 +13,11 @@ use Rattle.hsp_check.specs.declared.verdict.Verdict.TheVariants.{Yes, No}
 use Rattle.hsp_check.specs.Network.{Network, IsNetwork, is_allowed}
 use Rattle.hsp_check.specs.Plan.{Plan, Feasible, Best}
 use Rattle.hsp_check.specs.Short.{IsShort}
-use Rattle.hsp_sums.specs.Sums.{times}
+use Rattle.hsp_transport.specs.Sums.{times}
 use Rattle.hsp_check.specs.Uses.{table}
 use Rattle.hsp_check.specs.Valid.{IsValid, IsValidPlan, IsValidSet}
 use Rattle.hsp_check.specs.Verdict.{IsVerdict, Meets, PlanMeets, SetMeets, is_one_of}
-use Rattle.hsp_sums.proofs.Summing.{sum_by_same_all}
+use Rattle.hsp_transport.proofs.Summing.{sum_by_same_all}
 use Rattle.hsp_check.proofs.Ranges.{prices_low}
 use Rattle.hsp_check.proofs.Duality.{prices_show_best, short_shows_none}
 
@@ -47,7 +47,7 @@ plan_valid n c ranges met =
     let idle = met IdlePrice in
     record {
       allowed = met NoSuchUse;
-      feasible = record { allowed = unused n c.uses (met NoSuchUse); met = met RowSum; within = loads.0; hosted = loads.1 };
+      feasible = record { allowed = unused n c.uses (met NoSuchUse); flow = record { met = met RowSum; within = loads.0; hosted = loads.1 } };
       cost = met Cost;
       prices = record { below = met ArcPrice; used = met UsedArcPrice; idle = idle.0; idle_host = idle.1 };
       row_prices = (shape.0, prices_low c.row_prices ranges.row_prices);
@@ -58,8 +58,8 @@ plan_valid n c ranges met =
 valid_plan : (n : Network) (c : BestClaim) → IsValidPlan n c → (r : Reason) → PlanMeets n c r
 valid_plan n c valid Shape = (valid.row_prices.0, valid.server_prices.0, valid.host_prices.0)
 valid_plan n c valid NoSuchUse = valid.allowed
-valid_plan n c valid RowSum = valid.feasible.met
-valid_plan n c valid Load = (valid.feasible.within, valid.feasible.hosted)
+valid_plan n c valid RowSum = valid.feasible.flow.met
+valid_plan n c valid Load = (valid.feasible.flow.within, valid.feasible.flow.hosted)
 valid_plan n c valid Cost = valid.cost
 valid_plan n c valid ArcPrice = valid.prices.below
 valid_plan n c valid UsedArcPrice = valid.prices.used

@@ -1,6 +1,6 @@
 -- What prices and short sets show.
 use Rattle.std.specs.Prelude.{◌≡◌, ℕ, ◌+◌, Bool, List}
-use Rattle.hsp_sums.specs.Sums.{times}
+use Rattle.hsp_transport.specs.Sums.{times}
 use Rattle.hsp_check.specs.Network.{Network, IsNetwork}
 use Rattle.hsp_check.specs.Plan.{Plan, Feasible, Best, total}
 use Rattle.hsp_check.specs.Prices.{Prices}

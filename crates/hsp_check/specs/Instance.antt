@@ -4,7 +4,7 @@ use Rattle.hsp_instance.specs.Instance.{Instance}
 use Rattle.hsp_instance.specs.declared.arc.Arc.{Arc}
 use Rattle.hsp_check.specs.declared.arc.NetworkArc.{NetworkArc}
 use Rattle.hsp_check.specs.Network.{Network}
-use Rattle.hsp_check.specs.Laid.{home_in}
+use Rattle.hsp_check.specs.Laid.{host_in}
 
 -- an arc of the instance, with its row
 abbrev pub arc_of : ℕ → Arc → NetworkArc
@@ -26,8 +26,8 @@ abbrev pub limits_in : Instance → List ℕ
 limits_in it = map (λ h. h.limit) it.hosts
 
 -- the host that each server stands on, if it stands on one
-abbrev pub homes_in : Instance → List (Option ℕ)
-homes_in it = map (λ s. s.host) it.servers
+abbrev pub server_hosts_in : Instance → List (Option ℕ)
+server_hosts_in it = map (λ s. s.host) it.servers
 
 -- each row asks for its count, each server takes its capacity, and the servers on each host no more than its limit
 abbrev pub network_of : Instance → Network
@@ -35,6 +35,6 @@ network_of it = record {
   demands = demands_in it;
   capacities = capacities_in it;
   limits = limits_in it;
-  host_of = home_in (homes_in it);
+  host_of = host_in (server_hosts_in it);
   arcs = arcs_from 0 it.arcs;
 }

@@ -1,20 +1,16 @@
 -- Arcs with what a plan gives them.
-use Rattle.std.specs.Prelude.{◌≡◌, ℕ, List, map, All, Option, None, slice_index_or}
+use Rattle.std.specs.Prelude.{◌≡◌, ℕ, List, map, All}
 use Rattle.hsp_check.specs.declared.arc.NetworkArc.{NetworkArc}
 use Rattle.hsp_check.specs.declared.sums.LaidArc.{LaidArc}
 use Rattle.hsp_check.specs.declared.sums.End.{End}
 use Rattle.hsp_check.specs.declared.sums.End.TheVariants as end
 use Rattle.hsp_check.specs.Plan.{Plan, planned}
-pub use Rattle.hsp_sums.specs.Lists.{flag_at}
+pub use Rattle.hsp_transport.specs.Lists.{flag_at, host_in}
 
 -- the row of an arc, or its server
 abbrev pub end_of : End → NetworkArc → ℕ
 end_of end.Row a = a.row
 end_of end.Server a = a.server
-
--- the host that a server stands on, in a list of the servers' hosts
-abbrev pub home_in : List (Option ℕ) → ℕ → Option ℕ
-home_in homes j = slice_index_or homes j None
 
 -- only the arcs
 abbrev pub arcs_in : List LaidArc → List NetworkArc

@@ -3,11 +3,11 @@ use Rattle.std.specs.Prelude.{◌≡◌, ℕ, ◌+◌, ◌<◌, ◌≤◌, List,
 use Rattle.hsp_check.specs.declared.prices.PriceLists.{PriceLists}
 use Rattle.hsp_check.specs.declared.sums.LaidArc.{LaidArc}
 use Rattle.hsp_check.specs.Prices.{at_host}
-use Rattle.hsp_check.specs.Laid.{home_in}
+use Rattle.hsp_check.specs.Laid.{host_in}
 
 -- what a query to the server pays beside the arc's cost
 abbrev pub listed_at : PriceLists → ℕ → ℕ
-listed_at prices j = slice_index prices.servers.now j + at_host (home_in prices.homes.now j) (λ h. slice_index prices.hosts.now h)
+listed_at prices j = slice_index prices.servers.now j + at_host (host_in prices.server_hosts.now j) (λ h. slice_index prices.hosts.now h)
 
 -- no row pays more than an arc's cost and prices
 abbrev pub AreLow : PriceLists → List LaidArc → Type 0

@@ -1,9 +1,10 @@
--- A transportation problem (Ahuja, Magnanti and Orlin, Network Flows, section 1.2): rows ask for queries, an arc leads from a row to
--- its server at a site, servers take no more than their capacities, and the servers on one host together no more than its limit.
-use Rattle.std.specs.Prelude.{◌≡◌, ℕ, ◌<◌, ◌≤◌, ◌==◌, ◌&&◌, Bool, List, length, All, Option, Some}
+-- The transportation problem of rows and sites (Network Flows, section 1.2): rows ask for queries, an arc leads from a row to its
+-- server at a site, servers take no more than their capacities, and the servers on one host together no more than its limit.
+use Rattle.std.specs.Prelude.{ℕ, ◌≤◌, ◌==◌, ◌&&◌, Bool, List, All, Option}
 use Rattle.std.specs.List.{list_any}
 use Rattle.hsp_text.specs.declared.limits.TheConstants.{GREATEST_COST}
 use Rattle.hsp_check.specs.declared.arc.NetworkArc.{NetworkArc}
+use Rattle.hsp_transport.specs.Network as theory
 
 pub record Network : Type 0 where
   -- what each row asks for
@@ -16,11 +17,22 @@ pub record Network : Type 0 where
   pub host_of : ℕ → Option ℕ
   pub arcs : List NetworkArc
 
+-- the same in the terms of the theory: its sources are the rows
+abbrev pub transport : Network → theory.Network NetworkArc
+transport n = record {
+  demands = n.demands;
+  capacities = n.capacities;
+  limits = n.limits;
+  host_of = n.host_of;
+  arcs = n.arcs;
+  source = λ a. a.row;
+  server = λ a. a.server;
+  cost = λ a. a.cost;
+}
+
 -- each arc's row and server, and each server's host, are there
-pub record IsNetwork (n : Network) : Type 0 where
-  pub rows : All (λ a. a.row < length n.demands) n.arcs
-  pub servers : All (λ a. a.server < length n.capacities) n.arcs
-  pub homes : (j h : ℕ) → j < length n.capacities → n.host_of j ≡ Some h → h < length n.limits
+abbrev pub IsNetwork : Network → Type 0
+IsNetwork n = theory.IsNetwork (transport n)
 
 -- whether the row may use the site
 abbrev pub is_allowed : Network → ℕ → ℕ → Bool

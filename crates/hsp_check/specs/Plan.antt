@@ -1,9 +1,9 @@
 -- Plans: a feasible flow of the transportation problem, and its cost (Network Flows, sections 1.2 and 9.1).
-use Rattle.std.specs.Prelude.{◌≡◌, ℕ, ◌*◌, ◌<◌, ◌≤◌, ◌==◌, false, length, sum_by, slice_index, if◌then◌else◌}
+use Rattle.std.specs.Prelude.{◌≡◌, ℕ, ◌≤◌, false}
 use Rattle.hsp_check.specs.declared.arc.NetworkArc.{NetworkArc}
-use Rattle.hsp_sums.specs.Sums.{sum_below}
-use Rattle.hsp_check.specs.Network.{Network, is_allowed}
-pub use Rattle.hsp_sums.specs.Lists.{is_on}
+use Rattle.hsp_check.specs.Network.{Network, is_allowed, transport}
+use Rattle.hsp_transport.specs.Flow as flows
+pub use Rattle.hsp_transport.specs.Lists.{is_on}
 
 -- a table of whole numbers: how many queries of a row go to a site
 abbrev pub Plan : Type 0
@@ -15,30 +15,28 @@ planned x a = x a.row a.site
 
 -- what the row gets, over all sites
 abbrev pub served : Network → Plan → ℕ → ℕ
-served n x i = sum_by (λ a. if a.row == i then planned x a else 0) n.arcs
+served n x i = flows.sent (transport n) (planned x) i
 
 -- what the server takes, over all rows whose server it is
 abbrev pub load : Network → Plan → ℕ → ℕ
-load n x j = sum_by (λ a. if a.server == j then planned x a else 0) n.arcs
+load n x j = flows.load (transport n) (planned x) j
 
 -- numbers of the servers on a host, added up
 abbrev pub on_host : Network → (ℕ → ℕ) → ℕ → ℕ
-on_host n f h = sum_below (length n.capacities) (λ j. if is_on (n.host_of j) h then f j else 0)
+on_host n f h = flows.on_host (transport n) f h
 
 -- what the servers on a host take together
 abbrev pub host_load : Network → Plan → ℕ → ℕ
-host_load n x h = on_host n (load n x) h
+host_load n x h = flows.host_load (transport n) (planned x) h
 
 -- what the plan costs
 abbrev pub total : Network → Plan → ℕ
-total n x = sum_by (λ a. a.cost * planned x a) n.arcs
+total n x = flows.total_cost (transport n) (planned x)
 
--- Every row gets what it asks for, nothing goes where it may not, and no server and no host takes more than it can.
+-- Nothing goes where it may not, every row gets what it asks for, and no server and no host takes more than it can.
 pub record Feasible (n : Network) (x : Plan) : Type 0 where
   pub allowed : (i s : ℕ) → is_allowed n i s ≡ false → x i s ≡ 0
-  pub met : (i : ℕ) → i < length n.demands → served n x i ≡ slice_index n.demands i
-  pub within : (j : ℕ) → j < length n.capacities → load n x j ≤ slice_index n.capacities j
-  pub hosted : (h : ℕ) → h < length n.limits → host_load n x h ≤ slice_index n.limits h
+  pub flow : flows.IsFeasible (transport n) (planned x)
 
 -- A best plan is feasible, and no feasible plan costs less.
 pub record Best (n : Network) (x : Plan) : Type 0 where

@@ -2,7 +2,7 @@
 use Rattle.std.specs.Prelude.{◌≡◌, ◌+◌}
 use Rattle.hsp_cert.specs.Certificate.{Best as BestClaim}
 use Rattle.hsp_check.specs.declared.tallying.PlanSums.{PlanSums}
-use Rattle.hsp_sums.specs.Sums.{times}
+use Rattle.hsp_transport.specs.Sums.{times}
 use Rattle.hsp_check.specs.Network.{Network}
 use Rattle.hsp_check.specs.Plan.{total}
 use Rattle.hsp_check.specs.Uses.{table}

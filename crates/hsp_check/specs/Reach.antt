@@ -5,7 +5,7 @@ use Rattle.hsp_check.specs.declared.lists.NetworkLists.{NetworkLists}
 use Rattle.hsp_check.specs.declared.numbers.NetworkNumbers.{NetworkNumbers}
 use Rattle.hsp_check.specs.declared.sums.LaidArc.{LaidArc}
 use Rattle.hsp_check.specs.Network.{Network}
-use Rattle.hsp_check.specs.Laid.{home_in}
+use Rattle.hsp_check.specs.Laid.{host_in}
 
 -- the network that the lists are
 abbrev pub network_in : NetworkLists → Network
@@ -13,7 +13,7 @@ network_in lists = record {
   demands = lists.demands.now;
   capacities = lists.capacities.now;
   limits = lists.limits.now;
-  host_of = home_in lists.homes.now;
+  host_of = host_in lists.server_hosts.now;
   arcs = map (λ l. l.arc) lists.laid.now;
 }
 
@@ -23,7 +23,7 @@ network_with numbers laid = record {
   demands = numbers.demands.items;
   capacities = numbers.capacities.items;
   limits = numbers.limits.items;
-  host_of = home_in numbers.homes.items;
+  host_of = host_in numbers.server_hosts.items;
   arcs = map (λ l. l.arc) laid;
 }
 

@@ -3,7 +3,7 @@ use Rattle.std.specs.Prelude.{◌≡◌, ◌+◌, IfSome}
 use Rattle.hsp_cert.specs.Certificate.{Claim, best_of, short_of}
 use Rattle.hsp_check.specs.declared.verdict.Verdict.{Verdict}
 use Rattle.hsp_check.specs.declared.verdict.Verdict.TheVariants.{Yes}
-use Rattle.hsp_sums.specs.Sums.{times}
+use Rattle.hsp_transport.specs.Sums.{times}
 use Rattle.hsp_check.specs.Network.{Network}
 use Rattle.hsp_check.specs.Plan.{Best, Feasible, Plan}
 use Rattle.hsp_check.specs.Short.{IsShort}

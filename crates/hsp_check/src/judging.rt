@@ -24,7 +24,7 @@ pub(crate) struct LaidPlan<'a, 's> {
     pub(crate) cost: u64,
     pub(crate) uses: &'a [UseLine],
     pub(crate) loads: &'s Loads,
-    ghost homes: { prices.homes.now ≡ lists.homes.now },
+    ghost server_hosts: { prices.server_hosts.now ≡ lists.server_hosts.now },
     ghost rows_many: { length prices.rows.now ≡ length lists.demands.now },
     ghost hosts_many: { length prices.hosts.now ≡ length lists.limits.now },
     ghost laid: { AreLaidBy (table uses.now) lists.laid.now },

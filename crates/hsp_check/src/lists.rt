@@ -2,7 +2,7 @@
 
 ghost use Rattle.std.specs.Prelude.{◌≡◌, ℕ, ◌<◌, ◌≤◌, ◌^◌, length, All, Some};
 ghost use Rattle.hsp_text.specs.declared.limits.TheConstants.{GREATEST_COST};
-ghost use Rattle.hsp_check.specs.Lists.{HomesAreBelow};
+ghost use Rattle.hsp_check.specs.Lists.{HostsAreBelow};
 
 use crate::sums::LaidArc;
 
@@ -13,15 +13,15 @@ pub(crate) struct NetworkLists<'a> {
     pub(crate) demands: &'a [u64],
     pub(crate) capacities: &'a [u64],
     pub(crate) limits: &'a [u64],
-    pub(crate) homes: &'a [Option<u32>],
+    pub(crate) server_hosts: &'a [Option<u32>],
     pub(crate) laid: &'a [LaidArc],
-    ghost servers_many: { length capacities.now ≡ length homes.now },
+    ghost servers_many: { length capacities.now ≡ length server_hosts.now },
     ghost few_rows: { length demands.now < 2 ^ 16 },
-    ghost few_servers: { length homes.now < 2 ^ 16 },
+    ghost few_servers: { length server_hosts.now < 2 ^ 16 },
     ghost few_hosts: { length limits.now < 2 ^ 16 },
-    ghost homes_in: { HomesAreBelow (length limits.now) homes.now },
+    ghost server_hosts_in: { HostsAreBelow (length limits.now) server_hosts.now },
     ghost rows_in: { All (λ l. l.arc.row < length demands.now) laid.now },
-    ghost servers_in: { All (λ l. l.arc.server < length homes.now) laid.now },
+    ghost servers_in: { All (λ l. l.arc.server < length server_hosts.now) laid.now },
     ghost cheap: { All (λ l. l.arc.cost ≤ GREATEST_COST) laid.now },
     ghost few_arcs: { length laid.now < 2 ^ 32 },
 }

@@ -21,7 +21,7 @@ pub(crate) fn loads_of(alloc: Global, lists: NetworkLists<'_>) -> Result<Loads, 
 {
     let rows = add_up(alloc, End::Row, lists.laid, lists.demands.len())?;
     let servers = add_up(alloc, End::Server, lists.laid, lists.capacities.len())?;
-    let hosts = add_hosts(alloc, lists.homes, &servers, lists.limits.len())?;
+    let hosts = add_hosts(alloc, lists.server_hosts, &servers, lists.limits.len())?;
     Ok(Loads {
         rows,
         servers,

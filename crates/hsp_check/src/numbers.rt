@@ -2,11 +2,11 @@
 
 ghost use Rattle.std.specs.Prelude.{◌≡◌, ◌<◌, ◌≤◌, ◌^◌, All, IfOk, length};
 ghost use Rattle.hsp_text.specs.declared.limits.TheConstants.{GREATEST_COST};
-ghost use Rattle.hsp_check.specs.Instance.{capacities_in, demands_in, homes_in, limits_in};
+ghost use Rattle.hsp_check.specs.Instance.{capacities_in, demands_in, server_hosts_in, limits_in};
 
 use crate::lists::NetworkLists;
 use crate::sums::LaidArc;
-use hsp_instance::{Instance, capacities_of, counts_of, homes_of, limits_of};
+use hsp_instance::{Instance, capacities_of, counts_of, server_hosts_of, limits_of};
 use std::alloc::{AllocError, Global};
 
 /// What each row asks for, what each server and each host can take, and the host that each server stands on.
@@ -15,10 +15,10 @@ pub(crate) struct NetworkNumbers {
     pub(crate) demands: Vec<u64>,
     pub(crate) capacities: Vec<u64>,
     pub(crate) limits: Vec<u64>,
-    pub(crate) homes: Vec<Option<u32>>,
-    ghost servers_many: { length capacities.items ≡ length homes.items },
+    pub(crate) server_hosts: Vec<Option<u32>>,
+    ghost servers_many: { length capacities.items ≡ length server_hosts.items },
     ghost few_rows: { length demands.items < 2 ^ 16 },
-    ghost few_servers: { length homes.items < 2 ^ 16 },
+    ghost few_servers: { length server_hosts.items < 2 ^ 16 },
     ghost few_hosts: { length limits.items < 2 ^ 16 },
 }
 
@@ -28,17 +28,17 @@ pub(crate) fn numbers_of(alloc: Global, instance: &Instance) -> Result<NetworkNu
     ensures capacities { IfOk result (λ numbers.
         numbers.capacities.items ≡ capacities_in instance.now) }
     ensures limits { IfOk result (λ numbers. numbers.limits.items ≡ limits_in instance.now) }
-    ensures homes { IfOk result (λ numbers. numbers.homes.items ≡ homes_in instance.now) }
+    ensures server_hosts { IfOk result (λ numbers. numbers.server_hosts.items ≡ server_hosts_in instance.now) }
 {
     let demands = counts_of(alloc, instance)?;
     let capacities = capacities_of(alloc, instance)?;
     let limits = limits_of(alloc, instance)?;
-    let homes = homes_of(alloc, instance)?;
+    let server_hosts = server_hosts_of(alloc, instance)?;
     Ok(NetworkNumbers {
         demands,
         capacities,
         limits,
-        homes,
+        server_hosts,
     })
 }
 
@@ -52,14 +52,14 @@ impl NetworkNumbers {
         requires cheap { All (λ l. l.arc.cost ≤ GREATEST_COST) laid.now }
         requires few { length laid.now < 2 ^ 32 }
         ensures network { network_in result ≡ network_with self.now laid.now }
-        ensures homes { result.homes.now ≡ self.now.homes.items }
+        ensures server_hosts { result.server_hosts.now ≡ self.now.server_hosts.items }
         ensures laid { result.laid.now ≡ laid.now }
     {
         NetworkLists {
             demands: &self.demands,
             capacities: &self.capacities,
             limits: &self.limits,
-            homes: &self.homes,
+            server_hosts: &self.server_hosts,
             laid,
         }
     }

@@ -49,7 +49,7 @@ fn judge<'a>(
         rows: plan.row_prices(),
         servers: plan.server_prices(),
         hosts: plan.host_prices(),
-        homes: lists.homes,
+        server_hosts: lists.server_hosts,
     };
     let laid = LaidPlan {
         lists,

@@ -2,7 +2,7 @@
 
 ghost use Rattle.std.specs.Prelude.{◌≡◌, ℕ, ◌+◌, ◌<◌, ◌≤◌, ◌↔◌, length, slice_index, All, IsTrue, Some};
 ghost use Rattle.hsp_text.specs.declared.limits.TheConstants.{GREATEST_COST};
-ghost use Rattle.hsp_check.specs.Lists.{HomesAreBelow};
+ghost use Rattle.hsp_check.specs.Lists.{HostsAreBelow};
 
 use crate::arc::NetworkArc;
 use crate::sums::LaidArc;
@@ -13,9 +13,9 @@ pub(crate) struct PriceLists<'a> {
     pub(crate) rows: &'a [u64],
     pub(crate) servers: &'a [u64],
     pub(crate) hosts: &'a [u64],
-    pub(crate) homes: &'a [Option<u32>],
-    ghost servers_many: { length servers.now ≡ length homes.now },
-    ghost homes_in: { HomesAreBelow (length hosts.now) homes.now },
+    pub(crate) server_hosts: &'a [Option<u32>],
+    ghost servers_many: { length servers.now ≡ length server_hosts.now },
+    ghost server_hosts_in: { HostsAreBelow (length hosts.now) server_hosts.now },
     ghost servers_low: { All (λ v. v ≤ 1000000000000) servers.now },
     ghost hosts_low: { All (λ v. v ≤ 1000000000000) hosts.now },
 }
@@ -25,11 +25,11 @@ impl<'a> PriceLists<'a> {
 
     // What a query to the server pays besides an arc's cost.
     fn at(self, server: usize) -> u64
-        requires { server < length self.homes.now }
+        requires { server < length self.server_hosts.now }
         ensures price { result ≡ listed_at self.entry server }
         ensures low { result ≤ 2000000000000 }
     {
-        match self.homes[server] {
+        match self.server_hosts[server] {
             None => self.servers[server],
             Some(host) => self.servers[server] + self.hosts[host as usize],
         }
@@ -37,7 +37,7 @@ impl<'a> PriceLists<'a> {
 
     // What a query over the arc pays.
     fn paid(self, arc: NetworkArc) -> u64
-        requires server { arc.server < length self.homes.now }
+        requires server { arc.server < length self.server_hosts.now }
         requires cheap { arc.cost ≤ GREATEST_COST }
         ensures { result ≡ arc.cost + listed_at self.entry arc.server }
     {
@@ -47,7 +47,7 @@ impl<'a> PriceLists<'a> {
     /// Whether no row's price is above what an arc of it pays.
     pub(crate) fn are_low(self, laid: &[LaidArc]) -> bool
         requires rows { All (λ l. l.arc.row < length self.rows.now) laid.now }
-        requires servers { All (λ l. l.arc.server < length self.homes.now) laid.now }
+        requires servers { All (λ l. l.arc.server < length self.server_hosts.now) laid.now }
         requires cheap { All (λ l. l.arc.cost ≤ GREATEST_COST) laid.now }
         ensures { IsTrue result ↔ AreLow self.entry laid.now }
     {
@@ -63,7 +63,7 @@ impl<'a> PriceLists<'a> {
     /// Whether each row's price is what an arc pays that it uses.
     pub(crate) fn are_tight(self, laid: &[LaidArc]) -> bool
         requires rows { All (λ l. l.arc.row < length self.rows.now) laid.now }
-        requires servers { All (λ l. l.arc.server < length self.homes.now) laid.now }
+        requires servers { All (λ l. l.arc.server < length self.server_hosts.now) laid.now }
         requires cheap { All (λ l. l.arc.cost ≤ GREATEST_COST) laid.now }
         ensures { IsTrue result ↔ AreTight self.entry laid.now }
     {

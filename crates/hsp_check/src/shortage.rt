@@ -15,7 +15,7 @@ use std::alloc::{AllocError, Global};
 pub(crate) fn sum_flagged(numbers: &[u64], flags: &[bool]) -> u128
     requires many { length flags.now ≡ length numbers.now }
     requires few { length numbers.now < 2 ^ 16 }
-    ensures { result ≡ flagged_sum numbers.now flags.now }
+    ensures { result ≡ flagged_sum numbers.now flags.now (length numbers.now) }
 {
     let mut sum: u128 = 0;
     for place in 0..numbers.len() {
@@ -57,16 +57,16 @@ fn set_rooms(rooms: &mut [u128], capacities: &[u64], reached: &[bool])
 }
 
 // The rooms of the servers on no host, added up.
-fn free_room(homes: &[Option<u32>], rooms: &[u128]) -> u128
-    requires many { length rooms.now ≡ length homes.now }
-    requires few { length homes.now < 2 ^ 16 }
+fn free_room(server_hosts: &[Option<u32>], rooms: &[u128]) -> u128
+    requires many { length rooms.now ≡ length server_hosts.now }
+    requires few { length server_hosts.now < 2 ^ 16 }
     requires small { AreSmall (2 ^ 64) (length rooms.now) rooms.now }
-    ensures sum { result ≡ free_sum homes.now rooms.now }
+    ensures sum { result ≡ free_sum server_hosts.now rooms.now (length server_hosts.now) }
     ensures low { result ≤ 2 ^ 80 }
 {
     let mut sum: u128 = 0;
-    for server in 0..homes.len() {
-        if homes[server].is_none() {
+    for server in 0..server_hosts.len() {
+        if server_hosts[server].is_none() {
             sum += rooms[server];
         }
     }
@@ -77,7 +77,7 @@ fn free_room(homes: &[Option<u32>], rooms: &[u128]) -> u128
 fn hosted_room(limits: &[u64], rooms: &[u128]) -> u128
     requires many { length rooms.now ≡ length limits.now }
     requires few { length limits.now < 2 ^ 16 }
-    ensures sum { result ≡ hosted_sum limits.now rooms.now }
+    ensures sum { result ≡ hosted_sum limits.now rooms.now (length limits.now) }
     ensures low { result ≤ 2 ^ 80 }
 {
     let mut sum: u128 = 0;
@@ -98,7 +98,7 @@ pub(crate) fn reached_by(
     ensures reached { IfOk result (λ reached.
         AreReached lists.entry (flag_at rows.now) reached.items) }
 {
-    let mut reached = vec![in alloc; false; lists.homes.len()]?;
+    let mut reached = vec![in alloc; false; lists.server_hosts.len()]?;
     flag_each(&mut reached, lists.laid, rows);
     Ok(reached)
 }
@@ -127,6 +127,6 @@ pub(crate) fn reached_capacity(
     ensures { IfOk result (λ sum. sum ≡ capacity_of (network_in lists.entry) (flag_at rows.now)) }
 {
     let rooms = rooms_of(alloc, lists, rows)?;
-    let hosted = add_hosts(alloc, lists.homes, rooms.as_slice(), lists.limits.len())?;
-    Ok(free_room(lists.homes, rooms.as_slice()) + hosted_room(lists.limits, hosted.as_slice()))
+    let hosted = add_hosts(alloc, lists.server_hosts, rooms.as_slice(), lists.limits.len())?;
+    Ok(free_room(lists.server_hosts, rooms.as_slice()) + hosted_room(lists.limits, hosted.as_slice()))
 }

@@ -2,9 +2,9 @@
 
 ghost use Rattle.std.specs.Prelude.{◌≡◌, ℕ, ◌+◌, ◌*◌, ◌<◌, ◌≤◌, ◌==◌, ◌^◌, length, slice_index, slice_get, sum_by, option_and_then, All, IfOk, Some, vec_len, if◌then◌else◌};
 ghost use Rattle.hsp_text.specs.declared.limits.TheConstants.{GREATEST_COST};
-ghost use Rattle.hsp_sums.specs.Sums.{sum_below, times};
+ghost use Rattle.hsp_transport.specs.Sums.{sum_below, times};
 ghost use Rattle.hsp_check.specs.Laid.{end_of};
-ghost use Rattle.hsp_check.specs.Lists.{AreEndSums, AreHostSums, AreSmall, AreZero, HomesAreBelow};
+ghost use Rattle.hsp_check.specs.Lists.{AreEndSums, AreHosted, AreSmall, AreZero, HostsAreBelow};
 ghost use Rattle.hsp_check.specs.Prices.{ArePrices};
 
 use crate::arc::NetworkArc;
@@ -83,16 +83,16 @@ pub(crate) fn add_up(
 }
 
 // Adds numbers of servers to the sums of their hosts, which are 0.
-fn add_each_host(sums: &mut [u128], homes: &[Option<u32>], numbers: &[u128])
-    requires many { length numbers.now ≡ length homes.now }
-    requires few { length homes.now < 2 ^ 16 }
+fn add_each_host(sums: &mut [u128], server_hosts: &[Option<u32>], numbers: &[u128])
+    requires many { length numbers.now ≡ length server_hosts.now }
+    requires few { length server_hosts.now < 2 ^ 16 }
     requires small { AreSmall (2 ^ 100) (length numbers.now) numbers.now }
-    requires homes { HomesAreBelow (length sums.old) homes.now }
+    requires server_hosts { HostsAreBelow (length sums.old) server_hosts.now }
     requires zero { AreZero sums.old }
-    ensures { AreHostSums homes.now numbers.now (length sums.old) sums.new }
+    ensures { AreHosted server_hosts.now numbers.now sums.new }
 {
-    for server in 0..homes.len() {
-        if let Some(host) = homes[server] {
+    for server in 0..server_hosts.len() {
+        if let Some(host) = server_hosts[server] {
             sums[host as usize] += numbers[server];
         }
     }
@@ -101,19 +101,19 @@ fn add_each_host(sums: &mut [u128], homes: &[Option<u32>], numbers: &[u128])
 /// Numbers of servers, added up for each host below `count`.
 pub(crate) fn add_hosts(
     alloc: Global,
-    homes: &[Option<u32>],
+    server_hosts: &[Option<u32>],
     numbers: &[u128],
     count: usize,
 ) -> Result<Vec<u128>, AllocError>
-    requires many { length numbers.now ≡ length homes.now }
-    requires few { length homes.now < 2 ^ 16 }
+    requires many { length numbers.now ≡ length server_hosts.now }
+    requires few { length server_hosts.now < 2 ^ 16 }
     requires small { AreSmall (2 ^ 100) (length numbers.now) numbers.now }
-    requires homes { HomesAreBelow count homes.now }
+    requires server_hosts { HostsAreBelow count server_hosts.now }
     ensures len { IfOk result (λ sums. vec_len sums ≡ count) }
-    ensures sums { IfOk result (λ sums. AreHostSums homes.now numbers.now count sums.items) }
+    ensures sums { IfOk result (λ sums. AreHosted server_hosts.now numbers.now sums.items) }
 {
     let mut sums = vec![in alloc; 0u128; count]?;
-    add_each_host(&mut sums, homes, numbers);
+    add_each_host(&mut sums, server_hosts, numbers);
     Ok(sums)
 }
 

@@ -6,8 +6,8 @@ use Rattle.std.proofs.lemmas.Bool.{cases_eq, cases_lt, le-ltb, lt-ltb, ne_eqb}
 use Rattle.std.proofs.lemmas.List.{append-nil}
 use Rattle.hsp_instance.specs.Instance.{Instance}
 use Rattle.hsp_check.specs.Plan.{Plan}
-use Rattle.hsp_sums.specs.Sums.{sum_below}
-use Rattle.hsp_sums.proofs.Summing.{sum_below_add, sum_below_one, sum_below_same, sum_below_zero}
+use Rattle.hsp_transport.specs.Sums.{sum_below}
+use Rattle.hsp_transport.proofs.Summing.{sum_below_add, sum_below_one, sum_below_same, sum_below_zero}
 use Rattle.hsp_dispatch.specs.Dispatch.{Entry, IsSame, answer_to, answers, answers_after, assigned_in, count_in, each_after, is_in, rest}
 use Rattle.hsp_dispatch.specs.FrontLaws.{AnswersAsDispatchers}
 use Rattle.hsp_dispatch.specs.Fronts.{Event, answers_at, assigned_at, assigned_by_all, count_in_fronts, entries_at, entries_of, event_answer, event_answers_after, is_in_fronts, rest_at, share_of, shares_of}

@@ -5,8 +5,8 @@ use Rattle.std.specs.Prelude.{nat_lt}
 use Rattle.std.proofs.lemmas.Bool.{cases_eq, cases_lt, le-ltb, lt-ltb, ne_eqb}
 use Rattle.hsp_instance.specs.Instance.{Instance}
 use Rattle.hsp_check.specs.Plan.{Plan}
-use Rattle.hsp_sums.specs.Sums.{sum_below}
-use Rattle.hsp_sums.proofs.Summing.{sum_below_le, sum_below_same}
+use Rattle.hsp_transport.specs.Sums.{sum_below}
+use Rattle.hsp_transport.proofs.Summing.{sum_below_le, sum_below_same}
 use Rattle.hsp_dispatch.specs.Dispatch.{Entry, IsSame, answer_to, assigned_in, each_after, rest}
 use Rattle.hsp_dispatch.specs.FrontLaws.{AnswersByShares, AreFrontsAfter, BeginsWithShares, EndsInTheSame, GoesByItsEntries, IsSpentTogether, NeverExceedsTogether, WasSpentAt}
 use Rattle.hsp_dispatch.specs.Fronts.{Event, IsTakenAt, Tables, answer_among, answers_at, assigned_at, count_in_fronts, entries_at, event_answer, event_answers_after, front_answers, fronts_of, left_at_front, share, share_of, shares_of}

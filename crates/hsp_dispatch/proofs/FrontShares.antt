@@ -4,7 +4,7 @@ use Rattle.std.proofs.Common.{inl, inr}
 use Rattle.std.specs.Prelude.{nat_lt}
 use Rattle.std.proofs.lemmas.Bool.{cases_lt, lt-ltb, le-ltb}
 use Rattle.std.proofs.Math.Nat.{div-add-mod, mod-lt, zero-div, zero-mod}
-use Rattle.hsp_sums.specs.Sums.{sum_below}
+use Rattle.hsp_transport.specs.Sums.{sum_below}
 use Rattle.hsp_dispatch.specs.Fronts.{share}
 
 -- a product with a factor above 0

@@ -14,8 +14,8 @@ use Rattle.hsp_check.specs.Instance.{arc_of, arcs_from, network_of}
 use Rattle.hsp_check.specs.Network.{is_allowed}
 use Rattle.hsp_check.specs.Plan.{Feasible, Plan}
 use Rattle.hsp_check.specs.declared.arc.NetworkArc.{NetworkArc}
-use Rattle.hsp_sums.specs.Sums.{sum_below}
-use Rattle.hsp_sums.proofs.Summing.{by_key, sum_below_same, sum_by_same_all}
+use Rattle.hsp_transport.specs.Sums.{sum_below}
+use Rattle.hsp_transport.proofs.Summing.{by_key, sum_below_same, sum_by_same_all}
 use Rattle.hsp_dispatch.specs.Dispatch.{arc_to, assigned_in}
 use Rattle.hsp_dispatch.specs.FrontLaws.{IsServedTogether}
 use Rattle.hsp_dispatch.specs.Fronts.{assigned_by_all}
@@ -119,7 +119,7 @@ whole_row it x row own is feasible at =
     let inside : row < length it.rows = slice_get_within it.rows row own at in
     let list = there it.arcs row (omega (arith, is.one_list_a_row)) in
     let are = all_at (AreArcs it.servers) it.arcs row list.0 is.arcs list.1 in
-    let met = feasible.met row (rw (length-map it.rows (λ (r : Row). r.count)) inside) in
+    let met = feasible.flow.met row (rw (length-map it.rows (λ (r : Row). r.count)) inside) in
     let asked : slice_index (map (λ (r : Row). r.count) it.rows) row ≡ own.count =
     get_or-map (λ (r : Row). r.count) it.rows row own 0 inside ∙ ap (λ (r : Row). r.count) (get_or_from_slice_get it.rows row own own at) in
     sym (by_sites it x row list.0 is feasible are list.1) ∙ sym (over_own x row 0 row it.arcs list.0 (omega arith) list.1) ∙ met ∙ asked

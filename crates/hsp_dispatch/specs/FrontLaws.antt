@@ -4,7 +4,7 @@ use Rattle.std.specs.List.{slice_get}
 use Rattle.hsp_instance.specs.Instance.{Instance, IsInstance, Row}
 use Rattle.hsp_check.specs.Instance.{network_of}
 use Rattle.hsp_check.specs.Plan.{Feasible, Plan}
-use Rattle.hsp_sums.specs.Sums.{sum_below}
+use Rattle.hsp_transport.specs.Sums.{sum_below}
 use Rattle.hsp_dispatch.specs.Desks.{IsLeftBy, answers_by}
 use Rattle.hsp_dispatch.specs.Dispatch.{IsSame, answers, row_of}
 use Rattle.hsp_dispatch.specs.Fronts.{AreFrontsOf, Event, IsTakenAt, Tables, answer_among, answers_at, assigned_by_all, entries_at, front_answer, front_answers, fronts_of, left_at_front, rest_at, share_of, shares_of}

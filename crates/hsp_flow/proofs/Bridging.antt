@@ -1,4 +1,4 @@
--- The sums of a plan over a network's arcs are those of the flow that it is made from.
+-- The plan that is made from a flow gives each arc what flows on it, and nothing to a pair that no arc joins.
 use Rattle.std.proofs.Common.{◌≡◌, ℕ, zero, suc, ◌+◌, ◌*◌, ◌<◌, ◌==◌, ◌∙◌, Bool, true, false, List, [], ◌∷◌, length, map, sum_by, slice_index, slice_index_or, if◌then◌else◌, refl, ap, ap₂, sym, inl, inr, arith, eq-eqb, eqb-true, ne_eqb}
 use Rattle.std.specs.Prelude.{◌&&◌}
 use Rattle.std.specs.List.{list_any}
@@ -9,7 +9,7 @@ use Rattle.std.proofs.lemmas.Bool.{cases_eq, cases_Bool, and_parts, and_from}
 use Rattle.hsp_cert.specs.declared.use_line.UseLine.{UseLine}
 use Rattle.hsp_check.specs.declared.arc.NetworkArc.{NetworkArc}
 use Rattle.hsp_check.specs.Uses.{table}
-use Rattle.hsp_sums.proofs.Summing.{sum_below_same, sum_below_zero, sum_below_one, by_place}
+use Rattle.hsp_transport.proofs.Summing.{sum_below_same, sum_below_zero, sum_below_one, by_place}
 use Rattle.hsp_network.specs.Sums.{sum_below, only}
 use Rattle.hsp_flow.specs.Ordered.{AreOrdered}
 use Rattle.hsp_flow.specs.Planning.{use_of, uses_of, cost_of}
@@ -71,20 +71,3 @@ module _ (arcs : List NetworkArc) (flows : List ℕ) (many : length flows ≡ le
         | inr no' ↦ rw no' refl
       ])
       ∙ rw here refl
-
-  -- a sum over the arcs by their ends
-  pub sum_at : AreOrdered arcs → (tail end : NetworkArc → ℕ) (v : ℕ) →
-      sum_by (λ a. if end a == v then table (uses_of arcs flows) a.row a.site else 0) arcs ≡ sum_below (length (map tail arcs)) (λ k. only (slice_index (map end arcs) k) v (slice_index flows k))
-  sum_at ordered tail end v =
-      by_place (λ a. if end a == v then table (uses_of arcs flows) a.row a.site else 0) no_arc arcs
-      ∙ sum_below_same (length arcs) _ _ (λ k l.
-      ap₂ (λ e n. if e == v then n else 0) (sym (get_or-map end arcs k no_arc 0 l)) (planned_is ordered k l))
-      ∙ ap (λ n. sum_below n (λ k. only (slice_index (map end arcs) k) v (slice_index flows k))) (sym (length-map arcs tail))
-
-  -- what the plan costs
-  pub total_at : AreOrdered arcs →
-      sum_by (λ a. a.cost * table (uses_of arcs flows) a.row a.site) arcs ≡ sum_below (length arcs) (λ k. slice_index (map cost_of arcs) k * slice_index flows k)
-  total_at ordered =
-      by_place (λ a. a.cost * table (uses_of arcs flows) a.row a.site) no_arc arcs
-      ∙ sum_below_same (length arcs) _ _ (λ k l.
-      ap₂ (λ c n. c * n) (sym (get_or-map cost_of arcs k no_arc 0 l)) (planned_is ordered k l))

@@ -13,14 +13,17 @@ use Rattle.hsp_check.specs.Uses.{table}
 use Rattle.hsp_check.specs.Valid.{IsValidPlan, IsValidSet}
 use Rattle.hsp_check.specs.declared.arc.NetworkArc.{NetworkArc}
 use Rattle.hsp_network.specs.Answer.{IsMet, BoundsCosts, IsShortSet}
-use Rattle.hsp_network.specs.Network.{HasLowPrices, capacity_of, demand_of}
+use Rattle.hsp_network.specs.Network.{HasLowPrices, numbered}
+use Rattle.hsp_transport.specs.Cut.{capacity_of, demand_of}
+use Rattle.hsp_transport.specs.Lists.{flag_at}
+use Rattle.hsp_network.proofs.Numbered.{sent_numbers}
 use Rattle.hsp_flow.specs.Planning.{transport_of, uses_of, flagged_from, HasLimitedPrices, row_of, cost_of}
 use Rattle.hsp_network.specs.Sums.{sum_below, only}
 use Rattle.hsp_network.specs.declared.network.PricedFlow.{PricedFlow}
 use Rattle.hsp_mincost.proofs.Sums.{term_within, only_here}
 use Rattle.hsp_flow.proofs.Ordering.{no_arc}
-use Rattle.hsp_flow.proofs.Bridging.{arc, total_at}
-use Rattle.hsp_flow.proofs.Certifying.{plan_valid, plan_feasible, instance_ordered}
+use Rattle.hsp_flow.proofs.Bridging.{arc}
+use Rattle.hsp_flow.proofs.Certifying.{cost_is, instance_ordered, plan_feasible, plan_of_flow, plan_valid}
 use Rattle.hsp_flow.proofs.Ranges.{uses_ascend, uses_fit, prices_fit, flags_ascend, flags_fit}
 use Rattle.hsp_flow.proofs.ShortRows.{set_valid}
 use Rattle.hsp_flow.proofs.Limits.{counts_low, small_ends, costs_low, total_low, network_is, few_arcs}
@@ -45,16 +48,10 @@ module _ (it : Instance) (is : IsInstance it) (plan : PricedFlow) (met : IsMet (
       let there : i < length (transport_of it).demands = (network_is it is).sources_in k inside in
       let term : only i i (slice_index plan.flows.items k) ≤ sum_below (length (transport_of it).sources) (λ m. only (slice_index (transport_of it).sources m) i (slice_index plan.flows.items m)) =
       term_within (length (transport_of it).sources) (λ m. only (slice_index (transport_of it).sources m) i (slice_index plan.flows.items m)) k inside in
-      omega (arith, term, only_here i i (slice_index plan.flows.items k) refl, met.feasible.met i there, counts_low it is i there)
-
-  pub cost_is : total (network_of it) (table (uses_of (arcs_from 0 it.arcs) plan.flows.items)) ≡ sum_below (length (arcs_from 0 it.arcs)) (λ k. slice_index (transport_of it).costs k * slice_index plan.flows.items k)
-  cost_is = total_at (arcs_from 0 it.arcs) plan.flows.items (met.many ∙ length-map (arcs_from 0 it.arcs) row_of) (instance_ordered it is)
-
-  is_feasible : Feasible (network_of it) (table (uses_of (arcs_from 0 it.arcs) plan.flows.items))
-  is_feasible = plan_feasible it is plan.flows.items plan.source_prices.items plan.server_prices.items plan.host_prices.items limit met.many limit_low met.feasible met.prices bounded
+      omega (arith, term, only_here i i (slice_index plan.flows.items k) refl, met.balanced.feasible.met i there, sent_numbers (transport_of it) (λ m. slice_index plan.flows.items m) i, counts_low it is i there)
 
   pub cost_low : sum_below (length (arcs_from 0 it.arcs)) (λ k. slice_index (transport_of it).costs k * slice_index plan.flows.items k) ≤ 8192000000000000
-  cost_low = let low = total_low it is (table (uses_of (arcs_from 0 it.arcs) plan.flows.items)) is_feasible in omega (arith, low, cost_is)
+  cost_low = let low = total_low it is (plan_of_flow it is plan met) (plan_feasible it is plan met) in omega (arith, low, cost_is it is plan met)
 
   module _ (cost : ℕ) (sum : cost ≡ sum_below (length (arcs_from 0 it.arcs)) (λ k. slice_index (transport_of it).costs k * slice_index plan.flows.items k))
       (uses : List UseLine) (are : uses ≡ uses_of (arcs_from 0 it.arcs) plan.flows.items) where
@@ -62,18 +59,18 @@ module _ (it : Instance) (is : IsInstance it) (plan : PricedFlow) (met : IsMet (
     made = record { cost = cost; uses = uses; row_prices = plan.source_prices.items; server_prices = plan.server_prices.items; host_prices = plan.host_prices.items }
 
     pub best_valid : IsValidPlan (network_of it) made
-    best_valid = rw are (plan_valid it is plan.flows.items plan.source_prices.items plan.server_prices.items plan.host_prices.items limit met.many limit_low met.feasible met.prices bounded cost sum)
+    best_valid = rw are (plan_valid it is plan met limit limit_low bounded cost sum)
 
     pub best_is : IsBest made
     best_is = record {
       cost = omega (arith, sum, cost_low);
       uses = rw are (uses_fit (arcs_from 0 it.arcs) plan.flows.items (small_ends it is) flow_low);
       order = rw are (uses_ascend None (arcs_from 0 it.arcs) plan.flows.items (instance_ordered it is) tt);
-      row_count = omega (arith, met.prices.sources_many, length-map it.rows (λ (r : Row). r.count), is.rows.few);
+      row_count = omega (arith, met.many.sources, length-map it.rows (λ (r : Row). r.count), is.rows.few);
       row_prices = prices_fit plan.source_prices.items (λ i l. omega (arith, bounded.sources i l, limit_low));
-      server_count = omega (arith, met.prices.servers_many, length-map it.servers (λ (s : Server). s.capacity), is.servers.few);
+      server_count = omega (arith, met.many.servers, length-map it.servers (λ (s : Server). s.capacity), is.servers.few);
       server_prices = prices_fit plan.server_prices.items (λ i l. omega (arith, bounded.servers i l, limit_low));
-      host_count = omega (arith, met.prices.hosts_many, length-map it.hosts (λ (h : Host). h.limit), is.hosts.few);
+      host_count = omega (arith, met.many.hosts, length-map it.hosts (λ (h : Host). h.limit), is.hosts.few);
       host_prices = prices_fit plan.host_prices.items (λ i l. omega (arith, bounded.hosts i l, limit_low));
     }
 
@@ -116,6 +113,6 @@ pub short_is : (it : Instance) → IsInstance it → (set : List Bool) → IsSho
 short_is it is set short demand capacity d c =
     record { rows = flags_fit 0 set (omega (arith, short.many, length-map it.rows (λ (r : Row). r.count), is.rows.few)); order = flags_ascend 0 set; demand = d; capacity = c }
 
-pub short_valid : (it : Instance) (set : List Bool) → IsShortSet (transport_of it) set → (demand capacity : ℕ) → demand ≡ demand_of (transport_of it) (λ i. slice_index_or set i false) →
-    capacity ≡ capacity_of (transport_of it) (λ i. slice_index_or set i false) → IsValidSet (network_of it) (record { rows = flagged_from 0 set; demand = demand; capacity = capacity })
+pub short_valid : (it : Instance) (set : List Bool) → IsShortSet (transport_of it) set → (demand capacity : ℕ) → demand ≡ demand_of (numbered (transport_of it)) (flag_at set) →
+    capacity ≡ capacity_of (numbered (transport_of it)) (flag_at set) → IsValidSet (network_of it) (record { rows = flagged_from 0 set; demand = demand; capacity = capacity })
 short_valid it set short demand capacity d c = set_valid it set (short.many ∙ length-map it.rows (λ (r : Row). r.count)) demand capacity d c short.short

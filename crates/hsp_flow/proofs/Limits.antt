@@ -3,10 +3,10 @@ use Rattle.std.proofs.Common.{◌≡◌, ℕ, ◌+◌, ◌*◌, ◌<◌, ◌≤�
 use Rattle.std.specs.Prelude.{Some, None}
 use Rattle.std.specs.List.{AllByRecursion}
 use Rattle.std.proofs.Math.Nat.{le_trans, mul-le-mul_right}
-use Rattle.std.proofs.lemmas.List.{length-map, get_or-map, get_or_past}
+use Rattle.std.proofs.lemmas.List.{length-map, get_or-map}
 use Rattle.std.proofs.lemmas.List.Elements.{All-from_get_or}
 use Rattle.std.proofs.lemmas.Option.{slice_get_within}
-use Rattle.std.proofs.lemmas.Bool.{cases_lt, cases_Bool}
+use Rattle.std.proofs.lemmas.Bool.{cases_Bool}
 use Rattle.hsp_network.specs.Sums.{sum_below}
 use Rattle.hsp_instance.specs.declared.arc.Arc.{Arc}
 use Rattle.hsp_instance.specs.Instance.{Instance, Row, Server, Host, IsInstance, IsArc, AreArcs, IsAscending, IsCounted, IsServer, IsHostOf}
@@ -14,9 +14,12 @@ use Rattle.hsp_check.specs.declared.arc.NetworkArc.{NetworkArc}
 use Rattle.hsp_check.specs.Instance.{arc_of, arcs_from, network_of}
 use Rattle.hsp_check.specs.Plan.{Plan, Feasible, planned, served, total}
 use Rattle.hsp_instance.proofs.Lists.{all_append, all_at}
-use Rattle.hsp_sums.proofs.Summing.{sum_by_le_all, by_key}
+use Rattle.hsp_transport.specs.Lists.{HostsAreBelow}
+use Rattle.hsp_transport.proofs.Places.{hosts_below}
+use Rattle.hsp_transport.proofs.Summing.{sum_by_le_all, by_key}
 use Rattle.hsp_mincost.specs.Layout.{IsSmall}
-use Rattle.hsp_network.specs.Network.{IsNetwork, Transport, demand_of, host_of}
+use Rattle.hsp_network.specs.Network.{IsNetwork, Transport, host_of, numbered}
+use Rattle.hsp_transport.specs.Cut.{demand_of}
 use Rattle.hsp_flow.specs.Nodes.{nodes_by}
 use Rattle.hsp_flow.specs.Planning.{transport_of, row_of, server_of, cost_of}
 use Rattle.hsp_flow.proofs.Ordering.{no_arc, each_weaker, each_at, all_ordered, rows_between, rows_ordered, arcs_many}
@@ -66,16 +69,12 @@ module _ (it : Instance) (is : IsInstance it) where
       (λ a h. (omega (arith, h.1.1, is.one_list_a_row, is.rows.few), h.0.site))
       (each_both (Fits it) (λ (a : NetworkArc). (0 ≤ a.row) × (a.row < 0 + length it.arcs)) (arcs_from 0 it.arcs) (fits_all 0 it.arcs is.arcs) (rows_between 0 it.arcs))
 
-  host_there : (j h : ℕ) → host_of (transport_of it) j ≡ Some h → h < length (transport_of it).limits
-  host_there j h e = elim (cases_lt j (length it.servers)) [
-    | inl inside ↦
-        let at : host_of (transport_of it) j ≡ (slice_index_or it.servers j no_server).host = get_or-map (λ (s : Server). s.host) it.servers j no_server None inside in
-        let on : IsHostOf (length it.hosts) (Some h) = subst (IsHostOf (length it.hosts)) (sym at ∙ e) ((each_at (IsServer it.sites (length it.hosts)) it.servers j no_server inside is.servers.each).host) in
-        omega (arith, on, length-map it.hosts (λ (x : Host). x.limit))
-    | inr past ↦
-        let none : host_of (transport_of it) j ≡ None = get_or_past (map (λ (s : Server). s.host) it.servers) j None (omega (arith, length-map it.servers (λ (s : Server). s.host))) in
-        absurd (let both : None ≡ Some h = sym none ∙ e in cc)
-  ]
+  host_there : HostsAreBelow (length (transport_of it).limits) (transport_of it).hosts
+  host_there = hosts_below (length (transport_of it).limits) (transport_of it).hosts (λ j h l e.
+      let inside : j < length it.servers = omega (arith, l, length-map it.servers (λ (s : Server). s.host)) in
+      let at : host_of (transport_of it) j ≡ (slice_index_or it.servers j no_server).host = get_or-map (λ (s : Server). s.host) it.servers j no_server None inside in
+      let on : IsHostOf (length it.hosts) (Some h) = subst (IsHostOf (length it.hosts)) (sym at ∙ e) ((each_at (IsServer it.sites (length it.hosts)) it.servers j no_server inside is.servers.each).host) in
+      omega (arith, on, length-map it.hosts (λ (x : Host). x.limit)))
 
 -- the network over the arcs of some lists
 abbrev pub network_over : Instance → List (List Arc) → List ℕ → Transport
@@ -161,9 +160,9 @@ module _ (it : Instance) (is : IsInstance it) where
       (λ i l. omega (arith, counts_low it is i l))
 
   -- what a set of rows demands is within it, too
-  pub demand_low : (set : ℕ → Bool) → demand_of (transport_of it) set ≤ 8192000000
+  pub demand_low : (set : ℕ → Bool) → demand_of (numbered (transport_of it)) set ≤ 8192000000
   demand_low set =
-      let low : demand_of (transport_of it) set ≤ length (transport_of it).demands * 1000000 =
+      let low : demand_of (numbered (transport_of it)) set ≤ length (transport_of it).demands * 1000000 =
       sum_below_low (length (transport_of it).demands) _ 1000000 (λ i l. elim (cases_Bool (set i)) [ inl t ↦ rw t (counts_low it is i l) | inr f ↦ rw f (omega arith) ]) in
       omega (arith, rows_many, is.rows.few)
 
@@ -177,7 +176,7 @@ module _ (it : Instance) (is : IsInstance it) where
       by_key (λ (a : NetworkArc). a.row) (λ (a : NetworkArc). planned x a) (λ _. 1000000) (length (transport_of it).demands) (arcs_from 0 it.arcs)
       (All-from_get_or (λ (a : NetworkArc). a.row < length (transport_of it).demands) (arcs_from 0 it.arcs) no_arc (λ k l. omega (arith, row_at it is it.arcs is.arcs k l, rows_many, is.one_list_a_row))) in
       let low : sum_below (length (transport_of it).demands) (λ k. 1000000 * served (network_of it) x k) ≤ length (transport_of it).demands * 1000000000000 =
-      sum_below_low (length (transport_of it).demands) (λ k. 1000000 * served (network_of it) x k) 1000000000000 (λ k l. omega (arith, feasible.met k l, counts_low it is k l)) in
+      sum_below_low (length (transport_of it).demands) (λ k. 1000000 * served (network_of it) x k) 1000000000000 (λ k l. omega (arith, feasible.flow.met k l, counts_low it is k l)) in
       omega (arith, dear, keyed, low, rows_many, is.rows.few)
 
 -- how many nodes its network has

@@ -6,7 +6,7 @@ ghost use Rattle.hsp_flow.specs.Lists.{transport_in};
 ghost use Rattle.hsp_flow.specs.Planning.{transport_of};
 
 use crate::arcs::{ArcColumns, row_columns};
-use hsp_instance::{Instance, capacities_of, counts_of, homes_of, limits_of};
+use hsp_instance::{Instance, capacities_of, counts_of, server_hosts_of, limits_of};
 use std::alloc::{AllocError, Global};
 
 /// The lists of a network: one number for each row, each server and each host, and three for each arc.
@@ -29,7 +29,7 @@ pub(crate) fn lists_of(alloc: Global, instance: &Instance) -> Result<TransportLi
         demands: counts_of(alloc, instance)?,
         capacities: capacities_of(alloc, instance)?,
         limits: limits_of(alloc, instance)?,
-        hosts: homes_of(alloc, instance)?,
+        hosts: server_hosts_of(alloc, instance)?,
         arcs: row_columns(alloc, instance)?,
     })
 }

@@ -34,15 +34,15 @@ pub fn capacities_of(alloc: Global, instance: &Instance) -> Result<Vec<u64>, All
 }
 
 /// The host of each server, or None where it stands on no listed host.
-pub fn homes_of(alloc: Global, instance: &Instance) -> Result<Vec<Option<u32>>, AllocError>
-    ensures homes { IfOk result (λ homes. homes.items ≡ map (λ s. s.host) instance.now.servers) }
-    ensures few { IfOk result (λ homes. length homes.items ≤ MOST_SERVERS) }
+pub fn server_hosts_of(alloc: Global, instance: &Instance) -> Result<Vec<Option<u32>>, AllocError>
+    ensures hosts { IfOk result (λ hosts. hosts.items ≡ map (λ s. s.host) instance.now.servers) }
+    ensures few { IfOk result (λ hosts. length hosts.items ≤ MOST_SERVERS) }
 {
-    let mut homes = Vec::new(alloc);
+    let mut hosts = Vec::new(alloc);
     for server in 0..instance.servers() {
-        homes.push(instance.host_of(server))?;
+        hosts.push(instance.host_of(server))?;
     }
-    Ok(homes)
+    Ok(hosts)
 }
 
 /// The limit of each host.

@@ -4,7 +4,7 @@ use Rattle.std.proofs.lemmas.Bool.{cases_eq, cases_lt, false≢true}
 use Rattle.std.proofs.lemmas.List.Elements.{All-cons, All-nil, All-head, All-tail, All-weaker}
 use Rattle.hsp_instance.specs.declared.arc.Arc.{Arc}
 use Rattle.hsp_check.specs.declared.arc.NetworkArc.{NetworkArc}
-use Rattle.hsp_sums.specs.Sums.{sum_below}
+use Rattle.hsp_transport.specs.Sums.{sum_below}
 use Rattle.hsp_check.specs.Network.{Network, IsNetwork}
 use Rattle.hsp_check.specs.Plan.{Plan, load, host_load}
 use Rattle.hsp_check.specs.Prices.{Prices, at_host, price_at}
@@ -90,10 +90,10 @@ module _ (n m : Network) (kind : ℕ → ℕ) (n-is : IsNetwork n) (m-is : IsNet
 
   to_rows : Prices m (pooled n kind x) of_kinds p q → Prices n x u p q
   to_rows prices = record {
-    below = of_all RowLow (length n.demands) n.arcs n-is.rows (λ i l.
+    below = of_all RowLow (length n.demands) n.arcs n-is.sources (λ i l.
         All-weaker (KindLow (kind i)) (RowLow i) (λ a low. let e = own i l in let f = paid_alike a.server in omega arith) (arcs_of n i)
         (subst (All (KindLow (kind i))) (sym (are.arcs i l)) (of_row KindLow m.arcs prices.below (kind i))));
-    used = of_all RowPaid (length n.demands) n.arcs n-is.rows (λ i l.
+    used = of_all RowPaid (length n.demands) n.arcs n-is.sources (λ i l.
         All-weaker (KindPaid (kind i)) (RowPaid i) (λ a paid more. let s = no_more i a.site l in let e = own i l in let f = paid_alike a.server in let g = paid (omega arith) in omega arith) (arcs_of n i)
         (subst (All (KindPaid (kind i))) (sym (are.arcs i l)) (of_row KindPaid m.arcs prices.used (kind i))));
     idle = λ j l less. prices.idle j (subst (λ caps. j < length caps) are.capacities l)
@@ -104,11 +104,11 @@ module _ (n m : Network) (kind : ℕ → ℕ) (n-is : IsNetwork n) (m-is : IsNet
 
   to_kinds : Prices n x u p q → Prices m (pooled n kind x) of_kinds p q
   to_kinds prices = record {
-    below = of_all KindLow (length m.demands) m.arcs m-is.rows (λ k l.
+    below = of_all KindLow (length m.demands) m.arcs m-is.sources (λ k l.
         let row = are.seen k l in
         All-weaker (RowLow row.0) (KindLow k) (λ a low. let e = own row.0 row.1 in let g : slice_index of_kinds (kind row.0) ≡ slice_index of_kinds k = ap (λ k. slice_index of_kinds k) row.2 in let f = paid_alike a.server in omega arith) (arcs_of m k)
         (subst (All (RowLow row.0)) (are.arcs row.0 row.1 ∙ ap (arcs_of m) row.2) (of_row RowLow n.arcs prices.below row.0)));
-    used = of_all KindPaid (length m.demands) m.arcs m-is.rows (λ k l e d b sent. paid k l e d b
+    used = of_all KindPaid (length m.demands) m.arcs m-is.sources (λ k l e d b sent. paid k l e d b
         (some_term (length n.demands) (λ i. when (kind i == k) (x i (slice_index_or (arcs_of m k) e d).site)) sent));
     idle = λ j l less. prices.idle j (subst (λ caps. j < length caps) (sym are.capacities) l)
         (subst (λ caps. load n x j < slice_index caps j) (sym are.capacities) (subst (λ v. v < slice_index m.capacities j) (sym (alike.load j)) less));

@@ -5,11 +5,12 @@ use Rattle.std.proofs.lemmas.Bool.{cases_eq, and_parts, and_from, or_cases, or_l
 use Rattle.std.proofs.lemmas.List.Elements.{All-head, All-tail}
 use Rattle.hsp_instance.specs.declared.arc.Arc.{Arc}
 use Rattle.hsp_check.specs.declared.arc.NetworkArc.{NetworkArc}
-use Rattle.hsp_sums.specs.Sums.{sum_below}
-use Rattle.hsp_sums.proofs.Summing.{sum_below_same, sum_below_le, sum_below_zero}
-use Rattle.hsp_check.specs.Network.{Network, IsNetwork}
+use Rattle.hsp_transport.specs.Sums.{sum_below}
+use Rattle.hsp_transport.proofs.Summing.{sum_below_same, sum_below_le, sum_below_zero}
+use Rattle.hsp_check.specs.Network.{Network, IsNetwork, transport}
 use Rattle.hsp_check.specs.Plan.{is_on, on_host}
-use Rattle.hsp_check.specs.Short.{reaches, room_of, capacity_of, demand_of}
+use Rattle.hsp_check.specs.Short.{reaches, capacity_of, demand_of}
+use Rattle.hsp_transport.specs.Cut.{reached_capacity}
 use Rattle.hsp_kinds.specs.Kinds.{without_row, arcs_in, arcs_of, AreKinds}
 use Rattle.hsp_kinds.specs.Keeping.{ShortSetsAreKept, ShortSetsOfKinds}
 use Rattle.hsp_kinds.proofs.Rowwise.{when, when_zero, by_kinds}
@@ -65,29 +66,29 @@ less_room false t v w e more = omega arith
 pub less_capacity : (n m : Network) (s t : ℕ → Bool) → n.capacities ≡ m.capacities → n.limits ≡ m.limits → ((j : ℕ) → n.host_of j ≡ m.host_of j) →
     ((j : ℕ) → reaches n s j ≡ true → reaches m t j ≡ true) → capacity_of n s ≤ capacity_of m t
 less_capacity n m s t caps limits host_of more =
-    let room : (j : ℕ) → room_of n s j ≤ room_of m t j =
+    let room : (j : ℕ) → reached_capacity (transport n) s j ≤ reached_capacity (transport m) t j =
     λ j. less_room (reaches n s j) (reaches m t j) (slice_index n.capacities j) (slice_index m.capacities j) (ap (λ c. slice_index c j) caps) (more j) in
-    let alone : sum_below (length n.capacities) (λ j. if is_none (n.host_of j) then room_of n s j else 0) ≤ sum_below (length n.capacities) (λ j. if is_none (m.host_of j) then room_of m t j else 0) =
+    let alone : sum_below (length n.capacities) (λ j. if is_none (n.host_of j) then reached_capacity (transport n) s j else 0) ≤ sum_below (length n.capacities) (λ j. if is_none (m.host_of j) then reached_capacity (transport m) t j else 0) =
     sum_below_le (length n.capacities) _ _ (λ j l.
-    let e : when (is_none (n.host_of j)) (room_of n s j) ≡ when (is_none (m.host_of j)) (room_of n s j) = ap (λ o. when (is_none o) (room_of n s j)) (host_of j) in
+    let e : when (is_none (n.host_of j)) (reached_capacity (transport n) s j) ≡ when (is_none (m.host_of j)) (reached_capacity (transport n) s j) = ap (λ o. when (is_none o) (reached_capacity (transport n) s j)) (host_of j) in
     let k = kept (is_none (m.host_of j)) _ _ (room j) in omega arith) in
-    let alone-m : sum_below (length n.capacities) (λ j. if is_none (m.host_of j) then room_of m t j else 0) ≡ sum_below (length m.capacities) (λ j. if is_none (m.host_of j) then room_of m t j else 0) =
-    ap (λ c. sum_below (length c) (λ j. if is_none (m.host_of j) then room_of m t j else 0)) caps in
-    let on : (h : ℕ) → on_host n (room_of n s) h ≤ on_host m (room_of m t) h =
+    let alone-m : sum_below (length n.capacities) (λ j. if is_none (m.host_of j) then reached_capacity (transport m) t j else 0) ≡ sum_below (length m.capacities) (λ j. if is_none (m.host_of j) then reached_capacity (transport m) t j else 0) =
+    ap (λ c. sum_below (length c) (λ j. if is_none (m.host_of j) then reached_capacity (transport m) t j else 0)) caps in
+    let on : (h : ℕ) → on_host n (reached_capacity (transport n) s) h ≤ on_host m (reached_capacity (transport m) t) h =
     λ h.
-    let a : on_host n (room_of n s) h ≤ sum_below (length n.capacities) (λ j. when (is_on (m.host_of j) h) (room_of m t j)) =
+    let a : on_host n (reached_capacity (transport n) s) h ≤ sum_below (length n.capacities) (λ j. when (is_on (m.host_of j) h) (reached_capacity (transport m) t j)) =
     sum_below_le (length n.capacities) _ _ (λ j l.
-    let e : when (is_on (n.host_of j) h) (room_of n s j) ≡ when (is_on (m.host_of j) h) (room_of n s j) = ap (λ o. when (is_on o h) (room_of n s j)) (host_of j) in
+    let e : when (is_on (n.host_of j) h) (reached_capacity (transport n) s j) ≡ when (is_on (m.host_of j) h) (reached_capacity (transport n) s j) = ap (λ o. when (is_on o h) (reached_capacity (transport n) s j)) (host_of j) in
     let k = kept (is_on (m.host_of j) h) _ _ (room j) in omega arith) in
-    let b : sum_below (length n.capacities) (λ j. when (is_on (m.host_of j) h) (room_of m t j)) ≡ on_host m (room_of m t) h =
-    ap (λ c. sum_below (length c) (λ j. when (is_on (m.host_of j) h) (room_of m t j))) caps in
+    let b : sum_below (length n.capacities) (λ j. when (is_on (m.host_of j) h) (reached_capacity (transport m) t j)) ≡ on_host m (reached_capacity (transport m) t) h =
+    ap (λ c. sum_below (length c) (λ j. when (is_on (m.host_of j) h) (reached_capacity (transport m) t j))) caps in
     omega arith in
-    let hosted : sum_below (length n.limits) (λ h. min (slice_index n.limits h) (on_host n (room_of n s) h)) ≤ sum_below (length n.limits) (λ h. min (slice_index m.limits h) (on_host m (room_of m t) h)) =
+    let hosted : sum_below (length n.limits) (λ h. min (slice_index n.limits h) (on_host n (reached_capacity (transport n) s) h)) ≤ sum_below (length n.limits) (λ h. min (slice_index m.limits h) (on_host m (reached_capacity (transport m) t) h)) =
     sum_below_le (length n.limits) _ _ (λ h l.
     let e : slice_index n.limits h ≡ slice_index m.limits h = ap (λ c. slice_index c h) limits in
     let k = on h in omega arith) in
-    let hosted-m : sum_below (length n.limits) (λ h. min (slice_index m.limits h) (on_host m (room_of m t) h)) ≡ sum_below (length m.limits) (λ h. min (slice_index m.limits h) (on_host m (room_of m t) h)) =
-    ap (λ c. sum_below (length c) (λ h. min (slice_index m.limits h) (on_host m (room_of m t) h))) limits in
+    let hosted-m : sum_below (length n.limits) (λ h. min (slice_index m.limits h) (on_host m (reached_capacity (transport m) t) h)) ≡ sum_below (length m.limits) (λ h. min (slice_index m.limits h) (on_host m (reached_capacity (transport m) t) h)) =
+    ap (λ c. sum_below (length c) (λ h. min (slice_index m.limits h) (on_host m (reached_capacity (transport m) t) h))) limits in
     omega arith
 
 -- whether some row of the set is of the kind
@@ -129,18 +130,18 @@ module _ (n m : Network) (kind : ℕ → ℕ) (n-is : IsNetwork n) (m-is : IsNet
 
   rows_reach : (set : ℕ → Bool) (j : ℕ) → reaches n (λ i. set (kind i)) j ≡ true → reaches m set j ≡ true
   rows_reach set j e =
-      let r = some_row (length n.demands) n.arcs n-is.rows (λ i. set (kind i)) j e in
+      let r = some_row (length n.demands) n.arcs n-is.sources (λ i. set (kind i)) j e in
       reached_by m.arcs set (kind r.0) j r.2 (ap (λ arcs. leads_to arcs j) (sym (are.arcs r.0 r.1)) ∙ r.3)
 
   kinds_reach : (set : ℕ → Bool) (j : ℕ) → reaches m set j ≡ true → reaches n (λ i. set (kind i)) j ≡ true
   kinds_reach set j e =
-      let k = some_row (length m.demands) m.arcs m-is.rows set j e in
+      let k = some_row (length m.demands) m.arcs m-is.sources set j e in
       let row = are.seen k.0 k.1 in
       reached_by n.arcs (λ i. set (kind i)) row.0 j (ap set row.2 ∙ k.2) (ap (λ arcs. leads_to arcs j) (are.arcs row.0 row.1 ∙ ap (arcs_of m) row.2) ∙ k.3)
 
   kinds_of_reach : (set : ℕ → Bool) (j : ℕ) → reaches m (has_row (length n.demands) kind set) j ≡ true → reaches n set j ≡ true
   kinds_of_reach set j e =
-      let k = some_row (length m.demands) m.arcs m-is.rows (has_row (length n.demands) kind set) j e in
+      let k = some_row (length m.demands) m.arcs m-is.sources (has_row (length n.demands) kind set) j e in
       let row = row_of_kind (length n.demands) kind set k.0 k.2 in
       reached_by n.arcs set row.0 j row.3 (ap (λ arcs. leads_to arcs j) (are.arcs row.0 row.1 ∙ ap (arcs_of m) row.2) ∙ k.3)
 

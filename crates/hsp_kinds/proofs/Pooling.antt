@@ -3,8 +3,8 @@ use Rattle.std.proofs.Common.{◌≡◌, ℕ, ◌*◌, ◌<◌, ◌==◌, inl, i
 use Rattle.std.specs.List.{list_any}
 use Rattle.std.proofs.lemmas.Bool.{cases_eq}
 use Rattle.hsp_instance.specs.declared.arc.Arc.{Arc}
-use Rattle.hsp_sums.specs.Sums.{sum_below}
-use Rattle.hsp_sums.proofs.Summing.{sum_below_same, sum_below_zero}
+use Rattle.hsp_transport.specs.Sums.{sum_below}
+use Rattle.hsp_transport.proofs.Summing.{sum_below_same, sum_below_zero}
 use Rattle.hsp_check.specs.Network.{Network, IsNetwork, is_allowed}
 use Rattle.hsp_check.specs.Plan.{Plan, planned, served, load, Feasible, is_on}
 use Rattle.hsp_kinds.specs.Kinds.{without_row, arcs_of, together, AreKinds, pooled, AreAlikeIn}
@@ -50,11 +50,11 @@ module _ (n m : Network) (kind : ℕ → ℕ) (n-is : IsNetwork n) (m-is : IsNet
   -- a weighed sum over the rows' arcs is that over their kinds'
   pub carried_over : (c : Arc → ℕ) (x : Plan) → weighed n c x ≡ weighed m c (pooled n kind x)
   carried_over c x =
-      by_rows (length n.demands) n.arcs n-is.rows (λ i a. c a * x i a.site)
+      by_rows (length n.demands) n.arcs n-is.sources (λ i a. c a * x i a.site)
       ∙ sum_below_same (length n.demands) _ _ (λ i l. ap (λ arcs. sum_by (λ a. c a * x i a.site) arcs) (are.arcs i l))
       ∙ by_kinds (length m.demands) kind (λ k i. sum_by (λ a. c a * x i a.site) (arcs_of m k)) (length n.demands) are.inside
       ∙ sum_below_same (length m.demands) _ _ (λ k l. sym (kind_sends c x (arcs_of m k) k))
-      ∙ sym (by_rows (length m.demands) m.arcs m-is.rows (λ k a. c a * pooled n kind x k a.site))
+      ∙ sym (by_rows (length m.demands) m.arcs m-is.sources (λ k a. c a * pooled n kind x k a.site))
 
   pub pooled_alike : (x : Plan) → AreAlikeIn n m x (pooled n kind x)
   pooled_alike x = alike_by n m x (pooled n kind x) are.capacities are.host_of (λ c. carried_over c x)
@@ -89,19 +89,21 @@ module _ (n m : Network) (kind : ℕ → ℕ) (n-is : IsNetwork n) (m-is : IsNet
       record {
         allowed = λ k s no. sum_below_zero (length n.demands) _ (λ i l.
             term (λ i. x i s) (λ i. 0) k i (λ e. feasible.allowed i s (allowed_alike i s l ∙ ap (λ k. is_allowed m k s) e ∙ no)) ∙ when_zero (kind i == k));
-        met = λ k l. kind_gets x k ∙ sum_below_same (length n.demands) _ _ (λ i m. ap (λ v. when (kind i == k) v) (feasible.met i m)) ∙ sym (are.demands k l);
-        within = λ j l.
-            let l' : j < length n.capacities = subst (λ caps. j < length caps) (sym are.capacities) l in
-            let w = feasible.within j l' in
-            let e = alike.load j in
-            let c : slice_index n.capacities j ≡ slice_index m.capacities j = ap (λ caps. slice_index caps j) are.capacities in
-            omega arith;
-        hosted = λ h l.
-            let l' : h < length n.limits = subst (λ caps. h < length caps) (sym are.limits) l in
-            let w = feasible.hosted h l' in
-            let e = alike.host_load h in
-            let c : slice_index n.limits h ≡ slice_index m.limits h = ap (λ caps. slice_index caps h) are.limits in
-            omega arith;
+        flow = record {
+          met = λ k l. kind_gets x k ∙ sum_below_same (length n.demands) _ _ (λ i m. ap (λ v. when (kind i == k) v) (feasible.flow.met i m)) ∙ sym (are.demands k l);
+          within = λ j l.
+              let l' : j < length n.capacities = subst (λ caps. j < length caps) (sym are.capacities) l in
+              let w = feasible.flow.within j l' in
+              let e = alike.load j in
+              let c : slice_index n.capacities j ≡ slice_index m.capacities j = ap (λ caps. slice_index caps j) are.capacities in
+              omega arith;
+          hosted = λ h l.
+              let l' : h < length n.limits = subst (λ caps. h < length caps) (sym are.limits) l in
+              let w = feasible.flow.hosted h l' in
+              let e = alike.host_load h in
+              let c : slice_index n.limits h ≡ slice_index m.limits h = ap (λ caps. slice_index caps h) are.limits in
+              omega arith;
+        };
       }
 
 pub kinds_pool_plans : KindsPoolPlans

@@ -6,8 +6,8 @@ use Rattle.std.proofs.lemmas.List.Elements.{All-head, All-tail}
 use Rattle.std.proofs.lemmas.Bool.{cases_eq}
 use Rattle.hsp_instance.specs.declared.arc.Arc.{Arc}
 use Rattle.hsp_check.specs.declared.arc.NetworkArc.{NetworkArc}
-use Rattle.hsp_sums.specs.Sums.{sum_below}
-use Rattle.hsp_sums.proofs.Summing.{sum_below_same, sum_below_zero, sum_below_add, sum_below_one, sum_by_same_all}
+use Rattle.hsp_transport.specs.Sums.{sum_below}
+use Rattle.hsp_transport.proofs.Summing.{sum_below_same, sum_below_zero, sum_below_add, sum_below_one, sum_by_same_all}
 use Rattle.hsp_kinds.specs.Kinds.{without_row, arcs_in}
 
 -- a number where a test holds

@@ -9,8 +9,8 @@ use Rattle.std.proofs.lemmas.List.Sums.{sum_by-cons}
 use Rattle.std.proofs.lemmas.List.Elements.{All-cons, All-nil, All-weaker}
 use Rattle.hsp_instance.specs.declared.arc.Arc.{Arc}
 use Rattle.hsp_check.specs.declared.arc.NetworkArc.{NetworkArc}
-use Rattle.hsp_sums.specs.Sums.{sum_below}
-use Rattle.hsp_sums.proofs.Summing.{sum_below_same, by_key, sum_by_same_all}
+use Rattle.hsp_transport.specs.Sums.{sum_below}
+use Rattle.hsp_transport.proofs.Summing.{sum_below_same, by_key, sum_by_same_all}
 use Rattle.hsp_check.specs.Network.{Network, IsNetwork, is_allowed}
 use Rattle.hsp_check.specs.Plan.{Plan, served, Feasible, Best}
 use Rattle.hsp_kinds.specs.Kinds.{without_row, arcs_in, arcs_of, arcs_to, AreKinds, HasOneArcASite, IsPooled, pooled, AreAlikeIn}
@@ -104,7 +104,7 @@ module _ (n m : Network) (kind : ℕ → ℕ) (n-is : IsNetwork n) (m-is : IsNet
   sent_all : (k : ℕ) → k < length m.demands → sum_below (above m.arcs) (y k) ≡ slice_index m.demands k
   sent_all k l =
       sym (over_sites (arcs_of m k) (above m.arcs) (y k) (all_below m.arcs k) (λ s. one k s l) (λ s off. feasible.allowed k s (allowed_by m.arcs k s ∙ off)))
-      ∙ sym (served_is n m kind n-is m-is are m y k) ∙ feasible.met k l
+      ∙ sym (served_is n m kind n-is m-is are m y k) ∙ feasible.flow.met k l
 
   -- what the rows of a kind ask for is what it asks for
   asked_all : (k : ℕ) → k < length m.demands → asked_before n kind k (length n.demands) ≡ slice_index m.demands k
@@ -175,7 +175,7 @@ module _ (n m : Network) (kind : ℕ → ℕ) (n-is : IsNetwork n) (m-is : IsNet
 
   -- a weighed sum is the same of plans that send the same over all arcs
   same_weighed : (c : Arc → ℕ) → weighed m c (pooled n kind (spread n kind y)) ≡ weighed m c y
-  same_weighed c = sum_by_same_all _ _ m.arcs (All-weaker (λ a. a.row < length m.demands) _ (λ a l. ap (λ v. c (without_row a) * v) (rows_of_kind a.row a.site l)) m.arcs m-is.rows)
+  same_weighed c = sum_by_same_all _ _ m.arcs (All-weaker (λ a. a.row < length m.demands) _ (λ a l. ap (λ v. c (without_row a) * v) (rows_of_kind a.row a.site l)) m.arcs m-is.sources)
 
   spread_alike : AreAlikeIn n m (spread n kind y) y
   spread_alike = alike_by n m (spread n kind y) y are.capacities are.host_of (λ c. carried_over n m kind n-is m-is are c (spread n kind y) ∙ same_weighed c)
@@ -183,19 +183,21 @@ module _ (n m : Network) (kind : ℕ → ℕ) (n-is : IsNetwork n) (m-is : IsNet
   spread_feasible : Feasible n (spread n kind y)
   spread_feasible = record {
     allowed = spread_allowed;
-    met = spread_met;
-    within = λ j l.
-        let l' : j < length m.capacities = subst (λ caps. j < length caps) are.capacities l in
-        let w = feasible.within j l' in
-        let e = spread_alike.load j in
-        let c : slice_index n.capacities j ≡ slice_index m.capacities j = ap (λ caps. slice_index caps j) are.capacities in
-        omega arith;
-    hosted = λ h l.
-        let l' : h < length m.limits = subst (λ caps. h < length caps) are.limits l in
-        let w = feasible.hosted h l' in
-        let e = spread_alike.host_load h in
-        let c : slice_index n.limits h ≡ slice_index m.limits h = ap (λ caps. slice_index caps h) are.limits in
-        omega arith;
+    flow = record {
+      met = spread_met;
+      within = λ j l.
+          let l' : j < length m.capacities = subst (λ caps. j < length caps) are.capacities l in
+          let w = feasible.flow.within j l' in
+          let e = spread_alike.load j in
+          let c : slice_index n.capacities j ≡ slice_index m.capacities j = ap (λ caps. slice_index caps j) are.capacities in
+          omega arith;
+      hosted = λ h l.
+          let l' : h < length m.limits = subst (λ caps. h < length caps) are.limits l in
+          let w = feasible.flow.hosted h l' in
+          let e = spread_alike.host_load h in
+          let c : slice_index n.limits h ≡ slice_index m.limits h = ap (λ caps. slice_index caps h) are.limits in
+          omega arith;
+    };
   }
 
   spread_best : Best m y → Best n (spread n kind y)

@@ -15,8 +15,8 @@ use Rattle.hsp_instance.specs.Instance.{Row, Site}
 use Rattle.hsp_check.specs.declared.arc.NetworkArc.{NetworkArc}
 use Rattle.hsp_check.specs.Instance.{arc_of, arcs_from as arcs_of_rows}
 use Rattle.hsp_check.specs.Network.{IsNetwork}
-use Rattle.hsp_sums.specs.Sums.{sum_below}
-use Rattle.hsp_sums.proofs.Summing.{by_place, sum_below_same}
+use Rattle.hsp_transport.specs.Sums.{sum_below}
+use Rattle.hsp_transport.proofs.Summing.{by_place, sum_below_same}
 use Rattle.hsp_kinds.specs.Kinds.{AreKinds, HasOneArcASite, without_row, arcs_in, arcs_of, arcs_to}
 use Rattle.hsp_kinds.specs.Tables.{IsKinding}
 use Rattle.hsp_kinds.specs.Rows.{KindsAreClasses, KindsHaveArcs, Service, TablesAreOfKinds, by_kind, is_same_kind, kinds_of, network_for, places_at, sites_for, with_count_of}
@@ -251,11 +251,11 @@ module _ (at : Service) (rows : List Row) where
 
   pub rows_are : IsNetwork (network_for at table) → IsNetwork (network_for at rows)
   rows_are is = record {
-    rows = below;
+    sources = below;
     servers = of_all (λ i a. a.server < length (map (λ s. s.capacity) at.servers)) (length (map count rows)) (network_for at rows).arcs below
         (λ i l. subst (All (λ (a : Arc). a.server < length (map (λ s. s.capacity) at.servers))) (sym (alike i (in_rows i l)))
         (of_row (λ i a. a.server < length (map (λ s. s.capacity) at.servers)) (network_for at table).arcs is.servers (kind i)));
-    homes = is.homes;
+    hosts = is.hosts;
   }
     where
       below : All (λ (a : NetworkArc). a.row < length (map count rows)) (network_for at rows).arcs

@@ -3,7 +3,7 @@
 use Rattle.std.specs.Prelude.{◌≡◌, ℕ, ◌<◌, ◌≤◌, ◌==◌, List, length, map, filter, sum_by, slice_index, if◌then◌else◌}
 use Rattle.hsp_instance.specs.declared.arc.Arc.{Arc}
 use Rattle.hsp_check.specs.declared.arc.NetworkArc.{NetworkArc}
-use Rattle.hsp_sums.specs.Sums.{sum_below}
+use Rattle.hsp_transport.specs.Sums.{sum_below}
 use Rattle.hsp_check.specs.Network.{Network}
 use Rattle.hsp_check.specs.Plan.{Plan, total, load, host_load}
 

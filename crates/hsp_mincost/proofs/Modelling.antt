@@ -3,7 +3,11 @@ use Rattle.std.proofs.Common.{◌≡◌, ℕ, ◌+◌, ◌-◌, ◌<◌, ◌≤�
 use Rattle.std.proofs.lemmas.Bool.{cases_eq, cases_lt}
 use Rattle.hsp_network.specs.Sums.{only, sum_below}
 use Rattle.hsp_mincost.specs.Sums.{through}
-use Rattle.hsp_network.specs.Network.{Transport, IsNetwork, IsFeasible, HasPrices, HasLowPrices, host_of, sent, load, on_host, host_load, is_on, at_host}
+use Rattle.hsp_network.specs.Network.{Transport, IsNetwork, HasLowPrices, host_of, numbered}
+use Rattle.hsp_network.proofs.Numbered.{load_numbers, sent_numbers}
+use Rattle.hsp_transport.specs.Flow.{IsFeasible, sent, load, on_host, host_load, is_on}
+use Rattle.hsp_transport.specs.Prices.{HasPrices, at_host, price_at}
+use Rattle.hsp_transport.proofs.Places.{all_numbers}
 use Rattle.hsp_mincost.specs.Layout.{LinksOf, IsSmall, base_of, first_of, hosts_of, servers_of, host_node}
 use Rattle.hsp_mincost.specs.Residual.{Flow, Links, Sound}
 use Rattle.hsp_mincost.proofs.Sums.{only_here, only_there, sum_below_same, term_within}
@@ -22,7 +26,7 @@ node_only (Some g) h x = elim (cases_eq g h) [
 ]
 
 pub node_price : (o : Option ℕ) (price q : List ℕ) → slice_index price 0 ≡ 0 → ((h : ℕ) → o ≡ Some h → slice_index q h ≡ slice_index price (1 + h)) →
-    at_host o q ≡ slice_index price (host_node o)
+    at_host o (λ h. slice_index q h) ≡ slice_index price (host_node o)
 node_price None price q free is = sym free
 node_price (Some h) price q free is = let e : 1 + h ≡ h + 1 = omega arith in is h refl ∙ ap (λ n. slice_index price n) e
 
@@ -48,17 +52,17 @@ module _ (net : Transport) (whole : IsNetwork net) (small : IsSmall net) (n : Li
       let m : sum_below (length f.flows.now) term ≡ sum_below (base_of net + length net.sources) term = ap (λ m. sum_below m term) many in
       omega (arith, through_is ends f.flows.now v, sum_split (base_of net) (length net.sources) term, sum_split (hosts_of net) (servers_of net) term)
 
-  pub out_source : (i : ℕ) → through n.tails.now f.flows.now (first_of net + i) ≡ sent net flow i
+  pub out_source : (i : ℕ) → through n.tails.now f.flows.now (first_of net + i) ≡ sent (numbered net) flow i
   out_source i =
       let a = none_ends (hosts_of net) (λ h. slice_index n.tails.now h) (λ h. slice_index f.flows.now h) (first_of net + i)
       (λ h l e. omega (arith, links.tails.node h (omega arith))) in
       let b = none_ends (servers_of net) (λ j. slice_index n.tails.now (hosts_of net + j)) (λ j. slice_index f.flows.now (hosts_of net + j)) (first_of net + i)
       (λ j l e. omega (arith, links.tails.node (hosts_of net + j) (omega arith))) in
-      let c : sum_below (length net.sources) (λ k. only (slice_index n.tails.now (base_of net + k)) (first_of net + i) (slice_index f.flows.now (base_of net + k))) ≡ sent net flow i =
+      let c : sum_below (length net.sources) (λ k. only (slice_index n.tails.now (base_of net + k)) (first_of net + i) (slice_index f.flows.now (base_of net + k))) ≡ sum_below (length net.sources) (λ k. only (slice_index net.sources k) i (flow k)) =
       sum_below_same (length net.sources) _ _ (λ k l.
       ap (λ m. only m (first_of net + i) (slice_index f.flows.now (base_of net + k))) (links.tails.arc k l)
       ∙ only_shift (first_of net) (slice_index net.sources k) i (slice_index f.flows.now (base_of net + k)) ∙ ap (λ m. only (slice_index net.sources k) i m) (sym (flow-is k l))) in
-      omega (arith, parts n.tails.now (first_of net + i))
+      omega (arith, parts n.tails.now (first_of net + i), sent_numbers net flow i)
 
   pub in_source : (i : ℕ) → through n.heads.now f.flows.now (first_of net + i) ≡ 0
   in_source i =
@@ -70,17 +74,17 @@ module _ (net : Transport) (whole : IsNetwork net) (small : IsSmall net) (n : Li
       (λ k l e. omega (arith, links.heads.arc k l, whole.servers_in k l)) in
       omega (arith, parts n.heads.now (first_of net + i))
 
-  pub in_server : (j : ℕ) → through n.heads.now f.flows.now (1 + hosts_of net + j) ≡ load net flow j
+  pub in_server : (j : ℕ) → through n.heads.now f.flows.now (1 + hosts_of net + j) ≡ load (numbered net) flow j
   in_server j =
       let a = none_ends (hosts_of net) (λ h. slice_index n.heads.now h) (λ h. slice_index f.flows.now h) (1 + hosts_of net + j)
       (λ h l e. omega (arith, links.heads.host h l)) in
       let b = none_ends (servers_of net) (λ i. slice_index n.heads.now (hosts_of net + i)) (λ i. slice_index f.flows.now (hosts_of net + i)) (1 + hosts_of net + j)
       (λ i l e. omega (arith, links.heads.server i l, node-low i)) in
-      let c : sum_below (length net.sources) (λ k. only (slice_index n.heads.now (base_of net + k)) (1 + hosts_of net + j) (slice_index f.flows.now (base_of net + k))) ≡ load net flow j =
+      let c : sum_below (length net.sources) (λ k. only (slice_index n.heads.now (base_of net + k)) (1 + hosts_of net + j) (slice_index f.flows.now (base_of net + k))) ≡ sum_below (length net.sources) (λ k. only (slice_index net.servers k) j (flow k)) =
       sum_below_same (length net.sources) _ _ (λ k l.
       ap (λ m. only m (1 + hosts_of net + j) (slice_index f.flows.now (base_of net + k))) (links.heads.arc k l)
       ∙ only_shift (1 + hosts_of net) (slice_index net.servers k) j (slice_index f.flows.now (base_of net + k)) ∙ ap (λ m. only (slice_index net.servers k) j m) (sym (flow-is k l))) in
-      omega (arith, parts n.heads.now (1 + hosts_of net + j))
+      omega (arith, parts n.heads.now (1 + hosts_of net + j), load_numbers net flow j)
 
   -- the link of a server or a host has its tail alone
   out_node : (v k : ℕ) → v ≡ 1 + k → k < base_of net → through n.tails.now f.flows.now v ≡ slice_index f.flows.now k
@@ -94,11 +98,11 @@ module _ (net : Transport) (whole : IsNetwork net) (small : IsSmall net) (n : Li
             omega (arith, links.tails.arc (i - base_of net) (omega (arith, many)), ap (λ a. slice_index n.tails.now a) place)
       ])
 
-  pub in_host : (h : ℕ) → h < hosts_of net → through n.heads.now f.flows.now (1 + h) ≡ on_host net (λ j. slice_index f.flows.now (hosts_of net + j)) h
+  pub in_host : (h : ℕ) → h < hosts_of net → through n.heads.now f.flows.now (1 + h) ≡ on_host (numbered net) (λ j. slice_index f.flows.now (hosts_of net + j)) h
   in_host h lh =
       let a = none_ends (hosts_of net) (λ g. slice_index n.heads.now g) (λ g. slice_index f.flows.now g) (1 + h)
       (λ g l e. omega (arith, links.heads.host g l)) in
-      let b : sum_below (servers_of net) (λ j. only (slice_index n.heads.now (hosts_of net + j)) (1 + h) (slice_index f.flows.now (hosts_of net + j))) ≡ on_host net (λ j. slice_index f.flows.now (hosts_of net + j)) h =
+      let b : sum_below (servers_of net) (λ j. only (slice_index n.heads.now (hosts_of net + j)) (1 + h) (slice_index f.flows.now (hosts_of net + j))) ≡ on_host (numbered net) (λ j. slice_index f.flows.now (hosts_of net + j)) h =
       sum_below_same (servers_of net) _ _ (λ j l.
       ap (λ m. only m (1 + h) (slice_index f.flows.now (hosts_of net + j))) (links.heads.server j l) ∙ node_only (host_of net j) h (slice_index f.flows.now (hosts_of net + j))) in
       let c = none_ends (length net.sources) (λ k. slice_index n.heads.now (base_of net + k)) (λ k. slice_index f.flows.now (base_of net + k)) (1 + h)
@@ -106,20 +110,20 @@ module _ (net : Transport) (whole : IsNetwork net) (small : IsSmall net) (n : Li
       omega (arith, parts n.heads.now (1 + h))
 
   -- a server's and a host's load is what flows on its link
-  pub server_flow : (j : ℕ) → j < servers_of net → slice_index f.flows.now (hosts_of net + j) ≡ load net flow j
+  pub server_flow : (j : ℕ) → j < servers_of net → slice_index f.flows.now (hosts_of net + j) ≡ load (numbered net) flow j
   server_flow j l =
       let v : ℕ = 1 + hosts_of net + j in
       let l' : 1 + hosts_of net + j < length n.supplies.now = omega (arith, nodes) in
       omega (arith, sound.conserved (1 + hosts_of net + j) l' (λ e. omega arith), sound.within (1 + hosts_of net + j) l', links.supplies.node (1 + hosts_of net + j) (omega arith), in_server j, out_node (1 + hosts_of net + j) (hosts_of net + j) (omega arith) (omega arith))
 
-  pub host_flow : (h : ℕ) → h < hosts_of net → slice_index f.flows.now h ≡ host_load net flow h
+  pub host_flow : (h : ℕ) → h < hosts_of net → slice_index f.flows.now h ≡ host_load (numbered net) flow h
   host_flow h l =
       let l' : 1 + h < length n.supplies.now = omega (arith, nodes) in
-      let same : on_host net (λ j. slice_index f.flows.now (hosts_of net + j)) h ≡ host_load net flow h =
+      let same : on_host (numbered net) (λ j. slice_index f.flows.now (hosts_of net + j)) h ≡ host_load (numbered net) flow h =
       sum_below_same (servers_of net) _ _ (λ j lj. ap (λ m. if is_on (host_of net j) h then m else 0) (server_flow j lj)) in
       omega (arith, sound.conserved (1 + h) l' (λ e. omega arith), sound.within (1 + h) l', links.supplies.node (1 + h) (omega arith), in_host h l, out_node (1 + h) h refl (omega arith))
 
-  pub source_flow : (i : ℕ) → i < length net.demands → sent net flow i + slice_index f.unmet.now (first_of net + i) ≡ slice_index net.demands i
+  pub source_flow : (i : ℕ) → i < length net.demands → sent (numbered net) flow i + slice_index f.unmet.now (first_of net + i) ≡ slice_index net.demands i
   source_flow i l =
       let l' : first_of net + i < length n.supplies.now = omega (arith, nodes) in
       omega (arith, sound.conserved (first_of net + i) l' (λ e. omega arith), links.supplies.source i l, in_source i, out_source i)
@@ -137,9 +141,10 @@ module _ (net : Transport) (whole : IsNetwork net) (small : IsSmall net) (n : Li
         sound.balanced (base_of net + k) (omega (arith, links.tails.many)),
         links.capacities.arc k l,
         flow-is k l,
+        sent_numbers net flow (slice_index net.sources k),
       )
 
-  pub feasible : ((i : ℕ) → i < length net.demands → slice_index f.unmet.now (first_of net + i) ≡ 0) → IsFeasible net flow
+  pub feasible : ((i : ℕ) → i < length net.demands → slice_index f.unmet.now (first_of net + i) ≡ 0) → IsFeasible (numbered net) flow
   feasible met = record {
     met = λ i l. omega (arith, source_flow i l, met i l);
     within = λ j l. omega (arith, server_flow j l, sound.balanced (hosts_of net + j) (omega (arith, links.tails.many)), links.capacities.server j l);
@@ -170,21 +175,21 @@ module _ (net : Transport) (whole : IsNetwork net) (small : IsSmall net) (n : Li
   server_tail : (j : ℕ) → j < servers_of net → slice_index n.tails.now (hosts_of net + j) ≡ 1 + hosts_of net + j
   server_tail j l = omega (arith, links.tails.node (hosts_of net + j) (omega arith))
 
-  pub server_idle : (j : ℕ) → j < servers_of net → load net flow j < slice_index net.capacities j →
+  pub server_idle : (j : ℕ) → j < servers_of net → load (numbered net) flow j < slice_index net.capacities j →
       slice_index f.price.now (1 + hosts_of net + j) ≤ slice_index f.price.now (host_node (host_of net j))
   server_idle j l idle =
       let in' : hosts_of net + j < length n.tails.now = omega (arith, links.tails.many) in
       let wide : 0 < slice_index f.room.now (hosts_of net + j) = omega (arith, server_flow j l, sound.balanced (hosts_of net + j) in', links.capacities.server j l) in
       omega (arith, pays (hosts_of net + j) _ _ in' wide (server_tail j l) (links.heads.server j l), links.costs.node (hosts_of net + j) (omega arith))
 
-  pub server_busy : (j : ℕ) → j < servers_of net → 0 < load net flow j →
+  pub server_busy : (j : ℕ) → j < servers_of net → 0 < load (numbered net) flow j →
       slice_index f.price.now (host_node (host_of net j)) ≤ slice_index f.price.now (1 + hosts_of net + j)
   server_busy j l busy =
       let in' : hosts_of net + j < length n.tails.now = omega (arith, links.tails.many) in
       let used : 0 < slice_index f.flows.now (hosts_of net + j) = omega (arith, server_flow j l) in
       omega (arith, earns (hosts_of net + j) _ _ in' used (server_tail j l) (links.heads.server j l), links.costs.node (hosts_of net + j) (omega arith))
 
-  pub host_idle : (h : ℕ) → h < hosts_of net → host_load net flow h < slice_index net.limits h → slice_index f.price.now (1 + h) ≡ 0
+  pub host_idle : (h : ℕ) → h < hosts_of net → host_load (numbered net) flow h < slice_index net.limits h → slice_index f.price.now (1 + h) ≡ 0
   host_idle h l idle =
       let in' : h < length n.tails.now = omega (arith, links.tails.many) in
       let wide : 0 < slice_index f.room.now h = omega (arith, host_flow h l, sound.balanced h in', links.capacities.host h l) in
@@ -194,16 +199,17 @@ module _ (net : Transport) (whole : IsNetwork net) (small : IsSmall net) (n : Li
       (u-is : (i : ℕ) → i < length net.demands → slice_index u i ≡ slice_index f.price.now (first_of net + i))
       (p-is : (j : ℕ) → j < servers_of net → slice_index p j ≡ slice_index f.price.now (1 + hosts_of net + j) - slice_index f.price.now (host_node (host_of net j)))
       (q-is : (h : ℕ) → h < hosts_of net → slice_index q h ≡ slice_index f.price.now (1 + h)) where
-    above : (j : ℕ) → at_host (host_of net j) q ≡ slice_index f.price.now (host_node (host_of net j))
+    above : (j : ℕ) → at_host (host_of net j) (λ h. slice_index q h) ≡ slice_index f.price.now (host_node (host_of net j))
     above j = node_price (host_of net j) f.price.now q sound.sink_free (λ h e. q-is h (whole.hosts_in j h e))
 
-    pub has_prices : HasPrices net flow u p q
+    -- what a unit on the arc costs with all prices
+    abbrev cost_in_all : ℕ → ℕ
+    cost_in_all k = slice_index net.costs k + price_at (numbered net) p q (slice_index net.servers k)
+
+    pub has_prices : HasPrices (numbered net) flow u p q
     has_prices = record {
-      sources_many = um;
-      servers_many = pm;
-      hosts_many = qm;
-      below = λ k l. omega (arith, u-is (slice_index net.sources k) (whole.sources_in k l), p-is (slice_index net.servers k) (whole.servers_in k l), arc_pays k l, above (slice_index net.servers k));
-      used = λ k l pos.
+      below = all_numbers (λ k. slice_index u (slice_index net.sources k) ≤ cost_in_all k) (length net.sources) (λ k l. omega (arith, u-is (slice_index net.sources k) (whole.sources_in k l), p-is (slice_index net.servers k) (whole.servers_in k l), arc_pays k l, above (slice_index net.servers k)));
+      used = all_numbers (λ k. 0 < flow k → slice_index u (slice_index net.sources k) ≡ cost_in_all k) (length net.sources) (λ k l pos.
           let j : ℕ = slice_index net.servers k in
           let w = term_within (length net.sources) (λ i. only (slice_index net.servers i) (slice_index net.servers k) (flow i)) k l in
           let here : only (slice_index net.servers k) (slice_index net.servers k) (flow k) ≡ flow k = only_here (slice_index net.servers k) (slice_index net.servers k) (flow k) refl in
@@ -214,8 +220,8 @@ module _ (net : Transport) (whole : IsNetwork net) (small : IsSmall net) (n : Li
             arc_pays k l,
             arc_used k l pos,
             above (slice_index net.servers k),
-            server_busy (slice_index net.servers k) (whole.servers_in k l) (omega arith),
-          );
+            server_busy (slice_index net.servers k) (whole.servers_in k l) (omega (arith, load_numbers net flow (slice_index net.servers k))),
+          ));
       idle = λ j l less. omega (arith, p-is j l, server_idle j l less);
       idle_host = λ h l less. q-is h l ∙ host_idle h l less;
     }

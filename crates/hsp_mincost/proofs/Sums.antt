@@ -1,8 +1,8 @@
 -- Sums over numbers, and what a change of one arc's flow does to them.
 use Rattle.std.proofs.Common.{◌≡◌, ◌≢◌, ℕ, zero, suc, ◌+◌, ◌-◌, ◌*◌, ◌<◌, ◌≤◌, ◌==◌, inl, inr, true, false, List, length, slice_index, set, if◌then◌else◌, refl, ap, arith, eq-eqb, ne_eqb, length-set, get_or-set_same, get_or-set_other}
 use Rattle.std.proofs.lemmas.Bool.{cases_eq}
-use Rattle.hsp_sums.proofs.Summing.{sum_below_add, sum_below_one}
-pub use Rattle.hsp_sums.proofs.Summing.{sum_below_same, sum_below_le}
+use Rattle.hsp_transport.proofs.Summing.{sum_below_add, sum_below_one}
+pub use Rattle.hsp_transport.proofs.Summing.{sum_below_same, sum_below_le}
 use Rattle.hsp_network.specs.Sums.{sum_below, only}
 use Rattle.hsp_mincost.specs.Sums.{through}
 

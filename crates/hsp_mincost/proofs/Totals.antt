@@ -3,9 +3,8 @@ use Rattle.std.proofs.Common.{◌≡◌, ◌≢◌, ℕ, zero, suc, ◌+◌, ◌
 use Rattle.std.proofs.lemmas.Bool.{cases_Bool, cases_eq, or_cases}
 use Rattle.hsp_network.specs.Sums.{any_below, only, sum_below}
 use Rattle.hsp_mincost.specs.Sums.{through}
-use Rattle.hsp_network.specs.Network.{is_on}
 use Rattle.hsp_mincost.proofs.Sums.{only_here, only_split, only_there, only_zero, sum_below_same}
-pub use Rattle.hsp_sums.proofs.Summing.{sum_below_zero, sum_below_one, sum_below_add}
+pub use Rattle.hsp_transport.proofs.Summing.{sum_below_zero, sum_below_one, sum_below_add}
 
 pub sum_split : (a n : ℕ) (f : ℕ → ℕ) → sum_below (a + n) f ≡ sum_below a f + sum_below n (λ k. f (a + k))
 sum_split a zero f =
@@ -48,20 +47,6 @@ only_when n key f set v = elim (cases_Bool (set v)) [
     | inr ne ↦ only_there (key k) v (if set (key k) then f k else 0) ne
   ]))
 ]
-
--- servers on no host, and those on each host
-pub by_host : (host : ℕ → Option ℕ) (g : ℕ → ℕ) (n m : ℕ) → ((j h : ℕ) → j < n → host j ≡ Some h → h < m) →
-    sum_below n g ≡ sum_below n (λ j. if is_none (host j) then g j else 0) + sum_below m (λ h. sum_below n (λ j. if is_on (host j) h then g j else 0))
-by_host host g zero m inside = omega (arith, sum_below_zero m (λ h. 0) (λ h l. refl))
-by_host host g (suc n) m inside =
-    let a = by_host host g n m (λ j h l. inside j h (omega arith)) in
-    let b = one (host n) (g n) (λ h. inside n h (omega arith)) in
-    omega (arith, sum_below_add m (λ h. sum_below n (λ j. if is_on (host j) h then g j else 0)) (λ h. if is_on (host n) h then g n else 0))
-  where
-    one : (o : Option ℕ) (x : ℕ) → ((h : ℕ) → o ≡ Some h → h < m) → x ≡ (if is_none o then x else 0) + sum_below m (λ h. if is_on o h then x else 0)
-    one None x in' = omega (arith, sum_below_zero m (λ h. 0) (λ h l. refl))
-    one (Some g) x in' =
-        omega (arith, sum_below_one m (λ h. if g == h then x else 0) g (in' g refl) (λ h l ne. only_there g h x (λ e. ne (sym e))), only_here g g x refl)
 
 pub through_is : (ends flows : List ℕ) (v : ℕ) → through ends flows v ≡ sum_below (length flows) (λ k. only (slice_index ends k) v (slice_index flows k))
 unfolding through

@@ -1,2 +1,2 @@
 pub mod Balancing
-pub mod Capacities
+pub mod Numbered

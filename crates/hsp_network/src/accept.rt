@@ -1,8 +1,8 @@
 // The test that an outcome is an answer to a network.
 
 ghost use Rattle.std.specs.Prelude.{◌≡◌, ℕ, ◌+◌, ◌*◌, ◌<◌, ◌≤◌, ◌⊎◌, IfOk, IsTrue, length, slice_index};
-ghost use Rattle.hsp_network.specs.Accepted.{AreKept, ArePlanPaid, HasBoundedPrices, HasLengths, IsBalanced};
-ghost use Rattle.hsp_network.specs.Answer.{Answers, IsMet, IsShortAnswer};
+ghost use Rattle.hsp_network.specs.Accepted.{AreKept, ArePlanPaid};
+ghost use Rattle.hsp_network.specs.Answer.{Answers, HasBoundedPrices, HasLengths, IsBalanced, IsMet, IsShortAnswer};
 ghost use Rattle.hsp_network.specs.Problem.{problem_of};
 
 use crate::accept_prices::{PricedArcs, are_loaded, paid_at};

@@ -3,7 +3,8 @@
 ghost use Rattle.std.specs.Prelude.{◌≡◌, ℕ, ◌<◌, ◌≤◌, ◌*◌, ◌^◌, ◌↔◌, false, IfOk, IsTrue, length, vec_len};
 ghost use Rattle.hsp_network.specs.Answer.{IsShortSet};
 ghost use Rattle.hsp_network.specs.Lists.{HostsAreBelow};
-ghost use Rattle.hsp_network.specs.Network.{capacity_of};
+ghost use Rattle.hsp_network.specs.Network.{numbered};
+ghost use Rattle.hsp_transport.specs.Cut.{capacity_of};
 ghost use Rattle.hsp_network.specs.Problem.{problem_of};
 ghost use Rattle.hsp_network.specs.Reached.{AreReached, AreRooms, flag_at, flagged_sum, free_sum, hosted_sum};
 ghost use Rattle.hsp_network.specs.Sums.{AreHosted, AreZero};
@@ -44,7 +45,7 @@ fn set_rooms(rooms: &mut [u64], capacities: &[u64], reached: &[bool])
     requires rooms { length rooms.old ≡ length capacities.now }
     requires reached { length reached.now ≡ length capacities.now }
     requires zero { AreZero rooms.old }
-    ensures { AreRooms capacities.now reached.now rooms.new }
+    ensures { AreRooms capacities.now (flag_at reached.now) rooms.new }
 {
     for server in 0..capacities.len() {
         if reached[server] {
@@ -111,7 +112,7 @@ fn reached_by(alloc: Global, network: &Network<'_>, set: &[bool]) -> Result<Vec<
 fn rooms_of(alloc: Global, capacities: &[u64], reached: &[bool]) -> Result<Vec<u64>, AllocError>
     requires many { length reached.now ≡ length capacities.now }
     ensures len { IfOk result (λ rooms. vec_len rooms ≡ length capacities.now) }
-    ensures rooms { IfOk result (λ rooms. AreRooms capacities.now reached.now rooms.items) }
+    ensures rooms { IfOk result (λ rooms. AreRooms capacities.now (flag_at reached.now) rooms.items) }
 {
     let mut rooms = vec![in alloc; 0; capacities.len()]?;
     set_rooms(&mut rooms, capacities, reached);
@@ -143,7 +144,7 @@ pub fn reached_capacity(
 ) -> Result<u128, AllocError>
     requires set { length set.now ≡ length network.now.demands.now }
     ensures { IfOk result
-        (λ capacity. capacity ≡ capacity_of (problem_of network.now) (flag_at set.now)) }
+        (λ capacity. capacity ≡ capacity_of (numbered (problem_of network.now)) (flag_at set.now)) }
 {
     let reached = reached_by(alloc, network, set)?;
     let rooms = rooms_of(alloc, network.capacities, &reached)?;

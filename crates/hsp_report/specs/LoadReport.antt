@@ -5,7 +5,7 @@ use Rattle.hsp_cert.specs.Certificate.{Best, Claim, best_of}
 use Rattle.hsp_instance.specs.Instance.{Instance}
 use Rattle.hsp_check.specs.Instance.{network_of}
 use Rattle.hsp_check.specs.Plan.{load, total}
-use Rattle.hsp_sums.specs.Sums.{times}
+use Rattle.hsp_transport.specs.Sums.{times}
 use Rattle.hsp_check.specs.Uses.{table}
 use Rattle.hsp_report.specs.Columns.{aligned, column_line, difference_line}
 use Rattle.hsp_report.specs.Numbered.{server_at, site_name}

@@ -11,7 +11,7 @@ use Rattle.hsp_check.specs.Network.{Network, is_allowed}
 use Rattle.hsp_check.specs.Plan.{Best, Feasible, Plan, total}
 use Rattle.hsp_check.specs.Prices.{ArePrices, Prices}
 use Rattle.hsp_check.specs.Short.{capacity_of, demand_of}
-use Rattle.hsp_sums.specs.Sums.{times}
+use Rattle.hsp_transport.specs.Sums.{times}
 use Rattle.hsp_check.specs.Uses.{table}
 use Rattle.hsp_check.specs.Verdict.{is_one_of}
 

@@ -4,7 +4,7 @@ use Rattle.hsp_check.proofs.drawing.draw.Goals as goal
 pub returns-clause-network : goal.returns-clause-network
 returns-clause-network c =
     let numbers = c.in_ok-numbers.ensures in
-    drawn c.args.instance.now c.in_ok-numbers.numbers c.in_ok-arcs.arcs.laid.items numbers.demands numbers.capacities numbers.limits numbers.homes c.in_ok-arcs.ensures.arcs.arcs
+    drawn c.args.instance.now c.in_ok-numbers.numbers c.in_ok-arcs.arcs.laid.items numbers.demands numbers.capacities numbers.limits numbers.server_hosts c.in_ok-arcs.ensures.arcs.arcs
 
 pub returns-clause-is : goal.returns-clause-is
 returns-clause-is c = is_network c.args.instance.now c.in_ok-arcs.ensures.within

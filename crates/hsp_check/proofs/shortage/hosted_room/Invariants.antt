@@ -1,9 +1,9 @@
-use Rattle.std.proofs.Common.{◌≡◌, ◌≤◌, ◌*◌, ◌^◌, slice_index, min}
-use Rattle.hsp_sums.specs.Sums.{sum_below}
+use Rattle.std.proofs.Common.{◌≡◌, ◌≤◌, ◌*◌, ◌^◌}
+use Rattle.hsp_transport.specs.Lists.{hosted_sum}
 use Rattle.hsp_check.proofs.shortage.hosted_room.Given as goal
 
 abbrev pub invariant-loop-host : goal.invariant-loop-host
 invariant-loop-host l = record {
-  sum : l.sum ≡ sum_below l.host (λ h. min (slice_index l.limits h) (slice_index l.rooms h));
+  sum : l.sum ≡ hosted_sum l.limits l.rooms l.host;
   small : l.sum ≤ l.host * 2 ^ 64;
 }

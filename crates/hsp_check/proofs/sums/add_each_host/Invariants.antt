@@ -1,11 +1,9 @@
-use Rattle.std.proofs.Common.{◌≡◌, ℕ, ◌<◌, ◌≤◌, ◌*◌, ◌^◌, length, slice_index, if◌then◌else◌}
-use Rattle.hsp_sums.specs.Sums.{sum_below}
-use Rattle.hsp_check.specs.Plan.{is_on}
-use Rattle.hsp_check.specs.Laid.{home_in}
+use Rattle.std.proofs.Common.{◌≡◌, ℕ, ◌<◌, ◌≤◌, ◌*◌, ◌^◌, length, slice_index}
+use Rattle.hsp_transport.specs.Lists.{hosted}
 use Rattle.hsp_check.proofs.sums.add_each_host.Given as goal
 
 abbrev pub invariant-loop-server : goal.invariant-loop-server
 invariant-loop-server l = record {
-  sums : (h : ℕ) → h < length l.sums → slice_index l.sums h ≡ sum_below l.server (λ j. if is_on (home_in l.homes j) h then slice_index l.numbers j else 0);
+  sums : (h : ℕ) → h < length l.sums → slice_index l.sums h ≡ hosted l.server_hosts l.numbers l.server h;
   small : (h : ℕ) → h < length l.sums → slice_index l.sums h ≤ l.server * 2 ^ 100;
 }

@@ -1,5 +1,6 @@
 use Rattle.std.proofs.Common.{◌≡◌, ℕ, ◌+◌, ◌-◌, ◌*◌, ◌<◌, length, slice_index, ap, ◌∙◌, arith, mul-le-mul_left}
 use Rattle.hsp_mincost.specs.Layout.{base_of, first_of, hosts_of, servers_of, host_node}
+use Rattle.hsp_network.specs.Answer.{HasLengths}
 use Rattle.hsp_network.specs.Network.{host_of}
 use Rattle.hsp_network.specs.Problem.{problem_of}
 use Rattle.hsp_mincost.proofs.Modelling.{feasible, has_prices, low_prices}
@@ -27,14 +28,27 @@ returns c =
     omega (arith, c.in_ok-link_prices.ensures.each j (omega arith)) in
     let q-is : (h : ℕ) → h < hosts_of (problem_of c.args.network.now) → slice_index c.in_ok-copy_range-3.field-0.items h ≡ slice_index c.args.flow.now.price.now (1 + h) =
     λ h l. c.in_ok-copy_range-3.ensures.each h (omega arith) in
+    let copies : HasLengths (problem_of c.args.network.now) (record {
+      flows = c.in_ok-copy_range.field-0;
+      source_prices = c.in_ok-copy_range-2.field-0;
+      server_prices = c.in_ok-link_prices.field-0;
+      host_prices = c.in_ok-copy_range-3.field-0;
+    }) = record {
+      flows = omega (arith, c.in_ok-copy_range.ensures.many, c.requires.ready.sound.flows_many);
+      sources = omega (arith, c.in_ok-copy_range-2.ensures.many, c.requires.ready.price_many);
+      servers = omega (arith, c.in_ok-link_prices.ensures.many);
+      hosts = omega (arith, c.in_ok-copy_range-3.ensures.many);
+    } in
     record {
-      many = omega (arith, c.in_ok-copy_range.ensures.many, c.requires.ready.sound.flows_many);
-      feasible = feasible (problem_of c.args.network.now) whole c.requires.small _ _ links c.requires.ready.sound (λ k. slice_index c.in_ok-copy_range.field-0.items k) flow-is
-          (λ i l. c.requires.met (first_of (problem_of c.args.network.now) + i) (omega (arith, c.requires.links_of.first)) (omega arith));
-      prices = has_prices (problem_of c.args.network.now) whole c.requires.small _ _ links c.requires.ready.sound (λ k. slice_index c.in_ok-copy_range.field-0.items k) flow-is
-          _ _ _ (omega (arith, c.in_ok-copy_range-2.ensures.many, c.requires.ready.price_many)) (omega (arith, c.in_ok-link_prices.ensures.many)) (omega (arith, c.in_ok-copy_range-3.ensures.many)) u-is p-is q-is;
+      many = copies;
+      balanced = record {
+        feasible = feasible (problem_of c.args.network.now) whole c.requires.small _ _ links c.requires.ready.sound (λ k. slice_index c.in_ok-copy_range.field-0.items k) flow-is
+            (λ i l. c.requires.met (first_of (problem_of c.args.network.now) + i) (omega (arith, c.requires.links_of.first)) (omega arith));
+        prices = has_prices (problem_of c.args.network.now) whole c.requires.small _ _ links c.requires.ready.sound (λ k. slice_index c.in_ok-copy_range.field-0.items k) flow-is
+            _ _ _ copies.sources copies.servers copies.hosts u-is p-is q-is;
+      };
       low = λ most bound. low_prices (problem_of c.args.network.now) whole c.requires.small _ _ links c.requires.ready.sound (λ k. slice_index c.in_ok-copy_range.field-0.items k) flow-is
-          _ _ _ (omega (arith, c.in_ok-copy_range-2.ensures.many, c.requires.ready.price_many)) (omega (arith, c.in_ok-link_prices.ensures.many)) (omega (arith, c.in_ok-copy_range-3.ensures.many)) u-is p-is q-is _
+          _ _ _ copies.sources copies.servers copies.hosts u-is p-is q-is _
           (λ v l.
           let e : length c.args.links.now.supplies.now ≡ length c.args.network.now.demands.now + length c.args.network.now.capacities.now + length c.args.network.now.limits.now + 1 = omega arith in
           let s : length c.args.links.now.supplies.now * most ≡ (length c.args.network.now.demands.now + length c.args.network.now.capacities.now + length c.args.network.now.limits.now + 1) * most = ap (λ n. n * most) e in

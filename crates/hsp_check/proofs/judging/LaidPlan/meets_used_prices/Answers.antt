@@ -4,5 +4,5 @@ use Rattle.hsp_check.proofs.judging.LaidPlan.meets_used_prices.Goals as goal
 pub returns : goal.returns
 returns c =
     let plan = c.args.self in
-    let met = tight_met plan.lists plan.cost plan.uses.now plan.prices plan.homes plan.laid in
+    let met = tight_met plan.lists plan.cost plan.uses.now plan.prices plan.server_hosts plan.laid in
     (λ yes. met.0 (c.are_tight.ensures.0 yes), λ holds. c.are_tight.ensures.1 (met.1 holds))

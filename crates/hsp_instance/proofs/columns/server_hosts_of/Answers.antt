@@ -2,13 +2,13 @@ use Rattle.std.proofs.Common.{◌∙◌, arith}
 use Rattle.hsp_instance.specs.Instance.{Server}
 use Rattle.hsp_instance.proofs.Reading.{read_more}
 use Rattle.std.proofs.lemmas.Grind.{common_steps}
-use Rattle.hsp_instance.proofs.columns.homes_of.Goals as goal
+use Rattle.hsp_instance.proofs.columns.server_hosts_of.Goals as goal
 
 pub loop-server-preserved : goal.loop-server-preserved
 loop-server-preserved c = c.in_ok-push.ensures.items ∙ read_more (λ (x : Server). x.host) _ _ _ _ c.host_of.ensures c.loop-server.invariant
 
-pub returns-clause-homes : goal.returns-clause-homes
-returns-clause-homes c = grind (arith, common_steps)
+pub returns-clause-hosts : goal.returns-clause-hosts
+returns-clause-hosts c = grind (arith, common_steps)
 
 pub returns-clause-few : goal.returns-clause-few
 returns-clause-few c = grind (arith, common_steps)

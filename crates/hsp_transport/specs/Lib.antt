@@ -1,0 +1,6 @@
+pub mod Sums
+pub mod Lists
+pub mod Network
+pub mod Flow
+pub mod Prices
+pub mod Cut
