@@ -145,7 +145,7 @@ def unmarked():
 
 def fault_words():
     """The words that the line of a fault may have, from the sources."""
-    sources = [f"crates/hsp_lines/src/{it}" for it in ("fault_text.rt", "fault_words.rt", "verdict_text.rt")]
+    sources = [f"crates/hsp_faults/src/{it}" for it in ("fault_text.rt", "fault_words.rt", "verdict_text.rt")]
     sources.append("crates/hsp_stream/src/fault_text.rt")
     found = [word for it in sources for word in re.findall(r'b"(?:\d+ )?([A-Z][A-Za-z0-9]+)', text_of(it))]
     return sorted(set(found) | {"Usage", "read failed", "write failed"})

@@ -4,7 +4,7 @@
     loads.svg, network.svg    numbers of the transcript of examples/two-sites, which tools/check_examples.py compares
                               with the program
     record.svg                the octets of examples/two-sites/paris.site
-    floors.svg                crates.txt
+    floors.svg, ways.svg      crates.txt
     flow.svg                  the commands
 
     tools/draw_pictures.py            writes the pictures
@@ -448,7 +448,7 @@ def draw_network() -> svg.Picture:
 def crates() -> dict[str, list[str]]:
     """Each crate with those that it stands on."""
     with open(os.path.join(TOP, "crates.txt"), encoding="utf-8") as file:
-        lines = [it.split(":") for it in file.read().splitlines() if ":" in it]
+        lines = [it.split(":") for it in file.read().splitlines() if ":" in it and not it.startswith("#")]
     return {name.strip(): under.split() for name, under in lines}
 
 
@@ -459,7 +459,7 @@ def floor_of(name: str, under: dict[str, list[str]]) -> int:
 
 def is_beside(name: str) -> bool:
     """Whether a crate is not a part of the program: tests, worked cases and the bench."""
-    return name.endswith("_tests") or name in ("hsp_bench", "hsp_worked")
+    return name.endswith("_tests") or name in ("hsp_bench", "hsp_limit_tests")
 
 
 FLOOR_HEIGHT, FLOORS_LEFT, FLOORS_BESIDE, ROOM = 40, 44, 590, 90
@@ -497,12 +497,63 @@ def draw_floors() -> svg.Picture:
     return picture
 
 
+# The ways of a row of demand and of a line of a log through the crates: what each does with it.
+DEMAND_WAY = [
+    ("hsp_cli", "reads the file"),
+    ("hsp_csv", "cuts the record into fields"),
+    ("hsp_tables", "a region, a handle, a count"),
+    ("hsp_hash", "the handle's server at each site"),
+    ("hsp_instance", "a row with its arcs"),
+    ("hsp_flow", "a source of the network"),
+    ("hsp_simplex", "proposes what flows on its arcs"),
+    ("hsp_network", "accepts the proposal, or not"),
+    ("hsp_cert", "its uses and its price, as lines"),
+    ("hsp_cli", "writes them"),
+]
+LOG_WAY = [
+    ("hsp_cli", "reads on in the log"),
+    ("hsp_csv", "cuts the record into fields"),
+    ("hsp_instance", "finds the row of region and handle"),
+    ("hsp_dispatch", "takes the next site of its spread"),
+    ("hsp_text", "writes the line"),
+    ("hsp_dispatch", "counts the answer"),
+]
+WAY_WIDTH, WAY_STEP, WAY_ROOM = 424, 46, 118
+
+
+def draw_way(picture: svg.Picture, left: float, heading: str, way: list[tuple[str, str]]) -> None:
+    under = crates()
+    picture.text(left, 62, heading, 13, form="bold")
+    for at, (name, does) in enumerate(way):
+        if name not in under:
+            raise SystemExit(f"tools/draw_pictures.py: crates.txt has no {name}")
+        top = 78 + WAY_STEP * at
+        picture.rectangle(left, top, WAY_ROOM, 28, "blue", 4)
+        picture.text(left + WAY_ROOM / 2, top + 18, name, 12, anchor="middle")
+        picture.text(left + WAY_ROOM + 12, top + 18, does, 12)
+        if at + 1 < len(way):
+            picture.line([(left + WAY_ROOM / 2, top + 28), (left + WAY_ROOM / 2, top + WAY_STEP)], "line", 1.5, True)
+
+
+def draw_ways() -> svg.Picture:
+    title = "The way of a row of demand, and of a line of a log"
+    ways = [("A row of demand, by hsplan plan", DEMAND_WAY), ("A line of a log, by hsplan dispatch", LOG_WAY)]
+    said = ". ".join(f"{heading}: {', '.join(f'{name} {does}' for name, does in way)}" for heading, way in ways)
+    picture = svg.Picture(2 * WAY_WIDTH + 48, 78 + WAY_STEP * max(len(way) for _, way in ways) + 20, title, said)
+    picture.text(16, 28, title, 16, form="bold")
+    for at, (heading, way) in enumerate(ways):
+        draw_way(picture, 16 + at * (WAY_WIDTH + 16), heading, way)
+    picture.text(16, 78 + WAY_STEP * len(DEMAND_WAY) + 4, "Between them hsp_runs calls each in its turn, and reports the first fault.", 11, "faint")
+    return picture
+
+
 PICTURES: dict[str, Callable[[], svg.Picture]] = {
     "loads.svg": draw_loads,
     "flow.svg": draw_flow,
     "record.svg": draw_record,
     "network.svg": draw_network,
     "floors.svg": draw_floors,
+    "ways.svg": draw_ways,
 }
 
 

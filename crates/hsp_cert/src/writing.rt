@@ -11,7 +11,7 @@ use hsp_text::push_number;
 use std::alloc::{AllocError, Global};
 
 // Appends what an item says.
-fn put_item(out: &mut Vec<u8>, item: Item) -> Result<(), AllocError>
+fn push_item(out: &mut Vec<u8>, item: Item) -> Result<(), AllocError>
     ensures { OnOk result (out.new.items ≡ out.old.items ++ line_of item) }
 {
     match item {
@@ -35,20 +35,20 @@ fn put_item(out: &mut Vec<u8>, item: Item) -> Result<(), AllocError>
 }
 
 // Appends a line and its LF.
-fn put_line(out: &mut Vec<u8>, item: Item) -> Result<(), AllocError>
+fn push_line(out: &mut Vec<u8>, item: Item) -> Result<(), AllocError>
     ensures { OnOk result (out.new.items ≡ out.old.items ++ (line_of item ++ 10 ∷ [])) }
 {
-    put_item(out, item)?;
+    push_item(out, item)?;
     out.push(b'\n')?;
     Ok(())
 }
 
-fn put_uses(out: &mut Vec<u8>, uses: &[UseLine]) -> Result<(), AllocError>
+fn push_uses(out: &mut Vec<u8>, uses: &[UseLine]) -> Result<(), AllocError>
     ensures { OnOk result
         (out.new.items ≡ out.old.items ++ unlines (map line_of (use_items uses.now))) }
 {
     for one in uses {
-        put_line(
+        push_line(
             out,
             Item::Three(
                 Word::Use,
@@ -61,22 +61,22 @@ fn put_uses(out: &mut Vec<u8>, uses: &[UseLine]) -> Result<(), AllocError>
     Ok(())
 }
 
-fn put_prices(out: &mut Vec<u8>, word: Word, prices: &[u64]) -> Result<(), AllocError>
+fn push_prices(out: &mut Vec<u8>, word: Word, prices: &[u64]) -> Result<(), AllocError>
     ensures { OnOk result
         (out.new.items ≡ out.old.items ++ unlines (map line_of (price_items word 0 prices.now))) }
 {
     for (number, price) in prices.iter().enumerate() {
-        put_line(out, Item::Two(word, number as u64, *price))?;
+        push_line(out, Item::Two(word, number as u64, *price))?;
     }
     Ok(())
 }
 
-fn put_rows(out: &mut Vec<u8>, rows: &[u32]) -> Result<(), AllocError>
+fn push_rows(out: &mut Vec<u8>, rows: &[u32]) -> Result<(), AllocError>
     ensures { OnOk result
         (out.new.items ≡ out.old.items ++ unlines (map line_of (row_items rows.now))) }
 {
     for row in rows {
-        put_line(out, Item::One(Word::Row, u64::from(*row)))?;
+        push_line(out, Item::One(Word::Row, u64::from(*row)))?;
     }
     Ok(())
 }
@@ -92,37 +92,37 @@ pub(crate) fn version_of(host_prices: &[u64]) -> u64
 }
 
 // Appends the lines between the cost and the end.
-fn put_body(out: &mut Vec<u8>, plan: &PricedPlan) -> Result<(), AllocError>
+fn push_body(out: &mut Vec<u8>, plan: &PricedPlan) -> Result<(), AllocError>
     ensures { OnOk result
         (out.new.items ≡ out.old.items ++ unlines (map line_of (body_items plan.now))) }
 {
-    put_uses(out, &plan.uses)?;
-    put_prices(out, Word::Row, &plan.row_prices)?;
-    put_prices(out, Word::Server, &plan.server_prices)?;
-    put_prices(out, Word::Host, &plan.host_prices)?;
+    push_uses(out, &plan.uses)?;
+    push_prices(out, Word::Row, &plan.row_prices)?;
+    push_prices(out, Word::Server, &plan.server_prices)?;
+    push_prices(out, Word::Host, &plan.host_prices)?;
     Ok(())
 }
 
-fn put_plan(out: &mut Vec<u8>, plan: &PricedPlan) -> Result<(), AllocError>
+fn push_plan(out: &mut Vec<u8>, plan: &PricedPlan) -> Result<(), AllocError>
     ensures { OnOk result (out.new.items ≡ out.old.items ++ text_of (best plan.now)) }
 {
-    put_line(out, Item::One(Word::Version, version_of(&plan.host_prices)))?;
-    put_line(out, Item::Alone(Word::Plan))?;
-    put_line(out, Item::One(Word::Cost, plan.cost))?;
-    put_body(out, plan)?;
-    put_line(out, Item::Alone(Word::End))?;
+    push_line(out, Item::One(Word::Version, version_of(&plan.host_prices)))?;
+    push_line(out, Item::Alone(Word::Plan))?;
+    push_line(out, Item::One(Word::Cost, plan.cost))?;
+    push_body(out, plan)?;
+    push_line(out, Item::Alone(Word::End))?;
     Ok(())
 }
 
-fn put_shortage(out: &mut Vec<u8>, set: &ShortSet) -> Result<(), AllocError>
+fn push_shortage(out: &mut Vec<u8>, set: &ShortSet) -> Result<(), AllocError>
     ensures { OnOk result (out.new.items ≡ out.old.items ++ text_of (short set.now)) }
 {
-    put_line(out, Item::One(Word::Version, 1))?;
-    put_line(out, Item::Alone(Word::Shortage))?;
-    put_line(out, Item::One(Word::Demand, set.demand))?;
-    put_line(out, Item::One(Word::Capacity, set.capacity))?;
-    put_rows(out, &set.rows)?;
-    put_line(out, Item::Alone(Word::End))?;
+    push_line(out, Item::One(Word::Version, 1))?;
+    push_line(out, Item::Alone(Word::Shortage))?;
+    push_line(out, Item::One(Word::Demand, set.demand))?;
+    push_line(out, Item::One(Word::Capacity, set.capacity))?;
+    push_rows(out, &set.rows)?;
+    push_line(out, Item::Alone(Word::End))?;
     Ok(())
 }
 
@@ -147,8 +147,8 @@ pub fn write_cert(alloc: Global, certificate: &Certificate) -> Result<Vec<u8>, A
 {
     let mut out = Vec::with_capacity(alloc, room_of(&certificate.shown))?;
     match &certificate.shown {
-        Shown::Plan(plan) => put_plan(&mut out, plan)?,
-        Shown::Shortage(set) => put_shortage(&mut out, set)?,
+        Shown::Plan(plan) => push_plan(&mut out, plan)?,
+        Shown::Shortage(set) => push_shortage(&mut out, set)?,
     }
     Ok(out)
 }

@@ -2,7 +2,7 @@
 use Rattle.std.proofs.Common.{◌≡◌, ◌≢◌, ℕ, ◌+◌, ◌<◌, ◌≤◌, ◌==◌, ◌∙◌, List, length, take, sum_by, slice_index, slice_index_or, slice_set, if◌then◌else◌, inl, inr, ap, sym, arith, eq-eqb, ne_eqb, get_or-set_same, get_or-set_other}
 use Rattle.std.proofs.lemmas.List.Sums.{sum_by_more}
 use Rattle.std.proofs.lemmas.Bool.{cases_eq}
-use Rattle.hsp_check.specs.declared.sums.LaidArc.{LaidArc}
+use Rattle.hsp_check.specs.declared.sums.ArcFlow.{ArcFlow}
 use Rattle.hsp_check.specs.declared.sums.End.{End}
 use Rattle.hsp_check.specs.Laid.{end_of}
 
@@ -15,7 +15,7 @@ added sums at v n s l e = elim (cases_eq at v) [
 ]
 
 -- the sums of the rows or servers with one arc more
-pub end_more : (end : End) (laid : List LaidArc) (sums : List ℕ) (i at n v : ℕ) (d : LaidArc) → i < length laid → at < length sums →
+pub end_more : (end : End) (laid : List ArcFlow) (sums : List ℕ) (i at n v : ℕ) (d : ArcFlow) → i < length laid → at < length sums →
     at ≡ end_of end (slice_index_or laid i d).arc → n ≡ (slice_index_or laid i d).flow →
     slice_index sums v ≡ sum_by (λ a. if end_of end a.arc == v then a.flow else 0) (take i laid) →
     slice_index (slice_set sums at (slice_index sums at + n)) v ≡ sum_by (λ a. if end_of end a.arc == v then a.flow else 0) (take (i + 1) laid)

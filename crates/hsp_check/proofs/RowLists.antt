@@ -8,7 +8,7 @@ use Rattle.std.proofs.lemmas.Bool.{cases_lt}
 use Rattle.hsp_instance.specs.declared.arc.Arc.{Arc}
 use Rattle.hsp_instance.specs.Instance.{IsAscending}
 use Rattle.hsp_check.specs.declared.arc.NetworkArc.{NetworkArc}
-use Rattle.hsp_check.specs.declared.sums.LaidArc.{LaidArc}
+use Rattle.hsp_check.specs.declared.sums.ArcFlow.{ArcFlow}
 use Rattle.hsp_check.specs.Instance.{arc_of, arcs_from}
 use Rattle.hsp_check.specs.Index.{ByRow, IsIndexed, arc_at, flow_at, no_arc, bare_arc}
 
@@ -52,8 +52,8 @@ one_site arcs up a b l m same = elim (cases_lt a b) [
   ]
 ]
 
-module _ (n : ℕ) (laid : List LaidArc) (starts : List ℕ) (arcs : List Arc) (by : ByRow n laid starts) (last : slice_index starts n ≡ length laid) (up : IsAscending arcs) where
-  abbrev more : List LaidArc
+module _ (n : ℕ) (laid : List ArcFlow) (starts : List ℕ) (arcs : List Arc) (by : ByRow n laid starts) (last : slice_index starts n ≡ length laid) (up : IsAscending arcs) where
+  abbrev more : List ArcFlow
   more = laid ++ map (bare_arc n) arcs
 
   abbrev ends : List ℕ
@@ -82,8 +82,8 @@ module _ (n : ℕ) (laid : List LaidArc) (starts : List ℕ) (arcs : List Arc) (
   which : (k : ℕ) → k < length more →
       ((k < length laid) × (arc_at more k ≡ arc_at laid k)) ⊎ ((length laid ≤ k) × ((arc_at more k).row ≡ n) × ((arc_at more k).site ≡ site_at arcs (k - length laid)))
   which k l = elim (cases_lt k (length laid)) [
-    | inl old ↦ inl (old, ap (λ (a : LaidArc). a.arc) (old_arc k old))
-    | inr new ↦ let e = new_arc k new l in inr (new, ap (λ (a : LaidArc). a.arc.row) e, ap (λ (a : LaidArc). a.arc.site) e)
+    | inl old ↦ inl (old, ap (λ (a : ArcFlow). a.arc) (old_arc k old))
+    | inr new ↦ let e = new_arc k new l in inr (new, ap (λ (a : ArcFlow). a.arc.row) e, ap (λ (a : ArcFlow). a.arc.site) e)
   ]
 
   row_of_old : (k : ℕ) → arc_at more k ≡ arc_at laid k → (arc_at more k).row ≡ (arc_at laid k).row
@@ -110,12 +110,12 @@ module _ (n : ℕ) (laid : List LaidArc) (starts : List ℕ) (arcs : List Arc) (
         let a = old_start i (omega arith) in
         let b = old_start (i + 1) (omega arith) in
         let w = by.within i less in
-        ap (λ (a : LaidArc). a.arc.row) (old_arc k (omega arith)) ∙ by.own i k less (omega arith) (omega arith)
+        ap (λ (a : ArcFlow). a.arc.row) (old_arc k (omega arith)) ∙ by.own i k less (omega arith) (omega arith)
     | inr rest ↦
         let e : i ≡ n = omega arith in
         let a : slice_index ends n ≤ k = omega (arith, ap (λ j. slice_index ends j) e) in
         let b : k < slice_index ends (n + 1) = omega (arith, ap (λ j. slice_index ends (j + 1)) e) in
-        ap (λ (a : LaidArc). a.arc.row) (new_arc k (omega (arith, old_start n (omega arith), last)) (omega (arith, new_start))) ∙ sym e
+        ap (λ (a : ArcFlow). a.arc.row) (new_arc k (omega (arith, old_start n (omega arith), last)) (omega (arith, new_start))) ∙ sym e
   ]
 
   rows_in : (k : ℕ) → k < length more → (arc_at more k).row < n + 1
@@ -164,12 +164,12 @@ module _ (n : ℕ) (laid : List LaidArc) (starts : List ℕ) (arcs : List Arc) (
 
   bare_more : ((k : ℕ) → k < length laid → flow_at laid k ≡ 0) → (k : ℕ) → k < length more → flow_at more k ≡ 0
   bare_more bare k l = elim (cases_lt k (length laid)) [
-    | inl old ↦ ap (λ (a : LaidArc). a.flow) (old_arc k old) ∙ bare k old
-    | inr new ↦ ap (λ (a : LaidArc). a.flow) (new_arc k new l)
+    | inl old ↦ ap (λ (a : ArcFlow). a.flow) (old_arc k old) ∙ bare k old
+    | inr new ↦ ap (λ (a : ArcFlow). a.flow) (new_arc k new l)
   ]
 
 -- the lists of one row more
-pub indexed_more : (lists : List (List Arc)) (n : ℕ) (laid : List LaidArc) (starts : List ℕ) (arcs : List Arc) → slice_get lists n ≡ Some arcs → IsAscending arcs → length arcs ≤ 32 →
+pub indexed_more : (lists : List (List Arc)) (n : ℕ) (laid : List ArcFlow) (starts : List ℕ) (arcs : List Arc) → slice_get lists n ≡ Some arcs → IsAscending arcs → length arcs ≤ 32 →
     IsIndexed (take n lists) laid starts → IsIndexed (take (n + 1) lists) (laid ++ map (bare_arc n) arcs) (starts ++ length (laid ++ map (bare_arc n) arcs) ∷ [])
 indexed_more lists n laid starts arcs there up few so_far =
     let inside = slice_get_within lists n arcs there in
@@ -183,7 +183,7 @@ indexed_more lists n laid starts arcs there up few so_far =
     record {
       by_row = rw then (row_more n laid starts arcs by last up);
       last = rw then (new_start n laid starts arcs by last up);
-      arcs = map-append (λ (l : LaidArc). l.arc) laid (map (bare_arc n) arcs) ∙ ap₂ (λ xs ys. xs ++ ys) so_far.arcs (map-map (λ (l : LaidArc). l.arc) (bare_arc n) arcs) ∙ sym after;
+      arcs = map-append (λ (l : ArcFlow). l.arc) laid (map (bare_arc n) arcs) ∙ ap₂ (λ xs ys. xs ++ ys) so_far.arcs (map-map (λ (l : ArcFlow). l.arc) (bare_arc n) arcs) ∙ sym after;
       bare = bare_more n laid starts arcs by last up so_far.bare;
       few = rw (then, total) (omega (arith, so_far.few, now));
     }

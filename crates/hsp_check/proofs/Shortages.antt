@@ -5,7 +5,7 @@ use Rattle.std.specs.List.{list_any}
 use Rattle.std.proofs.Math.Path.{fun_ext}
 use Rattle.std.proofs.lemmas.List.Elements.{All-head, All-tail}
 use Rattle.hsp_check.specs.declared.arc.NetworkArc.{NetworkArc}
-use Rattle.hsp_check.specs.declared.sums.LaidArc.{LaidArc}
+use Rattle.hsp_check.specs.declared.sums.ArcFlow.{ArcFlow}
 use Rattle.hsp_check.specs.declared.lists.NetworkLists.{NetworkLists}
 use Rattle.hsp_transport.specs.Sums.{sum_below}
 use Rattle.hsp_check.specs.Network.{Network, transport}
@@ -19,7 +19,7 @@ use Rattle.hsp_transport.proofs.Summing.{sum_below_same}
 use Rattle.hsp_check.proofs.LaidSums.{on_arcs}
 
 -- a test of the arcs alone
-pub any_of_arcs : (test : NetworkArc → Bool) (laid : List LaidArc) → list_any test (map (λ l. l.arc) laid) ≡ list_any (λ l. test l.arc) laid
+pub any_of_arcs : (test : NetworkArc → Bool) (laid : List ArcFlow) → list_any test (map (λ l. l.arc) laid) ≡ list_any (λ l. test l.arc) laid
 any_of_arcs test [] = refl
 any_of_arcs test (one ∷ laid) = ap (λ b. test one.arc || b) (any_of_arcs test laid)
 

@@ -4,26 +4,26 @@ use Rattle.std.specs.Prelude.{◌&&◌}
 use Rattle.std.proofs.lemmas.List.Sums.{sum_by_more}
 use Rattle.std.proofs.lemmas.Bool.{cases_eq, cases_Bool, and_parts, and_from}
 use Rattle.hsp_cert.specs.declared.use_line.UseLine.{UseLine}
-use Rattle.hsp_check.specs.declared.sums.LaidArc.{LaidArc}
+use Rattle.hsp_check.specs.declared.sums.ArcFlow.{ArcFlow}
 use Rattle.hsp_check.specs.Index.{ByRow, HasArc, arc_at, flow_at, no_arc, use_at}
 use Rattle.hsp_check.specs.Uses.{table}
 
 -- the arcs with more flow at one place
-abbrev pub with_more : List LaidArc → ℕ → ℕ → List LaidArc
+abbrev pub with_more : List ArcFlow → ℕ → ℕ → List ArcFlow
 with_more laid p n = slice_set laid p (record { arc = arc_at laid p; flow = flow_at laid p + n })
 
-pub arc_kept : (laid : List LaidArc) (p n k : ℕ) → p < length laid → arc_at (with_more laid p n) k ≡ arc_at laid k
+pub arc_kept : (laid : List ArcFlow) (p n k : ℕ) → p < length laid → arc_at (with_more laid p n) k ≡ arc_at laid k
 arc_kept laid p n k l = elim (cases_eq p k) [
-  | inl same ↦ rw (← same) (ap (λ (a : LaidArc). a.arc) (get_or-set_same laid p (record { arc = arc_at laid p; flow = flow_at laid p + n }) no_arc l))
-  | inr other ↦ let apart : k ≢ p = λ q. other (sym q) in ap (λ (a : LaidArc). a.arc) (get_or-set_other laid p k (record { arc = arc_at laid p; flow = flow_at laid p + n }) no_arc apart)
+  | inl same ↦ rw (← same) (ap (λ (a : ArcFlow). a.arc) (get_or-set_same laid p (record { arc = arc_at laid p; flow = flow_at laid p + n }) no_arc l))
+  | inr other ↦ let apart : k ≢ p = λ q. other (sym q) in ap (λ (a : ArcFlow). a.arc) (get_or-set_other laid p k (record { arc = arc_at laid p; flow = flow_at laid p + n }) no_arc apart)
 ]
 
-pub flow_grown : (laid : List LaidArc) (p n k : ℕ) → p < length laid → flow_at (with_more laid p n) k ≡ flow_at laid k + (if p == k then n else 0)
+pub flow_grown : (laid : List ArcFlow) (p n k : ℕ) → p < length laid → flow_at (with_more laid p n) k ≡ flow_at laid k + (if p == k then n else 0)
 flow_grown laid p n k l = elim (cases_eq p k) [
-  | inl same ↦ rw (eq-eqb p k same, ← same) (ap (λ (a : LaidArc). a.flow) (get_or-set_same laid p (record { arc = arc_at laid p; flow = flow_at laid p + n }) no_arc l))
+  | inl same ↦ rw (eq-eqb p k same, ← same) (ap (λ (a : ArcFlow). a.flow) (get_or-set_same laid p (record { arc = arc_at laid p; flow = flow_at laid p + n }) no_arc l))
   | inr other ↦
       let apart : k ≢ p = λ q. other (sym q) in
-      let kept = ap (λ (a : LaidArc). a.flow) (get_or-set_other laid p k (record { arc = arc_at laid p; flow = flow_at laid p + n }) no_arc apart) in
+      let kept = ap (λ (a : ArcFlow). a.flow) (get_or-set_other laid p k (record { arc = arc_at laid p; flow = flow_at laid p + n }) no_arc apart) in
       rw (ne_eqb p k other) (kept ∙ omega arith)
 ]
 
@@ -35,15 +35,15 @@ at_place p k n b to from = elim (cases_Bool b) [
 ]
 
 -- Before this turn the arcs have what the uses so far give them, and so they have after it.
-pub record Laid (first laid : List LaidArc) (uses : List UseLine) (i : ℕ) : Type 0 where
+pub record Laid (first laid : List ArcFlow) (uses : List UseLine) (i : ℕ) : Type 0 where
   pub arcs : (k : ℕ) → k < length laid → arc_at laid k ≡ arc_at first k
   pub flows : (k : ℕ) → k < length laid → flow_at laid k ≡ table (take i uses) (arc_at first k).row (arc_at first k).site
   pub small : (k : ℕ) → k < length laid → flow_at laid k ≤ i * 1000000
   pub each : (j : ℕ) → j < i → HasArc first (use_at uses j)
 
-module _ (first laid : List LaidArc) (starts : List ℕ) (rows : ℕ) (uses : List UseLine) (i p : ℕ) (index : ByRow rows first starts) (many : length laid ≡ length first)
+module _ (first laid : List ArcFlow) (starts : List ℕ) (rows : ℕ) (uses : List UseLine) (i p : ℕ) (index : ByRow rows first starts) (many : length laid ≡ length first)
     (inside : i < length uses) (so_far : Laid first laid uses i) (l : p < length laid) (row : (arc_at laid p).row ≡ (use_at uses i).row) (site : (arc_at laid p).site ≡ (use_at uses i).site) where
-  next : List LaidArc
+  next : List ArcFlow
   next = with_more laid p (use_at uses i).count
 
   -- the use's arc alone has its row and site

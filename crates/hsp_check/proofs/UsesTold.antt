@@ -8,7 +8,7 @@ use Rattle.std.proofs.lemmas.List.Folds.{list_any_at, Any-from_list_any}
 use Rattle.std.proofs.lemmas.Bool.{and_parts, and_from}
 use Rattle.hsp_cert.specs.declared.use_line.UseLine.{UseLine}
 use Rattle.hsp_check.specs.declared.arc.NetworkArc.{NetworkArc}
-use Rattle.hsp_check.specs.declared.sums.LaidArc.{LaidArc}
+use Rattle.hsp_check.specs.declared.sums.ArcFlow.{ArcFlow}
 use Rattle.hsp_check.specs.Plan.{planned}
 use Rattle.hsp_check.specs.Index.{HasArc, arc_at, flow_at, has_arc, no_arc, use_at}
 use Rattle.hsp_check.specs.Laid.{IsLaid}
@@ -18,28 +18,28 @@ use Rattle.hsp_check.specs.Uses.{table}
 pub written : {A : Type 0} (n : ℕ) (new old : List A) → length new ≡ length old → n ≡ length old → take n (new ++ drop (length new) old) ≡ new
 written n new old same many = take-append-le n new (drop (length new) old) (omega arith) ∙ take_all n new (omega arith)
 
-pub are_laid : (first laid : List LaidArc) (uses : List UseLine) → length laid ≡ length first → ((k : ℕ) → k < length first → arc_at laid k ≡ arc_at first k) →
+pub are_laid : (first laid : List ArcFlow) (uses : List UseLine) → length laid ≡ length first → ((k : ℕ) → k < length first → arc_at laid k ≡ arc_at first k) →
     ((k : ℕ) → k < length first → flow_at laid k ≡ table uses (arc_at first k).row (arc_at first k).site) → IsLaid (map (λ l. l.arc) first) (table uses) laid
 are_laid first laid uses many arcs flows = record {
-  arcs_are = ext_get_or no_arc.arc (map (λ (l : LaidArc). l.arc) laid) (map (λ (l : LaidArc). l.arc) first) (rw (length-map laid (λ (l : LaidArc). l.arc), length-map first (λ (l : LaidArc). l.arc)) many)
+  arcs_are = ext_get_or no_arc.arc (map (λ (l : ArcFlow). l.arc) laid) (map (λ (l : ArcFlow). l.arc) first) (rw (length-map laid (λ (l : ArcFlow). l.arc), length-map first (λ (l : ArcFlow). l.arc)) many)
       (λ k l.
-      let inside : k < length first = omega (arith, length-map laid (λ (l : LaidArc). l.arc)) in
-      get_or_of_map (λ (l : LaidArc). l.arc) laid k no_arc ∙ arcs k inside ∙ sym (get_or_of_map (λ (l : LaidArc). l.arc) first k no_arc));
-  flows_are = All-from_get_or (λ (l : LaidArc). l.flow ≡ planned (table uses) l.arc) laid no_arc (λ k l. let inside : k < length first = omega arith in flows k inside ∙ ap (λ a. planned (table uses) a) (sym (arcs k inside)));
+      let inside : k < length first = omega (arith, length-map laid (λ (l : ArcFlow). l.arc)) in
+      get_or_of_map (λ (l : ArcFlow). l.arc) laid k no_arc ∙ arcs k inside ∙ sym (get_or_of_map (λ (l : ArcFlow). l.arc) first k no_arc));
+  flows_are = All-from_get_or (λ (l : ArcFlow). l.flow ≡ planned (table uses) l.arc) laid no_arc (λ k l. let inside : k < length first = omega arith in flows k inside ∙ ap (λ a. planned (table uses) a) (sym (arcs k inside)));
 }
 
-arc_tested : (first : List LaidArc) (one : UseLine) → HasArc first one → has_arc first one ≡ true
+arc_tested : (first : List ArcFlow) (one : UseLine) → HasArc first one → has_arc first one ≡ true
 arc_tested first one has =
-    let inside : has.place < length (map (λ (l : LaidArc). l.arc) first) = rw (length-map first (λ (l : LaidArc). l.arc)) has.inside in
-    let there = get_or_of_map (λ (l : LaidArc). l.arc) first has.place no_arc in
-    list_any_at (λ (a : NetworkArc). a.row == one.row && a.site == one.site) (map (λ (l : LaidArc). l.arc) first) has.place no_arc.arc inside
+    let inside : has.place < length (map (λ (l : ArcFlow). l.arc) first) = rw (length-map first (λ (l : ArcFlow). l.arc)) has.inside in
+    let there = get_or_of_map (λ (l : ArcFlow). l.arc) first has.place no_arc in
+    list_any_at (λ (a : NetworkArc). a.row == one.row && a.site == one.site) (map (λ (l : ArcFlow). l.arc) first) has.place no_arc.arc inside
     (rw there (and_from _ _ (eq-eqb _ _ has.row) (eq-eqb _ _ has.site)))
 
-arc_found : (first : List LaidArc) (one : UseLine) → has_arc first one ≡ true → HasArc first one
+arc_found : (first : List ArcFlow) (one : UseLine) → has_arc first one ≡ true → HasArc first one
 arc_found first one test =
-    let found = Any-from_list_any (λ (a : NetworkArc). a.row == one.row && a.site == one.site) (map (λ (l : LaidArc). l.arc) first) test in
-    let inside : found.0 < length first = rw (length-map first (λ (l : LaidArc). l.arc)) at found.2 in
-    let there : arc_at first found.0 ≡ found.1 = sym (get_or-map (λ (l : LaidArc). l.arc) first found.0 no_arc found.1 inside) ∙ found.3 in
+    let found = Any-from_list_any (λ (a : NetworkArc). a.row == one.row && a.site == one.site) (map (λ (l : ArcFlow). l.arc) first) test in
+    let inside : found.0 < length first = rw (length-map first (λ (l : ArcFlow). l.arc)) at found.2 in
+    let there : arc_at first found.0 ≡ found.1 = sym (get_or-map (λ (l : ArcFlow). l.arc) first found.0 no_arc found.1 inside) ∙ found.3 in
     let parts = and_parts (found.1.row == one.row) (found.1.site == one.site) found.4 in
     record {
       place = found.0;
@@ -48,8 +48,8 @@ arc_found first one test =
       site = ap (λ (a : NetworkArc). a.site) there ∙ eqb-true _ _ parts.1;
     }
 
-pub all_tested : (first : List LaidArc) (uses : List UseLine) → ((i : ℕ) → i < length uses → HasArc first (use_at uses i)) → All (λ u. has_arc first u ≡ true) uses
+pub all_tested : (first : List ArcFlow) (uses : List UseLine) → ((i : ℕ) → i < length uses → HasArc first (use_at uses i)) → All (λ u. has_arc first u ≡ true) uses
 all_tested first uses each = All-from_get_or (λ u. has_arc first u ≡ true) uses (record { row = 0; site = 0; count = 0 }) (λ i l. arc_tested first (use_at uses i) (each i l))
 
-pub one_lost : (first : List LaidArc) (uses : List UseLine) (i : ℕ) → i < length uses → (HasArc first (use_at uses i) → ⊥) → All (λ u. has_arc first u ≡ true) uses → ⊥
+pub one_lost : (first : List ArcFlow) (uses : List UseLine) (i : ℕ) → i < length uses → (HasArc first (use_at uses i) → ⊥) → All (λ u. has_arc first u ≡ true) uses → ⊥
 one_lost first uses i l lost all = lost (arc_found first (use_at uses i) (all i (record { row = 0; site = 0; count = 0 }) l))

@@ -1,7 +1,7 @@
 -- Arcs with what a plan gives them.
 use Rattle.std.specs.Prelude.{◌≡◌, ℕ, List, map, All}
 use Rattle.hsp_check.specs.declared.arc.NetworkArc.{NetworkArc}
-use Rattle.hsp_check.specs.declared.sums.LaidArc.{LaidArc}
+use Rattle.hsp_check.specs.declared.sums.ArcFlow.{ArcFlow}
 use Rattle.hsp_check.specs.declared.sums.End.{End}
 use Rattle.hsp_check.specs.declared.sums.End.TheVariants as end
 use Rattle.hsp_check.specs.Plan.{Plan, planned}
@@ -13,14 +13,14 @@ end_of end.Row a = a.row
 end_of end.Server a = a.server
 
 -- only the arcs
-abbrev pub arcs_in : List LaidArc → List NetworkArc
+abbrev pub arcs_in : List ArcFlow → List NetworkArc
 arcs_in laid = map (λ l. l.arc) laid
 
 -- each arc has what the plan gives it
-abbrev pub AreLaidBy : Plan → List LaidArc → Type 0
+abbrev pub AreLaidBy : Plan → List ArcFlow → Type 0
 AreLaidBy x laid = All (λ l. l.flow ≡ planned x l.arc) laid
 
 -- the arcs, each with what the plan gives it
-pub record IsLaid (arcs : List NetworkArc) (x : Plan) (laid : List LaidArc) : Type 0 where
+pub record IsLaid (arcs : List NetworkArc) (x : Plan) (laid : List ArcFlow) : Type 0 where
   pub arcs_are : arcs_in laid ≡ arcs
   pub flows_are : AreLaidBy x laid

@@ -1,6 +1,6 @@
 -- What lists of a network's numbers hold.
 use Rattle.std.specs.Prelude.{◌≡◌, ℕ, ◌<◌, ◌==◌, Bool, List, length, slice_index, sum_by, if◌then◌else◌}
-use Rattle.hsp_check.specs.declared.sums.LaidArc.{LaidArc}
+use Rattle.hsp_check.specs.declared.sums.ArcFlow.{ArcFlow}
 use Rattle.hsp_check.specs.declared.sums.End.{End}
 use Rattle.hsp_check.specs.Laid.{end_of}
 use Rattle.hsp_transport.specs.Lists.{flag_at}
@@ -19,6 +19,6 @@ abbrev pub AreFlagsOf : (ℕ → Bool) → ℕ → List Bool → Type 0
 AreFlagsOf set count flags = (i : ℕ) → i < count → flag_at flags i ≡ set i
 
 -- each of `count` sums is what goes through the row, or through the server
-abbrev pub AreEndSums : End → List LaidArc → ℕ → List ℕ → Type 0
+abbrev pub AreEndSums : End → List ArcFlow → ℕ → List ℕ → Type 0
 AreEndSums end laid count sums = (v : ℕ) → v < count →
     slice_index sums v ≡ sum_by (λ l. if end_of end l.arc == v then l.flow else 0) laid

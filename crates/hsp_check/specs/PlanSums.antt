@@ -1,7 +1,7 @@
 -- The sums of a plan and of its prices.
 use Rattle.std.specs.Prelude.{◌≡◌, ◌+◌}
 use Rattle.hsp_cert.specs.Certificate.{Best as BestClaim}
-use Rattle.hsp_check.specs.declared.tallying.PlanSums.{PlanSums}
+use Rattle.hsp_check.specs.declared.totals.PlanSums.{PlanSums}
 use Rattle.hsp_transport.specs.Sums.{times}
 use Rattle.hsp_check.specs.Network.{Network}
 use Rattle.hsp_check.specs.Plan.{total}

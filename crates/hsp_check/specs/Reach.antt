@@ -1,9 +1,9 @@
 -- The networks that lists hold.
 use Rattle.std.specs.Prelude.{List, map}
-use Rattle.hsp_check.specs.declared.drawing.DrawnNetwork.{DrawnNetwork}
+use Rattle.hsp_check.specs.declared.building.IndexedNetwork.{IndexedNetwork}
 use Rattle.hsp_check.specs.declared.lists.NetworkLists.{NetworkLists}
 use Rattle.hsp_check.specs.declared.numbers.NetworkNumbers.{NetworkNumbers}
-use Rattle.hsp_check.specs.declared.sums.LaidArc.{LaidArc}
+use Rattle.hsp_check.specs.declared.sums.ArcFlow.{ArcFlow}
 use Rattle.hsp_check.specs.Network.{Network}
 use Rattle.hsp_check.specs.Laid.{host_in}
 
@@ -18,7 +18,7 @@ network_in lists = record {
 }
 
 -- the network of numbers and arcs
-abbrev pub network_with : NetworkNumbers → List LaidArc → Network
+abbrev pub network_with : NetworkNumbers → List ArcFlow → Network
 network_with numbers laid = record {
   demands = numbers.demands.items;
   capacities = numbers.capacities.items;
@@ -28,5 +28,5 @@ network_with numbers laid = record {
 }
 
 -- the network that was drawn
-abbrev pub drawn_network : DrawnNetwork → Network
-drawn_network drawn = network_with drawn.numbers drawn.arcs.laid.items
+abbrev pub indexed_network : IndexedNetwork → Network
+indexed_network drawn = network_with drawn.numbers drawn.arcs.laid.items

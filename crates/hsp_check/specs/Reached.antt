@@ -2,12 +2,12 @@
 use Rattle.std.specs.Prelude.{ℕ, ◌==◌, ◌&&◌, Bool, List, filter, length}
 use Rattle.std.specs.List.{list_any, range_with_len}
 use Rattle.hsp_check.specs.declared.lists.NetworkLists.{NetworkLists}
-use Rattle.hsp_check.specs.declared.sums.LaidArc.{LaidArc}
+use Rattle.hsp_check.specs.declared.sums.ArcFlow.{ArcFlow}
 use Rattle.hsp_check.specs.Laid.{flag_at}
 use Rattle.hsp_check.specs.Lists.{AreFlagsOf, AreRooms}
 
 -- whether an arc leads from a row of the set to the server
-abbrev pub laid_reaches : List LaidArc → (ℕ → Bool) → ℕ → Bool
+abbrev pub laid_reaches : List ArcFlow → (ℕ → Bool) → ℕ → Bool
 laid_reaches laid rows j = list_any (λ l. rows l.arc.row && l.arc.server == j) laid
 
 -- a flag for each server, set where a row of the set may use it

@@ -7,7 +7,7 @@ ghost use Rattle.hsp_check.specs.Shown.{AtYes, HasBestPlan, HasEqualSums, HasNoP
 ghost use Rattle.hsp_check.specs.Valid.{IsValid};
 ghost use Rattle.hsp_check.specs.Verdict.{IsVerdict};
 
-use crate::drawing::{DrawnNetwork, draw};
+use crate::building::{IndexedNetwork, build_network};
 use crate::plan_check::check_plan;
 use crate::set_check::check_set;
 use crate::verdict::Verdict;
@@ -37,7 +37,7 @@ pub fn check(
     ensures short { IfOk result (AtYes (HasShortSet (network_of instance.now) certificate.now)) }
     ensures none { IfOk result (AtYes (HasNoPlan (network_of instance.now) certificate.now)) }
 {
-    let DrawnNetwork { numbers, arcs } = draw(alloc, instance)?;
+    let IndexedNetwork { numbers, arcs } = build_network(alloc, instance)?;
     match certificate.as_best() {
         Some(plan) => check_plan(alloc, &numbers, arcs, &plan),
         None => {

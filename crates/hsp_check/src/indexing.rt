@@ -6,19 +6,19 @@ ghost use Rattle.hsp_check.specs.Index.{IsIndexed, bare_arc};
 ghost use Rattle.hsp_check.specs.Instance.{arcs_from};
 
 use crate::arc::NetworkArc;
-use crate::sums::LaidArc;
+use crate::sums::ArcFlow;
 use hsp_instance::{Arc, Instance, Runs};
 use std::alloc::{AllocError, Global};
 
 /// The arcs of a network, none of them used, and the run of each row among them.
 #[derive(Drop)]
 pub(crate) struct IndexedArcs {
-    pub(crate) laid: Vec<LaidArc>,
+    pub(crate) laid: Vec<ArcFlow>,
     pub(crate) runs: Runs,
 }
 
 // Appends the arcs of a row.
-fn push_arcs(laid: &mut Vec<LaidArc>, row: u32, arcs: &[Arc]) -> Result<(), AllocError>
+fn push_arcs(laid: &mut Vec<ArcFlow>, row: u32, arcs: &[Arc]) -> Result<(), AllocError>
     ensures { OnOk result (laid.new.items ≡ laid.old.items ++ map (bare_arc row) arcs.now) }
 {
     for arc in arcs {
@@ -28,7 +28,7 @@ fn push_arcs(laid: &mut Vec<LaidArc>, row: u32, arcs: &[Arc]) -> Result<(), Allo
             server: arc.server,
             cost: arc.cost,
         };
-        laid.push(LaidArc { arc, flow: 0 })?;
+        laid.push(ArcFlow { arc, flow: 0 })?;
     }
     Ok(())
 }

@@ -2,13 +2,13 @@
 #![tactic(auto)]
 
 mod arc;
+mod arc_flows;
+mod building;
 mod checking;
 mod conditions;
-mod drawing;
 mod indexing;
 mod judging;
 pub mod laws;
-mod laying;
 mod lists;
 mod loads;
 mod numbers;
@@ -19,7 +19,7 @@ mod reaching;
 mod set_check;
 mod shortage;
 mod sums;
-mod tallying;
+mod totals;
 mod verdict;
 
 pub use arc::NetworkArc;
@@ -27,6 +27,6 @@ pub use checking::check;
 pub use loads::Loads;
 pub use planned::planned_arcs;
 pub use reaching::reached_servers;
-pub use sums::LaidArc;
-pub use tallying::{PlanSums, plan_sums};
+pub use sums::ArcFlow;
+pub use totals::{PlanSums, plan_sums};
 pub use verdict::{Reason, Verdict};

@@ -4,7 +4,7 @@ ghost use Rattle.std.specs.Prelude.{◌≡◌, ℕ, ◌<◌, ◌≤◌, ◌^◌,
 ghost use Rattle.hsp_text.specs.declared.limits.TheConstants.{GREATEST_COST};
 ghost use Rattle.hsp_check.specs.Lists.{HostsAreBelow};
 
-use crate::sums::LaidArc;
+use crate::sums::ArcFlow;
 
 /// A network as lists: what each row asks for, what each server and each host can take, the host that each server
 /// stands on, and the arcs.
@@ -14,7 +14,7 @@ pub(crate) struct NetworkLists<'a> {
     pub(crate) capacities: &'a [u64],
     pub(crate) limits: &'a [u64],
     pub(crate) server_hosts: &'a [Option<u32>],
-    pub(crate) laid: &'a [LaidArc],
+    pub(crate) laid: &'a [ArcFlow],
     ghost servers_many: { length capacities.now ≡ length server_hosts.now },
     ghost few_rows: { length demands.now < 2 ^ 16 },
     ghost few_servers: { length server_hosts.now < 2 ^ 16 },

@@ -5,7 +5,7 @@ ghost use Rattle.hsp_text.specs.declared.limits.TheConstants.{GREATEST_COST};
 ghost use Rattle.hsp_check.specs.Instance.{capacities_in, demands_in, server_hosts_in, limits_in};
 
 use crate::lists::NetworkLists;
-use crate::sums::LaidArc;
+use crate::sums::ArcFlow;
 use hsp_instance::{Instance, capacities_of, counts_of, server_hosts_of, limits_of};
 use std::alloc::{AllocError, Global};
 
@@ -47,7 +47,7 @@ impl NetworkNumbers {
     ghost use Rattle.hsp_check.specs.Reach.{network_in, network_with};
 
     /// The network of these numbers and arcs, as lists.
-    pub(crate) fn with<'a>(&'a self, laid: &'a [LaidArc]) -> NetworkLists<'a>
+    pub(crate) fn with<'a>(&'a self, laid: &'a [ArcFlow]) -> NetworkLists<'a>
         requires network { IsNetwork (network_with self.now laid.now) }
         requires cheap { All (λ l. l.arc.cost ≤ GREATEST_COST) laid.now }
         requires few { length laid.now < 2 ^ 32 }

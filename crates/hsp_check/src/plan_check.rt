@@ -12,9 +12,9 @@ ghost use Rattle.hsp_check.specs.Laid.{AreLaidBy};
 ghost use Rattle.hsp_check.specs.Reach.{network_in, network_with};
 ghost use Rattle.hsp_check.specs.Verdict.{IsVerdict, PlanMeets};
 
+use crate::arc_flows::arc_flows;
 use crate::indexing::IndexedArcs;
 use crate::judging::LaidPlan;
-use crate::laying::lay;
 use crate::lists::NetworkLists;
 use crate::loads::loads_of;
 use crate::numbers::NetworkNumbers;
@@ -79,7 +79,7 @@ pub(crate) fn check_plan(
     if !is_shaped(numbers, plan) {
         return Ok(Verdict::No(Reason::Shape));
     }
-    let Some(laid) = lay(arcs, plan.uses()) else {
+    let Some(laid) = arc_flows(arcs, plan.uses()) else {
         return Ok(Verdict::No(Reason::NoSuchUse));
     };
     judge(alloc, numbers.with(&laid), plan)

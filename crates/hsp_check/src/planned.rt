@@ -8,9 +8,9 @@ ghost use Rattle.hsp_check.specs.Planned.{ArePlanned};
 ghost use Rattle.hsp_check.specs.Uses.{table};
 ghost use Rattle.hsp_check.specs.Valid.{IsValid};
 
-use crate::drawing::draw;
-use crate::laying::lay;
-use crate::sums::LaidArc;
+use crate::arc_flows::arc_flows;
+use crate::building::build_network;
+use crate::sums::ArcFlow;
 use hsp_cert::BestRef;
 use hsp_instance::Instance;
 use std::alloc::{AllocError, Global};
@@ -21,11 +21,11 @@ pub fn planned_arcs(
     alloc: Global,
     instance: &Instance,
     plan: &BestRef<'_>,
-) -> Result<Vec<LaidArc>, AllocError>
+) -> Result<Vec<ArcFlow>, AllocError>
     requires ranges { IsBest plan.now }
     requires valid { IsValid (network_of instance.now) (best plan.now) }
     ensures { IfOk result (λ laid. ArePlanned instance.now (table plan.now.uses) laid.items) }
 {
-    let drawn = draw(alloc, instance)?;
-    Ok(lay(drawn.arcs, plan.uses()).unwrap())
+    let drawn = build_network(alloc, instance)?;
+    Ok(arc_flows(drawn.arcs, plan.uses()).unwrap())
 }

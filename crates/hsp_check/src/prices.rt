@@ -5,7 +5,7 @@ ghost use Rattle.hsp_text.specs.declared.limits.TheConstants.{GREATEST_COST};
 ghost use Rattle.hsp_check.specs.Lists.{HostsAreBelow};
 
 use crate::arc::NetworkArc;
-use crate::sums::LaidArc;
+use crate::sums::ArcFlow;
 
 /// The prices of the rows, of the servers and of the hosts, and the host that each server stands on.
 #[derive(Clone, Copy)]
@@ -45,7 +45,7 @@ impl<'a> PriceLists<'a> {
     }
 
     /// Whether no row's price is above what an arc of it pays.
-    pub(crate) fn are_low(self, laid: &[LaidArc]) -> bool
+    pub(crate) fn are_low(self, laid: &[ArcFlow]) -> bool
         requires rows { All (λ l. l.arc.row < length self.rows.now) laid.now }
         requires servers { All (λ l. l.arc.server < length self.server_hosts.now) laid.now }
         requires cheap { All (λ l. l.arc.cost ≤ GREATEST_COST) laid.now }
@@ -61,7 +61,7 @@ impl<'a> PriceLists<'a> {
     }
 
     /// Whether each row's price is what an arc pays that it uses.
-    pub(crate) fn are_tight(self, laid: &[LaidArc]) -> bool
+    pub(crate) fn are_tight(self, laid: &[ArcFlow]) -> bool
         requires rows { All (λ l. l.arc.row < length self.rows.now) laid.now }
         requires servers { All (λ l. l.arc.server < length self.server_hosts.now) laid.now }
         requires cheap { All (λ l. l.arc.cost ≤ GREATEST_COST) laid.now }

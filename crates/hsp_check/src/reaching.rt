@@ -8,7 +8,7 @@ ghost use Rattle.hsp_check.specs.Short.{reached};
 ghost use Rattle.hsp_check.specs.Valid.{IsValid};
 ghost use Rattle.hsp_check.specs.Verdict.{is_one_of};
 
-use crate::drawing::draw;
+use crate::building::build_network;
 use crate::set_check::flags_of;
 use crate::shortage::reached_by;
 use hsp_cert::ShortRef;
@@ -39,7 +39,7 @@ pub fn reached_servers(
     ensures { IfOk result (λ servers.
         servers.items ≡ reached (network_of instance.now) (is_one_of set.now.rows)) }
 {
-    let drawn = draw(alloc, instance)?;
+    let drawn = build_network(alloc, instance)?;
     let lists = drawn.numbers.with(&drawn.arcs.laid);
     let rows = flags_of(alloc, set.rows(), lists.demands.len())?.unwrap();
     let servers = reached_by(alloc, lists, &rows)?;

@@ -8,7 +8,7 @@ ghost use Rattle.hsp_check.specs.Reach.{network_in};
 ghost use Rattle.hsp_check.specs.Reached.{AreReached, AreRoomsOf, laid_reaches};
 
 use crate::lists::NetworkLists;
-use crate::sums::{LaidArc, add_hosts};
+use crate::sums::{ArcFlow, add_hosts};
 use std::alloc::{AllocError, Global};
 
 /// The sum of the numbers whose flags are set.
@@ -27,7 +27,7 @@ pub(crate) fn sum_flagged(numbers: &[u64], flags: &[bool]) -> u128
 }
 
 // Flags the servers that arcs of the flagged rows lead to. No server is flagged at first.
-fn flag_each(reached: &mut [bool], laid: &[LaidArc], rows: &[bool])
+fn flag_each(reached: &mut [bool], laid: &[ArcFlow], rows: &[bool])
     requires rows { All (λ l. l.arc.row < length rows.now) laid.now }
     requires servers { All (λ l. l.arc.server < length reached.old) laid.now }
     requires none { AreFlagsOf (λ _. false) (length reached.old) reached.old }

@@ -12,7 +12,7 @@ use std::alloc::{AllocError, Global};
 
 /// An arc with what a plan gives it, in queries.
 #[derive(Clone, Copy, Debug)]
-pub struct LaidArc {
+pub struct ArcFlow {
     pub arc: NetworkArc,
     pub flow: u64,
 }
@@ -33,7 +33,7 @@ fn end_of(end: End, arc: NetworkArc) -> u32
     }
 }
 
-fn flow_of(one: LaidArc) -> u128
+fn flow_of(one: ArcFlow) -> u128
     ensures flow { result ≡ one.flow }
     ensures fits { result < 2 ^ 64 }
 {
@@ -41,7 +41,7 @@ fn flow_of(one: LaidArc) -> u128
 }
 
 // What the flow of the arc costs.
-fn cost_of(one: LaidArc) -> u128
+fn cost_of(one: ArcFlow) -> u128
     requires { one.arc.cost ≤ GREATEST_COST }
     ensures cost { result ≡ one.arc.cost * one.flow }
     ensures fits { result ≤ 2 ^ 84 }
@@ -50,7 +50,7 @@ fn cost_of(one: LaidArc) -> u128
 }
 
 // Adds what goes through each row, or each server, to sums that are 0.
-fn add_each(sums: &mut [u128], end: End, laid: &[LaidArc])
+fn add_each(sums: &mut [u128], end: End, laid: &[ArcFlow])
     requires few { length laid.now < 2 ^ 32 }
     requires ends { All (λ l. end_of end l.arc < length sums.old) laid.now }
     requires zero { AreZero sums.old }
@@ -68,7 +68,7 @@ fn add_each(sums: &mut [u128], end: End, laid: &[LaidArc])
 pub(crate) fn add_up(
     alloc: Global,
     end: End,
-    laid: &[LaidArc],
+    laid: &[ArcFlow],
     count: usize,
 ) -> Result<Vec<u128>, AllocError>
     requires few { length laid.now < 2 ^ 32 }
@@ -118,7 +118,7 @@ pub(crate) fn add_hosts(
 }
 
 /// What the plan costs.
-pub(crate) fn total_of(laid: &[LaidArc]) -> u128
+pub(crate) fn total_of(laid: &[ArcFlow]) -> u128
     requires few { length laid.now < 2 ^ 32 }
     requires cheap { All (λ l. l.arc.cost ≤ GREATEST_COST) laid.now }
     ensures { result ≡ sum_by (λ l. l.arc.cost * l.flow) laid.now }

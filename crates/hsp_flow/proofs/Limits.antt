@@ -17,14 +17,14 @@ use Rattle.hsp_instance.proofs.Lists.{all_append, all_at}
 use Rattle.hsp_transport.specs.Lists.{HostsAreBelow}
 use Rattle.hsp_transport.proofs.Places.{hosts_below}
 use Rattle.hsp_transport.proofs.Summing.{sum_by_le_all, by_key}
-use Rattle.hsp_mincost.specs.Layout.{IsSmall}
+use Rattle.hsp_shortest_paths.specs.Layout.{IsSmall}
 use Rattle.hsp_network.specs.Network.{IsNetwork, Transport, host_of, numbered}
 use Rattle.hsp_transport.specs.Cut.{demand_of}
 use Rattle.hsp_flow.specs.Nodes.{nodes_by}
 use Rattle.hsp_flow.specs.Planning.{transport_of, row_of, server_of, cost_of}
 use Rattle.hsp_flow.proofs.Ordering.{no_arc, each_weaker, each_at, all_ordered, rows_between, rows_ordered, arcs_many}
 use Rattle.hsp_flow.proofs.Bridging.{arc}
-use Rattle.hsp_mincost.proofs.Sums.{sum_below_low}
+use Rattle.hsp_shortest_paths.proofs.Sums.{sum_below_low}
 
 pub each_both : {A : Type 0} (P Q : A → Type 0) (xs : List A) → AllByRecursion P xs → AllByRecursion Q xs → AllByRecursion (λ x. P x × Q x) xs
 each_both P Q [] h k = tt
@@ -132,7 +132,7 @@ module _ (it : Instance) (is : IsInstance it) (lists : List (List Arc)) (each : 
         let nodes : n ≤ 10242 = omega (arith, hosts, servers, is.hosts.few, is.servers.few) in
         record {
           few = omega (arith, nodes);
-          few_links = omega (arith, hosts, servers, is.hosts.few, is.servers.few, length-map (arcs_from 0 lists) row_of, few_over);
+          few_arcs = omega (arith, hosts, servers, is.hosts.few, is.servers.few, length-map (arcs_from 0 lists) row_of, few_over);
           cheap = λ k l.
               let cost = slice_index (map cost_of (arcs_from 0 lists)) k in
               let one : n * cost ≤ 10242000000 = le_trans (mul-le-mul_right cost nodes) (omega (arith, cost_low k l)) in

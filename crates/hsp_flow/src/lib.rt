@@ -12,5 +12,5 @@ mod shortfall;
 mod small;
 mod spreading;
 
-pub use hsp_mincost::{Frontier, HeapFrontier, ScanFrontier, SearchEffort};
+pub use hsp_shortest_paths::{Frontier, HeapFrontier, ScanFrontier, SearchEffort};
 pub use planning::{Effort, solve, solve_counted, solve_proposed, solve_with};

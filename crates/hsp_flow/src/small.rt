@@ -2,7 +2,7 @@
 
 ghost use Rattle.std.specs.Prelude.{ℕ, ◌*◌, ◌<◌, IsTrue, length, slice_index};
 ghost use Rattle.hsp_network.specs.Problem.{problem_of};
-ghost use Rattle.hsp_mincost.specs.Layout.{IsSmall};
+ghost use Rattle.hsp_shortest_paths.specs.Layout.{IsSmall};
 
 use hsp_network::{Network, greatest};
 

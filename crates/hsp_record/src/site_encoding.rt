@@ -5,87 +5,87 @@ ghost use Rattle.hsp_record.specs.Fields.{joined, list_fields, IsCounted, spelli
 ghost use Rattle.hsp_record.specs.Site.{IsAttribute, IsServer, attribute_fields, interface_fields, server_fields, head_fields, site_format};
 
 use crate::site::{Attribute, ServerRecord, ServiceInterface, SiteRecord};
-use crate::writing::{put_octet, put_run};
+use crate::writing::{push_octet, push_run};
 use std::alloc::{AllocError, Global};
 
-fn put_attribute(out: &mut Vec<u8>, attribute: &Attribute) -> Result<(), AllocError>
+fn push_attribute(out: &mut Vec<u8>, attribute: &Attribute) -> Result<(), AllocError>
     requires { IsAttribute attribute.now }
     ensures { OnOk result
         (out.new.items ≡ out.old.items ++ joined (attribute_fields attribute.now)) }
 {
-    put_run(out, &attribute.name)?;
-    put_run(out, &attribute.value)?;
+    push_run(out, &attribute.name)?;
+    push_run(out, &attribute.value)?;
     Ok(())
 }
 
-fn put_attributes(out: &mut Vec<u8>, attributes: &[Attribute]) -> Result<(), AllocError>
+fn push_attributes(out: &mut Vec<u8>, attributes: &[Attribute]) -> Result<(), AllocError>
     requires { IsCounted IsAttribute attributes.now }
     ensures { OnOk result
         (out.new.items ≡ out.old.items ++ joined (list_fields attribute_fields attributes.now)) }
 {
     out.extend_from_slice(&(attributes.len() as u32).to_be_bytes())?;
     for attribute in attributes {
-        put_attribute(out, attribute)?;
+        push_attribute(out, attribute)?;
     }
     Ok(())
 }
 
-fn put_interface(out: &mut Vec<u8>, interface: &ServiceInterface) -> Result<(), AllocError>
+fn push_interface(out: &mut Vec<u8>, interface: &ServiceInterface) -> Result<(), AllocError>
     ensures { OnOk result
         (out.new.items ≡ out.old.items ++ joined (interface_fields interface.now)) }
 {
-    put_octet(out, interface.service_type)?;
-    put_octet(out, interface.protocol)?;
+    push_octet(out, interface.service_type)?;
+    push_octet(out, interface.protocol)?;
     out.extend_from_slice(&interface.port.to_be_bytes())?;
     Ok(())
 }
 
-fn put_interfaces(out: &mut Vec<u8>, interfaces: &[ServiceInterface]) -> Result<(), AllocError>
+fn push_interfaces(out: &mut Vec<u8>, interfaces: &[ServiceInterface]) -> Result<(), AllocError>
     requires { length interfaces.now < 2 ^ 32 }
     ensures { OnOk result
         (out.new.items ≡ out.old.items ++ joined (list_fields interface_fields interfaces.now)) }
 {
     out.extend_from_slice(&(interfaces.len() as u32).to_be_bytes())?;
     for interface in interfaces {
-        put_interface(out, interface)?;
+        push_interface(out, interface)?;
     }
     Ok(())
 }
 
-fn put_server(out: &mut Vec<u8>, server: &ServerRecord) -> Result<(), AllocError>
+fn push_server(out: &mut Vec<u8>, server: &ServerRecord) -> Result<(), AllocError>
     requires { IsServer server.now }
     ensures { OnOk result (out.new.items ≡ out.old.items ++ joined (server_fields server.now)) }
 {
     out.extend_from_slice(&server.id.to_be_bytes())?;
     out.extend_from_slice(&server.address)?;
-    put_run(out, &server.key)?;
-    put_interfaces(out, &server.interfaces)?;
+    push_run(out, &server.key)?;
+    push_interfaces(out, &server.interfaces)?;
     Ok(())
 }
 
-fn put_servers(out: &mut Vec<u8>, servers: &[ServerRecord]) -> Result<(), AllocError>
+fn push_servers(out: &mut Vec<u8>, servers: &[ServerRecord]) -> Result<(), AllocError>
     requires { IsCounted IsServer servers.now }
     ensures { OnOk result
         (out.new.items ≡ out.old.items ++ joined (list_fields server_fields servers.now)) }
 {
     out.extend_from_slice(&(servers.len() as u32).to_be_bytes())?;
     for server in servers {
-        put_server(out, server)?;
+        push_server(out, server)?;
     }
     Ok(())
 }
 
 // Appends the fields before the number of servers.
-fn put_head(out: &mut Vec<u8>, site: &SiteRecord) -> Result<(), AllocError>
+fn push_head(out: &mut Vec<u8>, site: &SiteRecord) -> Result<(), AllocError>
     ensures { OnOk result (out.new.items ≡ out.old.items ++ joined (head_fields site.now)) }
 {
     out.extend_from_slice(&site.version.to_be_bytes())?;
     out.extend_from_slice(&[site.protocol.0, site.protocol.1])?;
     out.extend_from_slice(&site.serial.to_be_bytes())?;
-    put_octet(out, site.mask)?;
-    put_octet(out, site.option)?;
-    put_run(out, &site.filter)?;
-    put_attributes(out, &site.attributes)?;
+    push_octet(out, site.mask)?;
+    push_octet(out, site.option)?;
+    push_run(out, &site.filter)?;
+    push_attributes(out, &site.attributes)?;
     Ok(())
 }
 
@@ -94,7 +94,7 @@ pub fn encode_site(alloc: Global, site: &SiteRecord) -> Result<Vec<u8>, AllocErr
     ensures { IfOk result (λ octets. octets.items ≡ spelling site_format site.now) }
 {
     let mut out = Vec::new(alloc);
-    put_head(&mut out, site)?;
-    put_servers(&mut out, &site.servers)?;
+    push_head(&mut out, site)?;
+    push_servers(&mut out, &site.servers)?;
     Ok(out)
 }

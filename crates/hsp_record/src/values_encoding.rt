@@ -5,10 +5,10 @@ ghost use Rattle.hsp_record.specs.Fields.{joined, list_fields, IsCounted, spelli
 ghost use Rattle.hsp_record.specs.Values.{IsValue, reference_fields, value_fields, values_format};
 
 use crate::values::{References, Value, ValueList};
-use crate::writing::{put_octet, put_run};
+use crate::writing::{push_octet, push_run};
 use std::alloc::{AllocError, Global};
 
-fn put_references(out: &mut Vec<u8>, references: &References) -> Result<(), AllocError>
+fn push_references(out: &mut Vec<u8>, references: &References) -> Result<(), AllocError>
     ensures { OnOk result
         (out.new.items ≡ out.old.items ++ joined (list_fields reference_fields references.now)) }
 {
@@ -17,29 +17,29 @@ fn put_references(out: &mut Vec<u8>, references: &References) -> Result<(), Allo
     Ok(())
 }
 
-fn put_value(out: &mut Vec<u8>, value: &Value) -> Result<(), AllocError>
+fn push_value(out: &mut Vec<u8>, value: &Value) -> Result<(), AllocError>
     requires { IsValue value.now }
     ensures { OnOk result (out.new.items ≡ out.old.items ++ joined (value_fields value.now)) }
 {
     out.extend_from_slice(&value.index.to_be_bytes())?;
-    put_run(out, value.type_octets)?;
-    put_run(out, value.octets)?;
-    put_octet(out, value.permission)?;
-    put_octet(out, value.ttl_kind)?;
+    push_run(out, value.type_octets)?;
+    push_run(out, value.octets)?;
+    push_octet(out, value.permission)?;
+    push_octet(out, value.ttl_kind)?;
     out.extend_from_slice(&value.ttl.to_be_bytes())?;
     out.extend_from_slice(&value.timestamp.to_be_bytes())?;
-    put_references(out, &value.references)?;
+    push_references(out, &value.references)?;
     Ok(())
 }
 
-fn put_values(out: &mut Vec<u8>, values: &[Value]) -> Result<(), AllocError>
+fn push_values(out: &mut Vec<u8>, values: &[Value]) -> Result<(), AllocError>
     requires { IsCounted IsValue values.now }
     ensures { OnOk result
         (out.new.items ≡ out.old.items ++ joined (list_fields value_fields values.now)) }
 {
     out.extend_from_slice(&(values.len() as u32).to_be_bytes())?;
     for value in values {
-        put_value(out, value)?;
+        push_value(out, value)?;
     }
     Ok(())
 }
@@ -49,6 +49,6 @@ pub fn encode_values(alloc: Global, list: &ValueList) -> Result<Vec<u8>, AllocEr
     ensures { IfOk result (λ octets. octets.items ≡ spelling values_format list.now) }
 {
     let mut out = Vec::new(alloc);
-    put_values(&mut out, &list.values)?;
+    push_values(&mut out, &list.values)?;
     Ok(out)
 }

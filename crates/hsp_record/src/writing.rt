@@ -7,7 +7,7 @@ ghost use Rattle.hsp_record.specs.Fields.{joined, run_fields};
 use std::alloc::AllocError;
 
 /// Appends one octet.
-pub(crate) fn put_octet(out: &mut Vec<u8>, octet: u8) -> Result<(), AllocError>
+pub(crate) fn push_octet(out: &mut Vec<u8>, octet: u8) -> Result<(), AllocError>
     ensures { OnOk result (out.new.items ≡ out.old.items ++ to_be_bytes w8 octet) }
 {
     out.push(octet)?;
@@ -15,7 +15,7 @@ pub(crate) fn put_octet(out: &mut Vec<u8>, octet: u8) -> Result<(), AllocError>
 }
 
 /// Appends a length and that many octets.
-pub(crate) fn put_run(out: &mut Vec<u8>, octets: &[u8]) -> Result<(), AllocError>
+pub(crate) fn push_run(out: &mut Vec<u8>, octets: &[u8]) -> Result<(), AllocError>
     requires { length octets.now < 2 ^ 32 }
     ensures { OnOk result (out.new.items ≡ out.old.items ++ joined (run_fields octets.now)) }
 {

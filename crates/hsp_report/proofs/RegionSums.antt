@@ -10,7 +10,7 @@ use Rattle.hsp_tables.proofs.SeenNames.{first_seen-append}
 use Rattle.hsp_instance.specs.Instance.{Instance, Row, regions_of}
 use Rattle.hsp_instance.proofs.Lists.{map_take_next}
 use Rattle.hsp_check.specs.declared.arc.NetworkArc.{NetworkArc}
-use Rattle.hsp_check.specs.declared.sums.LaidArc.{LaidArc}
+use Rattle.hsp_check.specs.declared.sums.ArcFlow.{ArcFlow}
 use Rattle.hsp_check.specs.Plan.{Plan}
 use Rattle.hsp_check.specs.Planned.{ArePlanned}
 use Rattle.hsp_check.proofs.LaidSums.{laid_sum}
@@ -25,7 +25,7 @@ seen_more rows i row names more at so_far added =
     ∙ ap first_seen (sym (map_take_next (λ (r : Row). r.region) rows i row at))
 
 -- what is laid on the region's arcs is what the plan gives them
-pub cost_is : (it : Instance) (x : Plan) (laid : List LaidArc) (region : List ℕ) (n sum : ℕ) → ArePlanned it x laid → length laid ≤ n →
+pub cost_is : (it : Instance) (x : Plan) (laid : List ArcFlow) (region : List ℕ) (n sum : ℕ) → ArePlanned it x laid → length laid ≤ n →
     sum ≡ sum_by (λ l. if is_of region (row_at it l.arc.row) then l.arc.cost * l.flow else 0) (take n laid) → sum ≡ region_cost it x region
 cost_is it x laid region n sum planned all so_far =
     so_far ∙ rw (take_all n laid all) (laid_sum (λ a m. if is_of region (row_at it a.row) then a.cost * m else 0) x laid planned.is_laid.flows_are)

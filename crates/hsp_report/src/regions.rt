@@ -16,7 +16,7 @@ ghost use Rattle.hsp_report.specs.RegionReport.{IsRegionReport, is_of, region_co
 use crate::columns::{aligned, push_columns};
 use crate::naming::regions_of;
 use hsp_cert::{BestRef, Certificate};
-use hsp_check::{LaidArc, planned_arcs};
+use hsp_check::{ArcFlow, planned_arcs};
 use hsp_instance::Instance;
 use hsp_text::push_wide;
 use std::alloc::{AllocError, Global};
@@ -67,7 +67,7 @@ fn total_demand(instance: &Instance) -> u128
 }
 
 // What the queries over the arc cost, where its row is of the region.
-fn cost_in(instance: &Instance, region: &[u8], one: LaidArc) -> u128
+fn cost_in(instance: &Instance, region: &[u8], one: ArcFlow) -> u128
     requires row { one.arc.row < length instance.now.rows }
     requires cheap { one.arc.cost ≤ GREATEST_COST }
     ensures cost { result ≡ cost_in instance.now region.now one }
@@ -81,7 +81,7 @@ fn cost_in(instance: &Instance, region: &[u8], one: LaidArc) -> u128
 }
 
 // What the queries of the region's rows cost.
-fn region_cost(instance: &Instance, laid: &[LaidArc], region: &[u8]) -> u128
+fn region_cost(instance: &Instance, laid: &[ArcFlow], region: &[u8]) -> u128
     requires { (x : Plan) × ArePlanned instance.now x laid.now }
     ensures { (x : Plan) → ArePlanned instance.now x laid.now
         → result ≡ region_cost instance.now x region.now }
@@ -97,7 +97,7 @@ fn region_cost(instance: &Instance, laid: &[LaidArc], region: &[u8]) -> u128
 fn push_regions(
     out: &mut Vec<u8>,
     instance: &Instance,
-    laid: &[LaidArc],
+    laid: &[ArcFlow],
     regions: &[&[u8]],
 ) -> Result<(), AllocError>
     requires { (x : Plan) × ArePlanned instance.now x laid.now }

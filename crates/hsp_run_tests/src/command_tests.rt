@@ -1,5 +1,5 @@
 use crate::same::is_same;
-use hsp_command::*;
+use hsp_cli_orders::*;
 use std::alloc::{AllocError, Global};
 use std::process::Abort;
 

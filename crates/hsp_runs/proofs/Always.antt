@@ -20,9 +20,9 @@ use Rattle.hsp_dispatch.specs.declared.answer.FrontSums.{FrontSums}
 use Rattle.hsp_dispatch.specs.declared.answer.LogSums.{LogSums}
 use Rattle.hsp_dispatch.specs.declared.fault.LogFault.{LogFault}
 use Rattle.hsp_dispatch.specs.declared.fault.LogFault.TheVariants as log_fault
-use Rattle.hsp_lines.specs.FaultText.{log_told}
-use Rattle.hsp_lines.specs.declared.fault.Fault.{Fault}
-use Rattle.hsp_lines.specs.declared.fault.Fault.TheVariants.{BadFronts, Cert, Log, OutOfMemory}
+use Rattle.hsp_faults.specs.FaultText.{log_told}
+use Rattle.hsp_faults.specs.declared.fault.Fault.{Fault}
+use Rattle.hsp_faults.specs.declared.fault.Fault.TheVariants.{BadFronts, Cert, Log, OutOfMemory}
 use Rattle.hsp_runs.specs.Always.{AcceptsClaim, GivesTheDefinedAlways, ReadsAlways}
 use Rattle.hsp_runs.specs.Counts.{above_none}
 use Rattle.hsp_runs.specs.Dispatch.{AnswersAs, AnswersBy, EndsLog, Refuses, a_dispatcher, fronts_at, so_many}

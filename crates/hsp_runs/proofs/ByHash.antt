@@ -18,7 +18,7 @@ use Rattle.hsp_runs.specs.Check.{IsCertificate}
 use Rattle.hsp_runs.specs.Instance.{IsInstanceOf}
 use Rattle.hsp_runs.specs.Laws.{AnswersByHash, LogsGoByHash}
 use Rattle.hsp_runs.specs.declared.accepted.Accepted.{Accepted}
-use Rattle.hsp_lines.specs.declared.fault.Fault.TheVariants.{Build}
+use Rattle.hsp_faults.specs.declared.fault.Fault.TheVariants.{Build}
 use Rattle.hsp_runs.specs.declared.inputs.Inputs as files
 
 -- what the second of two steps answers, the first gave rise to

@@ -10,7 +10,7 @@ use Rattle.hsp_instance.proofs.OneAnswer.{IsOne, then_one}
 use Rattle.hsp_runs.specs.Instance.{BuildsInstance, IsWithCosts, IsWithDemand, IsWithSettings, IsWithValues, ReadsCapacities, ReadsCosts, ReadsDemand}
 use Rattle.hsp_runs.specs.Laws.{GivesNothingElse, GivesOneAnswer}
 use Rattle.hsp_runs.specs.Readings.{AreListed, ReadsSettings, ReadsValues, some_list}
-use Rattle.hsp_lines.specs.declared.fault.Fault.TheVariants.{Build, Values}
+use Rattle.hsp_faults.specs.declared.fault.Fault.TheVariants.{Build, Values}
 use Rattle.hsp_runs.proofs.PageRead.{accepts_the_defined}
 
 listed_one : formats.HasOneAnswer values_format → (octets : List ℕ) → IsOne (AreListed octets)

@@ -11,8 +11,8 @@ use Rattle.hsp_runs.specs.Told as told
 use Rattle.hsp_runs.specs.Instance.{IsInstanceOf}
 use Rattle.hsp_runs.specs.Laws.{AcceptsTheDefined, GivesTheDefined}
 use Rattle.hsp_runs.specs.Readings.{AreListed, ReadsValues, some_list}
-use Rattle.hsp_lines.specs.declared.fault.Fault.{Fault}
-use Rattle.hsp_lines.specs.declared.fault.Fault.TheVariants.{Capacity, Costs, Demand, Settings, Values}
+use Rattle.hsp_faults.specs.declared.fault.Fault.{Fault}
+use Rattle.hsp_faults.specs.declared.fault.Fault.TheVariants.{Capacity, Costs, Demand, Settings, Values}
 use Rattle.hsp_runs.specs.declared.inputs.Inputs.{Inputs}
 use Rattle.hsp_runs.proofs.ByHash.{built_so, went_on}
 use Rattle.hsp_runs.proofs.Page.{Holds, is_defined, is_read, is_within}

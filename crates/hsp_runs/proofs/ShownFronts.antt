@@ -31,8 +31,8 @@ use Rattle.hsp_runs.specs.Laws.{FrontsLogsShow}
 use Rattle.hsp_runs.specs.Logs.{AnswersByShares, IsLogAt, IsRefused, ShowsFrontsOf, ShowsPlanOf, by_shares}
 use Rattle.hsp_runs.specs.Shown.{Holds}
 use Rattle.hsp_runs.specs.declared.accepted.Accepted.{Accepted}
-use Rattle.hsp_lines.specs.declared.fault.Fault.{Fault}
-use Rattle.hsp_lines.specs.declared.fault.Fault.TheVariants.{BadFronts, Log}
+use Rattle.hsp_faults.specs.declared.fault.Fault.{Fault}
+use Rattle.hsp_faults.specs.declared.fault.Fault.TheVariants.{BadFronts, Log}
 use Rattle.hsp_runs.specs.declared.inputs.Inputs.{Inputs}
 use Rattle.hsp_runs.proofs.ByHash.{logs_go_by_hash}
 use Rattle.hsp_runs.proofs.Ending.{ends}

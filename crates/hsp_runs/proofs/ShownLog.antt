@@ -27,8 +27,8 @@ use Rattle.hsp_runs.specs.Instance.{IsInstanceOf}
 use Rattle.hsp_runs.specs.Logs.{IsLogOf, IsRefused, ShowsPlanOf, ShowsLogOf}
 use Rattle.hsp_runs.specs.Shown.{Holds}
 use Rattle.hsp_runs.specs.declared.accepted.Accepted.{Accepted}
-use Rattle.hsp_lines.specs.declared.fault.Fault.{Fault}
-use Rattle.hsp_lines.specs.declared.fault.Fault.TheVariants.{Cert, Log, OutOfMemory, WrongKind}
+use Rattle.hsp_faults.specs.declared.fault.Fault.{Fault}
+use Rattle.hsp_faults.specs.declared.fault.Fault.TheVariants.{Cert, Log, OutOfMemory, WrongKind}
 use Rattle.hsp_runs.specs.declared.inputs.Inputs.{Inputs}
 use Rattle.hsp_text.specs.Answers.{Then, told_as}
 use Rattle.hsp_runs.specs.Laws.{DispatchedLogsShow}

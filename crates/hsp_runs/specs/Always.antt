@@ -4,8 +4,8 @@ use Rattle.hsp_instance.specs.Instance.{Instance}
 use Rattle.hsp_cert.specs.Certificate as certificates
 use Rattle.hsp_cert.specs.Certificate.{Claim}
 use Rattle.hsp_cert.specs.Text.{text_of}
-use Rattle.hsp_lines.specs.declared.fault.Fault.{Fault}
-use Rattle.hsp_lines.specs.declared.fault.Fault.TheVariants.{OutOfMemory}
+use Rattle.hsp_faults.specs.declared.fault.Fault.{Fault}
+use Rattle.hsp_faults.specs.declared.fault.Fault.TheVariants.{OutOfMemory}
 use Rattle.hsp_runs.specs.Headline.{Defines}
 use Rattle.hsp_runs.specs.Shown.{Spells}
 use Rattle.hsp_runs.specs.Memory.{IsOrNoMemory}

@@ -12,8 +12,8 @@ use Rattle.hsp_check.specs.Valid.{IsValid}
 use Rattle.hsp_check.specs.Verdict as verdicts
 use Rattle.hsp_check.specs.declared.verdict.Verdict.{Verdict}
 use Rattle.hsp_check.specs.declared.verdict.Verdict.TheVariants.{Yes}
-use Rattle.hsp_lines.specs.declared.fault.Fault.{Fault}
-use Rattle.hsp_lines.specs.declared.fault.Fault.TheVariants.{Cert}
+use Rattle.hsp_faults.specs.declared.fault.Fault.{Fault}
+use Rattle.hsp_faults.specs.declared.fault.Fault.TheVariants.{Cert}
 use Rattle.hsp_runs.specs.declared.inputs.Inputs.{Inputs}
 use Rattle.hsp_runs.specs.Instance.{IsInstanceOf}
 use Rattle.hsp_text.specs.Answers.{Then, told_as}

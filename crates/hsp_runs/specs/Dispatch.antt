@@ -17,9 +17,9 @@ use Rattle.hsp_text.specs.declared.limits.TheConstants.{MOST_FRONTS}
 use Rattle.hsp_runs.specs.Accepted.{IsAcceptedOf}
 use Rattle.hsp_runs.specs.Counts.{count_at}
 use Rattle.hsp_runs.specs.declared.accepted.Accepted.{Accepted}
-use Rattle.hsp_lines.specs.FaultText.{log_told}
-use Rattle.hsp_lines.specs.declared.fault.Fault.{Fault}
-use Rattle.hsp_lines.specs.declared.fault.Fault.TheVariants.{BadFronts, Log, OutOfMemory, WrongKind}
+use Rattle.hsp_faults.specs.FaultText.{log_told}
+use Rattle.hsp_faults.specs.declared.fault.Fault.{Fault}
+use Rattle.hsp_faults.specs.declared.fault.Fault.TheVariants.{BadFronts, Log, OutOfMemory, WrongKind}
 use Rattle.hsp_runs.specs.declared.inputs.Inputs.{Inputs}
 
 -- ---- who answers

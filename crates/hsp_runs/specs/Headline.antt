@@ -24,8 +24,8 @@ use Rattle.hsp_instance.specs.Instance.{Host, Instance, IsAscending, Row, Site, 
 use Rattle.hsp_instance.specs.declared.arc.Arc.{Arc}
 use Rattle.hsp_check.specs.declared.verdict.Verdict.{Verdict}
 use Rattle.hsp_check.specs.declared.verdict.Verdict.TheVariants.{Yes}
-use Rattle.hsp_lines.specs.declared.fault.Fault.{Fault}
-use Rattle.hsp_lines.specs.declared.fault.Fault.TheVariants.{OutOfMemory}
+use Rattle.hsp_faults.specs.declared.fault.Fault.{Fault}
+use Rattle.hsp_faults.specs.declared.fault.Fault.TheVariants.{OutOfMemory}
 use Rattle.hsp_runs.specs.Shown.{Shows}
 use Rattle.hsp_runs.specs.Memory.{IsOrNoMemory}
 use Rattle.hsp_runs.specs.Told.{AreFew, AreValues, HasKeys, IsTable, AreTablesAt, TellsHost, TellsSite}

@@ -10,8 +10,8 @@ use Rattle.hsp_tables.specs.Capacities.{CapacityEntry, capacity_table}
 use Rattle.hsp_instance.specs.Instance.{Instance}
 use Rattle.hsp_instance.specs.Building as building
 use Rattle.hsp_instance.specs.declared.fault.BuildFault.{BuildFault}
-use Rattle.hsp_lines.specs.declared.fault.Fault.{Fault}
-use Rattle.hsp_lines.specs.declared.fault.Fault.TheVariants.{Demand, Costs, Capacity, Build}
+use Rattle.hsp_faults.specs.declared.fault.Fault.{Fault}
+use Rattle.hsp_faults.specs.declared.fault.Fault.TheVariants.{Demand, Costs, Capacity, Build}
 use Rattle.hsp_runs.specs.declared.inputs.Inputs.{Inputs}
 use Rattle.hsp_text.specs.Answers.{Then, told_as}
 use Rattle.hsp_runs.specs.Readings.{ReadsSettings, ReadsValues}

@@ -16,7 +16,7 @@ use Rattle.hsp_runs.specs.Headline.{Defines}
 use Rattle.hsp_runs.specs.Instance.{IsInstanceOf}
 use Rattle.hsp_runs.specs.Logs.{ShowsFrontsOf, ShowsLogOf}
 use Rattle.hsp_runs.specs.declared.accepted.Accepted.{Accepted}
-use Rattle.hsp_lines.specs.declared.fault.Fault.{Fault}
+use Rattle.hsp_faults.specs.declared.fault.Fault.{Fault}
 use Rattle.hsp_runs.specs.declared.inputs.Inputs.{Inputs}
 
 -- Where inputs and a certificate are accepted, each entry is answered by the server that is responsible for

@@ -21,9 +21,9 @@ use Rattle.hsp_dispatch.specs.declared.answer.LogSums.{LogSums}
 use Rattle.hsp_dispatch.specs.declared.fault.LogFault.{LogFault}
 use Rattle.hsp_runs.specs.Headline.{Defines}
 use Rattle.hsp_runs.specs.Shown.{ShowsPlan, Spells}
-use Rattle.hsp_lines.specs.FaultText.{log_told}
-use Rattle.hsp_lines.specs.declared.fault.Fault.{Fault}
-use Rattle.hsp_lines.specs.declared.fault.Fault.TheVariants.{Log, OutOfMemory}
+use Rattle.hsp_faults.specs.FaultText.{log_told}
+use Rattle.hsp_faults.specs.declared.fault.Fault.{Fault}
+use Rattle.hsp_faults.specs.declared.fault.Fault.TheVariants.{Log, OutOfMemory}
 use Rattle.hsp_runs.specs.declared.inputs.Inputs.{Inputs}
 
 -- A run answered the log to its end, and the sums count the answers; or it stopped at a fault, when it had

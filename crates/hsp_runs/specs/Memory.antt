@@ -1,8 +1,8 @@
 -- What a run answers.
 use Rattle.std.specs.Prelude.{◌≡◌, Result, Ok, Err}
 use Rattle.hsp_text.specs.Answers.{Stands}
-use Rattle.hsp_lines.specs.declared.fault.Fault.{Fault}
-use Rattle.hsp_lines.specs.declared.fault.Fault.TheVariants.{OutOfMemory}
+use Rattle.hsp_faults.specs.declared.fault.Fault.{Fault}
+use Rattle.hsp_faults.specs.declared.fault.Fault.TheVariants.{OutOfMemory}
 
 -- an answer that the relation has, or memory ran out
 abbrev pub OrNoMemory : {X : Type 0} → (Result X Fault → Type 0) → Result X Fault → Type 0

@@ -9,8 +9,8 @@ use Rattle.hsp_tables.specs.Settings.{SettingsEntries, settings_of}
 use Rattle.hsp_instance.specs.Instance.{Site}
 use Rattle.hsp_instance.specs.Building.{AreSitesOf}
 use Rattle.hsp_instance.specs.declared.fault.BuildFault.{BuildFault}
-use Rattle.hsp_lines.specs.declared.fault.Fault.{Fault}
-use Rattle.hsp_lines.specs.declared.fault.Fault.TheVariants.{Settings, Values, Build}
+use Rattle.hsp_faults.specs.declared.fault.Fault.{Fault}
+use Rattle.hsp_faults.specs.declared.fault.Fault.TheVariants.{Settings, Values, Build}
 
 -- the settings that octets spell
 abbrev pub ReadsSettings : List ℕ → Result SettingsEntries Fault → Type 0

@@ -16,7 +16,7 @@ use crate::instance::instance_in;
 use hsp_cert::{BestRef, Certificate, ShortRef};
 use hsp_check::Verdict;
 use hsp_instance::Instance;
-use hsp_lines::Fault;
+use hsp_faults::Fault;
 use std::alloc::Global;
 
 /// An instance, and a certificate that is valid for it.

@@ -14,7 +14,7 @@ use crate::instance::instance_in;
 use hsp_cert::{CertFault, Certificate, read_cert};
 use hsp_check::{Verdict, check};
 use hsp_instance::Instance;
-use hsp_lines::Fault;
+use hsp_faults::Fault;
 use std::alloc::Global;
 
 /// The certificate that octets spell.

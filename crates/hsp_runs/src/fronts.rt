@@ -12,7 +12,7 @@ use crate::accepted::{Accepted, accepted_in};
 use crate::counts::count_at;
 use crate::inputs::Inputs;
 use hsp_dispatch::{FrontSums, Fronts, run_fronts};
-use hsp_lines::Fault;
+use hsp_faults::Fault;
 use hsp_text::limits::MOST_FRONTS;
 use std::alloc::Global;
 use std::io::{Read, Write};

@@ -22,7 +22,7 @@ pub use checking::check_run;
 pub use counts::count_at;
 pub use dispatch::dispatch_run;
 pub use fronts::fronts_run;
-pub use hsp_lines::{Fault, fault_line, status_of, sums_line, verdict_line, verdict_status};
+pub use hsp_faults::{Fault, fault_line, status_of, sums_line, verdict_line, verdict_status};
 pub use input::{first_line, read_file};
 pub use inputs::Inputs;
 pub use instance::costs_in;

@@ -9,7 +9,7 @@ use crate::counts::count_at;
 use crate::readings::sites_in;
 use crate::site_lines::site_lines;
 use hsp_hash::{HashOption, server_number};
-use hsp_lines::Fault;
+use hsp_faults::Fault;
 use hsp_names::HandleRef;
 use hsp_text::limits::MOST_SERVERS;
 use hsp_text::push_whole;

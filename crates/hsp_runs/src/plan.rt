@@ -12,7 +12,7 @@ use crate::instance::instance_in;
 use hsp_cert::{Certificate, write_cert};
 use hsp_flow::solve;
 use hsp_instance::Instance;
-use hsp_lines::Fault;
+use hsp_faults::Fault;
 use std::alloc::{AllocError, Global};
 use std::marker::Model;
 

@@ -5,7 +5,7 @@ ghost use Rattle.hsp_runs.specs.Readings.{AreListed, AreSites, AreSitesIn, Reads
 ghost use Rattle.hsp_runs.specs.Memory.{OrNoMemory};
 
 use hsp_instance::{BuildFault, Sites, build_sites};
-use hsp_lines::Fault;
+use hsp_faults::Fault;
 use hsp_record::{RecordFault, ValueList, decode_values};
 use hsp_tables::{Settings, TableFault, read_settings};
 use std::alloc::Global;

@@ -6,7 +6,7 @@ ghost use Rattle.hsp_record.specs.Site.{IsSite};
 ghost use Rattle.hsp_text.specs.Writing.{numbered};
 ghost use Rattle.hsp_runs.specs.SiteText.{IsRecordRun, IsSiteRun, IsValueRun, counts_text, numbers_text, server_line, server_lines, site_text};
 
-use hsp_lines::Fault;
+use hsp_faults::Fault;
 use hsp_record::{RecordFault, ServerRecord, SiteRecord, decode_site, decode_values};
 use hsp_text::{push_line, push_whole, read_whole};
 use std::alloc::{AllocError, Global};
@@ -14,7 +14,7 @@ use std::alloc::{AllocError, Global};
 // The greatest index of a value.
 const MOST_INDEX: u64 = 4_294_967_295;
 
-fn put_numbers(out: &mut Vec<u8>, site: &SiteRecord) -> Result<(), AllocError>
+fn push_numbers(out: &mut Vec<u8>, site: &SiteRecord) -> Result<(), AllocError>
     ensures { OnOk result (out.new.items ≡ out.old.items ++ numbers_text site.now) }
 {
     let (major, minor) = site.protocol();
@@ -25,28 +25,28 @@ fn put_numbers(out: &mut Vec<u8>, site: &SiteRecord) -> Result<(), AllocError>
     push_line(out, b"option", &[u64::from(site.option_octet())])
 }
 
-fn put_count(out: &mut Vec<u8>, word: &[u8], count: usize) -> Result<(), AllocError>
+fn push_counted(out: &mut Vec<u8>, word: &[u8], count: usize) -> Result<(), AllocError>
     ensures { OnOk result (out.new.items ≡ out.old.items ++ numbered word.now (count ∷ [])) }
 {
     push_line(out, word, &[count as u64])
 }
 
-fn put_filter(out: &mut Vec<u8>, filter: &[u8]) -> Result<(), AllocError>
+fn push_filter(out: &mut Vec<u8>, filter: &[u8]) -> Result<(), AllocError>
     ensures { OnOk result (out.new.items ≡ out.old.items
         ++ numbered (codes "filter") (length filter.now ∷ [])) }
 {
-    put_count(out, b"filter", filter.len())
+    push_counted(out, b"filter", filter.len())
 }
 
-fn put_counts(out: &mut Vec<u8>, site: &SiteRecord) -> Result<(), AllocError>
+fn push_counts(out: &mut Vec<u8>, site: &SiteRecord) -> Result<(), AllocError>
     ensures { OnOk result (out.new.items ≡ out.old.items ++ counts_text site.now) }
 {
-    put_filter(out, site.filter())?;
-    put_count(out, b"attributes", site.attribute_count())?;
-    put_count(out, b"servers", site.server_count())
+    push_filter(out, site.filter())?;
+    push_counted(out, b"attributes", site.attribute_count())?;
+    push_counted(out, b"servers", site.server_count())
 }
 
-fn put_address(out: &mut Vec<u8>, address: [u8; 16]) -> Result<(), AllocError>
+fn push_address(out: &mut Vec<u8>, address: [u8; 16]) -> Result<(), AllocError>
     ensures { OnOk result (out.new.items ≡ out.old.items ++ encode_lower address) }
 {
     let mut digits = [0u8; 32];
@@ -54,7 +54,7 @@ fn put_address(out: &mut Vec<u8>, address: [u8; 16]) -> Result<(), AllocError>
     out.extend_from_slice(&digits)
 }
 
-fn put_server(out: &mut Vec<u8>, place: u32, server: &ServerRecord) -> Result<(), AllocError>
+fn push_server(out: &mut Vec<u8>, place: u32, server: &ServerRecord) -> Result<(), AllocError>
     ensures { OnOk result (out.new.items ≡ out.old.items ++ server_line place server.now) }
 {
     out.extend_from_slice(b"server ")?;
@@ -62,7 +62,7 @@ fn put_server(out: &mut Vec<u8>, place: u32, server: &ServerRecord) -> Result<()
     out.extend_from_slice(b" ")?;
     push_whole(out, u64::from(server.id()))?;
     out.extend_from_slice(b" ")?;
-    put_address(out, server.address())?;
+    push_address(out, server.address())?;
     push_line(
         out,
         b"",
@@ -70,12 +70,12 @@ fn put_server(out: &mut Vec<u8>, place: u32, server: &ServerRecord) -> Result<()
     )
 }
 
-fn put_servers(out: &mut Vec<u8>, site: &SiteRecord) -> Result<(), AllocError>
+fn push_servers(out: &mut Vec<u8>, site: &SiteRecord) -> Result<(), AllocError>
     ensures { OnOk result (out.new.items ≡ out.old.items ++ server_lines 0 site.now.servers) }
 {
     let count = site.server_count();
     for place in 0..count {
-        put_server(out, place as u32, site.server(place))?;
+        push_server(out, place as u32, site.server(place))?;
     }
     Ok(())
 }
@@ -85,9 +85,9 @@ fn site_text(alloc: Global, site: &SiteRecord) -> Result<Vec<u8>, AllocError>
     ensures { IfOk result (λ text. text.items ≡ site_text site.now) }
 {
     let mut text = Vec::new(alloc);
-    put_numbers(&mut text, site)?;
-    put_counts(&mut text, site)?;
-    put_servers(&mut text, site)?;
+    push_numbers(&mut text, site)?;
+    push_counts(&mut text, site)?;
+    push_servers(&mut text, site)?;
     Ok(text)
 }
 

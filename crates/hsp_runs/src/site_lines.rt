@@ -12,7 +12,7 @@ use hsp_text::push_line;
 use std::alloc::{AllocError, Global};
 
 // Appends the line of a site.
-fn put_site(
+fn push_site(
     out: &mut Vec<u8>,
     sites: &Sites,
     number: u32,
@@ -39,7 +39,7 @@ pub(crate) fn site_lines(
 {
     let mut text = Vec::new(alloc);
     for number in 0..sites.len() {
-        put_site(&mut text, sites, number, handle)?;
+        push_site(&mut text, sites, number, handle)?;
     }
     Ok(text)
 }

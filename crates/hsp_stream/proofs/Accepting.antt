@@ -10,8 +10,8 @@ use Rattle.hsp_check.specs.Valid.{IsValid}
 use Rattle.hsp_dispatch.specs.Portions.{portion_of}
 use Rattle.hsp_dispatch.specs.Shares.{IsPlanFor, plan_of}
 use Rattle.hsp_dispatch.specs.declared.portion.Portion.{Portion}
-use Rattle.hsp_lines.specs.declared.fault.Fault.{Fault}
-use Rattle.hsp_lines.specs.declared.fault.Fault.TheVariants.{WrongKind}
+use Rattle.hsp_faults.specs.declared.fault.Fault.{Fault}
+use Rattle.hsp_faults.specs.declared.fault.Fault.TheVariants.{WrongKind}
 use Rattle.hsp_runs.specs.Accepted.{IsAccepted, IsAcceptedOf, plan_in}
 use Rattle.hsp_runs.specs.Check.{IsCertificate}
 use Rattle.hsp_runs.specs.Instance.{IsInstanceOf}

@@ -9,7 +9,7 @@ ghost use Rattle.hsp_stream.specs.Asking.{IsHeader, IsNoHeader, States};
 ghost use Rattle.hsp_stream.specs.Saying.{none_said};
 ghost use Rattle.hsp_stream.specs.Telling.{TakesRow};
 
-use crate::given::{StreamSums, put_given};
+use crate::given::{StreamSums, push_given};
 use crate::teller::Teller;
 use hsp_dispatch::{Dispatcher, Form, ServerLines};
 use hsp_row::{RowFields, RowReader, without_mark};
@@ -157,7 +157,7 @@ impl<'a> Desk for Answerer<'a> {
             return Err(Refusal::OutOfMemory);
         };
         self.sums.count(given);
-        match put_given(answer, &self.lines, given) {
+        match push_given(answer, &self.lines, given) {
             Ok(()) => Ok(()),
             Err(_) => Err(Refusal::OutOfMemory),
         }

@@ -4,7 +4,7 @@ ghost use Rattle.std.specs.Prelude.{◌≡◌};
 ghost use Rattle.hsp_stream.specs.Faults.{input_told};
 ghost use Rattle.hsp_stream.specs.declared.fault.StreamFault.TheVariants.{OutOfMemory};
 
-use hsp_lines::Fault;
+use hsp_faults::Fault;
 use hsp_names::HandleFault;
 use std::alloc::AllocError;
 use thiserror::Error;

@@ -5,13 +5,13 @@ ghost use Rattle.hsp_stream.specs.declared.fault.RowFault.TheVariants as row_fau
 ghost use Rattle.hsp_stream.specs.Lines.{fault_text, fault_words, numbered, row_words, row_status, status_in};
 
 use crate::fault::{RowFault, StreamFault};
-use hsp_lines::{handle_words, put_fault as put_input_fault, status_of};
+use hsp_faults::{handle_words, push_fault as push_input_fault, status_of};
 use hsp_names::HandleFault;
 use hsp_text::push_whole;
 use std::alloc::{AllocError, Global};
 
 // Appends a word, a name and the digits of a number, each after a space.
-fn put_numbered(out: &mut Vec<u8>, word: &[u8], name: &[u8], number: u64) -> Result<(), AllocError>
+fn push_numbered(out: &mut Vec<u8>, word: &[u8], name: &[u8], number: u64) -> Result<(), AllocError>
     ensures { OnOk result (out.new.items ≡ out.old.items ++ numbered word.now name.now number) }
 {
     out.extend_from_slice(word)?;
@@ -22,58 +22,58 @@ fn put_numbered(out: &mut Vec<u8>, word: &[u8], name: &[u8], number: u64) -> Res
 }
 
 // Appends a space and a word.
-fn put_word(out: &mut Vec<u8>, word: &[u8]) -> Result<(), AllocError>
+fn push_word(out: &mut Vec<u8>, word: &[u8]) -> Result<(), AllocError>
     ensures { OnOk result (out.new.items ≡ out.old.items ++ (codes " " ++ word.now)) }
 {
     out.extend_from_slice(b" ")?;
     out.extend_from_slice(word)
 }
 
-fn put_bad_handle(out: &mut Vec<u8>, row: u64, fault: &HandleFault) -> Result<(), AllocError>
+fn push_bad_handle(out: &mut Vec<u8>, row: u64, fault: &HandleFault) -> Result<(), AllocError>
     ensures { OnOk result
         (out.new.items ≡ out.old.items ++ row_words (row_fault.BadHandle row fault.now)) }
 {
-    put_numbered(out, b"BadHandle", b"row", row)?;
-    put_word(out, handle_words(fault))
+    push_numbered(out, b"BadHandle", b"row", row)?;
+    push_word(out, handle_words(fault))
 }
 
-fn put_count(out: &mut Vec<u8>, row: u32, unit: u64) -> Result<(), AllocError>
+fn push_counted(out: &mut Vec<u8>, row: u32, unit: u64) -> Result<(), AllocError>
     ensures { OnOk result
         (out.new.items ≡ out.old.items ++ row_words (row_fault.CountTooLarge row unit)) }
 {
-    put_numbered(out, b"CountTooLarge", b"row", u64::from(row))?;
-    put_numbered(out, b"", b"unit", unit)
+    push_numbered(out, b"CountTooLarge", b"row", u64::from(row))?;
+    push_numbered(out, b"", b"unit", unit)
 }
 
 // Appends the fault of a run over a log, with its row.
-fn put_row_fault(out: &mut Vec<u8>, fault: &RowFault) -> Result<(), AllocError>
+fn push_row_fault(out: &mut Vec<u8>, fault: &RowFault) -> Result<(), AllocError>
     ensures { OnOk result (out.new.items ≡ out.old.items ++ row_words fault.now) }
 {
     match fault {
         RowFault::ReadFailed => out.extend_from_slice(b"ReadFailed"),
         RowFault::WriteFailed => out.extend_from_slice(b"WriteFailed"),
         RowFault::Header => out.extend_from_slice(b"Header"),
-        RowFault::Fields { row } => put_numbered(out, b"Fields", b"row", *row),
-        RowFault::BadName { row } => put_numbered(out, b"BadName", b"row", *row),
-        RowFault::BadHandle { row, fault } => put_bad_handle(out, *row, fault),
-        RowFault::BadNumber { row } => put_numbered(out, b"BadNumber", b"row", *row),
-        RowFault::TooManyRegions { row } => put_numbered(out, b"TooManyRegions", b"row", *row),
-        RowFault::TooManyKinds { row } => put_numbered(out, b"TooManyKinds", b"row", *row),
-        RowFault::CountTooLarge { row, unit } => put_count(out, *row, *unit),
+        RowFault::Fields { row } => push_numbered(out, b"Fields", b"row", *row),
+        RowFault::BadName { row } => push_numbered(out, b"BadName", b"row", *row),
+        RowFault::BadHandle { row, fault } => push_bad_handle(out, *row, fault),
+        RowFault::BadNumber { row } => push_numbered(out, b"BadNumber", b"row", *row),
+        RowFault::TooManyRegions { row } => push_numbered(out, b"TooManyRegions", b"row", *row),
+        RowFault::TooManyKinds { row } => push_numbered(out, b"TooManyKinds", b"row", *row),
+        RowFault::CountTooLarge { row, unit } => push_counted(out, *row, *unit),
     }
 }
 
 // Appends what stands between `hsplan-stream: ` and the line's end.
-fn put_fault(out: &mut Vec<u8>, fault: &StreamFault) -> Result<(), AllocError>
+fn push_fault(out: &mut Vec<u8>, fault: &StreamFault) -> Result<(), AllocError>
     ensures { OnOk result (out.new.items ≡ out.old.items ++ fault_words fault.now) }
 {
     match fault {
         StreamFault::BadUnit => out.extend_from_slice(b"BadUnit"),
         StreamFault::BadFront => out.extend_from_slice(b"BadFront"),
-        StreamFault::Input(inner) => put_input_fault(out, inner),
+        StreamFault::Input(inner) => push_input_fault(out, inner),
         StreamFault::Log(inner) => {
             out.extend_from_slice(b"log: ")?;
-            put_row_fault(out, inner)
+            push_row_fault(out, inner)
         }
         StreamFault::OutOfMemory => out.extend_from_slice(b"OutOfMemory"),
     }
@@ -86,7 +86,7 @@ pub fn stream_fault_line(alloc: Global, fault: &StreamFault) -> Result<Vec<u8>, 
 {
     let mut line = Vec::new(alloc);
     line.extend_from_slice(b"hsplan-stream: ")?;
-    put_fault(&mut line, fault)?;
+    push_fault(&mut line, fault)?;
     line.extend_from_slice(b"\n")?;
     Ok(line)
 }

@@ -6,7 +6,7 @@ ghost use Rattle.hsp_stream.specs.declared.row_refusal.RowRefusal.TheVariants.{B
 
 use crate::row_refusal::RowRefusal;
 use hsp_dispatch::ServerLines;
-use hsp_lines::handle_words;
+use hsp_faults::handle_words;
 use hsp_names::HandleFault;
 use std::alloc::AllocError;
 
@@ -72,7 +72,7 @@ impl StreamSums {
 }
 
 // Appends the words of a handle that is refused.
-fn put_bad_handle(answer: &mut Vec<u8>, fault: &HandleFault) -> Result<(), AllocError>
+fn push_bad_handle(answer: &mut Vec<u8>, fault: &HandleFault) -> Result<(), AllocError>
     ensures { OnOk result
         (answer.new.items ≡ answer.old.items ++ refusal_words (BadHandle fault.now)) }
 {
@@ -81,28 +81,28 @@ fn put_bad_handle(answer: &mut Vec<u8>, fault: &HandleFault) -> Result<(), Alloc
 }
 
 // Appends the words of a refusal.
-fn put_words(answer: &mut Vec<u8>, refusal: RowRefusal) -> Result<(), AllocError>
+fn push_words(answer: &mut Vec<u8>, refusal: RowRefusal) -> Result<(), AllocError>
     ensures { OnOk result (answer.new.items ≡ answer.old.items ++ refusal_words refusal) }
 {
     match refusal {
         RowRefusal::TooLong => answer.extend_from_slice(b"TooLong"),
         RowRefusal::Fields => answer.extend_from_slice(b"Fields"),
         RowRefusal::BadBody => answer.extend_from_slice(b"BadBody"),
-        RowRefusal::BadHandle(fault) => put_bad_handle(answer, &fault),
+        RowRefusal::BadHandle(fault) => push_bad_handle(answer, &fault),
     }
 }
 
 // Appends the line of a refusal.
-fn put_refusal(answer: &mut Vec<u8>, refusal: RowRefusal) -> Result<(), AllocError>
+fn push_refusal(answer: &mut Vec<u8>, refusal: RowRefusal) -> Result<(), AllocError>
     ensures { OnOk result (answer.new.items ≡ answer.old.items ++ refused_line refusal) }
 {
     answer.extend_from_slice(b"refused ")?;
-    put_words(answer, refusal)?;
+    push_words(answer, refusal)?;
     answer.extend_from_slice(b"\n")
 }
 
 /// Appends the line of an answer, or nothing where a row has none.
-pub(crate) fn put_given(
+pub(crate) fn push_given(
     answer: &mut Vec<u8>,
     lines: &ServerLines,
     given: Given,
@@ -115,6 +115,6 @@ pub(crate) fn put_given(
         Given::Server(server) => answer.extend_from_slice(lines.line(server)),
         Given::Spent => answer.extend_from_slice(b"spent\n"),
         Given::Unknown => answer.extend_from_slice(b"unknown\n"),
-        Given::Refused(refusal) => put_refusal(answer, refusal),
+        Given::Refused(refusal) => push_refusal(answer, refusal),
     }
 }

@@ -11,7 +11,7 @@ use crate::kinds_files::{KindsInputs, files_in};
 use crate::kinds_log::count_log;
 use crate::kinds_table::text_of_kinds;
 use hsp_instance::Sites;
-use hsp_lines::Fault;
+use hsp_faults::Fault;
 use hsp_runs::count_at;
 use hsp_tables::Costs;
 use hsp_tally::Kinds;

@@ -8,7 +8,7 @@ ghost use Rattle.hsp_stream.specs.Words.{IsPortion, front_at, fronts_at, portion
 
 use crate::fault::StreamFault;
 use hsp_dispatch::{GREATEST_UNIT, Portion};
-use hsp_lines::Fault;
+use hsp_faults::Fault;
 use hsp_runs::count_at;
 use hsp_text::limits::MOST_FRONTS;
 use hsp_text::read_whole;

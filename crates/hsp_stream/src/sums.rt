@@ -8,7 +8,7 @@ use hsp_text::push_whole;
 use std::alloc::{AllocError, Global};
 
 // Appends a text and the digits of a number.
-fn put_with(out: &mut Vec<u8>, text: &[u8], number: u64) -> Result<(), AllocError>
+fn push_with(out: &mut Vec<u8>, text: &[u8], number: u64) -> Result<(), AllocError>
     ensures { OnOk result (out.new.items ≡ out.old.items ++ (text.now ++ decimal number)) }
 {
     out.extend_from_slice(text)?;
@@ -21,10 +21,10 @@ pub fn stream_sums_line(alloc: Global, sums: &StreamSums) -> Result<Vec<u8>, All
     ensures { IfOk result (λ line. line.items ≡ sums_text sums.now) }
 {
     let mut line = Vec::new(alloc);
-    put_with(&mut line, b"assigned ", sums.assigned)?;
-    put_with(&mut line, b" spent ", sums.spent)?;
-    put_with(&mut line, b" unknown ", sums.unknown)?;
-    put_with(&mut line, b" refused ", sums.refused)?;
+    push_with(&mut line, b"assigned ", sums.assigned)?;
+    push_with(&mut line, b" spent ", sums.spent)?;
+    push_with(&mut line, b" unknown ", sums.unknown)?;
+    push_with(&mut line, b" refused ", sums.refused)?;
     line.extend_from_slice(b"\n")?;
     Ok(line)
 }

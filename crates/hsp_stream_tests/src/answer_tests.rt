@@ -4,7 +4,7 @@
 
 use crate::same::is_same;
 use crate::worked::{PLAN, inputs_of, owned_word};
-use hsp_lines::Fault;
+use hsp_faults::Fault;
 use hsp_stream::{PortionWords, RowFault, StreamFault, StreamSums, answer_run};
 use hsp_talk::Joined;
 use std::alloc::{AllocError, Global};

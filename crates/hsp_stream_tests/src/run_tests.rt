@@ -2,7 +2,7 @@
 
 use crate::same::is_same;
 use crate::worked::SETTINGS;
-use hsp_lines::Fault;
+use hsp_faults::Fault;
 use hsp_names::HandleFault;
 use hsp_stream::{RowFault, StreamFault, places_run};
 use hsp_tables::TableFault;

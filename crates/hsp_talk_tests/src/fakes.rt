@@ -138,7 +138,7 @@ impl Desk for CountingDesk {
             _ => 1,
         };
         for _line in 0..lines {
-            if put_line(answer, self.taken, row).is_err() {
+            if push_line(answer, self.taken, row).is_err() {
                 return Err(Refusal::OutOfMemory);
             }
         }
@@ -147,7 +147,7 @@ impl Desk for CountingDesk {
 }
 
 // Adds a line: a digit, and the row.
-fn put_line(answer: &mut Vec<u8>, number: u8, row: &[u8]) -> Result<(), AllocError> {
+fn push_line(answer: &mut Vec<u8>, number: u8, row: &[u8]) -> Result<(), AllocError> {
     answer.push(b'0' + number % 10)?;
     answer.push(b' ')?;
     answer.extend_from_slice(row)?;

@@ -58,7 +58,7 @@ pub fn read_whole(text: &[u8], max: u64) -> Result<u64, WholeFault>
 
 /// Appends the decimal digits of a number. `out` must have room for them.
 #[tactic(auto, using(std::proofs::lemmas::Fmt::decimal_step, std::proofs::lemmas::Fmt::decimal_digit))]
-pub fn put_digits(out: &mut Vec<u8>, number: u64)
+pub fn push_digits(out: &mut Vec<u8>, number: u64)
     requires { vec_len out.old + length (decimal number) ≤ vec_capacity out.old }
     ensures digits { out.new.items ≡ out.old.items ++ decimal number }
     ensures len { vec_len out.new ≡ vec_len out.old + length (decimal number) }
@@ -68,7 +68,7 @@ pub fn put_digits(out: &mut Vec<u8>, number: u64)
         out.push(b'0' + number as u8).unwrap();
         return;
     }
-    put_digits(out, number / 10);
+    push_digits(out, number / 10);
     out.push(b'0' + (number % 10) as u8).unwrap();
 }
 
@@ -82,6 +82,6 @@ pub fn push_whole(out: &mut Vec<u8>, number: u64) -> Result<(), AllocError>
     ensures succeeds { vec_len out.old + 20 ≤ vec_capacity out.old → IsOk result }
 {
     out.reserve(MOST_DIGITS)?;
-    put_digits(out, number);
+    push_digits(out, number);
     Ok(())
 }

@@ -1,7 +1,7 @@
 // The program: one command for each run, from its arguments or, without any, from the first line of standard input.
 #![tactic(auto)]
 
-use hsp_edge::{Completed, Failure, Output, end_with, last_line, obey, take_words};
+use hsp_cli::{Completed, Failure, Output, end_with, last_line, obey, take_words};
 use std::io::{self, BufWriter};
 use std::process::ExitCode;
 use std::rt::{Env, Files};

@@ -2,9 +2,9 @@
 // of standard input.
 #![tactic(auto)]
 
-use hsp_edge::{Output, take_words};
+use hsp_cli::{Output, take_words};
 use hsp_stream::StreamSums;
-use hsp_stream_edge::{StreamFailure, end_with, last_line, obey, status_after};
+use hsp_stream_cli::{StreamFailure, end_with, last_line, obey, status_after};
 use std::io;
 use std::process::ExitCode;
 use std::rt::{Env, Files};

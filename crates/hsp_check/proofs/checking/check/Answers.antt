@@ -2,7 +2,7 @@ use Rattle.std.proofs.Common.{◌≤◌, ◌∙◌, ap, subst, sym}
 use Rattle.hsp_cert.specs.Certificate.{IsCertificate}
 use Rattle.hsp_cert.specs.Certificate.Claim.{best, short}
 use Rattle.hsp_check.specs.declared.arc.NetworkArc.{NetworkArc}
-use Rattle.hsp_check.specs.declared.sums.LaidArc.{LaidArc}
+use Rattle.hsp_check.specs.declared.sums.ArcFlow.{ArcFlow}
 use Rattle.hsp_check.specs.declared.verdict.Verdict.{Verdict}
 use Rattle.hsp_check.specs.Network.{Network}
 use Rattle.hsp_check.specs.Instance.{network_of}
@@ -16,7 +16,7 @@ pub with-requires-clause-cheap : goal.with-requires-clause-cheap
 with-requires-clause-cheap c =
     let drawn = c.in_ok-numbers in
     let same = (ap (λ (n : Network). n.arcs) drawn.ensures.network) in
-    rw c.deref.ensures.value (all_of_map (λ (l : LaidArc). l.arc) (λ (a : NetworkArc). a.cost ≤ 1000000) drawn.field-0.arcs.laid.items (rw same drawn.ensures.cheap))
+    rw c.deref.ensures.value (all_of_map (λ (l : ArcFlow). l.arc) (λ (a : NetworkArc). a.cost ≤ 1000000) drawn.field-0.arcs.laid.items (rw same drawn.ensures.cheap))
 
 pub returns-in-Some : goal.returns-in-Some
 returns-in-Some c =

@@ -1,6 +1,6 @@
 use Rattle.std.proofs.Common.{◌≤◌, ap, rules}
 use Rattle.hsp_check.specs.declared.arc.NetworkArc.{NetworkArc}
-use Rattle.hsp_check.specs.declared.sums.LaidArc.{LaidArc}
+use Rattle.hsp_check.specs.declared.sums.ArcFlow.{ArcFlow}
 use Rattle.hsp_check.specs.Network.{Network}
 use Rattle.hsp_check.proofs.LaidSums.{all_of_map}
 use Rattle.hsp_check.proofs.Ranges.{few_uses}
@@ -14,7 +14,7 @@ returns-in_default c = (rw c.uses.ensures at c.in_default.ensures.lost, search r
 
 pub with-requires-clause-cheap : goal.with-requires-clause-cheap
 with-requires-clause-cheap c =
-    rw c.deref.ensures.value (all_of_map (λ (l : LaidArc). l.arc) (λ (a : NetworkArc). a.cost ≤ 1000000) c.in-Some.laid.items (rw c.in-Some.ensures.laid.arcs_are c.requires.cheap))
+    rw c.deref.ensures.value (all_of_map (λ (l : ArcFlow). l.arc) (λ (a : NetworkArc). a.cost ≤ 1000000) c.in-Some.laid.items (rw c.in-Some.ensures.laid.arcs_are c.requires.cheap))
 
 pub judge-requires-clause-uses : goal.judge-requires-clause-uses
 judge-requires-clause-uses c =

@@ -12,11 +12,11 @@ pub unwrap-requires : goal.unwrap-requires
 unwrap-requires c =
     let drawn = c.in_ok-drawn in
     let same = (ap (λ (n : Network). n.arcs) drawn.ensures.network) in
-    found_where c.lay.result (rw (c.uses.ensures, same) c.requires.valid.allowed) c.lay.ensures.lost
+    found_where c.arc_flows.result (rw (c.uses.ensures, same) c.requires.valid.allowed) c.arc_flows.ensures.lost
 
 pub returns : goal.returns
 returns c =
     let drawn = c.in_ok-drawn in
     let same = (ap (λ (n : Network). n.arcs) drawn.ensures.network) in
-    let laid = rw (c.unwrap.ensures, c.uses.ensures, same) at c.lay.ensures.laid in
+    let laid = rw (c.unwrap.ensures, c.uses.ensures, same) at c.arc_flows.ensures.laid in
     are_planned c.args.instance.now _ drawn.drawn.arcs.laid.items _ drawn.ensures.is drawn.ensures.cheap drawn.ensures.few same laid

@@ -2,7 +2,7 @@ use Rattle.std.proofs.Common.{◌≡◌, ◌≤◌, ◌∙◌, length, ap, sym}
 use Rattle.std.specs.Prelude.{filter}
 use Rattle.std.specs.List.{range_with_len}
 use Rattle.hsp_check.specs.declared.arc.NetworkArc.{NetworkArc}
-use Rattle.hsp_check.specs.declared.sums.LaidArc.{LaidArc}
+use Rattle.hsp_check.specs.declared.sums.ArcFlow.{ArcFlow}
 use Rattle.hsp_check.specs.Instance.{network_of}
 use Rattle.hsp_check.specs.Laid.{flag_at}
 use Rattle.hsp_check.specs.Network.{Network}
@@ -16,7 +16,7 @@ use Rattle.hsp_check.proofs.reaching.reached_servers.Goals as goal
 pub with-lists-requires-clause-cheap : goal.with-lists-requires-clause-cheap
 with-lists-requires-clause-cheap c =
     rw c.deref.ensures.value
-    (all_of_map (λ (l : LaidArc). l.arc) (λ (a : NetworkArc). a.cost ≤ 1000000) c.in_ok-drawn.drawn.arcs.laid.items (rw (ap (λ (n : Network). n.arcs) c.in_ok-drawn.ensures.network) c.in_ok-drawn.ensures.cheap))
+    (all_of_map (λ (l : ArcFlow). l.arc) (λ (a : NetworkArc). a.cost ≤ 1000000) c.in_ok-drawn.drawn.arcs.laid.items (rw (ap (λ (n : Network). n.arcs) c.in_ok-drawn.ensures.network) c.in_ok-drawn.ensures.cheap))
 
 pub returns : goal.returns
 returns c =

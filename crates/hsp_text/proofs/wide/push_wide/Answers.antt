@@ -2,5 +2,5 @@ use Rattle.std.proofs.Common.{arith}
 use Rattle.hsp_text.proofs.Numerals.{at_most_39}
 use Rattle.hsp_text.proofs.wide.push_wide.Goals as goal
 
-pub put_wide-requires : goal.put_wide-requires
-put_wide-requires c = let d = at_most_39 c.args.number c.ranges.number.fits in let room = c.in_ok-reserve.ensures.ok in omega arith
+pub push_wide_number-requires : goal.push_wide_number-requires
+push_wide_number-requires c = let d = at_most_39 c.args.number c.ranges.number.fits in let room = c.in_ok-reserve.ensures.ok in omega arith

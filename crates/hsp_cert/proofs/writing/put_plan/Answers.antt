@@ -1,9 +1,0 @@
-use Rattle.std.proofs.Common.{ap}
-use Rattle.hsp_cert.specs.Certificate.{Best}
-use Rattle.hsp_cert.proofs.AppendedLines.{plan_appended}
-use Rattle.hsp_cert.proofs.writing.put_plan.Goals as goal
-
-pub returns : goal.returns
-returns c =
-    plan_appended c.args.plan.now c.args.out.now.items _ _ _ _ _ (rw (c.version_of.ensures, c.deref.ensures.value, ap (λ (b : Best). b.host_prices) c.plan.view_is) at c.in_ok-put_line.ensures) c.in_ok-put_line-2.ensures
-    (rw (ap (λ (b : Best). b.cost) c.plan.view_is) at c.in_ok-put_line-3.ensures) c.in_ok-put_body.ensures c.in_ok-put_line-4.ensures

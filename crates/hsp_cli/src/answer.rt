@@ -1,0 +1,109 @@
+// What the runs answer, as the program prints it.
+
+ghost use Rattle.std.specs.Prelude.{◌≡◌, option_map};
+ghost use Rattle.hsp_runs.specs.Locate.{IsLocated};
+ghost use Rattle.hsp_runs.specs.Report.{IsReported};
+ghost use Rattle.hsp_runs.specs.SiteText.{IsSiteRun};
+ghost use Rattle.hsp_cli.specs.Answers.{IsAnswered, IsShownPlan, IsShownVerdict, fields_told, plan_status, plan_told, text_told, verdict_told};
+ghost use Rattle.hsp_cli.specs.Printing.{IsHandedOn, Prints};
+
+use crate::failure::Failure;
+use crate::output::Output;
+use hsp_dispatch::LogSums;
+use hsp_runs::{
+    Inputs, Locate, ReportKind, check_run, locate_run, plan_run, report_run, site_run,
+    verdict_line, verdict_status,
+};
+use std::alloc::Global;
+
+/// A text for standard output, and the status to end with after it.
+#[derive(Debug, Drop)]
+pub struct Answer {
+    pub text: Vec<u8>,
+    pub status: u8,
+}
+
+/// What a command ends with: a status and, where it answered a log, the log's sums.
+#[derive(Debug, Drop)]
+pub struct Completed {
+    pub status: u8,
+    pub sums: Option<LogSums>,
+}
+
+/// Where the handle is served.
+pub fn locate_answer(alloc: Global, locate: &Locate, handle: &[u8]) -> Result<Answer, Failure>
+    ensures { IsAnswered text_told (IsLocated locate.now handle.now) result }
+{
+    let text = locate_run(alloc, locate, handle)?;
+    Ok(Answer { text, status: 0 })
+}
+
+/// The fields of a site record or, with an index, of the record in the value with that index.
+pub fn site_answer(alloc: Global, octets: &[u8], index: Option<&[u8]>) -> Result<Answer, Failure>
+    ensures { IsAnswered fields_told
+        (IsSiteRun octets.now (option_map (λ digits. digits.now) index.entry)) result }
+{
+    let text = site_run(alloc, octets, index)?;
+    Ok(Answer { text, status: 0 })
+}
+
+// The status after the text of a plan, or of a shortage.
+fn plan_status(is_short: bool) -> u8
+    ensures { result ≡ plan_status is_short }
+{
+    if is_short { 3 } else { 0 }
+}
+
+/// The text of a plan, or of a shortage with status 3.
+pub fn plan_answer(alloc: Global, inputs: &Inputs) -> Result<Answer, Failure>
+    ensures { IsAnswered plan_told (IsShownPlan inputs.now) result }
+{
+    let plan = plan_run(alloc, inputs)?;
+    let status = plan_status(plan.is_short());
+    Ok(Answer {
+        text: plan.into_bytes(),
+        status,
+    })
+}
+
+/// The line of a verdict. A No has status 3.
+pub fn check_answer(alloc: Global, inputs: &Inputs, plan: &[u8]) -> Result<Answer, Failure>
+    ensures { IsAnswered verdict_told (IsShownVerdict inputs.now plan.now) result }
+{
+    let verdict = check_run(alloc, inputs, plan)?;
+    Ok(Answer {
+        text: verdict_line(alloc, &verdict)?,
+        status: verdict_status(&verdict),
+    })
+}
+
+/// The report of a certificate.
+pub fn report_answer(
+    alloc: Global,
+    inputs: &Inputs,
+    plan: &[u8],
+    kind: ReportKind,
+) -> Result<Answer, Failure>
+    ensures { IsAnswered text_told (IsReported inputs.now plan.now kind) result }
+{
+    let text = report_run(alloc, inputs, plan, kind)?;
+    Ok(Answer { text, status: 0 })
+}
+
+/// Writes the text of an answer, hands it on, and returns its status.
+pub fn print<O: Output>(
+    out: &mut O,
+    answered: Result<Answer, Failure>,
+) -> Result<Completed, Failure>
+    ensures prints { Prints O.may_fail answered (O.contents out.old) (O.contents out.new) result }
+    ensures handed { IsHandedOn out.old out.new (O.contents out.new) (O.handed out.new) result }
+{
+    let answer = answered?;
+    match out.put(answer.text.as_slice()) {
+        Ok(()) => Ok(Completed {
+            status: answer.status,
+            sums: None,
+        }),
+        Err(_) => Err(Failure::Write),
+    }
+}

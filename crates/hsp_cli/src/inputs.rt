@@ -1,0 +1,45 @@
+// The files of inputs.
+
+ghost use Rattle.std.specs.Prelude.{IfErr, IfOk, option_map};
+ghost use Rattle.hsp_cli.specs.Commands.{AreHeld, FailsNamed, HoldsNamed, OneFails};
+ghost use Rattle.hsp_cli.specs.Failing.{IsUnread};
+
+use crate::failure::Failure;
+use crate::files::{FileSource, read_whole};
+use hsp_cli_orders::{InputFiles, Word};
+use hsp_runs::Inputs;
+use std::alloc::Global;
+
+/// Every octet of a file that may be named.
+pub fn read_named<S: FileSource>(
+    alloc: Global,
+    files: &S,
+    path: &Option<Word>,
+) -> Result<Option<Vec<u8>>, Failure>
+    ensures octets { IfOk result
+        (λ octets. HoldsNamed (S.disk files.now) path.now (option_map (λ v. v.items) octets)) }
+    ensures unread { IfErr result (IsUnread (FailsNamed (S.disk files.now) path.now)) }
+{
+    match path {
+        Some(path) => Ok(Some(read_whole(alloc, files, path)?)),
+        None => Ok(None),
+    }
+}
+
+/// The files of inputs, read in their order.
+pub fn read_inputs<S: FileSource>(
+    alloc: Global,
+    files: &S,
+    named: &InputFiles,
+) -> Result<Inputs, Failure>
+    ensures held { IfOk result (λ inputs. AreHeld (S.disk files.now) named.now inputs) }
+    ensures unread { IfErr result (IsUnread (OneFails (S.disk files.now) named.now)) }
+{
+    Ok(Inputs {
+        settings: read_whole(alloc, files, &named.settings)?,
+        values: read_named(alloc, files, &named.values)?,
+        demand: read_whole(alloc, files, &named.demand)?,
+        costs: read_whole(alloc, files, &named.costs)?,
+        capacity: read_whole(alloc, files, &named.capacity)?,
+    })
+}

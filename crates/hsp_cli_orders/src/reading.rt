@@ -1,0 +1,244 @@
+// The order that words give.
+
+ghost use Rattle.std.specs.Prelude.{◌≡◌, ◌↔◌, [], true, false, IfNone, IfOk, IfSome, OnOk, Err, None, codes, map, option_map, string_bytes};
+ghost use Rattle.clap.specs.Words.{fault_of, found_of, kind_of, rows_of, first_of, subcommand_of};
+ghost use Rattle.clap.specs.declared.error.kind.ErrorKind.TheVariants as kind;
+ghost use Rattle.hsp_cli_options.specs.Commands.{hsplan_app};
+ghost use Rattle.hsp_cli_orders.specs.Forms.{files_in, order_in};
+ghost use Rattle.hsp_cli_orders.specs.Orders.{HasInputs, HasNoPlace, IsOrderIn, IsOrderOf, IsUsage, kind_word};
+ghost use Rattle.hsp_cli_orders.specs.declared.fault.CommandFault.TheVariants as fault;
+ghost use Rattle.hsp_cli_orders.specs.declared.order.InputFiles.{InputFiles};
+ghost use Rattle.hsp_cli_orders.specs.declared.order.Kind.{Kind};
+ghost use Rattle.hsp_cli_orders.specs.declared.order.Order.{Order};
+
+use crate::fault::CommandFault;
+use crate::form::{Form, InputTexts, copied};
+use crate::order::{Kind, Order};
+use clap::error::ErrorKind;
+use clap::{ArgMatches, Error};
+use hsp_cli_options::hsplan_command;
+use std::alloc::Global;
+
+// The value of this name, where it was given.
+pub(crate) fn text_of<'a>(matches: &ArgMatches<'a>, name: &str) -> Option<&'a str>
+    ensures { first_of name.now (rows_of (found_of matches.now))
+        ≡ option_map (λ text. text.now) result }
+{
+    matches.get_str(name)
+}
+
+pub(crate) fn inputs_of<'a>(matches: &ArgMatches<'a>) -> Option<InputTexts<'a>>
+    ensures given { IfSome result
+        (λ texts. HasInputs (rows_of (found_of matches.now)) (files_in texts)) }
+    ensures absent { IfNone result ((inputs : InputFiles)
+        → HasInputs (rows_of (found_of matches.now)) inputs → ⊥) }
+{
+    Some(InputTexts {
+        settings: text_of(matches, "settings")?,
+        values: text_of(matches, "values"),
+        demand: text_of(matches, "demand")?,
+        costs: text_of(matches, "costs")?,
+        capacity: text_of(matches, "capacity")?,
+    })
+}
+
+// Whether there is a value of this name.
+fn is_given(matches: &ArgMatches<'_>, name: &str) -> bool
+    ensures given { result ≡ true
+        → first_of name.now (rows_of (found_of matches.now)) ≡ None → ⊥ }
+    ensures absent { result ≡ false
+        → first_of name.now (rows_of (found_of matches.now)) ≡ None }
+{
+    match text_of(matches, name) {
+        Some(_text) => true,
+        None => false,
+    }
+}
+
+// The form of `locate` that asks for a place.
+fn place_of<'a>(matches: &ArgMatches<'a>) -> Option<Form<'a>>
+    requires settings { first_of (codes "settings") (rows_of (found_of matches.now)) ≡ None }
+    requires values { first_of (codes "values") (rows_of (found_of matches.now)) ≡ None }
+    ensures order { IfSome result (λ form.
+        IsOrderIn (order_in form) (codes "locate") (rows_of (found_of matches.now))) }
+    ensures none { IfNone result ((order : Order)
+        → IsOrderIn order (codes "locate") (rows_of (found_of matches.now))
+        → HasNoPlace (rows_of (found_of matches.now))) }
+{
+    Some(Form::LocatePlace {
+        option: text_of(matches, "option")?,
+        servers: text_of(matches, "servers")?,
+        handle: text_of(matches, "handle")?,
+    })
+}
+
+// The form of `locate` that asks for sites.
+fn sites_of<'a>(matches: &ArgMatches<'a>) -> Option<Form<'a>>
+    requires { HasNoPlace (rows_of (found_of matches.now)) }
+    ensures order { IfSome result (λ form.
+        IsOrderIn (order_in form) (codes "locate") (rows_of (found_of matches.now))) }
+    ensures none { IfNone result ((order : Order)
+        → IsOrderIn order (codes "locate") (rows_of (found_of matches.now)) → ⊥) }
+{
+    Some(Form::LocateSites {
+        settings: text_of(matches, "settings")?,
+        values: text_of(matches, "values"),
+        handle: text_of(matches, "handle")?,
+    })
+}
+
+// One of the two forms of `locate`, and neither a mixture nor a part.
+fn locate_of<'a>(matches: &ArgMatches<'a>) -> Option<Form<'a>>
+    ensures order { IfSome result (λ form.
+        IsOrderIn (order_in form) (codes "locate") (rows_of (found_of matches.now))) }
+    ensures none { IfNone result ((order : Order)
+        → IsOrderIn order (codes "locate") (rows_of (found_of matches.now)) → ⊥) }
+{
+    if !is_given(matches, "option") && !is_given(matches, "servers") {
+        return sites_of(matches);
+    }
+    if is_given(matches, "settings") || is_given(matches, "values") {
+        return None;
+    }
+    place_of(matches)
+}
+
+fn site_of<'a>(matches: &ArgMatches<'a>) -> Option<Form<'a>>
+    ensures order { IfSome result (λ form.
+        IsOrderIn (order_in form) (codes "site") (rows_of (found_of matches.now))) }
+    ensures none { IfNone result ((order : Order)
+        → IsOrderIn order (codes "site") (rows_of (found_of matches.now)) → ⊥) }
+{
+    Some(Form::Site {
+        index: text_of(matches, "index"),
+        file: text_of(matches, "file")?,
+    })
+}
+
+fn plan_of<'a>(matches: &ArgMatches<'a>) -> Option<Form<'a>>
+    ensures order { IfSome result (λ form.
+        IsOrderIn (order_in form) (codes "plan") (rows_of (found_of matches.now))) }
+    ensures none { IfNone result ((order : Order)
+        → IsOrderIn order (codes "plan") (rows_of (found_of matches.now)) → ⊥) }
+{
+    Some(Form::Plan {
+        inputs: inputs_of(matches)?,
+    })
+}
+
+fn check_of<'a>(matches: &ArgMatches<'a>) -> Option<Form<'a>>
+    ensures order { IfSome result (λ form.
+        IsOrderIn (order_in form) (codes "check") (rows_of (found_of matches.now))) }
+    ensures none { IfNone result ((order : Order)
+        → IsOrderIn order (codes "check") (rows_of (found_of matches.now)) → ⊥) }
+{
+    Some(Form::Check {
+        inputs: inputs_of(matches)?,
+        plan: text_of(matches, "plan")?,
+    })
+}
+
+fn dispatch_of<'a>(matches: &ArgMatches<'a>) -> Option<Form<'a>>
+    ensures order { IfSome result (λ form.
+        IsOrderIn (order_in form) (codes "dispatch") (rows_of (found_of matches.now))) }
+    ensures none { IfNone result ((order : Order)
+        → IsOrderIn order (codes "dispatch") (rows_of (found_of matches.now)) → ⊥) }
+{
+    Some(Form::Dispatch {
+        inputs: inputs_of(matches)?,
+        plan: text_of(matches, "plan")?,
+        log: text_of(matches, "log")?,
+        fronts: text_of(matches, "fronts"),
+    })
+}
+
+// The kind of report that has the word.
+fn kind_of(word: &str) -> Option<Kind>
+    ensures kind { IfSome result (λ kind. word.now ≡ kind_word kind) }
+    ensures none { IfNone result ((kind : Kind) → word.now ≡ kind_word kind → ⊥) }
+{
+    match word {
+        "load" => Some(Kind::Load),
+        "region" => Some(Kind::Region),
+        "shortage" => Some(Kind::Shortage),
+        _ => None,
+    }
+}
+
+fn report_of<'a>(matches: &ArgMatches<'a>) -> Option<Form<'a>>
+    ensures order { IfSome result (λ form.
+        IsOrderIn (order_in form) (codes "report") (rows_of (found_of matches.now))) }
+    ensures none { IfNone result ((order : Order)
+        → IsOrderIn order (codes "report") (rows_of (found_of matches.now)) → ⊥) }
+{
+    Some(Form::Report {
+        inputs: inputs_of(matches)?,
+        plan: text_of(matches, "plan")?,
+        kind: kind_of(text_of(matches, "kind")?)?,
+    })
+}
+
+// The form of a subcommand with its values. It is decided before anything is copied, so memory can't run out meanwhile.
+fn form_of<'a>(name: &str, matches: &ArgMatches<'a>) -> Option<Form<'a>>
+    ensures order { IfSome result (λ form.
+        IsOrderIn (order_in form) name.now (rows_of (found_of matches.now))) }
+    ensures none { IfNone result ((order : Order)
+        → IsOrderIn order name.now (rows_of (found_of matches.now)) → ⊥) }
+{
+    match name {
+        "locate" => locate_of(matches),
+        "site" => site_of(matches),
+        "plan" => plan_of(matches),
+        "check" => check_of(matches),
+        "dispatch" => dispatch_of(matches),
+        "report" => report_of(matches),
+        _ => None,
+    }
+}
+
+// The order of a subcommand with its values. Memory can run out only where they give one.
+fn order_of(alloc: Global, name: &str, matches: &ArgMatches<'_>) -> Result<Order, CommandFault>
+    ensures order { IfOk result
+        (λ order. IsOrderIn order name.now (rows_of (found_of matches.now))) }
+    ensures usage { result ≡ Err fault.Usage → (order : Order)
+        → IsOrderIn order name.now (rows_of (found_of matches.now)) → ⊥ }
+    ensures memory { result ≡ Err fault.OutOfMemory
+        → (order : Order) × IsOrderIn order name.now (rows_of (found_of matches.now)) }
+{
+    match form_of(name, matches) {
+        Some(form) => Ok(copied(alloc, &form)?),
+        None => Err(CommandFault::Usage),
+    }
+}
+
+// What an error of clap's parser says.
+pub(crate) fn command_fault(error: &Error) -> CommandFault
+    ensures { result ≡ fault.OutOfMemory ↔ (kind_of error.now ≡ kind.OutOfMemory) }
+{
+    if error.kind() == ErrorKind::OutOfMemory {
+        CommandFault::OutOfMemory
+    } else {
+        CommandFault::Usage
+    }
+}
+
+/// The order that the words give. The first word is the command.
+///
+/// The fault is `Usage` for what clap's parser refuses, for a request for help, for a mixture or a part of the two
+/// forms of `locate`, and for an unknown kind of report.
+pub fn read_command(alloc: Global, words: &[String]) -> Result<Order, CommandFault>
+    ensures order { IfOk result
+        (λ order. IsOrderOf order (subcommand_of hsplan_app (map string_bytes words.now))) }
+    ensures taken { OnOk result (fault_of hsplan_app (map string_bytes words.now) ≡ []) }
+    ensures usage { result ≡ Err fault.Usage → IsUsage (map string_bytes words.now) }
+{
+    let command = hsplan_command(alloc)?;
+    let mut matches = match command.try_get_matches_from(words) {
+        Ok(matches) => matches,
+        Err(error) => return Err(command_fault(&error)),
+    };
+    match matches.remove_subcommand() {
+        Some((name, found)) => order_of(alloc, name, &found),
+        None => Err(CommandFault::Usage),
+    }
+}

@@ -1,7 +1,0 @@
-use Rattle.std.proofs.Common.{◌≡◌, map, string_bytes}
-use Rattle.std.specs.Prelude.{filter}
-use Rattle.hsp_command.specs.Words.{is_word}
-use Rattle.hsp_command.proofs.words.words_in.Given as goal
-
-abbrev pub invariant-loop-word : goal.invariant-loop-word
-invariant-loop-word l = map string_bytes l.words.items ≡ filter is_word (map (λ word. word.now) l.yielded)

@@ -1,5 +1,0 @@
-use Rattle.std.proofs.Common.{inr}
-use Rattle.hsp_edge.proofs.commands.plan.Goals as goal
-
-pub returns : goal.returns
-returns g c = inr (c.in_ok-inputs.inputs, c.in_ok-inputs.ensures.held, c.plan_answer.ensures)

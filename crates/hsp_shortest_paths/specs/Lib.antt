@@ -1,0 +1,10 @@
+pub mod Frontier
+pub mod Graph
+pub mod Index
+pub mod Layout
+pub mod Nodes
+pub mod InitialPotentials
+pub mod Problem
+pub mod Residual
+pub mod Search
+pub mod Sums

@@ -1,0 +1,65 @@
+-- What a command does: for which words, and from which files.
+use Rattle.std.specs.Prelude.{◌≡◌, ◌⊎◌, ℕ, List, Option, Result, Ok, Err}
+use Rattle.hsp_cli_orders.specs.StreamOrders.{IsStreamOrdered}
+use Rattle.hsp_cli_orders.specs.declared.fault.CommandFault.{CommandFault}
+use Rattle.hsp_cli_orders.specs.declared.order.InputFiles.{InputFiles}
+use Rattle.hsp_cli_orders.specs.declared.stream_order.FrontWords.{FrontWords}
+use Rattle.hsp_cli_orders.specs.declared.stream_order.StreamOrder.{StreamOrder}
+use Rattle.hsp_cli_orders.specs.declared.stream_order.StreamOrder.TheVariants as order
+use Rattle.hsp_cli.specs.Commands.{AreOpened, DispatchFails}
+use Rattle.hsp_cli.specs.Dispatching.{Opened}
+use Rattle.hsp_cli.specs.Failing.{IsUnread}
+use Rattle.hsp_cli.specs.Files.{Disk, HoldsRest}
+use Rattle.hsp_cli.specs.declared.failure.Failure.{Failure}
+use Rattle.hsp_stream.specs.declared.kinds_files.KindsInputs.{KindsInputs}
+use Rattle.hsp_stream.specs.declared.portions.PortionWords.{PortionWords}
+use Rattle.hsp_stream_cli.specs.Ending.{Ended}
+use Rattle.hsp_stream_cli.specs.Failing.{command_failure, file_failure}
+use Rattle.hsp_stream_cli.specs.Files.{AreKindsHeld, AreSourcesHeld, KindsFail, SourcesFail}
+use Rattle.hsp_stream_cli.specs.Printing.{PrintsTable, PrintsText}
+use Rattle.hsp_stream_cli.specs.Talking.{EndsAnswers, EndsPlaces, IsPortion, TalksOver}
+use Rattle.hsp_stream_cli.specs.declared.files.Sources.{Sources}
+use Rattle.hsp_stream_cli.specs.declared.failure.StreamFailure.TheVariants.{Memory}
+use Rattle.hsp_stream_cli.specs.declared.texts.TheConstants.{HELP, VERSION}
+
+-- a file, which may fail to be read, wasn't read, or memory ran out; nothing was written
+abbrev pub LacksFile : Type 0 → Option (List ℕ) → Option (List ℕ) → Ended → Type 0
+LacksFile MayFail old new ended = (new ≡ old) × ((failure : Failure) × IsUnread MayFail failure × (ended ≡ Err (file_failure failure)))
+
+-- the table of a log is printed
+abbrev pub PrintsKinds : Disk → Type 0 → List ℕ → Option (List ℕ) → List ℕ → Option (List ℕ) → List ℕ → Option (List ℕ) → Option (List ℕ) → Ended → Type 0
+PrintsKinds disk MayFail settings values costs unit log old new ended =
+    LacksFile (KindsFail disk settings values costs ⊎ disk.fails log) old new ended
+    ⊎ ((inputs : KindsInputs) × (left : Option (List ℕ)) × AreKindsHeld disk settings values costs inputs × HoldsRest disk log left
+    × PrintsTable MayFail inputs unit left old new ended)
+
+-- the places of a log's handles are stated
+abbrev pub StatesPlaces : Disk → List ℕ → Option (List ℕ) → List ℕ → Option (List ℕ) → Option (List ℕ) → Ended → Type 0
+StatesPlaces disk settings values log old new ended =
+    LacksFile (SourcesFail disk settings values ⊎ disk.fails log) old new ended
+    ⊎ ((sources : Sources) × (left : Option (List ℕ)) × AreSourcesHeld disk settings values sources × HoldsRest disk log left
+    × TalksOver left old new (EndsPlaces sources ended))
+
+-- a log is answered
+abbrev pub AnswersLog : Disk → InputFiles → List ℕ → List ℕ → Option (List ℕ) → Option FrontWords → Option (List ℕ) → Option (List ℕ) → Ended → Type 0
+AnswersLog disk files plan log unit front old new ended =
+    LacksFile (DispatchFails disk files plan log) old new ended ⊎ ((new ≡ old) × (ended ≡ Err Memory))
+    ⊎ ((it : Opened) × (words : PortionWords) × AreOpened disk files plan log it × IsPortion unit front words
+    × TalksOver it.left old new (EndsAnswers it.inputs it.certificate words ended))
+
+-- an order is carried out on an output, whose writes may fail or not
+abbrev pub CarriesOut : Disk → Type 0 → StreamOrder → Option (List ℕ) → Option (List ℕ) → Ended → Type 0
+CarriesOut disk MayFail order.Help old new ended = PrintsText MayFail HELP.now old new ended
+CarriesOut disk MayFail order.Version old new ended = PrintsText MayFail VERSION.now old new ended
+CarriesOut disk MayFail (order.Kinds settings values costs unit log) old new ended = PrintsKinds disk MayFail settings values costs unit log old new ended
+CarriesOut disk MayFail (order.Places settings values log) old new ended = StatesPlaces disk settings values log old new ended
+CarriesOut disk MayFail (order.Answer files plan log unit front) old new ended = AnswersLog disk files plan log unit front old new ended
+
+-- the order is carried out; where there is none, nothing was written, and the failure is reported
+abbrev pub ActsOn : Disk → Type 0 → Result StreamOrder CommandFault → Option (List ℕ) → Option (List ℕ) → Ended → Type 0
+ActsOn disk MayFail (Ok order) old new ended = CarriesOut disk MayFail order old new ended
+ActsOn disk MayFail (Err fault) old new ended = (new ≡ old) × (ended ≡ Err (command_failure fault))
+
+-- the words are obeyed
+abbrev pub Obeys : Disk → Type 0 → List (List ℕ) → Option (List ℕ) → Option (List ℕ) → Ended → Type 0
+Obeys disk MayFail words old new ended = (order : Result StreamOrder CommandFault) × IsStreamOrdered words order × ActsOn disk MayFail order old new ended

@@ -1,0 +1,40 @@
+-- Logs that are answered in a talk.
+use Rattle.std.specs.Prelude.{◌≡◌, ℕ, List, Option, None, Some, Ok, Err, option_map}
+use Rattle.std.specs.Borrow.{GName}
+use Rattle.hsp_cli_orders.specs.declared.stream_order.FrontWords.{FrontWords}
+use Rattle.hsp_runs.specs.declared.inputs.Inputs.{Inputs}
+use Rattle.hsp_talk.specs.Known.{Known}
+use Rattle.hsp_stream.specs.AnswerRun.{IsAnswered, run_of}
+use Rattle.hsp_stream.specs.PlacesRun.{ArePlaced, ArePlacedUntil}
+use Rattle.hsp_stream.specs.declared.portions.PortionWords.{PortionWords}
+use Rattle.hsp_stream_cli.specs.Ending.{Ended}
+use Rattle.hsp_stream_cli.specs.declared.failure.StreamFailure.TheVariants.{Refused}
+use Rattle.hsp_stream_cli.specs.declared.files.Sources.{Sources}
+
+-- the words of a portion are these
+pub record IsPortion (unit : Option (List ℕ)) (front : Option FrontWords) (words : PortionWords) : Type 0 where
+  pub unit_is : option_map (λ v. v.items) words.unit ≡ unit
+  pub fronts_are : option_map (λ v. v.items) words.fronts ≡ option_map (λ (it : FrontWords). it.fronts) front
+  pub front_is : option_map (λ v. v.items) words.front ≡ option_map (λ (it : FrontWords). it.front) front
+
+-- what is known of a reader and a writer that is lent
+abbrev pub octets_known : Option (List ℕ) → Option (List ℕ) → GName → Known
+octets_known coming written name = record { events = None; coming = coming; written = written; lent = Some name }
+
+-- what holds of a peer before a talk and after it: of a reader that has some octets left, and of a writer
+abbrev pub TalksOver : Option (List ℕ) → Option (List ℕ) → Option (List ℕ) → (Known → Known → Type 0) → Type 0
+TalksOver left old new Holds = (rest : Option (List ℕ)) × (name : GName) × Holds (octets_known left old name) (octets_known rest new name)
+
+-- places were stated, or the run's fault is returned
+abbrev pub EndsPlaces : Sources → Ended → Known → Known → Type 0
+EndsPlaces sources (Ok None) old new = ArePlaced sources.settings.items (option_map (λ v. v.items) sources.values) old new
+EndsPlaces sources (Ok (Some sums)) old new = ⊥
+EndsPlaces sources (Err (Refused fault)) old new = ArePlacedUntil sources.settings.items (option_map (λ v. v.items) sources.values) old new fault
+EndsPlaces sources (Err failure) old new = ⊥
+
+-- a log was answered, and its sums are returned, or the run's fault
+abbrev pub EndsAnswers : Inputs → List ℕ → PortionWords → Ended → Known → Known → Type 0
+EndsAnswers inputs octets words (Ok (Some sums)) old new = IsAnswered words inputs octets (run_of old new (Ok sums))
+EndsAnswers inputs octets words (Ok None) old new = ⊥
+EndsAnswers inputs octets words (Err (Refused fault)) old new = IsAnswered words inputs octets (run_of old new (Err fault))
+EndsAnswers inputs octets words (Err failure) old new = ⊥

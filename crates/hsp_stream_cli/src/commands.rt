@@ -1,0 +1,76 @@
+// The answers to commands, from the files that they name.
+
+ghost use Rattle.std.specs.Prelude.{map, string_bytes};
+ghost use Rattle.hsp_stream_cli.specs.Commands.{CarriesOut, Obeys};
+
+use crate::failure::StreamFailure;
+use crate::files::{read_kinds, read_sources};
+use crate::printing::{print, print_table};
+use crate::talking::{answer_log, portion_words, state_places};
+use crate::texts::{HELP, VERSION};
+use hsp_cli_orders::{StreamOrder, read_stream_command};
+use hsp_cli::{FileSource, Output, open_log};
+use hsp_stream::StreamSums;
+use std::alloc::Global;
+
+// Carries out the order: prints a text or a table on `out`, or answers a log there. Returns the sums of a log that was
+// answered.
+fn carry_out<S: FileSource, O: Output>(
+    alloc: Global,
+    files: &S,
+    order: &StreamOrder,
+    out: &mut O,
+) -> Result<Option<StreamSums>, StreamFailure>
+    ensures { CarriesOut (S.disk files.now) O.may_fail order.now (O.contents out.old)
+        (O.contents out.new) result }
+{
+    match order {
+        StreamOrder::Help => print(out, HELP),
+        StreamOrder::Version => print(out, VERSION),
+        StreamOrder::Kinds {
+            settings,
+            values,
+            costs,
+            unit,
+            log,
+        } => {
+            let inputs = read_kinds(alloc, files, settings, values, costs)?;
+            let log = files.open(log)?;
+            print_table(alloc, &inputs, unit, log, out)
+        }
+        StreamOrder::Places {
+            settings,
+            values,
+            log,
+        } => {
+            let sources = read_sources(alloc, files, settings, values)?;
+            let log = files.open(log)?;
+            state_places(alloc, &sources, log, out)
+        }
+        StreamOrder::Answer {
+            inputs,
+            plan,
+            log,
+            unit,
+            front,
+        } => {
+            let opened = open_log(alloc, files, inputs, plan, log)?;
+            let portion = portion_words(alloc, unit, front)?;
+            answer_log(alloc, opened, &portion, out)
+        }
+    }
+}
+
+/// Obeys the command that the words give: writes its answer on `out`, and returns the sums of a log that was answered.
+pub fn obey<S: FileSource, O: Output>(
+    alloc: Global,
+    files: &S,
+    words: &[String],
+    out: &mut O,
+) -> Result<Option<StreamSums>, StreamFailure>
+    ensures { Obeys (S.disk files.now) O.may_fail (map string_bytes words.now)
+        (O.contents out.old) (O.contents out.new) result }
+{
+    let order = read_stream_command(alloc, words)?;
+    carry_out(alloc, files, &order, out)
+}

@@ -1,0 +1,55 @@
+// The files of commands, read in their order.
+
+ghost use Rattle.std.specs.Prelude.{IfErr, IfOk};
+ghost use Rattle.hsp_cli.specs.Failing.{IsUnread};
+ghost use Rattle.hsp_stream_cli.specs.Files.{AreKindsHeld, AreSourcesHeld, KindsFail, SourcesFail};
+
+use hsp_cli_orders::Word;
+use hsp_cli::{Failure, FileSource, read_named, read_whole};
+use hsp_stream::KindsInputs;
+use std::alloc::Global;
+
+/// The octets that define sites: settings, and the value list that they may refer to.
+#[derive(Debug, Drop)]
+pub(crate) struct Sources {
+    pub(crate) settings: Vec<u8>,
+    pub(crate) values: Option<Vec<u8>>,
+}
+
+/// The files that define sites.
+pub(crate) fn read_sources<S: FileSource>(
+    alloc: Global,
+    files: &S,
+    settings: &Word,
+    values: &Option<Word>,
+) -> Result<Sources, Failure>
+    ensures held { IfOk result
+        (λ sources. AreSourcesHeld (S.disk files.now) settings.now values.now sources) }
+    ensures unread { IfErr result
+        (IsUnread (SourcesFail (S.disk files.now) settings.now values.now)) }
+{
+    Ok(Sources {
+        settings: read_whole(alloc, files, settings)?,
+        values: read_named(alloc, files, values)?,
+    })
+}
+
+/// The files by which rows are joined.
+pub(crate) fn read_kinds<S: FileSource>(
+    alloc: Global,
+    files: &S,
+    settings: &Word,
+    values: &Option<Word>,
+    costs: &Word,
+) -> Result<KindsInputs, Failure>
+    ensures held { IfOk result
+        (λ inputs. AreKindsHeld (S.disk files.now) settings.now values.now costs.now inputs) }
+    ensures unread { IfErr result
+        (IsUnread (KindsFail (S.disk files.now) settings.now values.now costs.now)) }
+{
+    Ok(KindsInputs {
+        settings: read_whole(alloc, files, settings)?,
+        values: read_named(alloc, files, values)?,
+        costs: read_whole(alloc, files, costs)?,
+    })
+}

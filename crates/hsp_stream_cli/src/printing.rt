@@ -1,0 +1,57 @@
+// Texts and tables on an output.
+
+ghost use Rattle.std.specs.Prelude.{IfErr, IfOk, option_map};
+ghost use Rattle.hsp_stream_cli.specs.Printing.{IsTable, IsTableFault, PrintsTable, PrintsText};
+
+use crate::failure::StreamFailure;
+use hsp_cli_orders::Word;
+use hsp_cli::{OpenFile, Output};
+use hsp_stream::{KindsInputs, StreamFault, StreamSums, kinds_run};
+use std::alloc::Global;
+
+/// Writes a text, and hands it on.
+pub(crate) fn print<O: Output>(
+    out: &mut O,
+    text: &[u8],
+) -> Result<Option<StreamSums>, StreamFailure>
+    ensures { PrintsText O.may_fail text.now (O.contents out.old) (O.contents out.new) result }
+{
+    match out.put(text) {
+        Ok(()) => Ok(None),
+        Err(_) => Err(StreamFailure::Write),
+    }
+}
+
+// The table of a log.
+fn table_of<F: OpenFile>(
+    alloc: Global,
+    inputs: &KindsInputs,
+    unit: &Option<Word>,
+    log: F,
+) -> Result<Vec<u8>, StreamFault>
+    ensures table { IfOk result
+        (λ text. IsTable inputs.now unit.now (F.remaining log) text.items) }
+    ensures fault { IfErr result (IsTableFault inputs.now unit.now (F.remaining log)) }
+{
+    match unit {
+        Some(word) => kinds_run(alloc, inputs, Some(word.as_bytes()), log),
+        None => kinds_run(alloc, inputs, None, log),
+    }
+}
+
+/// Prints the table of a log.
+pub(crate) fn print_table<F: OpenFile, O: Output>(
+    alloc: Global,
+    inputs: &KindsInputs,
+    unit: &Option<Word>,
+    log: F,
+    out: &mut O,
+) -> Result<Option<StreamSums>, StreamFailure>
+    ensures { PrintsTable O.may_fail inputs.now unit.now (F.remaining log) (O.contents out.old)
+        (O.contents out.new) result }
+{
+    match table_of(alloc, inputs, unit, log) {
+        Ok(text) => print(out, &text),
+        Err(fault) => Err(StreamFailure::Refused(fault)),
+    }
+}

@@ -1,0 +1,162 @@
+// Logs that are answered in a talk.
+
+ghost use Rattle.std.specs.Prelude.{◌≡◌, IfOk, option_map};
+ghost use Rattle.hsp_stream_cli.specs.Talking.{EndsAnswers, EndsPlaces, IsPortion, TalksOver, octets_known};
+
+use crate::failure::StreamFailure;
+use crate::files::Sources;
+use hsp_cli_orders::{FrontWords, Word};
+use hsp_cli::{OpenFile, OpenLog, Output};
+use hsp_runs::Inputs;
+use hsp_stream::{PortionWords, StreamSums, answer_run, places_run};
+use hsp_talk::{Joined, Peer};
+use std::alloc::{AllocError, Global};
+
+// States the places of the handles that a peer asks for.
+fn state_to<P: Peer>(
+    alloc: Global,
+    sources: &Sources,
+    peer: &mut P,
+) -> Result<Option<StreamSums>, StreamFailure>
+    ensures { EndsPlaces sources.now result (P.known peer.old) (P.known peer.new) }
+{
+    match places_run(alloc, &sources.settings, sources.values.as_deref(), peer) {
+        Ok(()) => Ok(None),
+        Err(fault) => Err(StreamFailure::Refused(fault)),
+    }
+}
+
+// The same of a reader and a writer.
+fn state_joined<F: OpenFile, O: Output>(
+    alloc: Global,
+    sources: &Sources,
+    peer: &mut Joined<'_, F, O>,
+) -> Result<Option<StreamSums>, StreamFailure>
+    ensures same_reference { peer.new.writer.ghost_name ≡ peer.old.writer.ghost_name }
+    ensures ends { EndsPlaces sources.now result
+        (octets_known (F.remaining peer.old.reader) (O.contents peer.old.writer.now)
+        peer.old.writer.ghost_name)
+        (octets_known (F.remaining peer.new.reader) (O.contents peer.new.writer.now)
+        peer.new.writer.ghost_name) }
+{
+    state_to(alloc, sources, peer)
+}
+
+/// States on `out` the places of the handles of a log.
+pub(crate) fn state_places<F: OpenFile, O: Output>(
+    alloc: Global,
+    sources: &Sources,
+    log: F,
+    out: &mut O,
+) -> Result<Option<StreamSums>, StreamFailure>
+    ensures { TalksOver (F.remaining log) (O.contents out.old) (O.contents out.new)
+        (EndsPlaces sources.now result) }
+{
+    let mut peer = Joined {
+        reader: log,
+        writer: out,
+    };
+    let ended = state_joined(alloc, sources, &mut peer);
+    // The writer is given back here, so that it is known what it holds.
+    let Joined {
+        reader: _read,
+        writer: _given_back,
+    } = peer;
+    ended
+}
+
+// The octets of a word, if there is one.
+fn octets_of(alloc: Global, word: &Option<Word>) -> Result<Option<Vec<u8>>, AllocError>
+    ensures { IfOk result (λ octets. option_map (λ v. v.items) octets ≡ word.now) }
+{
+    match word {
+        Some(word) => Ok(Some(Vec::from_slice(alloc, word.as_bytes())?)),
+        None => Ok(None),
+    }
+}
+
+/// The words of a portion: the unit, and the number of fronts with that of one of them.
+pub(crate) fn portion_words(
+    alloc: Global,
+    unit: &Option<Word>,
+    front: &Option<FrontWords>,
+) -> Result<PortionWords, AllocError>
+    ensures { IfOk result (IsPortion unit.now front.now) }
+{
+    let unit = octets_of(alloc, unit)?;
+    match front {
+        Some(words) => Ok(PortionWords {
+            unit,
+            fronts: Some(Vec::from_slice(alloc, words.fronts.as_bytes())?),
+            front: Some(Vec::from_slice(alloc, words.front.as_bytes())?),
+        }),
+        None => Ok(PortionWords {
+            unit,
+            fronts: None,
+            front: None,
+        }),
+    }
+}
+
+// Answers the rows that a peer asks by.
+fn answer_to<P: Peer>(
+    alloc: Global,
+    inputs: &Inputs,
+    certificate: &[u8],
+    portion: &PortionWords,
+    peer: &mut P,
+) -> Result<Option<StreamSums>, StreamFailure>
+    ensures { EndsAnswers inputs.now certificate.now portion.now result
+        (P.known peer.old) (P.known peer.new) }
+{
+    match answer_run(alloc, inputs, certificate, portion, peer) {
+        Ok(sums) => Ok(Some(sums)),
+        Err(fault) => Err(StreamFailure::Refused(fault)),
+    }
+}
+
+// The same of a reader and a writer.
+fn answer_joined<F: OpenFile, O: Output>(
+    alloc: Global,
+    inputs: &Inputs,
+    certificate: &[u8],
+    portion: &PortionWords,
+    peer: &mut Joined<'_, F, O>,
+) -> Result<Option<StreamSums>, StreamFailure>
+    ensures same_reference { peer.new.writer.ghost_name ≡ peer.old.writer.ghost_name }
+    ensures ends { EndsAnswers inputs.now certificate.now portion.now result
+        (octets_known (F.remaining peer.old.reader) (O.contents peer.old.writer.now)
+        peer.old.writer.ghost_name)
+        (octets_known (F.remaining peer.new.reader) (O.contents peer.new.writer.now)
+        peer.new.writer.ghost_name) }
+{
+    answer_to(alloc, inputs, certificate, portion, peer)
+}
+
+/// Answers on `out` the rows of a log.
+pub(crate) fn answer_log<F: OpenFile, O: Output>(
+    alloc: Global,
+    opened: OpenLog<F>,
+    portion: &PortionWords,
+    out: &mut O,
+) -> Result<Option<StreamSums>, StreamFailure>
+    ensures { TalksOver (F.remaining opened.log) (O.contents out.old) (O.contents out.new)
+        (EndsAnswers opened.inputs opened.certificate.items portion.now result) }
+{
+    let OpenLog {
+        inputs,
+        certificate,
+        log,
+    } = opened;
+    let mut peer = Joined {
+        reader: log,
+        writer: out,
+    };
+    let ended = answer_joined(alloc, &inputs, &certificate, portion, &mut peer);
+    // The writer is given back here, so that it is known what it holds.
+    let Joined {
+        reader: _read,
+        writer: _given_back,
+    } = peer;
+    ended
+}
