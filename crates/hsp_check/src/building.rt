@@ -19,7 +19,10 @@ pub(crate) struct IndexedNetwork {
 }
 
 /// The network of an instance.
-pub(crate) fn build_network(alloc: Global, instance: &Instance) -> Result<IndexedNetwork, AllocError>
+pub(crate) fn build_network(
+    alloc: Global,
+    instance: &Instance,
+) -> Result<IndexedNetwork, AllocError>
     ensures network { IfOk result (λ drawn. indexed_network drawn ≡ network_of instance.now) }
     ensures is { IfOk result (λ _. IsNetwork (network_of instance.now)) }
     ensures cheap { IfOk result (λ _. AreCheap (network_of instance.now)) }

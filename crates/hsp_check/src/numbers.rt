@@ -6,7 +6,7 @@ ghost use Rattle.hsp_check.specs.Instance.{capacities_in, demands_in, server_hos
 
 use crate::lists::NetworkLists;
 use crate::sums::ArcFlow;
-use hsp_instance::{Instance, capacities_of, counts_of, server_hosts_of, limits_of};
+use hsp_instance::{Instance, capacities_of, counts_of, limits_of, server_hosts_of};
 use std::alloc::{AllocError, Global};
 
 /// What each row asks for, what each server and each host can take, and the host that each server stands on.

@@ -127,6 +127,14 @@ pub(crate) fn reached_capacity(
     ensures { IfOk result (λ sum. sum ≡ capacity_of (network_in lists.entry) (flag_at rows.now)) }
 {
     let rooms = rooms_of(alloc, lists, rows)?;
-    let hosted = add_hosts(alloc, lists.server_hosts, rooms.as_slice(), lists.limits.len())?;
-    Ok(free_room(lists.server_hosts, rooms.as_slice()) + hosted_room(lists.limits, hosted.as_slice()))
+    let hosted = add_hosts(
+        alloc,
+        lists.server_hosts,
+        rooms.as_slice(),
+        lists.limits.len(),
+    )?;
+    Ok(
+        free_room(lists.server_hosts, rooms.as_slice())
+            + hosted_room(lists.limits, hosted.as_slice()),
+    )
 }

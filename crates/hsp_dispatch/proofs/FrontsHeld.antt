@@ -112,10 +112,10 @@ module _ (it : Instance) (fronts : ℕ) (rows : List (List Cell)) (held : IsHeld
   all_hold = record {
     within = held.within;
     each = λ front inside. record {
-        within = held.within;
-        one_a_row = long it fronts rows (all_sums fronts rows) front inside ∙ held.one_a_row;
-        each = λ row. rw (first_cells front inside row) (parts_of_row (share fronts front) it row (cells_at rows row) (held.each row));
-      };
+      within = held.within;
+      one_a_row = long it fronts rows (all_sums fronts rows) front inside ∙ held.one_a_row;
+      each = λ row. rw (first_cells front inside row) (parts_of_row (share fronts front) it row (cells_at rows row) (held.each row));
+    };
   }
 
   pub all_share : (x : Plan) → IsSame (left_of (holding it rows)) x → AreFrontsOf it x fronts first

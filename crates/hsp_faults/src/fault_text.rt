@@ -5,7 +5,8 @@ ghost use Rattle.hsp_faults.specs.FaultText.{fault_text, fault_words, log_status
 
 use crate::fault::Fault;
 use crate::fault_words::{
-    handle_words, push_build_fault, push_cert_fault, push_log_fault, push_record_fault, push_table_fault,
+    handle_words, push_build_fault, push_cert_fault, push_log_fault, push_record_fault,
+    push_table_fault,
 };
 use crate::verdict_text::reason_word;
 use hsp_dispatch::LogFault;

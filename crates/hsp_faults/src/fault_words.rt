@@ -42,7 +42,11 @@ pub(crate) fn push_record_fault(out: &mut Vec<u8>, fault: &RecordFault) -> Resul
         RecordFault::Truncated { at } => push_with(out, b"Truncated at ", *at as u64),
         RecordFault::Trailing { at } => push_with(out, b"Trailing at ", *at as u64),
         RecordFault::TooManyServers => out.extend_from_slice(b"TooManyServers"),
-        RecordFault::IndexTwice { index } => push_with(out, b"IndexTwice index ", u64::from(*index)),
+        RecordFault::IndexTwice { index } => push_with(
+            out,
+            b"IndexTwice index ",
+            u64::from(*index),
+        ),
         RecordFault::OutOfMemory => out.extend_from_slice(b"OutOfMemory"),
     }
 }

@@ -6,7 +6,7 @@ ghost use Rattle.hsp_flow.specs.Lists.{transport_in};
 ghost use Rattle.hsp_flow.specs.Planning.{transport_of};
 
 use crate::arcs::{ArcColumns, row_columns};
-use hsp_instance::{Instance, capacities_of, counts_of, server_hosts_of, limits_of};
+use hsp_instance::{Instance, capacities_of, counts_of, limits_of, server_hosts_of};
 use std::alloc::{AllocError, Global};
 
 /// The lists of a network: one number for each row, each server and each host, and three for each arc.

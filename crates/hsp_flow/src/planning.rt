@@ -22,8 +22,8 @@ use crate::small::is_small;
 use crate::spreading::spread;
 use hsp_cert::Certificate;
 use hsp_instance::{Groups, Instance, groups};
-use hsp_shortest_paths::{Frontier, HeapFrontier, SearchEffort, minimum_cost_flow};
 use hsp_network::{Network, NetworkLists, Outcome, accepts};
+use hsp_shortest_paths::{Frontier, HeapFrontier, SearchEffort, minimum_cost_flow};
 use hsp_simplex::{SimplexEffort, propose_counted};
 use std::alloc::{AllocError, Global};
 

@@ -21,7 +21,7 @@ mod sites;
 pub use arc::Arc;
 pub use building::build;
 pub use checks::check_costs;
-pub use columns::{capacities_of, counts_of, server_hosts_of, limits_of};
+pub use columns::{capacities_of, counts_of, limits_of, server_hosts_of};
 pub use fault::{BuildFault, Table};
 pub use group_numbers::Groups;
 pub use grouping::groups;

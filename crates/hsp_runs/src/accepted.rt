@@ -15,8 +15,8 @@ use crate::inputs::Inputs;
 use crate::instance::instance_in;
 use hsp_cert::{BestRef, Certificate, ShortRef};
 use hsp_check::Verdict;
-use hsp_instance::Instance;
 use hsp_faults::Fault;
+use hsp_instance::Instance;
 use std::alloc::Global;
 
 /// An instance, and a certificate that is valid for it.

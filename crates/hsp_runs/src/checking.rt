@@ -13,8 +13,8 @@ use crate::inputs::Inputs;
 use crate::instance::instance_in;
 use hsp_cert::{CertFault, Certificate, read_cert};
 use hsp_check::{Verdict, check};
-use hsp_instance::Instance;
 use hsp_faults::Fault;
+use hsp_instance::Instance;
 use std::alloc::Global;
 
 /// The certificate that octets spell.

@@ -9,8 +9,8 @@ ghost use Rattle.hsp_runs.specs.Memory.{OrNoMemory};
 use crate::inputs::Inputs;
 use crate::laws::instances_are_defined;
 use crate::readings::{settings_in, values_in};
-use hsp_instance::{BuildFault, Instance, build};
 use hsp_faults::Fault;
+use hsp_instance::{BuildFault, Instance, build};
 use hsp_record::ValueList;
 use hsp_tables::{
     Capacities, Costs, Demand, Settings, TableFault, read_capacity, read_costs, read_demand,

@@ -8,8 +8,8 @@ ghost use Rattle.hsp_runs.specs.Locate.{AreLocated, IsLocated, handle_at, option
 use crate::counts::count_at;
 use crate::readings::sites_in;
 use crate::site_lines::site_lines;
-use hsp_hash::{HashOption, server_number};
 use hsp_faults::Fault;
+use hsp_hash::{HashOption, server_number};
 use hsp_names::HandleRef;
 use hsp_text::limits::MOST_SERVERS;
 use hsp_text::push_whole;

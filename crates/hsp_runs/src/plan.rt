@@ -10,9 +10,9 @@ ghost use Rattle.hsp_runs.specs.Memory.{OrNoMemory};
 use crate::inputs::Inputs;
 use crate::instance::instance_in;
 use hsp_cert::{Certificate, write_cert};
+use hsp_faults::Fault;
 use hsp_flow::solve;
 use hsp_instance::Instance;
-use hsp_faults::Fault;
 use std::alloc::{AllocError, Global};
 use std::marker::Model;
 

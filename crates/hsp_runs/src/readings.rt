@@ -4,8 +4,8 @@ ghost use Rattle.std.specs.Prelude.{option_map};
 ghost use Rattle.hsp_runs.specs.Readings.{AreListed, AreSites, AreSitesIn, ReadsSettings, ReadsValues};
 ghost use Rattle.hsp_runs.specs.Memory.{OrNoMemory};
 
-use hsp_instance::{BuildFault, Sites, build_sites};
 use hsp_faults::Fault;
+use hsp_instance::{BuildFault, Sites, build_sites};
 use hsp_record::{RecordFault, ValueList, decode_values};
 use hsp_tables::{Settings, TableFault, read_settings};
 use std::alloc::Global;

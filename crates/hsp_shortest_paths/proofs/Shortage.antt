@@ -162,7 +162,7 @@ module _ (net : Transport) (whole : IsNetwork net) (small : IsSmall net) (n : Ar
       omega (
         arith,
         by_key (λ k. slice_index net.servers k) part (servers_of net) (length net.sources) whole.servers_in
-        ∙ sum_below_same (servers_of net) _ _ (λ j l. sym (load_numbers net part j)),
+            ∙ sum_below_same (servers_of net) _ _ (λ j l. sym (load_numbers net part j)),
         split_host (λ j. host_of net j) (λ j. load (numbered net) part j) (servers_of net) (hosts_of net) (λ j h l e. whole.hosts_in j h e),
       )
 
@@ -188,7 +188,7 @@ module _ (net : Transport) (whole : IsNetwork net) (small : IsSmall net) (n : Ar
         arith,
         capacity_sent,
         by_key (λ k. slice_index net.sources k) part (length net.demands) (length net.sources) whole.sources_in
-        ∙ sum_below_same (length net.demands) _ _ (λ s m. sym (sent_numbers net part s)),
+            ∙ sum_below_same (length net.demands) _ _ (λ s m. sym (sent_numbers net part s)),
       )
     where
       sent_here : (s : ℕ) → set s ≡ true → sent (numbered net) part s ≡ sent (numbered net) flow s

@@ -8,8 +8,8 @@ use crate::files::{read_kinds, read_sources};
 use crate::printing::{print, print_table};
 use crate::talking::{answer_log, portion_words, state_places};
 use crate::texts::{HELP, VERSION};
-use hsp_cli_orders::{StreamOrder, read_stream_command};
 use hsp_cli::{FileSource, Output, open_log};
+use hsp_cli_orders::{StreamOrder, read_stream_command};
 use hsp_stream::StreamSums;
 use std::alloc::Global;
 

@@ -4,8 +4,8 @@ ghost use Rattle.std.specs.Prelude.{◌≡◌};
 ghost use Rattle.hsp_stream_cli.specs.Failing.{command_failure, file_failure};
 ghost use Rattle.hsp_stream_cli.specs.declared.failure.StreamFailure.TheVariants.{Memory, Refused};
 
-use hsp_cli_orders::CommandFault;
 use hsp_cli::Failure;
+use hsp_cli_orders::CommandFault;
 use hsp_stream::StreamFault;
 use std::alloc::AllocError;
 

@@ -4,8 +4,8 @@ ghost use Rattle.std.specs.Prelude.{IfErr, IfOk};
 ghost use Rattle.hsp_cli.specs.Failing.{IsUnread};
 ghost use Rattle.hsp_stream_cli.specs.Files.{AreKindsHeld, AreSourcesHeld, KindsFail, SourcesFail};
 
-use hsp_cli_orders::Word;
 use hsp_cli::{Failure, FileSource, read_named, read_whole};
+use hsp_cli_orders::Word;
 use hsp_stream::KindsInputs;
 use std::alloc::Global;
 

@@ -4,8 +4,8 @@ ghost use Rattle.std.specs.Prelude.{IfErr, IfOk, option_map};
 ghost use Rattle.hsp_stream_cli.specs.Printing.{IsTable, IsTableFault, PrintsTable, PrintsText};
 
 use crate::failure::StreamFailure;
-use hsp_cli_orders::Word;
 use hsp_cli::{OpenFile, Output};
+use hsp_cli_orders::Word;
 use hsp_stream::{KindsInputs, StreamFault, StreamSums, kinds_run};
 use std::alloc::Global;
 

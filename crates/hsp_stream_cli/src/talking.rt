@@ -5,8 +5,8 @@ ghost use Rattle.hsp_stream_cli.specs.Talking.{EndsAnswers, EndsPlaces, IsPortio
 
 use crate::failure::StreamFailure;
 use crate::files::Sources;
-use hsp_cli_orders::{FrontWords, Word};
 use hsp_cli::{OpenFile, OpenLog, Output};
+use hsp_cli_orders::{FrontWords, Word};
 use hsp_runs::Inputs;
 use hsp_stream::{PortionWords, StreamSums, answer_run, places_run};
 use hsp_talk::{Joined, Peer};

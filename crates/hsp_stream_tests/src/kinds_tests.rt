@@ -2,8 +2,8 @@
 
 use crate::same::is_same;
 use crate::worked::{COSTS, SETTINGS, owned};
-use hsp_instance::BuildFault;
 use hsp_faults::Fault;
+use hsp_instance::BuildFault;
 use hsp_names::HandleFault;
 use hsp_stream::{KindsInputs, RowFault, StreamFault, kinds_run};
 use hsp_tables::TableFault;

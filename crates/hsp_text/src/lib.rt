@@ -13,6 +13,6 @@ mod writing;
 pub use lines::next_line;
 pub use name::is_name;
 pub use output::{WriteFailed, put_all};
-pub use whole::{WholeFault, push_whole, push_digits, read_whole};
+pub use whole::{WholeFault, push_digits, push_whole, read_whole};
 pub use wide::push_wide;
 pub use writing::{push_aligned, push_line, push_number};
