@@ -462,7 +462,7 @@ def is_beside(name: str) -> bool:
     return name.endswith("_tests") or name in ("hsp_bench", "hsp_limit_tests")
 
 
-FLOOR_HEIGHT, FLOORS_LEFT, FLOORS_BESIDE, ROOM = 40, 44, 590, 90
+FLOOR_HEIGHT, FLOORS_LEFT, FLOORS_BESIDE, ROOM, FLOORS_WIDE = 40, 44, 650, 80, 1020
 
 
 def floor_rooms(picture: svg.Picture, left: float, top: float, names: list[str], style: str) -> None:
@@ -481,14 +481,14 @@ def draw_floors() -> svg.Picture:
     title = "The crates as floors: each stands only on floors below its own"
     said = ". ".join(f"Floor {at}: {', '.join(names)}" for at, names in enumerate(rows))
     bottom = 80 + FLOOR_HEIGHT * len(rows)
-    picture = svg.Picture(960, bottom + 58, title, said)
+    picture = svg.Picture(FLOORS_WIDE, bottom + 58, title, said)
     picture.text(16, 28, title, 16, form="bold")
     picture.text(FLOORS_LEFT, 62, "the program", 12, "faint")
     picture.text(FLOORS_BESIDE, 62, "tests and measurements", 12, "faint")
     for at, names in enumerate(rows):
         top = bottom - FLOOR_HEIGHT * (at + 1)
         picture.text(30, top + 24, str(at), 12, "faint", "end")
-        picture.line([(FLOORS_LEFT, top + FLOOR_HEIGHT), (944, top + FLOOR_HEIGHT)], "hair", 1)
+        picture.line([(FLOORS_LEFT, top + FLOOR_HEIGHT), (FLOORS_WIDE - 16, top + FLOOR_HEIGHT)], "hair", 1)
         floor_rooms(picture, FLOORS_LEFT, top + 6, [it for it in names if not is_beside(it)], "blue")
         floor_rooms(picture, FLOORS_BESIDE, top + 6, [it for it in names if is_beside(it)], "amber")
     words = "The number of a floor is the length of the longest chain of crates below it."
