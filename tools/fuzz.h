@@ -75,17 +75,17 @@ struct spelling {
 
 void begin_spelling(struct spelling *spelling);
 void put_number(struct spelling *spelling, uint64_t number, int width);
-void push_run(struct spelling *spelling, struct text octets);
+void put_run(struct spelling *spelling, struct text octets);
 struct text spelled(const struct spelling *spelling);
 
 /* Where the field with the octet at this place begins. */
 size_t field_at(const struct spelling *spelling, size_t place);
 
 /* Writes a drawn record, and returns the lines that `site` has to print for it. */
-struct text push_record(struct spelling *spelling);
+struct text put_record(struct spelling *spelling);
 
 /* Writes a value of this index, type and data. */
-void push_value(struct spelling *spelling, uint32_t index, struct text type, struct text data);
+void put_value(struct spelling *spelling, uint32_t index, struct text type, struct text data);
 
 /* A request body of the handle. */
 struct text body_of(struct text handle);

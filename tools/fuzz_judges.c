@@ -288,7 +288,7 @@ static void judge_written_record(struct text text)
     static const struct text words = TEXT("site two_servers.site"), name = TEXT("two_servers.site");
     (void)text;
     begin_spelling(&spelling);
-    struct text lines = push_record(&spelling);
+    struct text lines = put_record(&spelling);
     struct answer whole = answered_with(words, name, spelled(&spelling));
     want(is_answer(&whole, lines, TEXT(""), 0), "what was written", in_digits(spelled(&spelling)), lines, glued(whole.told, whole.printed, TEXT("")));
     if (is_deep)
@@ -305,8 +305,8 @@ static struct wanted put_drawn_value(struct spelling *list, uint32_t index)
     struct spelling record;
     int is_site = below(3) > 0;
     begin_spelling(&record);
-    struct text lines = push_record(&record), type = is_site ? TEXT("HS_SITE") : changed(TEXT("HS_SITE"));
-    push_value(list, index, type, spelled(&record));
+    struct text lines = put_record(&record), type = is_site ? TEXT("HS_SITE") : changed(TEXT("HS_SITE"));
+    put_value(list, index, type, spelled(&record));
     return is_equal(type, TEXT("HS_SITE")) ? (struct wanted){lines, TEXT("")} : (struct wanted){TEXT(""), TEXT("hsplan: NotSiteValue\n")};
 }
 

@@ -32,7 +32,7 @@ void put_number(struct spelling *spelling, uint64_t number, int width)
     put_field(spelling, (struct text){octets, width});
 }
 
-void push_run(struct spelling *spelling, struct text octets)
+void put_run(struct spelling *spelling, struct text octets)
 {
     put_number(spelling, octets.length, 4);
     put_field(spelling, octets);
@@ -60,13 +60,13 @@ struct text in_digits(struct text octets)
 }
 
 /* Writes a server, and returns its line. */
-static struct text push_server(struct spelling *spelling, uint32_t place)
+static struct text put_server(struct spelling *spelling, uint32_t place)
 {
     uint32_t id = drawn_number(), interfaces = below(4);
     struct text address = front(glued(drawn_octets(16), TEXT("\0\0\0\0\0\0\0\0\0\0\0\0\0\0\0\0"), TEXT("")), 16), key = drawn_octets(below(8) ? 5 : 300);
     put_number(spelling, id, 4);
     put_field(spelling, address);
-    push_run(spelling, key);
+    put_run(spelling, key);
     put_number(spelling, interfaces, 4);
     for (uint32_t left = interfaces; left; left--) {
         put_number(spelling, below(256), 1);
@@ -77,7 +77,7 @@ static struct text push_server(struct spelling *spelling, uint32_t place)
 }
 
 /* Writes what stands before the servers, and returns its lines. */
-static struct text push_head(struct spelling *spelling)
+static struct text put_head(struct spelling *spelling)
 {
     uint64_t version = below(65536), major = below(256), minor = below(256), serial = below(65536), mask = below(256), option = below(256);
     uint64_t attributes = below(4);
@@ -87,39 +87,39 @@ static struct text push_head(struct spelling *spelling)
     put_number(spelling, serial, 2);
     put_number(spelling, mask, 1);
     put_number(spelling, option, 1);
-    push_run(spelling, filter);
+    put_run(spelling, filter);
     put_number(spelling, attributes, 4);
     for (uint64_t left = 2 * attributes; left; left--)
-        push_run(spelling, drawn_octets(6));
+        put_run(spelling, drawn_octets(6));
     struct text first = numbered("version %lu\nprotocol %lu %lu\n", version, major, minor);
     struct text second = numbered("serial %lu\nmask %lu\noption %lu\n", serial, mask, option);
     return glued(first, second, numbered("filter %lu\nattributes %lu\n", filter.length, attributes, 0));
 }
 
-struct text push_record(struct spelling *spelling)
+struct text put_record(struct spelling *spelling)
 {
-    struct text lines = push_head(spelling);
+    struct text lines = put_head(spelling);
     uint32_t servers = below(32) ? below(6) : below(16) ? below(60) : below(1025);
     put_number(spelling, servers, 4);
     lines = glued(lines, numbered("servers %lu\n", servers, 0, 0), TEXT(""));
     for (uint32_t place = 0; place < servers; place++)
-        lines = glued(lines, push_server(spelling, place), TEXT(""));
+        lines = glued(lines, put_server(spelling, place), TEXT(""));
     return lines;
 }
 
-void push_value(struct spelling *spelling, uint32_t index, struct text type, struct text data)
+void put_value(struct spelling *spelling, uint32_t index, struct text type, struct text data)
 {
     uint32_t references = below(3);
     put_number(spelling, index, 4);
-    push_run(spelling, type);
-    push_run(spelling, data);
+    put_run(spelling, type);
+    put_run(spelling, data);
     put_number(spelling, below(256), 1);
     put_number(spelling, below(256), 1);
     put_number(spelling, drawn_number(), 4);
     put_number(spelling, (uint64_t)drawn_number() << 32 | drawn_number(), 8);
     put_number(spelling, references, 4);
     for (; references; references--) {
-        push_run(spelling, drawn_octets(9));
+        put_run(spelling, drawn_octets(9));
         put_number(spelling, drawn_number(), 4);
     }
 }
@@ -129,12 +129,12 @@ struct text body_of(struct text handle)
     struct spelling spelling;
     uint32_t indices = below(4), types = below(3);
     begin_spelling(&spelling);
-    push_run(&spelling, handle);
+    put_run(&spelling, handle);
     put_number(&spelling, indices, 4);
     for (; indices; indices--)
         put_number(&spelling, drawn_number(), 4);
     put_number(&spelling, types, 4);
     for (; types; types--)
-        push_run(&spelling, front(changed(TEXT("HS_SITE")), 20));
+        put_run(&spelling, front(changed(TEXT("HS_SITE")), 20));
     return spelled(&spelling);
 }
