@@ -141,14 +141,14 @@ def put_case(case, room, name):
     """Writes the runs of a case: its standard input, or its arguments, or its words both ways where they are text.
     Returns the names of the runs."""
     words, args = octets(case, "words", None), octets(case, "args", None)
-    push_run(room, name, words if words is not None else octets(case, "stdin"), args)
+    put_run(room, name, words if words is not None else octets(case, "stdin"), args)
     if words is None or not is_text(words):
         return [name]
-    push_run(room, name + "_as_arguments", "", "".join(word + "\n" for word in words.split()))
+    put_run(room, name + "_as_arguments", "", "".join(word + "\n" for word in words.split()))
     return [name, name + "_as_arguments"]
 
 
-def push_run(room, name, given, args):
+def put_run(room, name, given, args):
     texts = {name: given} if args is None else {name: given, name + ".args": args}
     for at, text in texts.items():
         with open(os.path.join(room, at), "w", encoding="utf-8", errors="surrogateescape", newline="") as file:
