@@ -6,8 +6,8 @@ use Rattle.hsp_check.proofs.LaidSums.{all_of_map}
 use Rattle.hsp_check.proofs.Ranges.{few_uses}
 use Rattle.hsp_check.proofs.plan_check.check_plan.Goals as goal
 
-pub lay-requires-clause-few : goal.lay-requires-clause-few
-lay-requires-clause-few c = rw c.uses.ensures (few_uses c.args.plan.now.uses c.requires.ranges.uses c.requires.ranges.order)
+pub arc_flows-requires-clause-few : goal.arc_flows-requires-clause-few
+arc_flows-requires-clause-few c = rw c.uses.ensures (few_uses c.args.plan.now.uses c.requires.ranges.uses c.requires.ranges.order)
 
 pub returns-in_default : goal.returns-in_default
 returns-in_default c = (rw c.uses.ensures at c.in_default.ensures.lost, search rules)

@@ -5,8 +5,8 @@ use Rattle.hsp_check.proofs.Ranges.{few_uses}
 use Rattle.hsp_check.proofs.Reached.{found_where}
 use Rattle.hsp_check.proofs.planned.planned_arcs.Goals as goal
 
-pub lay-requires-clause-few : goal.lay-requires-clause-few
-lay-requires-clause-few c = rw c.uses.ensures (few_uses c.args.plan.now.uses c.requires.ranges.uses c.requires.ranges.order)
+pub arc_flows-requires-clause-few : goal.arc_flows-requires-clause-few
+arc_flows-requires-clause-few c = rw c.uses.ensures (few_uses c.args.plan.now.uses c.requires.ranges.uses c.requires.ranges.order)
 
 pub unwrap-requires : goal.unwrap-requires
 unwrap-requires c =

@@ -7,8 +7,8 @@ use Rattle.hsp_check.proofs.Ranges.{few_uses}
 use Rattle.hsp_check.proofs.Reached.{found_where}
 use Rattle.hsp_check.proofs.totals.plan_sums.Goals as goal
 
-pub lay-requires-clause-few : goal.lay-requires-clause-few
-lay-requires-clause-few c = rw c.uses.ensures (few_uses c.args.plan.now.uses c.requires.ranges.uses c.requires.ranges.order)
+pub arc_flows-requires-clause-few : goal.arc_flows-requires-clause-few
+arc_flows-requires-clause-few c = rw c.uses.ensures (few_uses c.args.plan.now.uses c.requires.ranges.uses c.requires.ranges.order)
 
 pub unwrap-laid-requires : goal.unwrap-laid-requires
 unwrap-laid-requires c =
