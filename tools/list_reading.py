@@ -30,7 +30,8 @@ PAGE = os.path.join(TOP, "docs", "understand", "READING.md")
 RUNS = os.path.join(TOP, "crates", "hsp_runs")
 # How many words of definitions and clauses are read in a minute.
 RATE = 130
-HEADLINE, LOGS, RUNS_OVER_LOGS, LAWS = (f"Rattle.hsp_runs.specs.{it}" for it in ("Headline", "Logs", "Dispatch", "Laws"))
+LOGS, RUNS_OVER_LOGS, LAWS = (f"Rattle.hsp_runs.specs.{it}" for it in ("Logs", "Dispatch", "Laws"))
+HEADLINE, PAGE_LAWS = (f"Rattle.hsp_headline.specs.{it}" for it in ("Headline", "Laws"))
 # The calls of the headline, and their clauses that are of the page: without the order of faults.
 CALLS = (
     ("plan.rt", "plan_run", ("shows", "always")),
@@ -48,8 +49,9 @@ PARTS = (
         (RUNS_OVER_LOGS, "IsBeforeLog"))),
     ("No log exceeds a plan", (("Rattle.hsp_dispatch.specs.Laws", "NeverExceeds"), ("Rattle.hsp_dispatch.specs.FrontLaws", "NeverExceedsTogether"))),
     ("What the calls answer, with every fault in its order", ()),
-    ("What holds of all inputs and of all runs", tuple((LAWS, it) for it in (
-        "GivesTheDefined", "AcceptsTheDefined", "GivesOneAnswer", "GivesNothingElse", "DispatchedLogsShow", "FrontsLogsShow", "LogsGoByHash"))),
+    ("What holds of all inputs and of all runs", (
+        *((PAGE_LAWS, it) for it in ("GivesTheDefined", "AcceptsTheDefined", "GivesOneAnswer", "GivesNothingElse")),
+        *((LAWS, it) for it in ("DispatchedLogsShow", "FrontsLogsShow", "LogsGoByHash")))),
 )
 # The files of the page in reading order, and what each is.
 FILES = (
@@ -58,7 +60,7 @@ FILES = (
     ("Logs.antt", "what logs show"),
     ("Told.antt", "how documents and tables state their rows"),
 )
-# What an auditor asks, the file of hsp_runs/specs that answers it, and the words of the answer in that file.
+# What an auditor asks, the file that answers it, and the words of the answer in that file.
 QUESTIONS = (
     ("May two sites have one name?", "Headline.antt", "pub names : IsDistinct"),
     ("May a table have two rows of one key?", "Told.antt", "pub apart : IsDistinct same_key rows"),
@@ -333,11 +335,17 @@ def promised(file, call, names):
     return found
 
 
+def page_file(name):
+    """Where a file of the page stands: in `hsp_headline`, or with the runs over logs in `hsp_runs`."""
+    paths = [os.path.join(TOP, "crates", crate, "specs", name) for crate in ("hsp_headline", "hsp_runs")]
+    return next(it for it in paths if os.path.exists(it))
+
+
 def figures():
     """How many words the page and the clauses of the calls have, and how long it takes to read them."""
     lines, total = [f"At {RATE} words a minute:", "", "| Read | Lines | Words | Minutes |", "|---|---|---|---|"], 0
     for name, what in FILES:
-        with open(os.path.join(RUNS, "specs", name), encoding="utf-8") as file:
+        with open(page_file(name), encoding="utf-8") as file:
             text = file.read().rstrip("\n").split("\n")
         words = words_in(text)
         lines.append(f"| `{name}`, {what} | {len(text)} | {words} | {words / RATE:.1f} |")
@@ -354,7 +362,7 @@ def figures():
 def answered():
     lines = ["| Question | Answer |", "|---|---|"]
     for question, name, words in QUESTIONS:
-        with open(os.path.join(RUNS, "specs", name), encoding="utf-8") as file:
+        with open(page_file(name), encoding="utf-8") as file:
             found = [at for at, line in enumerate(file, 1) if words in line]
         if len(found) != 1:
             sys.exit(f"reading: {name} has {len(found)} lines with {words}")

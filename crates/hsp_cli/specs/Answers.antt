@@ -5,7 +5,7 @@ use Rattle.hsp_check.specs.declared.verdict.Verdict.{Verdict}
 use Rattle.hsp_check.specs.declared.verdict.Verdict.TheVariants.{Yes}
 use Rattle.hsp_runs.specs.Check.{IsChecked, ShowsOf}
 use Rattle.hsp_runs.specs.Plan.{IsPlanned, Printed}
-use Rattle.hsp_runs.specs.declared.inputs.Inputs.{Inputs}
+use Rattle.hsp_headline.specs.declared.inputs.Inputs.{Inputs}
 use Rattle.hsp_faults.specs.VerdictText.{verdict_status, verdict_text}
 use Rattle.hsp_faults.specs.declared.fault.Fault.{Fault}
 use Rattle.hsp_faults.specs.declared.fault.Fault.TheVariants.{OutOfMemory}

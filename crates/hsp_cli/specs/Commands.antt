@@ -15,7 +15,7 @@ use Rattle.hsp_runs.specs.SiteText.{IsSiteRun}
 use Rattle.hsp_runs.specs.Report.{IsReported}
 use Rattle.hsp_runs.specs.declared.report.ReportKind.{ReportKind}
 use Rattle.hsp_runs.specs.declared.report.ReportKind.TheVariants.{Load, Region, Shortage}
-use Rattle.hsp_runs.specs.declared.inputs.Inputs.{Inputs}
+use Rattle.hsp_headline.specs.declared.inputs.Inputs.{Inputs}
 use Rattle.hsp_cli.specs.declared.answer.Answer.{Answer}
 use Rattle.hsp_cli.specs.declared.answer.Completed.{Completed}
 use Rattle.hsp_cli.specs.declared.failure.Failure.{Failure}

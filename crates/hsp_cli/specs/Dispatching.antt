@@ -7,7 +7,7 @@ use Rattle.hsp_dispatch.specs.declared.fault.LogFault.TheVariants.{WriteFailed}
 use Rattle.hsp_runs.specs.Dispatch.{IsBeforeLog, IsDispatched, IsDispatchedAt, over}
 use Rattle.hsp_faults.specs.declared.fault.Fault.{Fault}
 use Rattle.hsp_faults.specs.declared.fault.Fault.TheVariants.{Log, OutOfMemory}
-use Rattle.hsp_runs.specs.declared.inputs.Inputs.{Inputs}
+use Rattle.hsp_headline.specs.declared.inputs.Inputs.{Inputs}
 use Rattle.hsp_cli.specs.declared.answer.Completed.{Completed}
 use Rattle.hsp_cli.specs.declared.failure.Failure.{Failure}
 use Rattle.hsp_cli.specs.declared.failure.Failure.TheVariants.{Refused}

@@ -26,15 +26,15 @@ use Rattle.hsp_faults.specs.declared.fault.Fault.TheVariants.{BadFronts, Cert, L
 use Rattle.hsp_runs.specs.Always.{AcceptsClaim, GivesTheDefinedAlways, ReadsAlways}
 use Rattle.hsp_runs.specs.Counts.{above_none}
 use Rattle.hsp_runs.specs.Dispatch.{AnswersAs, AnswersBy, EndsLog, Refuses, a_dispatcher, fronts_at, so_many}
-use Rattle.hsp_runs.specs.Headline.{Defines, ShowsOf}
-use Rattle.hsp_runs.specs.Instance.{IsInstanceOf}
-use Rattle.hsp_runs.specs.Laws.{GivesNothingElse}
+use Rattle.hsp_headline.specs.Headline.{Defines, ShowsOf}
+use Rattle.hsp_headline.specs.Instance.{IsInstanceOf}
+use Rattle.hsp_headline.specs.Laws.{GivesNothingElse}
 use Rattle.hsp_runs.specs.Logs.{IsOkUnlessLog}
 use Rattle.hsp_runs.specs.Plan.{IsPlanText, Printed}
-use Rattle.hsp_runs.specs.Shown.{Holds, Shows, Spells}
-use Rattle.hsp_runs.specs.Memory.{IsOrNoMemory, OrNoMemory}
+use Rattle.hsp_headline.specs.Shown.{Holds, Shows, Spells}
+use Rattle.hsp_headline.specs.Memory.{IsOrNoMemory, OrNoMemory}
 use Rattle.hsp_runs.specs.declared.accepted.Accepted.{Accepted}
-use Rattle.hsp_runs.specs.declared.inputs.Inputs.{Inputs}
+use Rattle.hsp_headline.specs.declared.inputs.Inputs.{Inputs}
 
 -- ---- a fault that is handed on
 

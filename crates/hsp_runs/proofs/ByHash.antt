@@ -15,21 +15,12 @@ use Rattle.hsp_dispatch.proofs.ByHash.{goes_by_hash}
 use Rattle.hsp_dispatch.proofs.FrontShares.{share_none}
 use Rattle.hsp_runs.specs.Accepted.{IsAccepted}
 use Rattle.hsp_runs.specs.Check.{IsCertificate}
-use Rattle.hsp_runs.specs.Instance.{IsInstanceOf}
+use Rattle.hsp_headline.specs.Instance.{IsInstanceOf}
 use Rattle.hsp_runs.specs.Laws.{AnswersByHash, LogsGoByHash}
 use Rattle.hsp_runs.specs.declared.accepted.Accepted.{Accepted}
 use Rattle.hsp_faults.specs.declared.fault.Fault.TheVariants.{Build}
-use Rattle.hsp_runs.specs.declared.inputs.Inputs as files
-
--- what the second of two steps answers, the first gave rise to
-pub went_on : {A B E : Type 0} (First : Result A E → Type 0) (Next : A → Result B E → Type 0) (b : B) → Then First Next (Ok b)
-    → (a : A) × First (Ok a) × Next a (Ok b)
-went_on First Next b (Ok a, first, next) = (a, first, next)
-went_on First Next b (Err e, first, same) = absurd (cc same)
-
-pub built_so : (read : Inputs) (it : Instance) (built : Result Instance BuildFault) → IsBuilt read built → Ok it ≡ told_as Build built → IsBuilt read (Ok it)
-built_so read it (Ok other) is same = let one : it ≡ other = cc same in rw one is
-built_so read it (Err e) is same = absurd (cc same)
+use Rattle.hsp_headline.specs.declared.inputs.Inputs as files
+use Rattle.hsp_headline.proofs.Steps.{built_so, went_on}
 
 -- the instance of inputs is built of what they hold
 pub is_built : (inputs : files.Inputs) (it : Instance) → IsInstanceOf inputs (Ok it) → (read : Inputs) × IsBuilt read (Ok it)

@@ -4,19 +4,8 @@ pub mod Printing
 pub mod Showing
 mod Reporting
 pub mod ByHash
-pub mod Finding
-pub mod PageRows
-pub mod PageServers
-pub mod PageArcs
-pub mod PageSettings
-pub mod PageSites
-pub mod PageBuilt
-pub mod FewRegions
-pub mod Page
-pub mod PageRead
 pub mod NoLog
 pub mod Ending
 pub mod ShownLog
 pub mod ShownFronts
-pub mod OneFault
 pub mod Always

@@ -7,11 +7,11 @@ use Rattle.hsp_cert.specs.Certificate.{Claim}
 use Rattle.hsp_dispatch.specs.declared.fault.LogFault.{LogFault}
 use Rattle.hsp_runs.specs.Accepted.{IsAccepted, IsAcceptedOf}
 use Rattle.hsp_runs.specs.Check.{IsCertificate}
-use Rattle.hsp_runs.specs.Instance.{BuildsInstance, IsInstanceOf, IsWithCosts, IsWithDemand, IsWithSettings, IsWithValues}
-use Rattle.hsp_runs.specs.Readings.{AreListed, ReadsValues, some_list}
+use Rattle.hsp_headline.specs.Instance.{BuildsInstance, IsInstanceOf, IsWithCosts, IsWithDemand, IsWithSettings, IsWithValues}
+use Rattle.hsp_headline.specs.Readings.{AreListed, ReadsValues, some_list}
 use Rattle.hsp_faults.specs.declared.fault.Fault.{Fault}
 use Rattle.hsp_faults.specs.declared.fault.Fault.TheVariants.{BadFronts, BadIndex, BadOption, BadServers, Build, Capacity, Cert, Costs, Demand, Handle, Log, NoValue, NotSiteValue, OutOfMemory, Refused, Settings, Site, Values, WrongKind}
-use Rattle.hsp_runs.specs.declared.inputs.Inputs.{Inputs}
+use Rattle.hsp_headline.specs.declared.inputs.Inputs.{Inputs}
 
 -- no fault that the relation has is the log's
 abbrev pub HasNoLog : {A : Type 0} → (Result A Fault → Type 0) → Type 0

@@ -1,4 +1,4 @@
--- What holds of all inputs, and of all runs over logs.
+-- What holds of all runs over logs.
 use Rattle.std.specs.Prelude.{◌≡◌, ℕ, List, Result, Ok}
 use Rattle.hsp_cert.specs.Certificate.{Best}
 use Rattle.hsp_cert.specs.Certificate.Claim.{best}
@@ -6,18 +6,15 @@ use Rattle.hsp_check.specs.Uses.{table}
 use Rattle.hsp_dispatch.specs.Dispatch.{Entry, answer_to}
 use Rattle.hsp_dispatch.specs.Fronts.{share_of}
 use Rattle.hsp_dispatch.specs.Laws.{IsByHash}
-use Rattle.hsp_instance.specs.Instance.{Instance}
 use Rattle.hsp_runs.specs.Accepted.{IsAcceptedOf}
 use Rattle.hsp_dispatch.specs.Runs.{Streams}
 use Rattle.hsp_dispatch.specs.declared.answer.FrontSums.{FrontSums}
 use Rattle.hsp_dispatch.specs.declared.answer.LogSums.{LogSums}
 use Rattle.hsp_runs.specs.Dispatch.{IsDispatched, IsDispatchedAt}
-use Rattle.hsp_runs.specs.Headline.{Defines}
-use Rattle.hsp_runs.specs.Instance.{IsInstanceOf}
 use Rattle.hsp_runs.specs.Logs.{ShowsFrontsOf, ShowsLogOf}
 use Rattle.hsp_runs.specs.declared.accepted.Accepted.{Accepted}
 use Rattle.hsp_faults.specs.declared.fault.Fault.{Fault}
-use Rattle.hsp_runs.specs.declared.inputs.Inputs.{Inputs}
+use Rattle.hsp_headline.specs.declared.inputs.Inputs.{Inputs}
 
 -- Where inputs and a certificate are accepted, each entry is answered by the server that is responsible for
 -- its handle by the hash option of the site: by the certificate's plan, and by any front's share of it.
@@ -33,27 +30,6 @@ LogsGoByHash =
     (inputs : Inputs) (octets : List ℕ) (accepted : Accepted) (claim : Best)
     → IsAcceptedOf inputs octets (Ok accepted) → accepted.certificate ≡ best claim
     → AnswersByHash accepted claim
-
--- ---- the page
-
--- an instance that inputs give is one that they define by the page
-abbrev pub GivesTheDefined : Type 0
-GivesTheDefined = (inputs : Inputs) (it : Instance) → IsInstanceOf inputs (Ok it) → Defines inputs it
-
--- inputs that define an instance by the page give it
-abbrev pub AcceptsTheDefined : Type 0
-AcceptsTheDefined = (inputs : Inputs) (it : Instance) → Defines inputs it → IsInstanceOf inputs (Ok it)
-
--- inputs give one answer: one instance, or one first fault
-abbrev pub GivesOneAnswer : Type 0
-GivesOneAnswer =
-    (inputs : Inputs) (a b : Result Instance Fault) → IsInstanceOf inputs a → IsInstanceOf inputs b → a ≡ b
-
--- so where they define an instance they give nothing else: no fault stands beside it, and no other instance
-abbrev pub GivesNothingElse : Type 0
-GivesNothingElse =
-    (inputs : Inputs) (it : Instance) (answer : Result Instance Fault)
-    → Defines inputs it → IsInstanceOf inputs answer → answer ≡ Ok it
 
 -- what a dispatcher answers, and fronts, to the end of a log or up to a fault, shows what the page says of it
 abbrev pub DispatchedLogsShow : Type 0

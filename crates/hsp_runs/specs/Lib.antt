@@ -1,12 +1,6 @@
-pub mod Memory
 pub mod Input
 pub mod Locate
 pub mod SiteText
-pub mod Readings
-pub mod Instance
-pub mod Shown
-pub mod Told
-pub mod Headline
 pub mod Always
 pub mod Logs
 pub mod Check
@@ -16,3 +10,8 @@ pub mod Counts
 pub mod Dispatch
 pub mod Report
 pub mod Laws
+pub use Rattle.hsp_headline.specs.Headline
+pub use Rattle.hsp_headline.specs.Instance
+pub use Rattle.hsp_headline.specs.Memory
+pub use Rattle.hsp_headline.specs.Readings
+pub use Rattle.hsp_headline.specs.Shown

@@ -15,7 +15,7 @@ use Rattle.hsp_runs.specs.declared.locate.Locate.{Locate}
 use Rattle.hsp_runs.specs.declared.locate.Locate.TheVariants.{Place, Sites}
 use Rattle.hsp_text.specs.Answers.{◌>>=◌, Then}
 use Rattle.hsp_text.specs.Writing.{numbered}
-use Rattle.hsp_runs.specs.Readings.{AreSitesIn}
+use Rattle.hsp_headline.specs.Readings.{AreSitesIn}
 
 -- the hash option of a word
 abbrev pub option_at : List ℕ → Result HashOption Fault

@@ -2,14 +2,14 @@
 
 ghost use Rattle.std.specs.Prelude.{IfOk, option_map};
 ghost use Rattle.hsp_runs.specs.Always.{GivesTheDefinedAlways};
-ghost use Rattle.hsp_runs.specs.Headline.{Defines};
-ghost use Rattle.hsp_runs.specs.Instance.{BuildsInstance, IsInstanceOf, IsWithCosts, IsWithDemand, IsWithSettings, IsWithValues, ReadsCapacities, ReadsCosts, ReadsDemand};
-ghost use Rattle.hsp_runs.specs.Memory.{OrNoMemory};
+ghost use Rattle.hsp_headline.specs.Headline.{Defines};
+ghost use Rattle.hsp_headline.specs.Instance.{BuildsInstance, IsInstanceOf, IsWithCosts, IsWithDemand, IsWithSettings, IsWithValues, ReadsCapacities, ReadsCosts, ReadsDemand};
+ghost use Rattle.hsp_headline.specs.Memory.{OrNoMemory};
 
-use crate::inputs::Inputs;
-use crate::laws::instances_are_defined;
 use crate::readings::{settings_in, values_in};
 use hsp_faults::Fault;
+use hsp_headline::Inputs;
+use hsp_headline::laws::instances_are_defined;
 use hsp_instance::{BuildFault, Instance, build};
 use hsp_record::ValueList;
 use hsp_tables::{

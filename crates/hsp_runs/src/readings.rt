@@ -1,8 +1,8 @@
 // What runs read from their inputs.
 
 ghost use Rattle.std.specs.Prelude.{option_map};
-ghost use Rattle.hsp_runs.specs.Readings.{AreListed, AreSites, AreSitesIn, ReadsSettings, ReadsValues};
-ghost use Rattle.hsp_runs.specs.Memory.{OrNoMemory};
+ghost use Rattle.hsp_headline.specs.Readings.{AreListed, AreSites, AreSitesIn, ReadsSettings, ReadsValues};
+ghost use Rattle.hsp_headline.specs.Memory.{OrNoMemory};
 
 use hsp_faults::Fault;
 use hsp_instance::{BuildFault, Sites, build_sites};

@@ -1,6 +1,6 @@
 use Rattle.std.proofs.Common.{subst, sym}
 use Rattle.hsp_check.specs.declared.verdict.Verdict.TheVariants.{Yes}
-use Rattle.hsp_runs.specs.Shown.{Shows}
+use Rattle.hsp_headline.specs.Shown.{Shows}
 use Rattle.hsp_runs.proofs.Always.{checked_shows, handed_unless}
 use Rattle.hsp_runs.proofs.Reporting.{stands_then}
 use Rattle.hsp_runs.proofs.checking.check_run.Goals as goal

@@ -7,15 +7,15 @@ use Rattle.hsp_text.specs.Answers.{told_as}
 use Rattle.hsp_instance.specs.Building as building
 use Rattle.hsp_instance.specs.Building.{IsBuilt}
 use Rattle.hsp_instance.specs.Instance.{Instance, IsInstance}
-use Rattle.hsp_runs.specs.Told as told
-use Rattle.hsp_runs.specs.Instance.{IsInstanceOf}
-use Rattle.hsp_runs.specs.Laws.{AcceptsTheDefined, GivesTheDefined}
-use Rattle.hsp_runs.specs.Readings.{AreListed, ReadsValues, some_list}
+use Rattle.hsp_headline.specs.Told as told
+use Rattle.hsp_headline.specs.Instance.{IsInstanceOf}
+use Rattle.hsp_headline.specs.Laws.{AcceptsTheDefined, GivesTheDefined}
+use Rattle.hsp_headline.specs.Readings.{AreListed, ReadsValues, some_list}
 use Rattle.hsp_faults.specs.declared.fault.Fault.{Fault}
 use Rattle.hsp_faults.specs.declared.fault.Fault.TheVariants.{Capacity, Costs, Demand, Settings, Values}
-use Rattle.hsp_runs.specs.declared.inputs.Inputs.{Inputs}
-use Rattle.hsp_runs.proofs.ByHash.{built_so, went_on}
-use Rattle.hsp_runs.proofs.Page.{Holds, is_defined, is_read, is_within}
+use Rattle.hsp_headline.specs.declared.inputs.Inputs.{Inputs}
+use Rattle.hsp_headline.proofs.Steps.{built_so, went_on}
+use Rattle.hsp_headline.proofs.Page.{Holds, is_defined, is_read, is_within}
 
 -- what a part gave well is what the whole tells
 pub told_well : {A E : Type 0} (part : E → Fault) (r : Result A E) (x : A) → Ok x ≡ told_as part r → r ≡ Ok x

@@ -10,9 +10,9 @@ use Rattle.hsp_instance.specs.Parts.{AreArcsOf, HasPartsOf, IsArcOf}
 use Rattle.hsp_instance.specs.declared.arc.Arc.{Arc}
 use Rattle.hsp_instance.proofs.ArcLists.{arcs_ascending}
 use Rattle.hsp_instance.proofs.Lists.{all_at, there}
-use Rattle.hsp_runs.specs.Headline.{AreArcs, AreServers, IsArc, StandsOn}
-use Rattle.hsp_runs.proofs.Finding.{first_or_later, is_at_place, place_of, same_places}
-use Rattle.hsp_runs.proofs.PageServers.{capacity_is_found, cost_is, cost_is_found, number_of, one_host}
+use Rattle.hsp_headline.specs.Headline.{AreArcs, AreServers, IsArc, StandsOn}
+use Rattle.hsp_headline.proofs.Finding.{first_or_later, is_at_place, place_of, same_places}
+use Rattle.hsp_headline.proofs.PageServers.{capacity_is_found, cost_is, cost_is_found, number_of, one_host}
 
 -- ---- servers
 

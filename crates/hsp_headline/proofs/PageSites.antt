@@ -25,9 +25,9 @@ use Rattle.hsp_instance.specs.declared.fault.BuildFault.TheVariants.{BadHashOpti
 use Rattle.hsp_instance.proofs.Lists.{all_at}
 use Rattle.hsp_instance.proofs.SiteSums.{servers_of-push}
 use Rattle.hsp_instance.proofs.SitesInTurn.{IsChecked, site_is_checked}
-use Rattle.hsp_runs.specs.Told.{IsData, IsRecordOf, IsSource, EachTells, TellsSite}
-use Rattle.hsp_runs.proofs.Finding.{found, finds, is_at_place, place_of}
-use Rattle.hsp_runs.proofs.PageSettings.{IsToldBy, TellsEntry}
+use Rattle.hsp_headline.specs.Told.{IsData, IsRecordOf, IsSource, EachTells, TellsSite}
+use Rattle.hsp_headline.proofs.Finding.{found, finds, is_at_place, place_of}
+use Rattle.hsp_headline.proofs.PageSettings.{IsToldBy, TellsEntry}
 
 -- ---- octets
 

@@ -7,11 +7,11 @@ use Rattle.hsp_record.specs.Values.{values_format}
 use Rattle.hsp_text.specs.Answers.{told_as}
 use Rattle.hsp_instance.specs.Building as building
 use Rattle.hsp_instance.proofs.OneAnswer.{IsOne, then_one}
-use Rattle.hsp_runs.specs.Instance.{BuildsInstance, IsWithCosts, IsWithDemand, IsWithSettings, IsWithValues, ReadsCapacities, ReadsCosts, ReadsDemand}
-use Rattle.hsp_runs.specs.Laws.{GivesNothingElse, GivesOneAnswer}
-use Rattle.hsp_runs.specs.Readings.{AreListed, ReadsSettings, ReadsValues, some_list}
+use Rattle.hsp_headline.specs.Instance.{BuildsInstance, IsWithCosts, IsWithDemand, IsWithSettings, IsWithValues, ReadsCapacities, ReadsCosts, ReadsDemand}
+use Rattle.hsp_headline.specs.Laws.{GivesNothingElse, GivesOneAnswer}
+use Rattle.hsp_headline.specs.Readings.{AreListed, ReadsSettings, ReadsValues, some_list}
 use Rattle.hsp_faults.specs.declared.fault.Fault.TheVariants.{Build, Values}
-use Rattle.hsp_runs.proofs.PageRead.{accepts_the_defined}
+use Rattle.hsp_headline.proofs.PageRead.{accepts_the_defined}
 
 listed_one : formats.HasOneAnswer values_format → (octets : List ℕ) → IsOne (AreListed octets)
 listed_one one octets a b is also = is.3 ∙ ap (λ t. told_as Values t) (one octets is.0 also.0 is.2 also.2 is.1 also.1) ∙ sym also.3

@@ -21,20 +21,20 @@ use Rattle.hsp_instance.specs.Instance.{AreSites, HasServer, Host, Instance, IsI
 use Rattle.hsp_instance.specs.declared.arc.Arc.{Arc}
 use Rattle.hsp_instance.proofs.BuiltParts.{built_has_its_parts}
 use Rattle.hsp_instance.proofs.Lists.{all_from, all_map, distinct_map, map_twice}
-use Rattle.hsp_runs.proofs.FewRegions.{few_names, few_seen}
-use Rattle.hsp_runs.specs.Headline.{AreCapacities, AreCosts, AreDemand, AreServers, AreSettings, Defines, IsDemand}
-use Rattle.hsp_runs.specs.Told.{AreValues}
-use Rattle.hsp_runs.specs.declared.inputs.Inputs.{Inputs}
-use Rattle.hsp_runs.proofs.PageArcs.{arcs_alone, arcs_are, servers_alone}
-use Rattle.hsp_runs.proofs.PageBuilt.{BuiltOf, HasCapacity, built_of, capacities_have_no_fault, capacities_known, capacity_entries, cost_entries, costs_have_no_fault, costs_known, is_built, servers_built, sites_of_instance}
-use Rattle.hsp_runs.proofs.PageRows.{body_is, body_spells, capacity_fields, capacity_is_read, capacity_spelled, cost_fields, cost_is_read, cost_spelled, demand_fields, demand_is_read, demand_spelled}
-use Rattle.hsp_runs.proofs.PageServers.{capacity_is_found, servers_are}
+use Rattle.hsp_headline.proofs.FewRegions.{few_names, few_seen}
+use Rattle.hsp_headline.specs.Headline.{AreCapacities, AreCosts, AreDemand, AreServers, AreSettings, Defines, IsDemand}
+use Rattle.hsp_headline.specs.Told.{AreValues}
+use Rattle.hsp_headline.specs.declared.inputs.Inputs.{Inputs}
+use Rattle.hsp_headline.proofs.PageArcs.{arcs_alone, arcs_are, servers_alone}
+use Rattle.hsp_headline.proofs.PageBuilt.{BuiltOf, HasCapacity, built_of, capacities_have_no_fault, capacities_known, capacity_entries, cost_entries, costs_have_no_fault, costs_known, is_built, servers_built, sites_of_instance}
+use Rattle.hsp_headline.proofs.PageRows.{body_is, body_spells, capacity_fields, capacity_is_read, capacity_spelled, cost_fields, cost_is_read, cost_spelled, demand_fields, demand_is_read, demand_spelled}
+use Rattle.hsp_headline.proofs.PageServers.{capacity_is_found, servers_are}
 use Rattle.hsp_instance.proofs.Limits.{are_instance}
 use Rattle.toml.specs.Data as toml
 use Rattle.toml.specs.Data.{Items}
-use Rattle.hsp_runs.specs.Told.{EachTells, TellsSite}
-use Rattle.hsp_runs.proofs.PageSettings.{settings_are_within, AreTold, map_itself, settings_are, settings_are_read}
-use Rattle.hsp_runs.proofs.PageSites.{AreListed, distinct_before, sites_are, sites_are_read}
+use Rattle.hsp_headline.specs.Told.{EachTells, TellsSite}
+use Rattle.hsp_headline.proofs.PageSettings.{settings_are_within, AreTold, map_itself, settings_are, settings_are_read}
+use Rattle.hsp_headline.proofs.PageSites.{AreListed, distinct_before, sites_are, sites_are_read}
 
 -- what the five inputs hold
 pub record Holds (inputs : Inputs) (read : building.Inputs) : Type 0 where

@@ -19,9 +19,9 @@ use Rattle.hsp_instance.specs.declared.fault.BuildFault.TheVariants.{UnknownServ
 use Rattle.hsp_instance.specs.declared.fault.Table.TheVariants.{Costs}
 use Rattle.hsp_instance.proofs.Lists.{all_at, all_map}
 use Rattle.hsp_instance.proofs.ServerLists.{both_gave}
-use Rattle.hsp_runs.specs.Headline.{IsCapacity, IsCost}
-use Rattle.hsp_runs.specs.Told.{EachTells, TellsSite}
-use Rattle.hsp_runs.proofs.Finding.{found, finds, is_at_place, place_of}
+use Rattle.hsp_headline.specs.Headline.{IsCapacity, IsCost}
+use Rattle.hsp_headline.specs.Told.{EachTells, TellsSite}
+use Rattle.hsp_headline.proofs.Finding.{found, finds, is_at_place, place_of}
 
 -- ---- the parts of what is built
 

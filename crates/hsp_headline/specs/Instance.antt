@@ -12,9 +12,9 @@ use Rattle.hsp_instance.specs.Building as building
 use Rattle.hsp_instance.specs.declared.fault.BuildFault.{BuildFault}
 use Rattle.hsp_faults.specs.declared.fault.Fault.{Fault}
 use Rattle.hsp_faults.specs.declared.fault.Fault.TheVariants.{Demand, Costs, Capacity, Build}
-use Rattle.hsp_runs.specs.declared.inputs.Inputs.{Inputs}
+use Rattle.hsp_headline.specs.declared.inputs.Inputs.{Inputs}
 use Rattle.hsp_text.specs.Answers.{Then, told_as}
-use Rattle.hsp_runs.specs.Readings.{ReadsSettings, ReadsValues}
+use Rattle.hsp_headline.specs.Readings.{ReadsSettings, ReadsValues}
 
 -- the tables that octets spell
 abbrev pub ReadsDemand : List ℕ → Result (List DemandEntry) Fault → Type 0

@@ -22,7 +22,7 @@ use Rattle.hsp_tables.proofs.Documents.{document_is}
 use Rattle.hsp_tables.proofs.SettingsLists.{hosts_are, hosts_read_as_spelled, sites_are, sites_read_as_spelled}
 use Rattle.hsp_tables.proofs.TurnLaws.{first_step, test_held}
 use Rattle.hsp_instance.specs.Building.{host_of_entry}
-use Rattle.hsp_runs.specs.Told.{HasKeys, EachTells, TellsHost}
+use Rattle.hsp_headline.specs.Told.{HasKeys, EachTells, TellsHost}
 
 -- ---- values of a document
 

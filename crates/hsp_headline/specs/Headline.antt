@@ -26,10 +26,10 @@ use Rattle.hsp_check.specs.declared.verdict.Verdict.{Verdict}
 use Rattle.hsp_check.specs.declared.verdict.Verdict.TheVariants.{Yes}
 use Rattle.hsp_faults.specs.declared.fault.Fault.{Fault}
 use Rattle.hsp_faults.specs.declared.fault.Fault.TheVariants.{OutOfMemory}
-use Rattle.hsp_runs.specs.Shown.{Shows}
-use Rattle.hsp_runs.specs.Memory.{IsOrNoMemory}
-use Rattle.hsp_runs.specs.Told.{AreFew, AreValues, HasKeys, IsTable, AreTablesAt, TellsHost, TellsSite}
-use Rattle.hsp_runs.specs.declared.inputs.Inputs.{Inputs}
+use Rattle.hsp_headline.specs.Shown.{Shows}
+use Rattle.hsp_headline.specs.Memory.{IsOrNoMemory}
+use Rattle.hsp_headline.specs.Told.{AreFew, AreValues, HasKeys, IsTable, AreTablesAt, TellsHost, TellsSite}
+use Rattle.hsp_headline.specs.declared.inputs.Inputs.{Inputs}
 
 -- ---- settings
 

@@ -11,8 +11,8 @@ use Rattle.hsp_instance.specs.Building.{Inputs, capacity_of, cost_of, is_at, is_
 use Rattle.hsp_instance.specs.Instance.{Host, Instance, Server, Site, SiteServer, number_at, same_address, servers_of}
 use Rattle.hsp_instance.specs.Parts.{HasPartsOf}
 use Rattle.hsp_instance.proofs.Lists.{all_at, there}
-use Rattle.hsp_runs.specs.Headline.{AreServers, StandsOn}
-use Rattle.hsp_runs.proofs.Finding.{found, finds, is_at_place, place_of}
+use Rattle.hsp_headline.specs.Headline.{AreServers, StandsOn}
+use Rattle.hsp_headline.proofs.Finding.{found, finds, is_at_place, place_of}
 
 -- octets that are the same
 pub same_octets : (a b : List ℕ) → bytes_eq a b ≡ true → a ≡ b

@@ -1,0 +1,12 @@
+pub mod FewRegions
+pub mod Finding
+pub mod OneFault
+pub mod Page
+pub mod PageArcs
+pub mod PageBuilt
+pub mod PageRead
+pub mod PageRows
+pub mod PageServers
+pub mod PageSettings
+pub mod PageSites
+pub mod Steps
