@@ -2,12 +2,12 @@ use Rattle.std.proofs.Common.{◌∙◌}
 use Rattle.hsp_shortest_paths.proofs.Walking.{step_fits, step_arc, stepped}
 use Rattle.hsp_shortest_paths.proofs.augment.augment.Goals as goal
 
-pub push-requires-clause-balanced : goal.send-requires-clause-balanced
+pub push-requires-clause-balanced : goal.push-requires-clause-balanced
 push-requires-clause-balanced c =
     let walk = c.loop-at.invariant.0 in
     walk.balanced _ (step_arc _ _ _ _ _ _ _ _ c.requires.tree walk c.loop-at-test.true)
 
-pub push-requires-clause-fits : goal.send-requires-clause-fits
+pub push-requires-clause-fits : goal.push-requires-clause-fits
 push-requires-clause-fits c = step_fits _ _ _ _ _ _ _ _ c.requires.tree c.loop-at.invariant.0 c.loop-at-test.true
 
 pub loop-at-preserved : goal.loop-at-preserved

@@ -7,5 +7,5 @@ returns c = record {
   start = refl;
   enters = c.arc_head.ensures;
   exact = omega (arith, c.reduced_cost.ensures);
-  amount = c.min.ensures ∙ ap (min _) c.capacity-most.ensures;
+  amount = c.min.ensures ∙ ap (min _) c.capacity-greatest_cost.ensures;
 }
