@@ -18,16 +18,6 @@ two_fields_are (x ∷ []) a b n p q = absurd (omega arith)
 two_fields_are (x ∷ y ∷ []) a b n p q = cc
 two_fields_are (x ∷ y ∷ z ∷ fields) a b n p q = absurd (omega arith)
 
--- three fields, by their places
-pub three_fields_are : (fields : Fields) (a b c : List ℕ) → length fields ≡ 3 → Some a ≡ field_at fields 0 → Some b ≡ field_at fields 1
-    → Some c ≡ field_at fields 2 → fields ≡ a ∷ b ∷ c ∷ []
-unfolding field_at
-three_fields_are [] a b c n p q r = absurd (omega arith)
-three_fields_are (x ∷ []) a b c n p q r = absurd (omega arith)
-three_fields_are (x ∷ y ∷ []) a b c n p q r = absurd (omega arith)
-three_fields_are (x ∷ y ∷ z ∷ []) a b c n p q r = cc
-three_fields_are (x ∷ y ∷ z ∷ w ∷ fields) a b c n p q r = absurd (omega arith)
-
 -- records of the same fields are one
 pub same_fields_are : (one other : Fields) → same_fields one other ≡ true → one ≡ other
 same_fields_are [] [] same = refl

@@ -47,7 +47,7 @@ pub(crate) fn two_fields(fields: &ByteRecord) -> Option<(&[u8], &[u8])>
 }
 
 /// The fields of a record, where there are three.
-#[tactic(auto, using(crate::proofs::RowFields::three_fields_are, hsp_tables::proofs::RecordFields::field_is_missing))]
+#[tactic(auto, using(hsp_tables::proofs::RecordFields::three_fields_are, hsp_tables::proofs::RecordFields::field_is_missing))]
 pub(crate) fn three_fields(fields: &ByteRecord) -> Option<(&[u8], &[u8], &[u8])>
     ensures found { IfSome result (λ t. fields_of fields.now ≡ t.0.now ∷ t.1.now ∷ t.2.now ∷ []) }
     ensures none { IfNone result (length (fields_of fields.now) ≢ 3) }
