@@ -1,11 +1,13 @@
 -- The sums of answers.
 use Rattle.std.proofs.Common.{◌≡◌, ◌≢◌, ◌<◌, ◌+◌, ◌∙◌, ◌++◌, ℕ, zero, suc, Bool, List, [], ◌∷◌, length, map, Option, Some, None, count_by, arith, refl, ap, sym, cond, add-zero}
+use Rattle.std.proofs.lemmas.List.{map_push}
 use Rattle.std.proofs.lemmas.List.Sums.{sum_by-cons, sum_by_push}
 use Rattle.std.specs.List.{slice_get}
 use Rattle.hsp_instance.specs.Instance.{Instance, Server}
 use Rattle.hsp_dispatch.specs.Dispatch.{all_of, is_assigned, is_spent, is_unknown, sums_of}
 use Rattle.hsp_dispatch.specs.Fronts.{front_sums_of, is_kind, is_no_front}
 use Rattle.hsp_dispatch.specs.Lines.{IsAmong, answer_of, counted, served_by}
+use Rattle.hsp_dispatch.proofs.Lists.{none_from}
 use Rattle.hsp_dispatch.specs.declared.answer.Answer.{Answer}
 use Rattle.hsp_dispatch.specs.declared.answer.FrontAnswer.{FrontAnswer}
 use Rattle.hsp_dispatch.specs.declared.answer.FrontAnswer.TheVariants.{Answered}
@@ -29,11 +31,6 @@ all_more : (given : List FrontAnswer) (answer : FrontAnswer) → front_sums_of (
 all_more given answer =
     rw (one_more (is_kind is_assigned) given answer, one_more (is_kind is_spent) given answer, one_more (is_kind is_unknown) given answer, one_more is_no_front given answer) refl
 
-pub is_there : (servers : List Server) (number : ℕ) → number < length servers → slice_get servers number ≡ None → ⊥
-is_there [] number there none = absurd (omega (arith, there))
-is_there (server ∷ servers) zero there none = cc none
-is_there (server ∷ servers) (suc number) there none = is_there servers number (omega (arith, there)) none
-
 -- an answer by a server that is there
 served : (sums : FrontSums) (server : Option Server) (number : ℕ) → server ≢ None → counted sums (ByServer number) ≡ with_one sums (Answered (served_by server))
 served sums None number there = absurd (there refl)
@@ -41,7 +38,7 @@ served sums (Some server) number there = rw (add-zero, add-zero, add-zero) refl
 
 counted_one : (it : Instance) (how : Given) (sums : FrontSums) → IsAmong (length it.servers) how → counted sums how ≡ with_one sums (answer_of it how)
 counted_one it (ByServer number) sums among =
-    served sums (slice_get it.servers number) number (λ none. is_there it.servers number among none)
+    served sums (slice_get it.servers number) number (λ none. absurd (omega (arith, none_from it.servers number none, among)))
 counted_one it IsSpent sums among = rw (add-zero, add-zero, add-zero) refl
 counted_one it IsUnknown sums among = rw (add-zero, add-zero, add-zero) refl
 counted_one it IsNoFront sums among = rw (add-zero, add-zero, add-zero) refl
@@ -68,14 +65,10 @@ no_fronts (answer ∷ given) = sum_by-cons (λ (a : FrontAnswer). cond (is_no_fr
 all_sums : (given : List Answer) → front_sums_of (map Answered given) ≡ all_of (sums_of given)
 all_sums given = rw (count_answered is_assigned given, count_answered is_spent given, count_answered is_unknown given, no_fronts given) refl
 
-one_answered : (given : List Answer) (answer : Answer) → map Answered (given ++ answer ∷ []) ≡ map Answered given ++ Answered answer ∷ []
-one_answered [] answer = refl
-one_answered (first ∷ given) answer = ap (λ (more : List FrontAnswer). Answered first ∷ more) (one_answered given answer)
-
 -- the same of a dispatcher's answers
 pub counted_answer : (it : Instance) (how : Given) (given : List Answer) (answer : Answer) (sums : FrontSums) → IsAmong (length it.servers) how
     → sums ≡ all_of (sums_of given) → answer_of it how ≡ Answered answer → counted sums how ≡ all_of (sums_of (given ++ answer ∷ []))
 counted_answer it how given answer sums among are is =
     counted_more it how (map Answered given) sums among (are ∙ sym (all_sums given))
     ∙ ap (λ (last : FrontAnswer). front_sums_of (map Answered given ++ last ∷ [])) is
-    ∙ ap (λ (all : List FrontAnswer). front_sums_of all) (sym (one_answered given answer)) ∙ all_sums (given ++ answer ∷ [])
+    ∙ ap (λ (all : List FrontAnswer). front_sums_of all) (sym (map_push Answered given answer)) ∙ all_sums (given ++ answer ∷ [])

@@ -1,5 +1,5 @@
 -- What one answer more adds to what a desk has answered.
-use Rattle.std.proofs.Common.{◌≡◌, ◌≢◌, ◌++◌, ◌∙◌, ℕ, List, [], ◌∷◌, length, Option, Some, None, option_map, Result, Ok, Err, IfOk, refl, sym, ap}
+use Rattle.std.proofs.Common.{◌≡◌, ◌≢◌, ◌++◌, ◌∙◌, ℕ, List, [], ◌∷◌, length, Option, Some, None, option_map, Result, Ok, Err, IfOk, arith, refl, sym, ap}
 use Rattle.std.specs.List.{slice_get}
 use Rattle.std.proofs.lemmas.List.{append-nil, append_assoc, map_push}
 use Rattle.std.proofs.lemmas.Option.{slice_get-map}
@@ -21,9 +21,9 @@ use Rattle.hsp_dispatch.specs.declared.answer.FrontSums.{FrontSums}
 use Rattle.hsp_dispatch.specs.declared.answer.Given.{Given}
 use Rattle.hsp_dispatch.specs.declared.answer.Given.TheVariants as given
 use Rattle.hsp_dispatch.specs.declared.form.Form.{Form}
-use Rattle.hsp_dispatch.proofs.Counting.{counted_answer, counted_more, is_there}
+use Rattle.hsp_dispatch.proofs.Counting.{counted_answer, counted_more}
 use Rattle.hsp_dispatch.proofs.Each.{each_parts}
-use Rattle.hsp_dispatch.proofs.Lists.{zip_push}
+use Rattle.hsp_dispatch.proofs.Lists.{none_from, zip_push}
 use Rattle.hsp_dispatch.proofs.FrontLaws.{answered_by, left_on}
 use Rattle.hsp_dispatch.proofs.Resting.{answer_after, answers_more, rest_more, rest_none}
 
@@ -35,7 +35,7 @@ at_number it (Some server) there = refl
 
 line_is : (it : Instance) (how : Given) → IsAmong (length it.servers) how → line_by (lines_of it) how ≡ front_line it (answer_of it how)
 line_is it (given.Server number) among =
-    ap or_none (slice_get-map (server_line it) it.servers number) ∙ at_number it (slice_get it.servers number) (is_there it.servers number among)
+    ap or_none (slice_get-map (server_line it) it.servers number) ∙ at_number it (slice_get it.servers number) (λ none. absurd (omega (arith, none_from it.servers number none, among)))
 line_is it given.Spent among = refl
 line_is it given.Unknown among = refl
 line_is it given.NoFront among = refl

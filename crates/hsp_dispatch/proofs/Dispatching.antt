@@ -10,7 +10,8 @@ use Rattle.hsp_dispatch.specs.Laws.{GoesOnWithTheRest, IsSpentAfterAll, NeverExc
 use Rattle.hsp_dispatch.specs.declared.answer.Answer.{Answer}
 use Rattle.hsp_dispatch.specs.declared.answer.Answer.TheVariants.{Spent}
 use Rattle.hsp_dispatch.proofs.Each.{each_goes_on}
-use Rattle.hsp_dispatch.proofs.Resting.{answer_parts, assigned_is, none_from}
+use Rattle.hsp_dispatch.proofs.Lists.{none_from}
+use Rattle.hsp_dispatch.proofs.Resting.{answer_parts, assigned_is}
 use Rattle.hsp_dispatch.proofs.Spreads.{is_site, times, times_in, times_within}
 
 pub never_exceeds : NeverExceeds
@@ -38,7 +39,7 @@ is_spent_after_all it x earlier entry row site found spent inside =
 
     by_element : (given : Option ℕ) → given ≡ slice_get (spread it x row) (count_for it row earlier) → answer_at it row given ≡ Spent → assigned_in it x earlier row site ≡ x row site
     by_element None e spent =
-        let long : length (spread it x row) ≤ count_for it row earlier = none_from (spread it x row) (count_for it row earlier) e in
+        let long : length (spread it x row) ≤ count_for it row earlier = none_from (spread it x row) (count_for it row earlier) (sym e) in
         assigned_is it x earlier row site ∙ ap (λ (front : List ℕ). times site front) (take_all (count_for it row earlier) (spread it x row) long)
         ∙ times_in (length it.sites) 0 site (x row) (omega arith) (omega arith)
     by_element (Some element) e spent = absurd (not_spent element (server_to it row element) spent)

@@ -1,7 +1,7 @@
 -- The shares of fronts in a number.
 use Rattle.std.proofs.Common.{◌≡◌, ◌<◌, ◌≤◌, ◌+◌, ◌*◌, ◌/◌, ◌%◌, ◌∙◌, ℕ, zero, suc, if◌then◌else◌, arith, refl}
 use Rattle.std.proofs.Common.{inl, inr}
-use Rattle.std.specs.Prelude.{nat_lt}
+use Rattle.std.specs.Prelude.{min, nat_lt}
 use Rattle.std.proofs.lemmas.Bool.{cases_lt, lt-ltb, le-ltb}
 use Rattle.std.proofs.Math.Nat.{div-add-mod, mod-lt, zero-div, zero-mod}
 use Rattle.hsp_transport.specs.Sums.{sum_below}
@@ -27,19 +27,15 @@ share_none fronts front =
     rw (rest, none, le-ltb front 0 (omega arith)) refl
 
 -- as many fronts as there are in the remainder have one more each
-ones : (q r many : ℕ) → many ≤ r → sum_below many (λ front. q + (if nat_lt front r then 1 else 0)) ≡ many * q + many
-ones q r zero few = omega arith
-ones q r (suc many) few = rw (lt-ltb many r (omega (arith, few))) (omega (arith, ones q r many (omega (arith, few))))
-
-sums : (q r many : ℕ) → r ≤ many → sum_below many (λ front. q + (if nat_lt front r then 1 else 0)) ≡ many * q + r
-sums q r zero all = omega (arith, all)
-sums q r (suc many) all = elim (cases_lt many r) [
-  | inl last ↦ let e : r ≡ suc many = omega (arith, all, last) in ones q r (suc many) (omega (arith, e)) ∙ omega (arith, e)
-  | inr more ↦ rw (le-ltb many r more) (omega (arith, sums q r many more))
+sums : (q r many : ℕ) → sum_below many (λ front. q + (if nat_lt front r then 1 else 0)) ≡ many * q + min many r
+sums q r zero = omega arith
+sums q r (suc many) = elim (cases_lt many r) [
+  | inl less ↦ rw (lt-ltb many r less) (omega (arith, sums q r many))
+  | inr more ↦ rw (le-ltb many r more) (omega (arith, sums q r many))
 ]
 
 -- the shares of all fronts add up to the number
 pub shares_add_up : (fronts number : ℕ) → 0 < fronts → sum_below fronts (λ front. share fronts front number) ≡ number
 shares_add_up fronts number some =
     let rest : number % fronts < fronts = mod-lt number some in
-    sums (number / fronts) (number % fronts) fronts (omega (arith, rest)) ∙ div-add-mod number fronts
+    omega (arith, sums (number / fronts) (number % fronts) fronts, div-add-mod number fronts, rest)

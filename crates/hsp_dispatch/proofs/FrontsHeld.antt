@@ -22,10 +22,9 @@ use Rattle.hsp_dispatch.specs.declared.answer.FrontAnswer.TheVariants.{Answered}
 use Rattle.hsp_dispatch.specs.declared.answer.Given.{Given}
 use Rattle.hsp_dispatch.specs.declared.share.Cell.{Cell}
 use Rattle.hsp_dispatch.proofs.FrontShares.{share_none}
-use Rattle.hsp_dispatch.proofs.Lists.{all_so}
 use Rattle.hsp_dispatch.proofs.Parts.{part_left, parts_of_row}
 use Rattle.hsp_dispatch.proofs.Resting.{rest_unknown}
-use Rattle.hsp_dispatch.proofs.Shares.{Within}
+use Rattle.hsp_dispatch.proofs.Shares.{sites_within}
 use Rattle.hsp_dispatch.proofs.Standings.{few_cells, left_taken, left_whole, sums_at}
 use Rattle.hsp_dispatch.proofs.Taking.{IsTakenFrom, held_after, rest_after, taken_by}
 
@@ -133,9 +132,7 @@ pub few_held : (it : Instance) (shares : List (List Cell)) (row : ℕ) (cells : 
     → length cells ≤ MOST_SITES
 few_held it shares row cells is e =
     let own : AreCellsOf it row cells = rw (get_or_from_slice_get shares row cells [] e) at (is.each row) in
-    let within : Within (length it.sites) 0 cells =
-    all_so (IsCellOf it row) (λ (cell : Cell). (0 ≤ cell.site) × (cell.site < 0 + length it.sites)) (λ cell is. (omega arith, omega (arith, is.site))) cells own.each in
-    omega (arith, few_cells (length it.sites) 0 cells own.are within, is.within.sites.few)
+    omega (arith, few_cells (length it.sites) 0 cells own.are (sites_within it row cells own), is.within.sites.few)
 
 -- ---- one front takes of a row
 

@@ -1,11 +1,17 @@
 -- Lists, element by element.
-use Rattle.std.proofs.Common.{◌≡◌, ◌∙◌, ◌++◌, ◌+◌, ℕ, zero, suc, List, [], ◌∷◌, take, Some, ap, refl}
+use Rattle.std.proofs.Common.{◌≡◌, ◌≤◌, ◌∙◌, ◌++◌, ◌+◌, ℕ, zero, suc, List, [], ◌∷◌, length, take, None, Some, arith, ap}
 use Rattle.std.specs.List.{AllByRecursion, AllZip, slice_get}
 use Rattle.std.proofs.lemmas.List.{take_more}
 use Rattle.std.proofs.lemmas.Option.{get_or_from_slice_get, same_Some, slice_get_within}
 
 pub take_next : {A : Type 0} (xs : List A) (k : ℕ) (x : A) → slice_get xs k ≡ Some x → take (k + 1) xs ≡ take k xs ++ x ∷ []
 take_next {A} xs k x e = take_more xs k x (slice_get_within xs k x e) ∙ ap (λ (own : A). take k xs ++ own ∷ []) (get_or_from_slice_get xs k x x e)
+
+-- where there is no element, the list has come to its end
+pub none_from : {A : Type 0} (xs : List A) (k : ℕ) → slice_get xs k ≡ None → length xs ≤ k
+none_from [] k none = omega arith
+none_from (x ∷ xs) zero none = absurd (cc)
+none_from (x ∷ xs) (suc k) none = omega (arith, none_from xs k none)
 
 -- what holds of two lists place by place, with one element more in each
 pub zip_push : {A B : Type 0} (R : A → B → Type 0) (xs : List A) (ys : List B) (x : A) (y : B) → AllZip R xs ys → R x y → AllZip R (xs ++ x ∷ []) (ys ++ y ∷ [])

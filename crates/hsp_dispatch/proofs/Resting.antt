@@ -11,6 +11,7 @@ use Rattle.hsp_instance.specs.Instance.{Instance, Server}
 use Rattle.hsp_check.specs.Plan.{Plan}
 use Rattle.hsp_dispatch.specs.Dispatch.{Entry, IsSame, answer_at, answer_in, answer_to, answers_after, assigned_in, assigned_to, count_for, count_in, is_at, is_for, is_in, rest, row_of, server_to, spread}
 use Rattle.hsp_dispatch.proofs.Each.{each_parts}
+use Rattle.hsp_dispatch.proofs.Lists.{none_from}
 use Rattle.hsp_dispatch.proofs.Spreads.{same_spread, spread_left, times, times_append}
 
 -- ---- how many entries are for a row
@@ -28,16 +29,10 @@ at_site : (own site : ℕ) (server : Option Server) → is_at site (assigned_to 
 at_site own site None = refl
 at_site own site (Some server) = refl
 
-pub none_from : (xs : List ℕ) (k : ℕ) → None ≡ slice_get xs k → length xs ≤ k
-none_from xs k none = elim (cases_lt k (length xs)) [
-  | inl inside ↦ let there = slice_get-get_or xs k 0 inside in absurd (cc)
-  | inr past ↦ past
-]
-
 hit : (it : Instance) (row site k : ℕ) (own : List ℕ) (given : Option ℕ) → given ≡ slice_get own k
     → (if is_at site (answer_at it row given) then 1 else 0) + times site (take k own) ≡ times site (take (k + 1) own)
 hit it row site k own None is =
-    let long : length own ≤ k = none_from own k is in
+    let long : length own ≤ k = none_from own k (sym is) in
     rw (take_all k own long, take_all (k + 1) own (omega arith)) (omega arith)
 hit it row site k own (Some element) is =
     let there : k < length own = slice_get_within own k element (sym is) in

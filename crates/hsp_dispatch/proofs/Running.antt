@@ -12,7 +12,7 @@ use Rattle.hsp_csv.specs.declared.fault.RecordsFault.TheVariants as records_faul
 use Rattle.hsp_instance.specs.Instance.{Instance}
 use Rattle.hsp_dispatch.specs.Lines.{count_all, counted, text_of}
 use Rattle.hsp_dispatch.specs.Log.{fault_of}
-use Rattle.hsp_dispatch.specs.Runs.{Answered, AreWithinLimit, Begins, Desk, EndsWhole, Stops, StopsAtRow, Streams, desk_of}
+use Rattle.hsp_dispatch.specs.Runs.{Answered, AreWithinLimit, Begins, Desk, EndsWhole, Stops, StopsAtRow, StopsSomewhere, Streams, desk_of}
 use Rattle.hsp_dispatch.specs.Steps.{FailsHeader, GoesOn, IsRead, IsRefused, RowAnswers, log_left, none_counted}
 use Rattle.hsp_dispatch.specs.declared.answer.FrontSums.{FrontSums}
 use Rattle.hsp_dispatch.specs.declared.answer.Given.{Given}
@@ -36,13 +36,10 @@ pub record SoFar (desk : Desk) (run : Streams) (form : Form) (now : Option (List
   pub written : Appends run.before run.after (text_of lines)
   pub counted_all : count_all sums ≡ number
 
-within_limit : (rows : List Fields) (number : ℕ) → length rows ≡ number → number ≤ MOST_LOG_ROWS → AreWithinLimit rows
-within_limit rows number many within = rw many within
-
 pub answered : (desk : Desk) (run : Streams) (form : Form) (now : Option (List Fields)) (number : ℕ) (sums : FrontSums)
     (so_far : SoFar desk run form now number sums) → Answered desk run form so_far.rows sums
 answered desk run form now number sums so_far =
-    (within_limit so_far.rows number so_far.many so_far.within, so_far.lines, so_far.answers, so_far.written)
+    (rw so_far.many so_far.within, so_far.lines, so_far.answers, so_far.written)
 
 -- ---- one row more
 
@@ -56,27 +53,46 @@ count_more sums given.Spent = omega arith
 count_more sums given.Unknown = omega arith
 count_more sums given.NoFront = omega arith
 
-more_rows : (rows : List Fields) (row : Fields) (number : ℕ) → length rows ≡ number → length (rows ++ row ∷ []) ≡ number + 1
-more_rows rows row number many = length-append rows (row ∷ []) ∙ ap (λ n. n + 1) many
-
--- the row's answer is counted, and its line written
-pub row_more : {S : Type 0} (instance : S → Instance) (Answers : S → S → RowAnswers) (header : Form → Fields) (Refuses : Form → Fields → LogFault → Type 0) (start old new : S)
+-- the row's answer is counted, and its line is or is not written whole
+module _ {S : Type 0} (instance : S → Instance) (Answers : S → S → RowAnswers) (header : Form → Fields) (Refuses : Form → Fields → LogFault → Type 0) (start old new : S)
     (log : Option (List Fields)) (before middle after : Option (List ℕ)) (form : Form) (now later : Option (List Fields)) (number : ℕ) (sums : FrontSums)
     (row : Fields) (line text : List ℕ) (how : Given)
     (so_far : SoFar (desk_of header (Answers start old) Refuses) (record { log = log; before = before; after = middle }) form now number sums)
-    → IsRead (header form) log (so_far.rows ++ row ∷ []) later → instance old ≡ instance start → GoesOn instance Answers old new form row line how
-    → text ≡ line → Appends middle after text → number < MOST_LOG_ROWS
-    → SoFar (desk_of header (Answers start new) Refuses) (record { log = log; before = before; after = after }) form later (number + 1) (counted sums how)
-row_more instance Answers header Refuses start old new log before middle after form now later number sums row line text how so_far read same on is_line line_written below = record {
-  rows = so_far.rows ++ row ∷ [];
-  lines = so_far.lines ++ line ∷ [];
-  many = more_rows so_far.rows row number so_far.many;
-  within = omega (arith, below);
-  read = read;
-  answers = on start so_far.rows so_far.lines sums same so_far.answers;
-  written = rw (text_more so_far.lines line) (Appends-trans before middle after (text_of so_far.lines) line so_far.written (rw is_line at line_written));
-  counted_all = count_more sums how ∙ ap (λ n. n + 1) so_far.counted_all;
-}
+    (read : IsRead (header form) log (so_far.rows ++ row ∷ []) later) (same : instance old ≡ instance start) (on : GoesOn instance Answers old new form row line how)
+    (is_line : text ≡ line) (below : number < MOST_LOG_ROWS) where
+  many_more : length (so_far.rows ++ row ∷ []) ≡ number + 1
+  many_more = length-append so_far.rows (row ∷ []) ∙ ap (λ n. n + 1) so_far.many
+
+  pub row_more : Appends middle after text
+      → SoFar (desk_of header (Answers start new) Refuses) (record { log = log; before = before; after = after }) form later (number + 1) (counted sums how)
+  row_more line_written = record {
+    rows = so_far.rows ++ row ∷ [];
+    lines = so_far.lines ++ line ∷ [];
+    many = many_more;
+    within = omega (arith, below);
+    read = read;
+    answers = on start so_far.rows so_far.lines sums same so_far.answers;
+    written = rw (text_more so_far.lines line) (Appends-trans before middle after (text_of so_far.lines) line so_far.written (rw is_line at line_written));
+    counted_all = count_more sums how ∙ ap (λ n. n + 1) so_far.counted_all;
+  }
+
+  pub line_stops : IsCut middle after text → Stops (desk_of header (Answers start new) Refuses) (record { log = log; before = before; after = after }) fault.WriteFailed
+  line_stops cut =
+      let begun = begins (header form) log later (so_far.rows ++ row ∷ []) read in
+      inl (
+        form,
+        so_far.rows ++ row ∷ [],
+        begun.0,
+        so_far.lines,
+        line,
+        counted sums how,
+        middle,
+        begun.1,
+        rw many_more (omega (arith, below)),
+        on start so_far.rows so_far.lines sums same so_far.answers,
+        so_far.written,
+        rw is_line at cut,
+      )
 
 -- ---- how a run stops
 
@@ -101,14 +117,15 @@ memory_stops desk run none written = (Handles, [], [], none_counted, inl refl, (
 
 module _ (desk : Desk) (run : Streams) (form : Form) (now : Option (List Fields)) (number : ℕ) (sums : FrontSums)
     (so_far : SoFar desk run form now number sums) where
+  somewhere : StopsSomewhere desk run
+  somewhere =
+      let begun = begins (desk.header form) run.log now so_far.rows so_far.read in
+      (form, so_far.rows, begun.0, sums, inr begun.1, answered desk run form now number sums so_far)
+
   -- at a read that fails
   pub read_stops : (e : RecordsFault) → Stops desk run (fault_of e)
-  read_stops records_fault.ReadFailed =
-      let begun = begins (desk.header form) run.log now so_far.rows so_far.read in
-      (form, so_far.rows, begun.0, sums, inr begun.1, answered desk run form now number sums so_far)
-  read_stops records_fault.OutOfMemory =
-      let begun = begins (desk.header form) run.log now so_far.rows so_far.read in
-      (form, so_far.rows, begun.0, sums, inr begun.1, answered desk run form now number sums so_far)
+  read_stops records_fault.ReadFailed = somewhere
+  read_stops records_fault.OutOfMemory = somewhere
 
   -- at a row that was read
   module _ (row : Fields) (later : Option (List Fields)) (read : IsRead (desk.header form) run.log (so_far.rows ++ row ∷ []) later) where
@@ -145,31 +162,6 @@ module _ (desk : Desk) (run : Streams) (form : Form) (now : Option (List Fields)
     refused_stops below fault.Header refused = absurd refused
     refused_stops below fault.LogTooLong refused = absurd refused
 
--- where less than the row's line was written
-pub line_stops : {S : Type 0} (instance : S → Instance) (Answers : S → S → RowAnswers) (header : Form → Fields) (Refuses : Form → Fields → LogFault → Type 0) (start old new : S)
-    (log : Option (List Fields)) (before middle after : Option (List ℕ)) (form : Form) (now later : Option (List Fields)) (number : ℕ) (sums : FrontSums)
-    (row : Fields) (line text : List ℕ) (how : Given)
-    (so_far : SoFar (desk_of header (Answers start old) Refuses) (record { log = log; before = before; after = middle }) form now number sums)
-    → IsRead (header form) log (so_far.rows ++ row ∷ []) later → instance old ≡ instance start → GoesOn instance Answers old new form row line how
-    → text ≡ line → IsCut middle after text → number < MOST_LOG_ROWS
-    → Stops (desk_of header (Answers start new) Refuses) (record { log = log; before = before; after = after }) fault.WriteFailed
-line_stops instance Answers header Refuses start old new log before middle after form now later number sums row line text how so_far read same on is_line cut below =
-    let begun = begins (header form) log later (so_far.rows ++ row ∷ []) read in
-    inl (
-      form,
-      so_far.rows ++ row ∷ [],
-      begun.0,
-      so_far.lines,
-      line,
-      counted sums how,
-      middle,
-      begun.1,
-      within_limit (so_far.rows ++ row ∷ []) (number + 1) (more_rows so_far.rows row number so_far.many) (omega (arith, below)),
-      on start so_far.rows so_far.lines sums same so_far.answers,
-      so_far.written,
-      rw is_line at cut,
-    )
-
 -- at the end of the log, where nothing more is written
 pub ends : (desk : Desk) (log : Option (List Fields)) (before middle after : Option (List ℕ)) (form : Form) (now : Option (List Fields)) (number : ℕ)
     (sums : FrontSums) (so_far : SoFar desk (record { log = log; before = before; after = middle }) form now number sums) → Keeps middle after
@@ -177,7 +169,7 @@ pub ends : (desk : Desk) (log : Option (List Fields)) (before middle after : Opt
 ends desk log before middle after form now number sums so_far keeps whole =
     let written : Appends before after (text_of so_far.lines) =
     rw (append-nil (text_of so_far.lines)) at (Appends-trans before middle after (text_of so_far.lines) [] so_far.written (keeps_appends middle after keeps)) in
-    (form, so_far.rows, whole, (within_limit so_far.rows number so_far.many so_far.within, so_far.lines, so_far.answers, written))
+    (form, so_far.rows, whole, (rw so_far.many so_far.within, so_far.lines, so_far.answers, written))
   where
     keeps_appends : (a b : Option (List ℕ)) → Keeps a b → Appends a b []
     keeps_appends None b keeps = tt

@@ -1,10 +1,11 @@
 -- The cells that the uses of a plan give the rows of an instance.
-use Rattle.std.proofs.Common.{◌≡◌, ◌≢◌, ◌<◌, ◌≤◌, ◌+◌, ◌∙◌, ◌++◌, ◌==◌, ◌&&◌, Bool, true, false, ℕ, zero, suc, List, [], ◌∷◌, All, length, map, take, replicate, if◌then◌else◌, Some, None, arith, refl, sym, ap, subst, eq-eqb, eqb-true}
+use Rattle.std.proofs.Common.{◌≡◌, ◌≢◌, ◌<◌, ◌≤◌, ◌+◌, ◌∙◌, ◌++◌, ◌==◌, ◌&&◌, Bool, true, false, ℕ, zero, suc, List, [], ◌∷◌, All, length, map, take, replicate, if◌then◌else◌, Option, Some, None, arith, refl, sym, ap, subst, eq-eqb, eqb-true}
 use Rattle.std.proofs.Common.{inl, inr}
 use Rattle.std.specs.Prelude.{nat_le, nat_lt}
 use Rattle.std.specs.List.{AllByRecursion, list_all, list_any, slice_get}
 use Rattle.std.proofs.lemmas.Bool.{and_parts, cases_Bool, cases_eq, cases_lt, leb-true, ltb-true, ne_eqb, or_cases}
 use Rattle.std.proofs.lemmas.List.{append-nil, get_or-set_other, get_or-set_same, length-replicate, length-set}
+use Rattle.std.proofs.lemmas.List.Elements.{recursion_from_All}
 use Rattle.std.proofs.lemmas.List.Folds.{list_any-append}
 use Rattle.std.proofs.lemmas.List.Sums.{sum_by-cons}
 use Rattle.std.proofs.lemmas.Option.{get_or_from_slice_get, same_Some, slice_get_past, slice_get_within}
@@ -72,47 +73,49 @@ pub in_order : (uses : List UseLine) → ascends is_before uses ≡ true → InO
 in_order [] order = tt
 in_order (one ∷ uses) order = order_from one uses (and_parts true (ascends_from is_before (Some one) uses) order).1
 
+-- a use has something, and no more than a row may
 abbrev IsCounted : UseLine → Type 0
-IsCounted one = 0 < one.count
+IsCounted one = (0 < one.count) × (one.count ≤ GREATEST_COUNT)
+
+is_counted : (one : UseLine) → is_use one ≡ true → IsCounted one
+is_counted one is =
+    let both = and_parts (nat_le one.row 8191 && nat_le one.site 31) (nat_le 1 one.count && nat_le one.count GREATEST_COUNT) is in
+    let count = and_parts (nat_le 1 one.count) (nat_le one.count GREATEST_COUNT) both.1 in
+    let least = leb-true 1 one.count count.0 in
+    (omega arith, leb-true one.count GREATEST_COUNT count.1)
 
 counted : (uses : List UseLine) → list_all is_use uses ≡ true → AllByRecursion IsCounted uses
 counted [] all = tt
 counted (one ∷ uses) all =
     let each = and_parts (is_use one) (list_all is_use uses) all in
-    let both = and_parts (nat_le one.row 8191 && nat_le one.site 31) (nat_le 1 one.count && nat_le one.count 1000000) each.0 in
-    let least = leb-true 1 one.count (and_parts (nat_le 1 one.count) (nat_le one.count 1000000) both.1).0 in
-    (omega arith, counted uses each.1)
-
--- a use counts no more than a row may
-use_within : (one : UseLine) → is_use one ≡ true → one.count ≤ GREATEST_COUNT
-use_within one is =
-    let both = and_parts (nat_le one.row 8191 && nat_le one.site 31) (nat_le 1 one.count && nat_le one.count GREATEST_COUNT) is in
-    leb-true one.count GREATEST_COUNT (and_parts (nat_le 1 one.count) (nat_le one.count GREATEST_COUNT) both.1).1
+    (is_counted one each.0, counted uses each.1)
 
 pub count_within : (uses : List UseLine) (k : ℕ) (one : UseLine) → list_all is_use uses ≡ true → slice_get uses k ≡ Some one → one.count ≤ GREATEST_COUNT
-count_within [] k one all e = absurd (cc)
-count_within (first ∷ uses) zero one all e =
-    let same : first ≡ one = cc in
-    rw (← same) (use_within first (and_parts (is_use first) (list_all is_use uses) all).0)
-count_within (first ∷ uses) (suc k) one all e = count_within uses k one (and_parts (is_use first) (list_all is_use uses) all).1 e
+count_within uses k one all at = (all_at IsCounted uses k one (counted uses all) at).1
 
 -- ---- cells in order
+
+-- what holds of the cells of a row, since it holds of its uses
+cells_so : (it : Instance) (row : ℕ) (P : UseLine → Type 0) (Q : Cell → Type 0) → ((one : UseLine) → one.row ≡ row → P one → Q (cell_of it one)) → (uses : List UseLine)
+    → AllByRecursion P uses → AllByRecursion Q (cells_of it row uses)
+cells_so it row P Q so [] all = tt
+cells_so it row P Q so (one ∷ uses) all = elim (cases_eq one.row row) [
+  | inl here ↦ rw (eq-eqb one.row row here) (so one here all.0, cells_so it row P Q so uses all.1)
+  | inr other ↦ rw (ne_eqb one.row row other) (cells_so it row P Q so uses all.1)
+]
 
 -- the cells of a row come after a site where the uses of the row do
 cells_after : (it : Instance) (first : UseLine) (uses : List UseLine) → AllByRecursion (Before first) uses
     → AllByRecursion (λ (cell : Cell). first.site < cell.site) (cells_of it first.row uses)
-cells_after it first [] after = tt
-cells_after it first (one ∷ uses) after = elim (cases_eq one.row first.row) [
-  | inl here ↦ rw (eq-eqb one.row first.row here) (after.0.sites (sym here), cells_after it first uses after.1)
-  | inr other ↦ rw (ne_eqb one.row first.row other) (cells_after it first uses after.1)
-]
+cells_after it first uses after =
+    cells_so it first.row (Before first) (λ (cell : Cell). first.site < cell.site) (λ one here before. before.sites (sym here)) uses after
 
 are_cells : (it : Instance) (row : ℕ) (uses : List UseLine) → InOrder uses → AllByRecursion IsCounted uses → AreCells (cells_of it row uses)
 are_cells it row [] order counts = tt
 are_cells it row (one ∷ uses) order counts = elim (cases_eq one.row row) [
   | inl here ↦
       let later : AllByRecursion (λ (cell : Cell). one.site < cell.site) (cells_of it row uses) = rw (← here) (cells_after it one uses order.0) in
-      rw (eq-eqb one.row row here) (counts.0, (later, are_cells it row uses order.1 counts.1))
+      rw (eq-eqb one.row row here) (counts.0.0, (later, are_cells it row uses order.1 counts.1))
   | inr other ↦ rw (ne_eqb one.row row other) (are_cells it row uses order.1 counts.1)
 ]
 
@@ -140,50 +143,45 @@ left_is it row site (one ∷ uses) order = split (left_is it row site uses order
 
 -- ---- uses that go where they may
 
--- a row has an arc to the site
-pub record HasArcTo (site row : ℕ) (lists : List (List Arc)) : Type 0 where
+-- among the arcs of a row, if any, is one to the site
+pub record HasArcTo (site : ℕ) (arcs : Option (List Arc)) : Type 0 where
   pub arc : Arc
-  pub is_arc : arc_to site (slice_get lists row) ≡ Some arc
+  pub is_arc : arc_to site arcs ≡ Some arc
 
 -- the test of the arcs of a row to a site
 abbrev goes : ℕ → ℕ → NetworkArc → Bool
 goes row site a = a.row == row && a.site == site
 
-row_among : (i row site : ℕ) (arcs : List Arc) → list_any (goes row site) (map (arc_of i) arcs) ≡ true → i ≡ row
-row_among i row site [] any = absurd (cc)
-row_among i row site (arc ∷ arcs) any = elim (or_cases (i == row && arc.site == site) (list_any (goes row site) (map (arc_of i) arcs)) any) [
-  | inl here ↦ eqb-true i row (and_parts (i == row) (arc.site == site) here).0
-  | inr later ↦ row_among i row site arcs later
-]
-
-behind : (site : ℕ) (arc : Arc) (arcs : List Arc) → (arc.site == site) ≡ false → HasArcTo site 0 (arcs ∷ []) → HasArcTo site 0 ((arc ∷ arcs) ∷ [])
-behind site arc arcs away rest = record { arc = rest.arc; is_arc = rw away rest.is_arc }
-
-arc_among : (i row site : ℕ) (arcs : List Arc) → list_any (goes row site) (map (arc_of i) arcs) ≡ true → HasArcTo site 0 (arcs ∷ [])
+arc_among : (i row site : ℕ) (arcs : List Arc) → list_any (goes row site) (map (arc_of i) arcs) ≡ true → (i ≡ row) × HasArcTo site (Some arcs)
 arc_among i row site [] any = absurd (cc)
-arc_among i row site (arc ∷ arcs) any = elim (cases_Bool (arc.site == site)) [
-  | inl at ↦ record { arc = arc; is_arc = rw at refl }
-  | inr away ↦ elim (or_cases (i == row && arc.site == site) (list_any (goes row site) (map (arc_of i) arcs)) any) [
-    | inl here ↦ let at = (and_parts (i == row) (arc.site == site) here).1 in absurd (cc)
-    | inr later ↦ behind site arc arcs away (arc_among i row site arcs later)
-  ]
+arc_among i row site (arc ∷ arcs) any = elim (or_cases (i == row && arc.site == site) (list_any (goes row site) (map (arc_of i) arcs)) any) [
+  | inl here ↦
+      let parts = and_parts (i == row) (arc.site == site) here in
+      (eqb-true i row parts.0, record { arc = arc; is_arc = rw parts.1 refl })
+  | inr later ↦
+      let rest = arc_among i row site arcs later in (
+        rest.0,
+        elim (cases_Bool (arc.site == site)) [
+          | inl at ↦ record { arc = arc; is_arc = rw at refl }
+          | inr away ↦ record { arc = rest.1.arc; is_arc = rw away rest.1.is_arc }
+        ],
+      )
 ]
 
-arc_from : (i row site : ℕ) (lists : List (List Arc)) → list_any (goes row site) (arcs_from i lists) ≡ true → (k : ℕ) × (row ≡ i + k) × HasArcTo site k lists
+arc_from : (i row site : ℕ) (lists : List (List Arc)) → list_any (goes row site) (arcs_from i lists) ≡ true → (k : ℕ) × (row ≡ i + k) × HasArcTo site (slice_get lists k)
 arc_from i row site [] any = absurd (cc)
 arc_from i row site (arcs ∷ lists) any =
     elim (or_cases (list_any (goes row site) (map (arc_of i) arcs)) (list_any (goes row site) (arcs_from (i + 1) lists))
     (sym (list_any-append (goes row site) (map (arc_of i) arcs) (arcs_from (i + 1) lists)) ∙ any)) [
       | inl here ↦
-          let same = row_among i row site arcs here in
           let own = arc_among i row site arcs here in
-          (0, omega arith, record { arc = own.arc; is_arc = own.is_arc })
+          (0, omega (arith, own.0), own.1)
       | inr later ↦
           let rest = arc_from (i + 1) row site lists later in
-          (suc rest.0, omega (arith, rest.1), record { arc = rest.2.arc; is_arc = rest.2.is_arc })
+          (suc rest.0, omega (arith, rest.1), rest.2)
     ]
 
-pub has_arc : (it : Instance) (row site : ℕ) → is_allowed (network_of it) row site ≡ true → HasArcTo site row it.arcs
+pub has_arc : (it : Instance) (row site : ℕ) → is_allowed (network_of it) row site ≡ true → HasArcTo site (slice_get it.arcs row)
 has_arc it row site allowed =
     let found = arc_from 0 row site it.arcs allowed in
     let same : row ≡ found.0 = omega (arith, found.1) in
@@ -192,7 +190,7 @@ has_arc it row site allowed =
 -- ---- cells of an instance
 
 -- a row with an arc is there
-row_there : (site row : ℕ) (lists : List (List Arc)) → HasArcTo site row lists → row < length lists
+row_there : (site row : ℕ) (lists : List (List Arc)) → HasArcTo site (slice_get lists row) → row < length lists
 row_there site row lists has = elim (cases_lt row (length lists)) [
   | inl inside ↦ inside
   | inr past ↦ let none : arc_to site (slice_get lists row) ≡ None = rw (slice_get_past lists row past) refl in absurd (cc (none, has.is_arc))
@@ -208,12 +206,18 @@ found_so P site (first ∷ arcs) arc all found = elim (cases_Bool (first.site ==
   | inr away ↦ found_so P site arcs arc all.1 (rw away at found)
 ]
 
+-- the arc of a row to a site is one of the instance
+pub own_arc : (it : Instance) (row site : ℕ) (arc : Arc) → IsInstance it → arc_to site (slice_get it.arcs row) ≡ Some arc → IsArc it.servers arc × (arc.site ≡ site)
+own_arc it row site arc is found = by_list (slice_get it.arcs row) refl found
+  where
+    by_list : (own : Option (List Arc)) → slice_get it.arcs row ≡ own → arc_to site own ≡ Some arc → IsArc it.servers arc × (arc.site ≡ site)
+    by_list None e found = absurd (cc)
+    by_list (Some arcs) e found = found_so (IsArc it.servers) site arcs arc (all_at (AreArcs it.servers) it.arcs row arcs is.arcs e).each found
+
 cell_is : (it : Instance) (one : UseLine) → IsInstance it → is_allowed (network_of it) one.row one.site ≡ true → IsCellOf it one.row (cell_of it one)
 cell_is it one is allowed =
     let has = has_arc it one.row one.site allowed in
-    let list = there it.arcs one.row (row_there one.site one.row it.arcs has) in
-    let found : arc_to one.site (Some list.0) ≡ Some has.arc = rw list.1 at has.is_arc in
-    let own = found_so (IsArc it.servers) one.site list.0 has.arc (all_at (AreArcs it.servers) it.arcs one.row list.0 is.arcs list.1).each found in
+    let own = own_arc it one.row one.site has.arc is has.is_arc in
     let server = all_at (IsServer it.sites (length it.hosts)) it.servers has.arc.server own.0.server is.servers.each own.0.is_server in
     let number : (cell_of it one).server ≡ has.arc.server = ap number_of has.is_arc in
     record {
@@ -224,18 +228,12 @@ cell_is it one is allowed =
       there = rw number (slice_get_within it.servers has.arc.server own.0.server own.0.is_server);
     }
 
-pub all_of : (P : UseLine → Type 0) (uses : List UseLine) → All P uses → AllByRecursion P uses
-all_of P uses all = all_from P uses (λ i one e. rw (get_or_from_slice_get uses i one one e) at (all i one (slice_get_within uses i one e)))
-
 abbrev Goes : Instance → UseLine → Type 0
 Goes it one = is_allowed (network_of it) one.row one.site ≡ true
 
 each_is : (it : Instance) (row : ℕ) (uses : List UseLine) → IsInstance it → AllByRecursion (Goes it) uses → AllByRecursion (IsCellOf it row) (cells_of it row uses)
-each_is it row [] is goes = tt
-each_is it row (one ∷ uses) is goes = elim (cases_eq one.row row) [
-  | inl here ↦ rw (eq-eqb one.row row here) (subst (λ (r : ℕ). IsCellOf it r (cell_of it one)) here (cell_is it one is goes.0), each_is it row uses is goes.1)
-  | inr other ↦ rw (ne_eqb one.row row other) (each_is it row uses is goes.1)
-]
+each_is it row uses is goes =
+    cells_so it row (Goes it) (IsCellOf it row) (λ one here allowed. subst (λ (r : ℕ). IsCellOf it r (cell_of it one)) here (cell_is it one is allowed)) uses goes
 
 -- ---- one use after the other
 
@@ -259,7 +257,7 @@ order_take (suc n) [] order = tt
 order_take (suc n) (one ∷ uses) order = (all_take (Before one) n uses order.0, order_take n uses order.1)
 
 are_given : (it : Instance) (uses : List UseLine) → AreUsesOf it uses → AreGiven it uses
-are_given it uses are = record { order = in_order uses are.order; counts = counted uses are.ranges; goes = all_of (Goes it) uses are.allowed }
+are_given it uses are = record { order = in_order uses are.order; counts = counted uses are.ranges; goes = recursion_from_All (Goes it) uses are.allowed }
 
 -- the row of a use is there
 pub use_there : (it : Instance) (uses : List UseLine) (k : ℕ) (one : UseLine) → IsInstance it → AreUsesOf it uses → slice_get uses k ≡ Some one → one.row < length it.rows
@@ -312,15 +310,6 @@ shared_more part it uses k one shares cells e are inside new = record {
 
 -- ---- all uses
 
-bounded_row : (it : Instance) (row : ℕ) (uses : List UseLine) → list_all is_use uses ≡ true → AreBounded (cells_of it row uses)
-bounded_row it row [] all = tt
-bounded_row it row (one ∷ uses) all =
-    let parts = and_parts (is_use one) (list_all is_use uses) all in
-    elim (cases_eq one.row row) [
-      | inl here ↦ rw (eq-eqb one.row row here) (use_within one parts.0, bounded_row it row uses parts.1)
-      | inr other ↦ rw (ne_eqb one.row row other) (bounded_row it row uses parts.1)
-    ]
-
 module _ (portion : Portion) (it : Instance) (uses : List UseLine) (shares : List (List Cell)) (are : AreUsesOf it uses)
     (shared : AreSharesOf (part_of portion) it uses shares) where
   pub are_held : IsInstance it → IsHeld (holding it shares)
@@ -346,4 +335,5 @@ module _ (portion : Portion) (it : Instance) (uses : List UseLine) (shares : Lis
   all_bounded some one =
       all_from AreBounded shares (λ row cells e.
       let same : cells ≡ parts_in (part_of portion) (cells_of it row uses) = sym (get_or_from_slice_get shares row cells [] e) ∙ shared.each row in
-      rw same (parts_bounded portion (cells_of it row uses) some one (bounded_row it row uses are.ranges)))
+      rw same (parts_bounded portion (cells_of it row uses) some one
+      (cells_so it row IsCounted (λ (cell : Cell). cell.left ≤ GREATEST_COUNT) (λ u here counts. counts.1) uses (counted uses are.ranges))))

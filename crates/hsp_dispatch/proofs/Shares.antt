@@ -1,12 +1,13 @@
 -- A row's cells, and the spread of what is left in them.
-use Rattle.std.proofs.Common.{◌≡◌, ◌<◌, ◌≤◌, ◌+◌, ◌-◌, ◌∙◌, ◌++◌, ℕ, zero, suc, List, [], ◌∷◌, drop, replicate, arith, refl, sym, ap, eq-eqb}
+use Rattle.std.proofs.Common.{◌≡◌, ◌<◌, ◌≤◌, ◌+◌, ◌-◌, ◌∙◌, ◌++◌, ℕ, zero, suc, List, [], ◌∷◌, length, replicate, arith, refl, sym, ap, eq-eqb}
 use Rattle.std.proofs.Common.{inl, inr}
 use Rattle.std.proofs.lemmas.Bool.{ne_eqb, cases_eq}
 use Rattle.std.specs.List.{AllByRecursion}
 use Rattle.hsp_dispatch.proofs.Lists.{all_so}
 use Rattle.hsp_dispatch.proofs.Spreads.{same_spread}
 use Rattle.hsp_dispatch.specs.Dispatch.{spread_from}
-use Rattle.hsp_dispatch.specs.Shares.{AreCells, without_first, left_at}
+use Rattle.hsp_instance.specs.Instance.{Instance}
+use Rattle.hsp_dispatch.specs.Shares.{AreCells, AreCellsOf, IsCellOf, left_at}
 use Rattle.hsp_dispatch.specs.declared.share.Cell.{Cell}
 
 -- the sites of cells, each as often as something is left there
@@ -18,9 +19,17 @@ sites_of (cell ∷ cells) = replicate cell.left cell.site ++ sites_of cells
 abbrev pub Within : ℕ → ℕ → List Cell → Type 0
 Within n s cells = AllByRecursion (λ (cell : Cell). (s ≤ cell.site) × (cell.site < s + n)) cells
 
-both_so : (P Q R : Cell → Type 0) → ((cell : Cell) → P cell → Q cell → R cell) → (cells : List Cell) → AllByRecursion P cells → AllByRecursion Q cells → AllByRecursion R cells
-both_so P Q R so [] p q = tt
-both_so P Q R so (cell ∷ cells) p q = (so cell p.0 q.0, both_so P Q R so cells p.1 q.1)
+-- the cells behind one that is at the first of the sites or after it
+pub within_behind : (n s : ℕ) (cell : Cell) (cells : List Cell) → s ≤ cell.site → AllByRecursion (λ (later : Cell). cell.site < later.site) cells → Within (suc n) s cells
+    → Within n (s + 1) cells
+within_behind n s cell [] low behind within = tt
+within_behind n s cell (c ∷ cells) low behind within =
+    ((omega (arith, low, behind.0), omega (arith, within.0.1)), within_behind n s cell cells low behind.1 within.1)
+
+-- the cells of a row are of sites of the instance
+pub sites_within : (it : Instance) (row : ℕ) (cells : List Cell) → AreCellsOf it row cells → Within (length it.sites) 0 cells
+sites_within it row cells are =
+    all_so (IsCellOf it row) (λ (cell : Cell). (0 ≤ cell.site) × (cell.site < 0 + length it.sites)) (λ cell is. (omega arith, omega (arith, is.site))) cells are.each
 
 -- cells behind a site leave nothing at it
 pub none_at : (cells : List Cell) (s : ℕ) → AllByRecursion (λ (cell : Cell). s < cell.site) cells → left_at cells s ≡ 0
@@ -36,22 +45,18 @@ pub spread_is : (n s : ℕ) (cells : List Cell) → AreCells cells → Within n 
 spread_is zero s [] are within = refl
 spread_is zero s (cell ∷ cells) are within = absurd (omega (arith, within.0.0, within.0.1))
 spread_is (suc n) s [] are within = spread_is n (s + 1) [] tt tt
-spread_is (suc n) s (cell ∷ cells) are within = elim (cases_eq cell.site s) [
-  | inl here ↦
-      let rest : Within n (s + 1) cells =
-      both_so (λ (later : Cell). cell.site < later.site) (λ (later : Cell). (s ≤ later.site) × (later.site < s + suc n)) (λ (later : Cell). (s + 1 ≤ later.site) × (later.site < s + 1 + n))
-      (λ later behind inside. (omega (arith, behind, here), omega (arith, inside.1))) cells are.1.0 within.1 in
-      let tail : spread_from n (s + 1) (left_at (cell ∷ cells)) ≡ sites_of cells =
-      same_spread n (s + 1) (left_at (cell ∷ cells)) (left_at cells) (λ t h. left_behind cell cells t (omega (arith, here, h))) ∙ spread_is n (s + 1) cells are.1.1 rest in
-      rw (eq-eqb cell.site s here) (ap (λ (others : List ℕ). replicate cell.left s ++ others) tail ∙ ap (λ (k : ℕ). replicate cell.left k ++ sites_of cells) (sym here))
-  | inr other ↦
-      let later : s < cell.site = omega (arith, other, within.0.0) in
-      let none : left_at cells s ≡ 0 = none_at cells s (all_so (λ (c : Cell). cell.site < c.site) (λ (c : Cell). s < c.site) (λ c behind. omega (arith, behind, later)) cells are.1.0) in
-      let rest : Within n (s + 1) cells =
-      both_so (λ (c : Cell). cell.site < c.site) (λ (c : Cell). (s ≤ c.site) × (c.site < s + suc n)) (λ (c : Cell). (s + 1 ≤ c.site) × (c.site < s + 1 + n))
-      (λ c behind inside. (omega (arith, behind, later), omega (arith, inside.1))) cells are.1.0 within.1 in
-      rw (ne_eqb cell.site s other, none) (spread_is n (s + 1) (cell ∷ cells) are ((omega arith, omega (arith, within.0.1)), rest))
-]
+spread_is (suc n) s (cell ∷ cells) are within =
+    let rest : Within n (s + 1) cells = within_behind n s cell cells within.0.0 are.1.0 within.1 in
+    elim (cases_eq cell.site s) [
+      | inl here ↦
+          let tail : spread_from n (s + 1) (left_at (cell ∷ cells)) ≡ sites_of cells =
+          same_spread n (s + 1) (left_at (cell ∷ cells)) (left_at cells) (λ t h. left_behind cell cells t (omega (arith, here, h))) ∙ spread_is n (s + 1) cells are.1.1 rest in
+          rw (eq-eqb cell.site s here) (ap (λ (others : List ℕ). replicate cell.left s ++ others) tail ∙ ap (λ (k : ℕ). replicate cell.left k ++ sites_of cells) (sym here))
+      | inr other ↦
+          let later : s < cell.site = omega (arith, other, within.0.0) in
+          let none : left_at cells s ≡ 0 = none_at cells s (all_so (λ (c : Cell). cell.site < c.site) (λ (c : Cell). s < c.site) (λ c behind. omega (arith, behind, later)) cells are.1.0) in
+          rw (ne_eqb cell.site s other, none) (spread_is n (s + 1) (cell ∷ cells) are ((omega arith, omega (arith, within.0.1)), rest))
+    ]
 
 -- the first of the spread is the first cell's site
 pub first_site : (cells : List Cell) (cell : Cell) → AreCells (cell ∷ cells) → (rest : List ℕ) × (sites_of (cell ∷ cells) ≡ cell.site ∷ rest)

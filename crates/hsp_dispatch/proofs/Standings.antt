@@ -13,7 +13,7 @@ use Rattle.hsp_dispatch.specs.Standings.{AreBounded, IsSole, all_sums, cells_lef
 use Rattle.hsp_dispatch.specs.declared.front_share.Standing.{Standing}
 use Rattle.hsp_dispatch.specs.declared.share.Cell.{Cell}
 use Rattle.hsp_dispatch.proofs.FrontShares.{share_le}
-use Rattle.hsp_dispatch.proofs.Shares.{Within}
+use Rattle.hsp_dispatch.proofs.Shares.{Within, within_behind}
 
 -- ---- how many cells there are
 
@@ -22,11 +22,7 @@ pub few_cells : (most s : ℕ) (cells : List Cell) → AreCells cells → Within
 few_cells most s [] are within = omega arith
 few_cells zero s (cell ∷ cells) are within = absurd (omega (arith, within.0.0, within.0.1))
 few_cells (suc most) s (cell ∷ cells) are within =
-    omega (arith, few_cells most (s + 1) cells are.1.1 (later cells are.1.0 within.1))
-  where
-    later : (cells : List Cell) → AllByRecursion (λ (c : Cell). cell.site < c.site) cells → Within (suc most) s cells → Within most (s + 1) cells
-    later [] behind inside = tt
-    later (c ∷ cells) behind inside = ((omega (arith, behind.0, within.0.0), omega (arith, inside.0.1)), later cells behind.1 inside.1)
+    omega (arith, few_cells most (s + 1) cells are.1.1 (within_behind most s cell cells within.0.0 are.1.0 within.1))
 
 -- ---- what is left in all
 

@@ -19,31 +19,21 @@ use Rattle.hsp_dispatch.specs.Shares.{AreCells, AreCellsOf, Held, IsCellOf, IsHe
 use Rattle.hsp_dispatch.specs.declared.answer.Answer.TheVariants.{Assigned, Spent}
 use Rattle.hsp_dispatch.specs.declared.share.Cell.{Cell}
 use Rattle.hsp_dispatch.proofs.Resting.{rest_here, rest_other}
-use Rattle.hsp_dispatch.proofs.Lists.{all_so}
-use Rattle.hsp_dispatch.proofs.Shares.{Within, first_site, none_at, sites_of, spread_is}
-use Rattle.hsp_dispatch.proofs.SharedOut.{found_so}
+use Rattle.hsp_dispatch.proofs.Shares.{first_site, none_at, sites_of, sites_within, spread_is}
+use Rattle.hsp_dispatch.proofs.SharedOut.{own_arc}
 use Rattle.hsp_dispatch.proofs.Spreads.{same_spread, times}
 
 -- the spread of what is left of a row
 spread_held : (held : Held) (row : ℕ) → IsHeld held → spread held.instance (left_of held) row ≡ sites_of (cells_at held.shares row)
 spread_held held row is =
-    let many = length held.instance.sites in
-    let own = is.each row in
-    let within : Within many 0 (cells_at held.shares row) =
-    all_so (IsCellOf held.instance row) (λ (cell : Cell). (0 ≤ cell.site) × (cell.site < 0 + many)) (λ cell is. (omega arith, omega (arith, is.site))) (cells_at held.shares row) own.each in
-    spread_is many 0 (cells_at held.shares row) own.are within
+    spread_is (length held.instance.sites) 0 (cells_at held.shares row) (is.each row).are (sites_within held.instance row (cells_at held.shares row) (is.each row))
 
 -- ---- the answer
-
-own_arc : (it : Instance) (row site : ℕ) (arc : Arc) (own : Option (List Arc)) → slice_get it.arcs row ≡ own → IsInstance it → arc_to site own ≡ Some arc
-    → IsArc it.servers arc × (arc.site ≡ site)
-own_arc it row site arc None e is found = absurd (cc)
-own_arc it row site arc (Some arcs) e is found = found_so (IsArc it.servers) site arcs arc (all_at (AreArcs it.servers) it.arcs row arcs is.arcs e).each found
 
 -- the server of a cell is at the cell's site
 served : (it : Instance) (row : ℕ) (cell : Cell) → IsInstance it → IsCellOf it row cell → served_by (slice_get it.servers cell.server) ≡ assigned_to cell.site (server_to it row cell.site)
 served it row cell is own =
-    let arc = own_arc it row cell.site own.arc (slice_get it.arcs row) refl is own.is_arc in
+    let arc = own_arc it row cell.site own.arc is own.is_arc in
     let server = arc.0.server in
     let at : slice_get it.servers cell.server ≡ Some server = ap (λ (n : ℕ). slice_get it.servers n) (sym own.server) ∙ arc.0.is_server in
     let to : server_to it row cell.site ≡ Some server = ap (λ (o : Option Arc). end_of it o) own.is_arc ∙ arc.0.is_server in

@@ -64,7 +64,7 @@ returns-in_err-put_all-clause-stops g c =
     let told = err_from_is_err_and c.from_residual-in_err-put_all.result c.from_residual-in_err-put_all.ensures.1 in
     let line = c.line_in.ensures ∙ ap (λ lines. line_by lines c.in_ok-given.given) (c.requires.lines ∙ ap lines_of (sym c.rows.invariant.instance)) in
     rw (told.1, told.2) (line_stops g.D.Desk.instance g.D.Desk.Answers g.D.Desk.header g.D.Desk.Refuses c.args.desk.now c.rows.desk c.answer.new.self _ _ _ _ _ _ _ _ _ row _ c.line_in.result.now
-    c.in_ok-given.given so_far read c.rows.invariant.instance c.in_ok-given.ensures.answers line c.in_err-put_all.ensures.cut below)
+    c.in_ok-given.given so_far read c.rows.invariant.instance c.in_ok-given.ensures.answers line below c.in_err-put_all.ensures.cut)
 
 pub rows-preserved : goal.rows-preserved
 rows-preserved g c =
@@ -79,7 +79,7 @@ rows-preserved g c =
       instance = c.answer.ensures.instance ∙ c.rows.invariant.instance;
       so_far = rw c.count.ensures (row_more g.D.Desk.instance g.D.Desk.Answers g.D.Desk.header g.D.Desk.Refuses c.args.desk.now c.rows.desk c.answer.new.self
           _ _ _ _ _ _ _ _ _ row _ c.line_in.result.now c.in_ok-given.given so_far read c.rows.invariant.instance c.in_ok-given.ensures.answers line
-          c.in_ok-put_all.ensures.whole below);
+          below c.in_ok-put_all.ensures.whole);
     }
 
 pub returns-in-Err-clause-stops : goal.returns-in-Err-clause-stops
