@@ -138,4 +138,4 @@ demands_add_up it = between (regions_of it.rows) (λ (row : Row). row.region) (�
 pub costs_add_up : CostsAddUp
 costs_add_up it is x =
     between (regions_of it.rows) (λ (a : NetworkArc). (row_at it a.row).region) (λ a. a.cost * planned x a) (network_of it).arcs (regions_once it.rows)
-    (λ i d l. row_there it.rows (slice_index_or (network_of it).arcs i d).row no_row (rw (length-map it.rows (λ (r : Row). r.count)) at ((is_network it is).rows i d l)))
+    (λ i d l. row_there it.rows (slice_index_or (network_of it).arcs i d).row no_row (rw (length-map it.rows (λ (r : Row). r.count)) at ((is_network it is).sources i d l)))

@@ -32,7 +32,8 @@ use Rattle.hsp_faults.specs.declared.fault.Fault.TheVariants.{Cert, Log, OutOfMe
 use Rattle.hsp_headline.specs.declared.inputs.Inputs.{Inputs}
 use Rattle.hsp_text.specs.Answers.{Then, told_as}
 use Rattle.hsp_runs.specs.Laws.{DispatchedLogsShow}
-use Rattle.hsp_runs.proofs.ByHash.{logs_go_by_hash, went_on}
+use Rattle.hsp_headline.proofs.Steps.{went_on}
+use Rattle.hsp_runs.proofs.ByHash.{logs_go_by_hash}
 use Rattle.hsp_runs.proofs.Dispatching.{is_fault}
 use Rattle.hsp_runs.proofs.Ending.{ends}
 use Rattle.hsp_runs.proofs.NoLog.{no_log}
