@@ -17,7 +17,7 @@ use Rattle.hsp_runs.specs.Check.{IsCertificate}
 use Rattle.hsp_runs.specs.Instance.{IsInstanceOf}
 use Rattle.hsp_runs.specs.declared.accepted.Accepted.{Accepted}
 use Rattle.hsp_headline.specs.declared.inputs.Inputs.{Inputs}
-use Rattle.hsp_runs.proofs.ByHash.{went_on}
+use Rattle.hsp_headline.proofs.Steps.{went_on}
 use Rattle.hsp_stream.specs.AnswerRun.{AnswersAs, EndsLog, HasCosts, Refuses, Run}
 use Rattle.hsp_stream.specs.Faults.{input_told}
 
