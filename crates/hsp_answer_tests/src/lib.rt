@@ -18,6 +18,4 @@ mod report_tests;
 #[cfg(test)]
 mod run_tests;
 #[cfg(test)]
-mod same;
-#[cfg(test)]
 mod worked;

@@ -5,33 +5,15 @@ ghost use Rattle.hsp_check.specs.Valid.{IsValid};
 ghost use Rattle.hsp_report.specs.Conditions.{IsPlanFor, IsShortageFor};
 
 use crate::building::instance_by;
-use crate::same::is_same;
 use hsp_cert::{Certificate, UseLine};
 use hsp_check::{Verdict, check};
 use hsp_instance::Instance;
 use hsp_report::*;
+use hsp_test_support::is_same;
+use hsp_test_support::service::{BASE, HOST, ONE_SERVER, Texts};
 use hsp_text::push_whole;
 use std::alloc::{AllocError, Global};
 use std::process::Abort;
-
-// The texts of an instance; the hosts stand behind the sites in the settings.
-#[derive(Clone, Copy)]
-struct Texts<'a> {
-    sites: &'a [u8],
-    hosts: &'a [u8],
-    demand: &'a [u8],
-    costs: &'a [u8],
-    capacity: &'a [u8],
-}
-
-// Two sites of two and three servers, three rows.
-const BASE: Texts<'static> = Texts {
-    sites: b"[[site]]\nname = \"E\"\nrecord = \"00010200000100010000000000000000000000020000000700000000000000000000000000000001000000000000000000000003000000000000000000000000000000010000000000000000\"\n[[site]]\nname = \"W\"\nrecord = \"0001020000010001000000000000000000000003000000010000000000000000000000000000000200000000000000000000000200000000000000000000000000000002000000000000000000000009000000000000000000000000000000020000000000000000\"\n",
-    hosts: b"",
-    demand: b"region,handle,count\nr1,10/1,5\nr1,10/2,4\nr2,10/3,3\n",
-    costs: b"region,site,cost\nr1,E,1\nr1,W,4\nr2,E,2\nr2,W,3\n",
-    capacity: b"site,server_id,capacity\nE,7,10\nE,3,6\nW,1,2\nW,2,10\nW,9,10\n",
-};
 
 // The base without demand.
 const IDLE: Texts<'static> = Texts {
@@ -41,7 +23,7 @@ const IDLE: Texts<'static> = Texts {
 
 // The base with a host that the servers of E stand on.
 const HOSTED: Texts<'static> = Texts {
-    hosts: b"[[host]]\naddress = \"00000000000000000000000000000001\"\nlimit = 8\n",
+    hosts: HOST,
     ..BASE
 };
 
@@ -53,7 +35,7 @@ const SHORT: Texts<'static> = Texts {
 
 // A site of one server, and twenty rows of as many queries as a row may count.
 const WIDE: Texts<'static> = Texts {
-    sites: b"[[site]]\nname = \"X\"\nrecord = \"000102000001000100000000000000000000000100000007000000000000000000000000000000010000000000000000\"\n",
+    sites: ONE_SERVER,
     hosts: b"",
     demand: b"region,handle,count\nr1,10/0,1000000\nr1,10/1,1000000\nr1,10/2,1000000\nr1,10/3,1000000\nr1,10/4,1000000\nr1,10/5,1000000\nr1,10/6,1000000\nr1,10/7,1000000\nr1,10/8,1000000\nr1,10/9,1000000\nr1,10/10,1000000\nr1,10/11,1000000\nr1,10/12,1000000\nr1,10/13,1000000\nr1,10/14,1000000\nr1,10/15,1000000\nr1,10/16,1000000\nr1,10/17,1000000\nr1,10/18,1000000\nr1,10/19,1000000\n",
     costs: b"region,site,cost\nr1,X,1000000\n",

@@ -1,7 +1,9 @@
 -- What a certificate claims: that a plan is best, or that a set of rows is short.
-use Rattle.std.specs.Prelude.{◌≡◌, ◌==◌, ◌≤◌, ◌&&◌, ◌||◌, ℕ, Bool, true, List, [], ◌∷◌, length, nat_le, nat_lt, Option, Some, None}
+use Rattle.std.specs.Prelude.{◌≡◌, ◌==◌, ◌≤◌, ◌&&◌, ◌||◌, ℕ, Bool, true, List, [], ◌∷◌, length, nat_le, nat_lt, Option}
+use Rattle.std.specs.Prelude.{Some, None}
 use Rattle.std.specs.List.{list_all}
-use Rattle.hsp_text.specs.declared.limits.TheConstants.{GREATEST_COUNT, GREATEST_PRICE, GREATEST_SUM, MOST_DEMAND_ROWS, MOST_HOSTS, MOST_SERVERS}
+use Rattle.hsp_text.specs.declared.limits.TheConstants.{GREATEST_COUNT, GREATEST_PRICE, GREATEST_SUM, MOST_DEMAND_ROWS}
+use Rattle.hsp_text.specs.declared.limits.TheConstants.{MOST_HOSTS, MOST_SERVERS}
 use Rattle.hsp_cert.specs.declared.ranges.TheConstants.{LAST_ROW, LAST_SITE}
 use Rattle.hsp_cert.specs.declared.use_line.UseLine.{UseLine}
 
@@ -74,10 +76,16 @@ are_prices_within most prices = nat_le (length prices) most && list_all is_price
 
 abbrev pub is_best : Best → Bool
 is_best b =
-    nat_le b.cost GREATEST_SUM && (list_all is_use b.uses && (ascends is_before b.uses && (are_prices_within MOST_DEMAND_ROWS b.row_prices && (are_prices_within MOST_SERVERS b.server_prices && are_prices_within MOST_HOSTS b.host_prices))))
+    nat_le b.cost GREATEST_SUM
+    && (list_all is_use b.uses
+    && (ascends is_before b.uses
+    && (are_prices_within MOST_DEMAND_ROWS b.row_prices
+    && (are_prices_within MOST_SERVERS b.server_prices && are_prices_within MOST_HOSTS b.host_prices))))
 
 abbrev pub is_short : Short → Bool
-is_short s = list_all is_row s.rows && (ascends nat_lt s.rows && (nat_le s.demand GREATEST_SUM && nat_le s.capacity GREATEST_SUM))
+is_short s =
+    list_all is_row s.rows
+    && (ascends nat_lt s.rows && (nat_le s.demand GREATEST_SUM && nat_le s.capacity GREATEST_SUM))
 
 abbrev pub IsCertificate : Claim → Type 0
 IsCertificate (best b) = IsBest b

@@ -15,7 +15,8 @@ cut [] = ([], None)
 cut (x ∷ xs) = if x == 32 then ([], Some xs) else (x ∷ (cut xs).0, (cut xs).1)
 
 abbrev pub words : List Word
-words = word.Version ∷ word.Plan ∷ word.Shortage ∷ word.Cost ∷ word.Use ∷ word.Row ∷ word.Server ∷ word.Host ∷ word.Demand ∷ word.Capacity ∷ word.End ∷ []
+words = word.Version ∷ word.Plan ∷ word.Shortage ∷ word.Cost ∷ word.Use ∷ word.Row ∷ word.Server ∷ word.Host
+    ∷ word.Demand ∷ word.Capacity ∷ word.End ∷ []
 
 -- the word among these that the octets spell
 abbrev pub word_among : List Word → List ℕ → Option Word

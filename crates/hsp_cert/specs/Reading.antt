@@ -17,16 +17,21 @@ HasNoEnd ls = AllByRecursion (λ l. l ≡ codes "END" → ⊥) ls
 -- line n, at or before END, is the first with LF that can't stand
 abbrev pub IsBadLine : List ℕ → ℕ → Type 0
 IsBadLine text n =
-    (before : List (List ℕ)) × (line : List ℕ) × (rest : List ℕ) × (text ≡ unlines before ++ (line ++ 10 ∷ rest)) × IsUnbroken line
+    (before : List (List ℕ)) × (line : List ℕ) × (rest : List ℕ) × (text ≡ unlines before ++ (line ++ 10 ∷ rest))
+    × IsUnbroken line
     × LinesStand before × HasNoEnd before × (LinesStand (before ++ line ∷ []) → ⊥) × (n ≡ length before + 1)
 
 -- every line with LF stands, and none is END
 abbrev pub IsEnded : List ℕ → Type 0
-IsEnded text = (before : List (List ℕ)) × (tail : List ℕ) × (text ≡ unlines before ++ tail) × IsUnbroken tail × LinesStand before × HasNoEnd before
+IsEnded text =
+    (before : List (List ℕ)) × (tail : List ℕ) × (text ≡ unlines before ++ tail) × IsUnbroken tail
+    × LinesStand before × HasNoEnd before
 
 -- a certificate's text and an octet more
 abbrev pub IsAfterEnd : List ℕ → ℕ → Type 0
-IsAfterEnd text n = (claim : Claim) × IsCertificate claim × (rest : List ℕ) × (0 < length rest) × (text ≡ text_of claim ++ rest) × (n ≡ length (lines_of claim) + 1)
+IsAfterEnd text n =
+    (claim : Claim) × IsCertificate claim × (rest : List ℕ) × (0 < length rest) × (text ≡ text_of claim ++ rest)
+    × (n ≡ length (lines_of claim) + 1)
 
 abbrev pub Means : List ℕ → Result Claim CertFault → Type 0
 Means text (Ok claim) = IsCertificate claim × (text ≡ text_of claim)

@@ -22,7 +22,14 @@ abbrev pub with_set : Stage → Drafted → Short → Drafted
 with_set st d s = record { stage = st; version = d.version; plan = d.plan; set = s }
 
 abbrev pub cost_set : Best → ℕ → Best
-cost_set b cost = record { cost = cost; uses = b.uses; row_prices = b.row_prices; server_prices = b.server_prices; host_prices = b.host_prices }
+cost_set b cost =
+    record {
+      cost = cost;
+      uses = b.uses;
+      row_prices = b.row_prices;
+      server_prices = b.server_prices;
+      host_prices = b.host_prices;
+    }
 
 abbrev pub is_amount : ℕ → Bool
 is_amount n = nat_le n GREATEST_SUM
@@ -38,10 +45,12 @@ abbrev pub cost_step : Drafted → ℕ → Option Drafted
 cost_step d cost = when (is_amount cost) (with_plan stage.Body d (cost_set d.plan cost))
 
 abbrev pub demand_step : Drafted → ℕ → Option Drafted
-demand_step d n = when (is_amount n) (with_set stage.Capacity d (record { rows = d.set.rows; demand = n; capacity = d.set.capacity }))
+demand_step d n =
+    when (is_amount n) (with_set stage.Capacity d (record { rows = d.set.rows; demand = n; capacity = d.set.capacity }))
 
 abbrev pub capacity_step : Drafted → ℕ → Option Drafted
-capacity_step d n = when (is_amount n) (with_set stage.Rows d (record { rows = d.set.rows; demand = d.set.demand; capacity = n }))
+capacity_step d n =
+    when (is_amount n) (with_set stage.Rows d (record { rows = d.set.rows; demand = d.set.demand; capacity = n }))
 
 -- the lines above the lists
 abbrev pub head_at : Stage → Drafted → Item → Option Drafted

@@ -35,12 +35,18 @@ row_items (r ∷ rs) = item.One word.Row r ∷ row_items rs
 
 -- the lines between the cost and the end
 abbrev pub body_items : Best → List Item
-body_items b = use_items b.uses ++ (price_items word.Row 0 b.row_prices ++ (price_items word.Server 0 b.server_prices ++ price_items word.Host 0 b.host_prices))
+body_items b =
+    use_items b.uses
+    ++ (price_items word.Row 0 b.row_prices
+    ++ (price_items word.Server 0 b.server_prices ++ price_items word.Host 0 b.host_prices))
 
 abbrev pub items_of : Claim → List Item
-items_of (best b) = item.One word.Version (version_of b.host_prices) ∷ item.Alone word.Plan ∷ item.One word.Cost b.cost ∷ (body_items b ++ item.Alone word.End ∷ [])
+items_of (best b) =
+    item.One word.Version (version_of b.host_prices) ∷ item.Alone word.Plan ∷ item.One word.Cost b.cost
+    ∷ (body_items b ++ item.Alone word.End ∷ [])
 items_of (short s) =
-    item.One word.Version 1 ∷ item.Alone word.Shortage ∷ item.One word.Demand s.demand ∷ item.One word.Capacity s.capacity ∷ (row_items s.rows ++ item.Alone word.End ∷ [])
+    item.One word.Version 1 ∷ item.Alone word.Shortage ∷ item.One word.Demand s.demand
+    ∷ item.One word.Capacity s.capacity ∷ (row_items s.rows ++ item.Alone word.End ∷ [])
 
 abbrev pub lines_of : Claim → List (List ℕ)
 lines_of claim = map line_of (items_of claim)

@@ -1,9 +1,12 @@
 // What was read of a text so far.
 
 ghost use Rattle.std.specs.Prelude.{◌≡◌, IfOk};
-ghost use Rattle.hsp_cert.specs.Drafts.{Took, may_use, may_row_price, may_server_price, may_host_price, may_row, is_next, use_in, row_in, use_step, row_price_step, server_price_step, host_price_step, body_step, rows_step};
+ghost use Rattle.hsp_cert.specs.Drafts.{Took, may_use, may_row_price, may_server_price, may_host_price, may_row};
+ghost use Rattle.hsp_cert.specs.Drafts.{is_next, use_in, row_in, use_step, row_price_step, server_price_step};
+ghost use Rattle.hsp_cert.specs.Drafts.{host_price_step, body_step, rows_step};
 ghost use Rattle.hsp_cert.specs.Certificate.{IsCertificate};
-ghost use Rattle.hsp_cert.specs.Steps.{version_step, kind_step, cost_step, demand_step, capacity_step, head_step, step, start, has_ended, claimed};
+ghost use Rattle.hsp_cert.specs.Steps.{version_step, kind_step, cost_step, demand_step, capacity_step, head_step, step};
+ghost use Rattle.hsp_cert.specs.Steps.{start, has_ended, claimed};
 
 use crate::certificate::{Certificate, PricedPlan, ShortSet, Shown};
 use crate::item::{Item, Word};

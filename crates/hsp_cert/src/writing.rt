@@ -1,7 +1,8 @@
 // Writing the text of a certificate.
 
 ghost use Rattle.std.specs.Prelude.{◌≡◌, ◌++◌, ◌∷◌, [], map, decimal, IfOk, OnOk};
-ghost use Rattle.hsp_cert.specs.Text.{line_of, unlines, use_items, price_items, row_items, body_items, version_of, text_of};
+ghost use Rattle.hsp_cert.specs.Text.{line_of, unlines, use_items, price_items, row_items, body_items, version_of};
+ghost use Rattle.hsp_cert.specs.Text.{text_of};
 ghost use Rattle.hsp_cert.specs.Certificate.Claim.{best, short};
 
 use crate::certificate::{Certificate, PricedPlan, ShortSet, Shown};

@@ -4,7 +4,7 @@ use Rattle.std.proofs.lemmas.List.Sums.{sum_by_more}
 use Rattle.std.proofs.lemmas.Bool.{cases_eq}
 use Rattle.hsp_check.specs.declared.sums.ArcFlow.{ArcFlow}
 use Rattle.hsp_check.specs.declared.sums.End.{End}
-use Rattle.hsp_check.specs.Laid.{end_of}
+use Rattle.hsp_check.specs.ArcFlows.{end_of}
 
 -- a number was added at one place
 pub added : (sums : List ℕ) (at v n s : ℕ) → at < length sums → slice_index sums v ≡ s →
@@ -15,13 +15,13 @@ added sums at v n s l e = elim (cases_eq at v) [
 ]
 
 -- the sums of the rows or servers with one arc more
-pub end_more : (end : End) (laid : List ArcFlow) (sums : List ℕ) (i at n v : ℕ) (d : ArcFlow) → i < length laid → at < length sums →
-    at ≡ end_of end (slice_index_or laid i d).arc → n ≡ (slice_index_or laid i d).flow →
-    slice_index sums v ≡ sum_by (λ a. if end_of end a.arc == v then a.flow else 0) (take i laid) →
-    slice_index (slice_set sums at (slice_index sums at + n)) v ≡ sum_by (λ a. if end_of end a.arc == v then a.flow else 0) (take (i + 1) laid)
-end_more end laid sums i at n v d l b e f s =
+pub end_more : (end : End) (arc_flows : List ArcFlow) (sums : List ℕ) (i at n v : ℕ) (d : ArcFlow) → i < length arc_flows → at < length sums →
+    at ≡ end_of end (slice_index_or arc_flows i d).arc → n ≡ (slice_index_or arc_flows i d).flow →
+    slice_index sums v ≡ sum_by (λ a. if end_of end a.arc == v then a.flow else 0) (take i arc_flows) →
+    slice_index (slice_set sums at (slice_index sums at + n)) v ≡ sum_by (λ a. if end_of end a.arc == v then a.flow else 0) (take (i + 1) arc_flows)
+end_more end arc_flows sums i at n v d l b e f s =
     added sums at v n _ b s
-    ∙ rw (e, f) (sym (sum_by_more (λ a. if end_of end a.arc == v then a.flow else 0) laid i d l))
+    ∙ rw (e, f) (sym (sum_by_more (λ a. if end_of end a.arc == v then a.flow else 0) arc_flows i d l))
 
 -- no sum grows by more than the number
 pub bound_more : (sums : List ℕ) (at v n s most : ℕ) → at < length sums → n ≤ most → slice_index sums v ≤ s → slice_index (slice_set sums at (slice_index sums at + n)) v ≤ s + most

@@ -50,6 +50,6 @@ pub are_cheap : (it : Instance) → IsInstance it → All (λ a. a.cost ≤ 1000
 are_cheap it is k d l = (all_within it is k d l).cost
 
 -- the numbers and the arcs of an instance are its network
-pub drawn : (it : Instance) (numbers : NetworkNumbers) (laid : List ArcFlow) → numbers.demands.items ≡ map (λ r. r.count) it.rows → numbers.capacities.items ≡ map (λ s. s.capacity) it.servers →
-    numbers.limits.items ≡ map (λ h. h.limit) it.hosts → numbers.server_hosts.items ≡ map (λ s. s.host) it.servers → map (λ l. l.arc) laid ≡ arcs_from 0 it.arcs → network_with numbers laid ≡ network_of it
-drawn it numbers laid demands capacities limits server_hosts arcs = rw (demands, capacities, limits, server_hosts, arcs) refl
+pub network : (it : Instance) (numbers : NetworkNumbers) (arc_flows : List ArcFlow) → numbers.demands.items ≡ map (λ r. r.count) it.rows → numbers.capacities.items ≡ map (λ s. s.capacity) it.servers →
+    numbers.limits.items ≡ map (λ h. h.limit) it.hosts → numbers.server_hosts.items ≡ map (λ s. s.host) it.servers → map (λ l. l.arc) arc_flows ≡ arcs_from 0 it.arcs → network_with numbers arc_flows ≡ network_of it
+network it numbers arc_flows demands capacities limits server_hosts arcs = rw (demands, capacities, limits, server_hosts, arcs) refl

@@ -1,9 +1,9 @@
 pub mod Duality
 pub mod Adding
-pub mod UsesLaid
+pub mod UseFlows
 pub mod Shortages
 pub mod RowLists
-pub mod LaidSums
+pub mod FlowSums
 pub mod PlanMet
 pub mod UsesTold
 pub mod Ranges

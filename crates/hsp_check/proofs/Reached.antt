@@ -4,10 +4,10 @@ use Rattle.std.specs.Prelude.{◌&&◌, filter, IsSome, IfNone}
 use Rattle.std.specs.List.{list_any, range_with_len}
 use Rattle.std.proofs.lemmas.List.FromFn.{filter_of_map_range_with_len_more}
 use Rattle.hsp_check.specs.declared.lists.NetworkLists.{NetworkLists}
-use Rattle.hsp_check.specs.Laid.{flag_at}
+use Rattle.hsp_check.specs.ArcFlows.{flag_at}
 use Rattle.hsp_check.specs.Reach.{network_in}
 use Rattle.hsp_check.specs.Short.{reaches, reached}
-use Rattle.hsp_check.proofs.LaidSums.{on_arcs}
+use Rattle.hsp_check.proofs.FlowSums.{on_arcs}
 use Rattle.hsp_check.proofs.Shortages.{any_of_arcs, any_same}
 
 map_same : (xs : List ℕ) → map (λ k. k) xs ≡ xs
@@ -27,15 +27,15 @@ kept_same p q (suc n) same =
 -- the servers that the flagged rows may use are those that the chosen ones may
 pub flagged_reach : (lists : NetworkLists) (rows servers : List Bool) (chosen : ℕ → Bool) → ((i : ℕ) → i < length lists.demands.now → flag_at rows i ≡ chosen i) →
     length servers ≡ length lists.capacities.now →
-    ((j : ℕ) → j < length lists.capacities.now → flag_at servers j ≡ list_any (λ l. flag_at rows l.arc.row && l.arc.server == j) lists.laid.now) →
+    ((j : ℕ) → j < length lists.capacities.now → flag_at servers j ≡ list_any (λ l. flag_at rows l.arc.row && l.arc.server == j) lists.arc_flows.now) →
     filter (flag_at servers) (range_with_len 0 (length servers)) ≡ reached (network_in lists) chosen
 flagged_reach lists rows servers chosen same many given =
     rw many (kept_same (flag_at servers) (reaches (network_in lists) chosen) (length lists.capacities.now) (λ j l.
     given j l
-    ∙ sym (any_of_arcs (λ a. flag_at rows a.row && a.server == j) lists.laid.now)
+    ∙ sym (any_of_arcs (λ a. flag_at rows a.row && a.server == j) lists.arc_flows.now)
     ∙ any_same (λ a. flag_at rows a.row && a.server == j) (λ a. chosen a.row && a.server == j) (network_in lists).arcs
-    ((on_arcs (λ a. (flag_at rows a.row && a.server == j) ≡ (chosen a.row && a.server == j)) lists.laid.now).0
-    (λ k d m. ap (λ b. b && (slice_index_or lists.laid.now k d).arc.server == j) (same (slice_index_or lists.laid.now k d).arc.row (lists.rows_in k d m))))))
+    ((on_arcs (λ a. (flag_at rows a.row && a.server == j) ≡ (chosen a.row && a.server == j)) lists.arc_flows.now).0
+    (λ k d m. ap (λ b. b && (slice_index_or lists.arc_flows.now k d).arc.server == j) (same (slice_index_or lists.arc_flows.now k d).arc.row (lists.rows_in k d m))))))
 
 -- a call that finds nothing only where a fact fails has found something
 pub found_where : {A P : Type 0} (o : Option A) → P → IfNone o (P → ⊥) → IsSome o

@@ -52,23 +52,23 @@ one_site arcs up a b l m same = elim (cases_lt a b) [
   ]
 ]
 
-module _ (n : ℕ) (laid : List ArcFlow) (starts : List ℕ) (arcs : List Arc) (by : ByRow n laid starts) (last : slice_index starts n ≡ length laid) (up : IsAscending arcs) where
+module _ (n : ℕ) (arc_flows : List ArcFlow) (starts : List ℕ) (arcs : List Arc) (by : ByRow n arc_flows starts) (last : slice_index starts n ≡ length arc_flows) (up : IsAscending arcs) where
   abbrev more : List ArcFlow
-  more = laid ++ map (bare_arc n) arcs
+  more = arc_flows ++ map (bare_arc n) arcs
 
   abbrev ends : List ℕ
   ends = starts ++ length more ∷ []
 
-  many : length more ≡ length laid + length arcs
-  many = length-append laid (map (bare_arc n) arcs) ∙ ap (λ k. length laid + k) (length-map arcs (bare_arc n))
+  many : length more ≡ length arc_flows + length arcs
+  many = length-append arc_flows (map (bare_arc n) arcs) ∙ ap (λ k. length arc_flows + k) (length-map arcs (bare_arc n))
 
-  old_arc : (k : ℕ) → k < length laid → slice_index_or more k no_arc ≡ slice_index_or laid k no_arc
-  old_arc k l = get_or_append_left laid (map (bare_arc n) arcs) no_arc k l
+  old_arc : (k : ℕ) → k < length arc_flows → slice_index_or more k no_arc ≡ slice_index_or arc_flows k no_arc
+  old_arc k l = get_or_append_left arc_flows (map (bare_arc n) arcs) no_arc k l
 
-  new_arc : (k : ℕ) → length laid ≤ k → k < length more → slice_index_or more k no_arc ≡ bare_arc n (slice_index_or arcs (k - length laid) no_row)
+  new_arc : (k : ℕ) → length arc_flows ≤ k → k < length more → slice_index_or more k no_arc ≡ bare_arc n (slice_index_or arcs (k - length arc_flows) no_row)
   new_arc k l m =
-      get_or-append_right laid (map (bare_arc n) arcs) (length laid) k no_arc refl l
-      ∙ get_or-map (bare_arc n) arcs (k - length laid) no_row no_arc (omega (arith, many))
+      get_or-append_right arc_flows (map (bare_arc n) arcs) (length arc_flows) k no_arc refl l
+      ∙ get_or-map (bare_arc n) arcs (k - length arc_flows) no_row no_arc (omega (arith, many))
 
   old_start : (i : ℕ) → i ≤ n → slice_index ends i ≡ slice_index starts i
   old_start i l = get_or_append_left starts (length more ∷ []) 0 i (omega (arith, by.starts_many))
@@ -80,16 +80,16 @@ module _ (n : ℕ) (laid : List ArcFlow) (starts : List ℕ) (arcs : List Arc) (
 
   -- an arc of the rows before, or one of this row
   which : (k : ℕ) → k < length more →
-      ((k < length laid) × (arc_at more k ≡ arc_at laid k)) ⊎ ((length laid ≤ k) × ((arc_at more k).row ≡ n) × ((arc_at more k).site ≡ site_at arcs (k - length laid)))
-  which k l = elim (cases_lt k (length laid)) [
+      ((k < length arc_flows) × (arc_at more k ≡ arc_at arc_flows k)) ⊎ ((length arc_flows ≤ k) × ((arc_at more k).row ≡ n) × ((arc_at more k).site ≡ site_at arcs (k - length arc_flows)))
+  which k l = elim (cases_lt k (length arc_flows)) [
     | inl old ↦ inl (old, ap (λ (a : ArcFlow). a.arc) (old_arc k old))
     | inr new ↦ let e = new_arc k new l in inr (new, ap (λ (a : ArcFlow). a.arc.row) e, ap (λ (a : ArcFlow). a.arc.site) e)
   ]
 
-  row_of_old : (k : ℕ) → arc_at more k ≡ arc_at laid k → (arc_at more k).row ≡ (arc_at laid k).row
+  row_of_old : (k : ℕ) → arc_at more k ≡ arc_at arc_flows k → (arc_at more k).row ≡ (arc_at arc_flows k).row
   row_of_old k e = ap (λ (a : NetworkArc). a.row) e
 
-  site_of_old : (k : ℕ) → arc_at more k ≡ arc_at laid k → (arc_at more k).site ≡ (arc_at laid k).site
+  site_of_old : (k : ℕ) → arc_at more k ≡ arc_at arc_flows k → (arc_at more k).site ≡ (arc_at arc_flows k).site
   site_of_old k e = ap (λ (a : NetworkArc). a.site) e
 
   ordered : (i : ℕ) → i < n + 1 → slice_index ends i ≤ slice_index ends (i + 1)
@@ -126,13 +126,13 @@ module _ (n : ℕ) (laid : List ArcFlow) (starts : List ℕ) (arcs : List Arc) (
 
   from : (k : ℕ) → k < length more → slice_index ends (arc_at more k).row ≤ k
   from k l = elim (which k l) [
-    | inl old ↦ rw (row_of_old k old.1) (omega (arith, old_start (arc_at laid k).row (omega (arith, by.rows_in k old.0)), by.from k old.0))
+    | inl old ↦ rw (row_of_old k old.1) (omega (arith, old_start (arc_at arc_flows k).row (omega (arith, by.rows_in k old.0)), by.from k old.0))
     | inr new ↦ rw new.1 (omega (arith, old_start n (omega arith), last, new.0))
   ]
 
   upto : (k : ℕ) → k < length more → k < slice_index ends ((arc_at more k).row + 1)
   upto k l = elim (which k l) [
-    | inl old ↦ rw (row_of_old k old.1) (omega (arith, old_start ((arc_at laid k).row + 1) (omega (arith, by.rows_in k old.0)), by.upto k old.0))
+    | inl old ↦ rw (row_of_old k old.1) (omega (arith, old_start ((arc_at arc_flows k).row + 1) (omega (arith, by.rows_in k old.0)), by.upto k old.0))
     | inr new ↦ rw new.1 (omega (arith, new_start))
   ]
 
@@ -145,7 +145,7 @@ module _ (n : ℕ) (laid : List ArcFlow) (starts : List ℕ) (arcs : List Arc) (
     | inr a ↦ elim (which m j) [
       | inl b ↦ absurd (omega (arith, row_of_old m b.1, by.rows_in m b.0, a.1, row))
       | inr b ↦
-          let same = one_site arcs up (k - length laid) (m - length laid) (omega (arith, many)) (omega (arith, many)) (sym a.2 ∙ site ∙ b.2) in
+          let same = one_site arcs up (k - length arc_flows) (m - length arc_flows) (omega (arith, many)) (omega (arith, many)) (sym a.2 ∙ site ∙ b.2) in
           omega (arith, same, a.0, b.0)
     ]
   ]
@@ -162,28 +162,28 @@ module _ (n : ℕ) (laid : List ArcFlow) (starts : List ℕ) (arcs : List Arc) (
     apart = apart;
   }
 
-  bare_more : ((k : ℕ) → k < length laid → flow_at laid k ≡ 0) → (k : ℕ) → k < length more → flow_at more k ≡ 0
-  bare_more bare k l = elim (cases_lt k (length laid)) [
+  bare_more : ((k : ℕ) → k < length arc_flows → flow_at arc_flows k ≡ 0) → (k : ℕ) → k < length more → flow_at more k ≡ 0
+  bare_more bare k l = elim (cases_lt k (length arc_flows)) [
     | inl old ↦ ap (λ (a : ArcFlow). a.flow) (old_arc k old) ∙ bare k old
     | inr new ↦ ap (λ (a : ArcFlow). a.flow) (new_arc k new l)
   ]
 
 -- the lists of one row more
-pub indexed_more : (lists : List (List Arc)) (n : ℕ) (laid : List ArcFlow) (starts : List ℕ) (arcs : List Arc) → slice_get lists n ≡ Some arcs → IsAscending arcs → length arcs ≤ 32 →
-    IsIndexed (take n lists) laid starts → IsIndexed (take (n + 1) lists) (laid ++ map (bare_arc n) arcs) (starts ++ length (laid ++ map (bare_arc n) arcs) ∷ [])
-indexed_more lists n laid starts arcs there up few so_far =
+pub indexed_more : (lists : List (List Arc)) (n : ℕ) (arc_flows : List ArcFlow) (starts : List ℕ) (arcs : List Arc) → slice_get lists n ≡ Some arcs → IsAscending arcs → length arcs ≤ 32 →
+    IsIndexed (take n lists) arc_flows starts → IsIndexed (take (n + 1) lists) (arc_flows ++ map (bare_arc n) arcs) (starts ++ length (arc_flows ++ map (bare_arc n) arcs) ∷ [])
+indexed_more lists n arc_flows starts arcs there up few so_far =
     let inside = slice_get_within lists n arcs there in
     let now : length (take n lists) ≡ n = length-take-le n lists (omega arith) in
     let then : length (take (n + 1) lists) ≡ n + 1 = length-take-le (n + 1) lists (omega arith) in
-    let by : ByRow n laid starts = rw now at so_far.by_row in
-    let last : slice_index starts n ≡ length laid = rw now at so_far.last in
-    let total : length (laid ++ map (bare_arc n) arcs) ≡ length laid + length arcs = many n laid starts arcs by last up in
+    let by : ByRow n arc_flows starts = rw now at so_far.by_row in
+    let last : slice_index starts n ≡ length arc_flows = rw now at so_far.last in
+    let total : length (arc_flows ++ map (bare_arc n) arcs) ≡ length arc_flows + length arcs = many n arc_flows starts arcs by last up in
     let one : slice_index_or lists n [] ≡ arcs = get_or_from_slice_get lists n arcs [] there in
     let after : arcs_from 0 (take (n + 1) lists) ≡ arcs_from 0 (take n lists) ++ map (arc_of n) arcs = rw (zero-add n, one) at (arcs_more 0 n lists inside) in
     record {
-      by_row = rw then (row_more n laid starts arcs by last up);
-      last = rw then (new_start n laid starts arcs by last up);
-      arcs = map-append (λ (l : ArcFlow). l.arc) laid (map (bare_arc n) arcs) ∙ ap₂ (λ xs ys. xs ++ ys) so_far.arcs (map-map (λ (l : ArcFlow). l.arc) (bare_arc n) arcs) ∙ sym after;
-      bare = bare_more n laid starts arcs by last up so_far.bare;
+      by_row = rw then (row_more n arc_flows starts arcs by last up);
+      last = rw then (new_start n arc_flows starts arcs by last up);
+      arcs = map-append (λ (l : ArcFlow). l.arc) arc_flows (map (bare_arc n) arcs) ∙ ap₂ (λ xs ys. xs ++ ys) so_far.arcs (map-map (λ (l : ArcFlow). l.arc) (bare_arc n) arcs) ∙ sym after;
+      bare = bare_more n arc_flows starts arcs by last up so_far.bare;
       few = rw (then, total) (omega (arith, so_far.few, now));
     }

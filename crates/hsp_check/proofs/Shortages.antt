@@ -12,22 +12,22 @@ use Rattle.hsp_check.specs.Network.{Network, transport}
 use Rattle.hsp_check.specs.Plan.{on_host}
 use Rattle.hsp_check.specs.Short.{capacity_of, demand_of}
 use Rattle.hsp_transport.specs.Cut.{reached_capacity}
-use Rattle.hsp_check.specs.Laid.{flag_at}
+use Rattle.hsp_check.specs.ArcFlows.{flag_at}
 use Rattle.hsp_check.specs.Reached.{AreRoomsOf}
 use Rattle.hsp_check.specs.Reach.{network_in}
 use Rattle.hsp_transport.proofs.Summing.{sum_below_same}
-use Rattle.hsp_check.proofs.LaidSums.{on_arcs}
+use Rattle.hsp_check.proofs.FlowSums.{on_arcs}
 
 -- a test of the arcs alone
-pub any_of_arcs : (test : NetworkArc → Bool) (laid : List ArcFlow) → list_any test (map (λ l. l.arc) laid) ≡ list_any (λ l. test l.arc) laid
+pub any_of_arcs : (test : NetworkArc → Bool) (arc_flows : List ArcFlow) → list_any test (map (λ l. l.arc) arc_flows) ≡ list_any (λ l. test l.arc) arc_flows
 any_of_arcs test [] = refl
-any_of_arcs test (one ∷ laid) = ap (λ b. test one.arc || b) (any_of_arcs test laid)
+any_of_arcs test (one ∷ arc_flows) = ap (λ b. test one.arc || b) (any_of_arcs test arc_flows)
 
 -- the room of each server that the rows reach
 pub rooms_are : (lists : NetworkLists) (rows : ℕ → Bool) (rooms : List ℕ) → AreRoomsOf lists rows rooms →
     (j : ℕ) → j < length lists.capacities.now → slice_index rooms j ≡ reached_capacity (transport (network_in lists)) rows j
 rooms_are lists rows rooms given j l =
-    given j l ∙ ap (λ b. if b then slice_index lists.capacities.now j else 0) (sym (any_of_arcs (λ a. rows a.row && a.server == j) lists.laid.now))
+    given j l ∙ ap (λ b. if b then slice_index lists.capacities.now j else 0) (sym (any_of_arcs (λ a. rows a.row && a.server == j) lists.arc_flows.now))
 
 -- tests that agree on the elements find the same
 pub any_same : {A : Type 0} (p q : A → Bool) (xs : List A) → All (λ x. p x ≡ q x) xs → list_any p xs ≡ list_any q xs
@@ -47,7 +47,7 @@ same_capacity n f g same =
 pub chosen_capacity : (lists : NetworkLists) (flags : List Bool) (chosen : ℕ → Bool) → ((i : ℕ) → i < length lists.demands.now → flag_at flags i ≡ chosen i) →
     capacity_of (network_in lists) (flag_at flags) ≡ capacity_of (network_in lists) chosen
 chosen_capacity lists flags chosen same =
-    same_capacity (network_in lists) (flag_at flags) chosen ((on_arcs (λ a. flag_at flags a.row ≡ chosen a.row) lists.laid.now).0 (λ k d l. same (slice_index_or lists.laid.now k d).arc.row (lists.rows_in k d l)))
+    same_capacity (network_in lists) (flag_at flags) chosen ((on_arcs (λ a. flag_at flags a.row ≡ chosen a.row) lists.arc_flows.now).0 (λ k d l. same (slice_index_or lists.arc_flows.now k d).arc.row (lists.rows_in k d l)))
 
 -- and so is what they ask for
 pub chosen_demand : (lists : NetworkLists) (flags : List Bool) (chosen : ℕ → Bool) → ((i : ℕ) → i < length lists.demands.now → flag_at flags i ≡ chosen i) →

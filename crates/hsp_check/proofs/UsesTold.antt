@@ -11,21 +11,21 @@ use Rattle.hsp_check.specs.declared.arc.NetworkArc.{NetworkArc}
 use Rattle.hsp_check.specs.declared.sums.ArcFlow.{ArcFlow}
 use Rattle.hsp_check.specs.Plan.{planned}
 use Rattle.hsp_check.specs.Index.{HasArc, arc_at, flow_at, has_arc, no_arc, use_at}
-use Rattle.hsp_check.specs.Laid.{IsLaid}
+use Rattle.hsp_check.specs.ArcFlows.{AreArcFlows}
 use Rattle.hsp_check.specs.Uses.{table}
 
 -- a slice that was lent whole is what was written
 pub written : {A : Type 0} (n : ℕ) (new old : List A) → length new ≡ length old → n ≡ length old → take n (new ++ drop (length new) old) ≡ new
 written n new old same many = take-append-le n new (drop (length new) old) (omega arith) ∙ take_all n new (omega arith)
 
-pub are_laid : (first laid : List ArcFlow) (uses : List UseLine) → length laid ≡ length first → ((k : ℕ) → k < length first → arc_at laid k ≡ arc_at first k) →
-    ((k : ℕ) → k < length first → flow_at laid k ≡ table uses (arc_at first k).row (arc_at first k).site) → IsLaid (map (λ l. l.arc) first) (table uses) laid
-are_laid first laid uses many arcs flows = record {
-  arcs_are = ext_get_or no_arc.arc (map (λ (l : ArcFlow). l.arc) laid) (map (λ (l : ArcFlow). l.arc) first) (rw (length-map laid (λ (l : ArcFlow). l.arc), length-map first (λ (l : ArcFlow). l.arc)) many)
+pub arc_flows_made : (first arc_flows : List ArcFlow) (uses : List UseLine) → length arc_flows ≡ length first → ((k : ℕ) → k < length first → arc_at arc_flows k ≡ arc_at first k) →
+    ((k : ℕ) → k < length first → flow_at arc_flows k ≡ table uses (arc_at first k).row (arc_at first k).site) → AreArcFlows (map (λ l. l.arc) first) (table uses) arc_flows
+arc_flows_made first arc_flows uses many arcs flows = record {
+  arcs_are = ext_get_or no_arc.arc (map (λ (l : ArcFlow). l.arc) arc_flows) (map (λ (l : ArcFlow). l.arc) first) (rw (length-map arc_flows (λ (l : ArcFlow). l.arc), length-map first (λ (l : ArcFlow). l.arc)) many)
       (λ k l.
-      let inside : k < length first = omega (arith, length-map laid (λ (l : ArcFlow). l.arc)) in
-      get_or_of_map (λ (l : ArcFlow). l.arc) laid k no_arc ∙ arcs k inside ∙ sym (get_or_of_map (λ (l : ArcFlow). l.arc) first k no_arc));
-  flows_are = All-from_get_or (λ (l : ArcFlow). l.flow ≡ planned (table uses) l.arc) laid no_arc (λ k l. let inside : k < length first = omega arith in flows k inside ∙ ap (λ a. planned (table uses) a) (sym (arcs k inside)));
+      let inside : k < length first = omega (arith, length-map arc_flows (λ (l : ArcFlow). l.arc)) in
+      get_or_of_map (λ (l : ArcFlow). l.arc) arc_flows k no_arc ∙ arcs k inside ∙ sym (get_or_of_map (λ (l : ArcFlow). l.arc) first k no_arc));
+  flows_are = All-from_get_or (λ (l : ArcFlow). l.flow ≡ planned (table uses) l.arc) arc_flows no_arc (λ k l. let inside : k < length first = omega arith in flows k inside ∙ ap (λ a. planned (table uses) a) (sym (arcs k inside)));
 }
 
 arc_tested : (first : List ArcFlow) (one : UseLine) → HasArc first one → has_arc first one ≡ true

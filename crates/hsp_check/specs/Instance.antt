@@ -4,7 +4,7 @@ use Rattle.hsp_instance.specs.Instance.{Instance}
 use Rattle.hsp_instance.specs.declared.arc.Arc.{Arc}
 use Rattle.hsp_check.specs.declared.arc.NetworkArc.{NetworkArc}
 use Rattle.hsp_check.specs.Network.{Network}
-use Rattle.hsp_check.specs.Laid.{host_in}
+use Rattle.hsp_check.specs.ArcFlows.{host_in}
 
 -- an arc of the instance, with its row
 abbrev pub arc_of : ℕ → Arc → NetworkArc

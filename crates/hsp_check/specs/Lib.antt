@@ -3,7 +3,7 @@ pub mod Plan
 pub mod Prices
 pub mod Short
 pub mod Claims
-pub mod Laid
+pub mod ArcFlows
 pub mod Lists
 pub mod Listed
 pub mod Index
@@ -15,7 +15,7 @@ pub mod Verdict
 pub mod Valid
 pub mod Shown
 pub mod Judged
-pub mod LaidPlans
+pub mod NetworkPlans
 pub mod Loads
 pub mod PlanSums
 pub mod Planned

@@ -2,9 +2,10 @@
 use Rattle.std.specs.Prelude.{◌≡◌, ℕ, ◌<◌, ◌==◌, Bool, List, length, slice_index, sum_by, if◌then◌else◌}
 use Rattle.hsp_check.specs.declared.sums.ArcFlow.{ArcFlow}
 use Rattle.hsp_check.specs.declared.sums.End.{End}
-use Rattle.hsp_check.specs.Laid.{end_of}
+use Rattle.hsp_check.specs.ArcFlows.{end_of}
 use Rattle.hsp_transport.specs.Lists.{flag_at}
-pub use Rattle.hsp_transport.specs.Lists.{AreHosted, AreIdle, AreRooms, AreWithin, AreZero, HostsAreBelow, flagged_sum, free_sum, hosted_sum}
+pub use Rattle.hsp_transport.specs.Lists.{AreHosted, AreIdle, AreRooms, AreWithin, AreZero, HostsAreBelow, flagged_sum}
+pub use Rattle.hsp_transport.specs.Lists.{free_sum, hosted_sum}
 
 -- each sum is what is asked for
 abbrev pub AreMet : List ℕ → List ℕ → Type 0
@@ -20,5 +21,5 @@ AreFlagsOf set count flags = (i : ℕ) → i < count → flag_at flags i ≡ set
 
 -- each of `count` sums is what goes through the row, or through the server
 abbrev pub AreEndSums : End → List ArcFlow → ℕ → List ℕ → Type 0
-AreEndSums end laid count sums = (v : ℕ) → v < count →
-    slice_index sums v ≡ sum_by (λ l. if end_of end l.arc == v then l.flow else 0) laid
+AreEndSums end arc_flows count sums = (v : ℕ) → v < count →
+    slice_index sums v ≡ sum_by (λ l. if end_of end l.arc == v then l.flow else 0) arc_flows

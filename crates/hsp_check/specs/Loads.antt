@@ -2,7 +2,7 @@
 use Rattle.std.specs.Prelude.{◌≡◌, ℕ, ◌<◌, length, slice_index}
 use Rattle.hsp_check.specs.declared.lists.NetworkLists.{NetworkLists}
 use Rattle.hsp_check.specs.declared.loads.Loads.{Loads}
-use Rattle.hsp_check.specs.Laid.{AreLaidBy}
+use Rattle.hsp_check.specs.ArcFlows.{AreFlowsOf}
 use Rattle.hsp_check.specs.Network.{Network}
 use Rattle.hsp_check.specs.Plan.{Plan, served, load, host_load}
 use Rattle.hsp_check.specs.Reach.{network_in}
@@ -16,6 +16,6 @@ pub record AreLoads (n : Network) (x : Plan) (loads : Loads) : Type 0 where
   pub hosts_many : length loads.hosts.items ≡ length n.limits
   pub hosts_are : (h : ℕ) → h < length n.limits → slice_index loads.hosts.items h ≡ host_load n x h
 
--- the loads of whatever plan is laid on the lists
-abbrev pub AreLaidLoads : NetworkLists → Loads → Type 0
-AreLaidLoads lists loads = (x : Plan) → AreLaidBy x lists.laid.now → AreLoads (network_in lists) x loads
+-- the loads of whatever plan gives the arcs these flows
+abbrev pub AreFlowLoads : NetworkLists → Loads → Type 0
+AreFlowLoads lists loads = (x : Plan) → AreFlowsOf x lists.arc_flows.now → AreLoads (network_in lists) x loads

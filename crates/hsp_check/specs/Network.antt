@@ -1,5 +1,6 @@
--- The transportation problem of rows and sites (Network Flows, section 1.2): rows ask for queries, an arc leads from a row to its
--- server at a site, servers take no more than their capacities, and the servers on one host together no more than its limit.
+-- The transportation problem of rows and sites (Network Flows, section 1.2): rows ask for queries, an arc leads from a
+-- row to its server at a site, servers take no more than their capacities, and the servers on one host together no more
+-- than its limit.
 use Rattle.std.specs.Prelude.{ℕ, ◌≤◌, ◌==◌, ◌&&◌, Bool, List, All, Option}
 use Rattle.std.specs.List.{list_any}
 use Rattle.hsp_text.specs.declared.limits.TheConstants.{GREATEST_COST}

@@ -1,5 +1,5 @@
--- Dual prices of a plan: no reduced cost is negative, and slack goes with price 0 (complementary slackness, Network Flows,
--- section 9.4).
+-- Dual prices of a plan: no reduced cost is negative, and slack goes with price 0 (complementary slackness, Network
+-- Flows, section 9.4).
 use Rattle.std.specs.Prelude.{ℕ, ◌≤◌, List, All}
 use Rattle.hsp_text.specs.declared.limits.TheConstants.{GREATEST_PRICE}
 use Rattle.hsp_check.specs.Network.{Network, transport}

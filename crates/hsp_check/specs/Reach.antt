@@ -5,7 +5,7 @@ use Rattle.hsp_check.specs.declared.lists.NetworkLists.{NetworkLists}
 use Rattle.hsp_check.specs.declared.numbers.NetworkNumbers.{NetworkNumbers}
 use Rattle.hsp_check.specs.declared.sums.ArcFlow.{ArcFlow}
 use Rattle.hsp_check.specs.Network.{Network}
-use Rattle.hsp_check.specs.Laid.{host_in}
+use Rattle.hsp_check.specs.ArcFlows.{host_in}
 
 -- the network that the lists are
 abbrev pub network_in : NetworkLists → Network
@@ -14,19 +14,19 @@ network_in lists = record {
   capacities = lists.capacities.now;
   limits = lists.limits.now;
   host_of = host_in lists.server_hosts.now;
-  arcs = map (λ l. l.arc) lists.laid.now;
+  arcs = map (λ l. l.arc) lists.arc_flows.now;
 }
 
 -- the network of numbers and arcs
 abbrev pub network_with : NetworkNumbers → List ArcFlow → Network
-network_with numbers laid = record {
+network_with numbers arc_flows = record {
   demands = numbers.demands.items;
   capacities = numbers.capacities.items;
   limits = numbers.limits.items;
   host_of = host_in numbers.server_hosts.items;
-  arcs = map (λ l. l.arc) laid;
+  arcs = map (λ l. l.arc) arc_flows;
 }
 
--- the network that was drawn
+-- the network of its numbers and its arcs
 abbrev pub indexed_network : IndexedNetwork → Network
-indexed_network drawn = network_with drawn.numbers drawn.arcs.laid.items
+indexed_network network = network_with network.numbers network.arcs.arc_flows.items

@@ -4,7 +4,9 @@ use Rattle.std.specs.List.{list_any}
 use Rattle.hsp_cert.specs.Certificate.{Claim, Best as BestClaim, Short as ShortClaim}
 use Rattle.hsp_cert.specs.Certificate.Claim.{best, short}
 use Rattle.hsp_check.specs.declared.verdict.Reason.{Reason}
-use Rattle.hsp_check.specs.declared.verdict.Reason.TheVariants.{Shape, NoSuchUse, RowSum, Load, Cost, ArcPrice, UsedArcPrice, IdlePrice, DemandSum, CapacitySum, NotShort}
+use Rattle.hsp_check.specs.declared.verdict.Reason.TheVariants.{Shape, NoSuchUse, RowSum, Load, Cost, ArcPrice}
+use Rattle.hsp_check.specs.declared.verdict.Reason.TheVariants.{UsedArcPrice, IdlePrice, DemandSum, CapacitySum}
+use Rattle.hsp_check.specs.declared.verdict.Reason.TheVariants.{NotShort}
 use Rattle.hsp_check.specs.declared.verdict.Verdict.{Verdict}
 use Rattle.hsp_check.specs.declared.verdict.Verdict.TheVariants.{Yes, No}
 use Rattle.hsp_check.specs.Network.{Network, is_allowed}
@@ -29,7 +31,9 @@ number NotShort = 11
 -- What the certificate of a plan has to meet, each condition under the reason that is reported where it isn't met.
 abbrev pub PlanMeets : Network → BestClaim → Reason → Type 0
 -- there are as many prices as rows, as servers and as hosts
-PlanMeets n c Shape = (length c.row_prices ≡ length n.demands) × (length c.server_prices ≡ length n.capacities) × (length c.host_prices ≡ length n.limits)
+PlanMeets n c Shape =
+    (length c.row_prices ≡ length n.demands) × (length c.server_prices ≡ length n.capacities)
+    × (length c.host_prices ≡ length n.limits)
 -- each use goes where its row may go
 PlanMeets n c NoSuchUse = All (λ u. is_allowed n u.row u.site ≡ true) c.uses
 -- each row gets what it asks for
@@ -41,14 +45,18 @@ PlanMeets n c Load =
 -- the plan costs what is said
 PlanMeets n c Cost = c.cost ≡ total n (table c.uses)
 -- no row pays more than an arc's cost and prices
-PlanMeets n c ArcPrice = All (λ a. slice_index c.row_prices a.row ≤ a.cost + price_at n c.server_prices c.host_prices a.server) n.arcs
+PlanMeets n c ArcPrice =
+    All (λ a. slice_index c.row_prices a.row ≤ a.cost + price_at n c.server_prices c.host_prices a.server) n.arcs
 -- and exactly that where it uses the arc
 PlanMeets n c UsedArcPrice =
-    All (λ a. 0 < planned (table c.uses) a → slice_index c.row_prices a.row ≡ a.cost + price_at n c.server_prices c.host_prices a.server) n.arcs
+    All (λ a. 0 < planned (table c.uses) a
+    → slice_index c.row_prices a.row ≡ a.cost + price_at n c.server_prices c.host_prices a.server) n.arcs
 -- servers and hosts with room left are free
 PlanMeets n c IdlePrice =
-    ((j : ℕ) → j < length n.capacities → load n (table c.uses) j < slice_index n.capacities j → slice_index c.server_prices j ≡ 0)
-    × ((h : ℕ) → h < length n.limits → host_load n (table c.uses) h < slice_index n.limits h → slice_index c.host_prices h ≡ 0)
+    ((j : ℕ) → j < length n.capacities → load n (table c.uses) j < slice_index n.capacities j
+    → slice_index c.server_prices j ≡ 0)
+    × ((h : ℕ) → h < length n.limits → host_load n (table c.uses) h < slice_index n.limits h
+    → slice_index c.host_prices h ≡ 0)
 -- the rest is of short sets
 PlanMeets n c DemandSum = ⊤
 PlanMeets n c CapacitySum = ⊤

@@ -23,12 +23,12 @@ pub(crate) fn build_network(
     alloc: Global,
     instance: &Instance,
 ) -> Result<IndexedNetwork, AllocError>
-    ensures network { IfOk result (λ drawn. indexed_network drawn ≡ network_of instance.now) }
+    ensures network { IfOk result (λ network. indexed_network network ≡ network_of instance.now) }
     ensures is { IfOk result (λ _. IsNetwork (network_of instance.now)) }
     ensures cheap { IfOk result (λ _. AreCheap (network_of instance.now)) }
-    ensures index { IfOk result (λ drawn. AreByRow drawn.arcs) }
-    ensures bare { IfOk result (λ drawn. AreBare drawn.arcs.laid.items) }
-    ensures few { IfOk result (λ drawn. length drawn.arcs.laid.items < 2 ^ 32) }
+    ensures index { IfOk result (λ network. AreByRow network.arcs) }
+    ensures bare { IfOk result (λ network. AreBare network.arcs.arc_flows.items) }
+    ensures few { IfOk result (λ network. length network.arcs.arc_flows.items < 2 ^ 32) }
 {
     let numbers = numbers_of(alloc, instance)?;
     let arcs = arcs_of(alloc, instance)?;

@@ -42,7 +42,7 @@ pub fn check(
         Some(plan) => check_plan(alloc, &numbers, arcs, &plan),
         None => {
             let set = certificate.as_short().unwrap();
-            check_set(alloc, numbers.with(&arcs.laid), &set)
+            check_set(alloc, numbers.with(&arcs.arc_flows), &set)
         }
     }
 }

@@ -13,13 +13,14 @@ use std::alloc::{AllocError, Global};
 /// The arcs of a network, none of them used, and the run of each row among them.
 #[derive(Drop)]
 pub(crate) struct IndexedArcs {
-    pub(crate) laid: Vec<ArcFlow>,
+    pub(crate) arc_flows: Vec<ArcFlow>,
     pub(crate) runs: Runs,
 }
 
 // Appends the arcs of a row.
-fn push_arcs(laid: &mut Vec<ArcFlow>, row: u32, arcs: &[Arc]) -> Result<(), AllocError>
-    ensures { OnOk result (laid.new.items ≡ laid.old.items ++ map (bare_arc row) arcs.now) }
+fn push_arcs(arc_flows: &mut Vec<ArcFlow>, row: u32, arcs: &[Arc]) -> Result<(), AllocError>
+    ensures { OnOk result
+        (arc_flows.new.items ≡ arc_flows.old.items ++ map (bare_arc row) arcs.now) }
 {
     for arc in arcs {
         let arc = NetworkArc {
@@ -28,7 +29,7 @@ fn push_arcs(laid: &mut Vec<ArcFlow>, row: u32, arcs: &[Arc]) -> Result<(), Allo
             server: arc.server,
             cost: arc.cost,
         };
-        laid.push(ArcFlow { arc, flow: 0 })?;
+        arc_flows.push(ArcFlow { arc, flow: 0 })?;
     }
     Ok(())
 }
@@ -46,15 +47,16 @@ fn arc_count(instance: &Instance) -> usize
 
 /// The arcs of all rows in turn.
 pub(crate) fn arcs_of(alloc: Global, instance: &Instance) -> Result<IndexedArcs, AllocError>
-    ensures arcs { IfOk result (λ arcs. IsIndexed instance.now.arcs arcs.laid.items arcs.runs) }
+    ensures arcs { IfOk result (λ arcs.
+        IsIndexed instance.now.arcs arcs.arc_flows.items arcs.runs) }
     // The instance is within its limits.
     ensures within { IfOk result (λ _. IsInstance instance.now) }
 {
-    let mut laid = Vec::with_capacity(alloc, arc_count(instance))?;
+    let mut arc_flows = Vec::with_capacity(alloc, arc_count(instance))?;
     let mut runs = Runs::new(alloc)?;
     for row in 0..instance.rows() {
-        push_arcs(&mut laid, row, instance.arcs(row))?;
-        runs.end_at(laid.len())?;
+        push_arcs(&mut arc_flows, row, instance.arcs(row))?;
+        runs.end_at(arc_flows.len())?;
     }
-    Ok(IndexedArcs { laid, runs })
+    Ok(IndexedArcs { arc_flows, runs })
 }

@@ -1,11 +1,12 @@
-// The verdict on a plan that is laid on a network.
+// The verdict on a plan on a network.
 
 ghost use Rattle.std.specs.Prelude.{◌≡◌, ℕ, ◌<◌, ◌↔◌, length, All, IsTrue};
 ghost use Rattle.hsp_cert.specs.Certificate.Claim.{best};
-ghost use Rattle.hsp_check.specs.declared.verdict.Reason.TheVariants.{NoSuchUse, RowSum, Load, Cost, ArcPrice, UsedArcPrice, IdlePrice};
+ghost use Rattle.hsp_check.specs.declared.verdict.Reason.TheVariants.{NoSuchUse, RowSum, Load, Cost, ArcPrice};
+ghost use Rattle.hsp_check.specs.declared.verdict.Reason.TheVariants.{UsedArcPrice, IdlePrice};
 ghost use Rattle.hsp_check.specs.Uses.{table};
 ghost use Rattle.hsp_check.specs.Reach.{network_in};
-ghost use Rattle.hsp_check.specs.Laid.{AreLaidBy};
+ghost use Rattle.hsp_check.specs.ArcFlows.{AreFlowsOf};
 ghost use Rattle.hsp_check.specs.Loads.{AreLoads};
 
 use crate::conditions::{are_met, are_within, idle_are_free};
@@ -16,9 +17,9 @@ use crate::sums::total_of;
 use crate::verdict::{Reason, Verdict};
 use hsp_cert::UseLine;
 
-/// A plan that is laid on a network: its cost, its uses and its prices, and its loads.
+/// A plan on a network: its cost, its uses and its prices, and its loads.
 #[derive(Clone, Copy)]
-pub(crate) struct LaidPlan<'a, 's> {
+pub(crate) struct NetworkPlan<'a, 's> {
     pub(crate) lists: NetworkLists<'a>,
     pub(crate) prices: PriceLists<'a>,
     pub(crate) cost: u64,
@@ -27,24 +28,24 @@ pub(crate) struct LaidPlan<'a, 's> {
     ghost server_hosts: { prices.server_hosts.now ≡ lists.server_hosts.now },
     ghost rows_many: { length prices.rows.now ≡ length lists.demands.now },
     ghost hosts_many: { length prices.hosts.now ≡ length lists.limits.now },
-    ghost laid: { AreLaidBy (table uses.now) lists.laid.now },
+    ghost arc_flows: { AreFlowsOf (table uses.now) lists.arc_flows.now },
     ghost loads_are: { AreLoads (network_in lists) (table uses.now) loads.now },
 }
 
-impl<'a, 's> LaidPlan<'a, 's> {
-    ghost use Rattle.hsp_check.specs.LaidPlans.{LaidMeets, laid_claim};
+impl<'a, 's> NetworkPlan<'a, 's> {
+    ghost use Rattle.hsp_check.specs.NetworkPlans.{MeetsThere, claim_there};
     ghost use Rattle.hsp_check.specs.Verdict.{IsVerdict};
 
     // Whether each row gets what it asks for.
     fn meets_rows(self) -> bool
-        ensures { IsTrue result ↔ LaidMeets self.entry RowSum }
+        ensures { IsTrue result ↔ MeetsThere self.entry RowSum }
     {
         are_met(self.lists.demands, &self.loads.rows)
     }
 
     // Whether no server and no host takes more than it can.
     fn meets_loads(self) -> bool
-        ensures { IsTrue result ↔ LaidMeets self.entry Load }
+        ensures { IsTrue result ↔ MeetsThere self.entry Load }
     {
         are_within(self.lists.capacities, &self.loads.servers)
             && are_within(self.lists.limits, &self.loads.hosts)
@@ -52,28 +53,28 @@ impl<'a, 's> LaidPlan<'a, 's> {
 
     // Whether the cost is the plan's.
     fn meets_cost(self) -> bool
-        ensures { IsTrue result ↔ LaidMeets self.entry Cost }
+        ensures { IsTrue result ↔ MeetsThere self.entry Cost }
     {
-        u128::from(self.cost) == total_of(self.lists.laid)
+        u128::from(self.cost) == total_of(self.lists.arc_flows)
     }
 
     // Whether no row pays more than an arc's cost and prices.
     fn meets_arc_prices(self) -> bool
-        ensures { IsTrue result ↔ LaidMeets self.entry ArcPrice }
+        ensures { IsTrue result ↔ MeetsThere self.entry ArcPrice }
     {
-        self.prices.are_low(self.lists.laid)
+        self.prices.are_low(self.lists.arc_flows)
     }
 
     // Whether each row pays exactly that where it uses the arc.
     fn meets_used_prices(self) -> bool
-        ensures { IsTrue result ↔ LaidMeets self.entry UsedArcPrice }
+        ensures { IsTrue result ↔ MeetsThere self.entry UsedArcPrice }
     {
-        self.prices.are_tight(self.lists.laid)
+        self.prices.are_tight(self.lists.arc_flows)
     }
 
     // Whether the servers and the hosts with room left are free.
     fn meets_idle_prices(self) -> bool
-        ensures { IsTrue result ↔ LaidMeets self.entry IdlePrice }
+        ensures { IsTrue result ↔ MeetsThere self.entry IdlePrice }
     {
         let loads = self.loads;
         idle_are_free(self.lists.capacities, &loads.servers, self.prices.servers)
@@ -82,8 +83,8 @@ impl<'a, 's> LaidPlan<'a, 's> {
 
     /// The verdict on a plan whose uses go where they may.
     pub(crate) fn verdict(self) -> Verdict
-        requires { LaidMeets self NoSuchUse }
-        ensures { IsVerdict (network_in self.entry.lists) (best (laid_claim self.entry)) result }
+        requires { MeetsThere self NoSuchUse }
+        ensures { IsVerdict (network_in self.entry.lists) (best (claim_there self.entry)) result }
     {
         if !self.meets_rows() {
             return Verdict::No(Reason::RowSum);

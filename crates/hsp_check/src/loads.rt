@@ -1,7 +1,7 @@
 // What a plan brings to rows, servers and hosts.
 
 ghost use Rattle.std.specs.Prelude.{IfOk};
-ghost use Rattle.hsp_check.specs.Loads.{AreLaidLoads};
+ghost use Rattle.hsp_check.specs.Loads.{AreFlowLoads};
 
 use crate::lists::NetworkLists;
 use crate::sums::{End, add_hosts, add_up};
@@ -15,12 +15,12 @@ pub struct Loads {
     pub hosts: Vec<u128>,
 }
 
-/// The loads of the plan that is laid on the arcs.
+/// The loads of the plan that gives the arcs these flows.
 pub(crate) fn loads_of(alloc: Global, lists: NetworkLists<'_>) -> Result<Loads, AllocError>
-    ensures { IfOk result (AreLaidLoads lists.entry) }
+    ensures { IfOk result (AreFlowLoads lists.entry) }
 {
-    let rows = add_up(alloc, End::Row, lists.laid, lists.demands.len())?;
-    let servers = add_up(alloc, End::Server, lists.laid, lists.capacities.len())?;
+    let rows = add_up(alloc, End::Row, lists.arc_flows, lists.demands.len())?;
+    let servers = add_up(alloc, End::Server, lists.arc_flows, lists.capacities.len())?;
     let hosts = add_hosts(alloc, lists.server_hosts, &servers, lists.limits.len())?;
     Ok(Loads {
         rows,

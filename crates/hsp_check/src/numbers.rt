@@ -28,7 +28,8 @@ pub(crate) fn numbers_of(alloc: Global, instance: &Instance) -> Result<NetworkNu
     ensures capacities { IfOk result (λ numbers.
         numbers.capacities.items ≡ capacities_in instance.now) }
     ensures limits { IfOk result (λ numbers. numbers.limits.items ≡ limits_in instance.now) }
-    ensures server_hosts { IfOk result (λ numbers. numbers.server_hosts.items ≡ server_hosts_in instance.now) }
+    ensures server_hosts { IfOk result (λ numbers.
+        numbers.server_hosts.items ≡ server_hosts_in instance.now) }
 {
     let demands = counts_of(alloc, instance)?;
     let capacities = capacities_of(alloc, instance)?;
@@ -47,20 +48,20 @@ impl NetworkNumbers {
     ghost use Rattle.hsp_check.specs.Reach.{network_in, network_with};
 
     /// The network of these numbers and arcs, as lists.
-    pub(crate) fn with<'a>(&'a self, laid: &'a [ArcFlow]) -> NetworkLists<'a>
-        requires network { IsNetwork (network_with self.now laid.now) }
-        requires cheap { All (λ l. l.arc.cost ≤ GREATEST_COST) laid.now }
-        requires few { length laid.now < 2 ^ 32 }
-        ensures network { network_in result ≡ network_with self.now laid.now }
+    pub(crate) fn with<'a>(&'a self, arc_flows: &'a [ArcFlow]) -> NetworkLists<'a>
+        requires network { IsNetwork (network_with self.now arc_flows.now) }
+        requires cheap { All (λ l. l.arc.cost ≤ GREATEST_COST) arc_flows.now }
+        requires few { length arc_flows.now < 2 ^ 32 }
+        ensures network { network_in result ≡ network_with self.now arc_flows.now }
         ensures server_hosts { result.server_hosts.now ≡ self.now.server_hosts.items }
-        ensures laid { result.laid.now ≡ laid.now }
+        ensures arc_flows { result.arc_flows.now ≡ arc_flows.now }
     {
         NetworkLists {
             demands: &self.demands,
             capacities: &self.capacities,
             limits: &self.limits,
             server_hosts: &self.server_hosts,
-            laid,
+            arc_flows,
         }
     }
 }

@@ -8,13 +8,13 @@ ghost use Rattle.hsp_check.specs.Network.{AreCheap, IsNetwork};
 ghost use Rattle.hsp_check.specs.Uses.{table};
 ghost use Rattle.hsp_check.specs.Index.{AreBare, AreByRow};
 ghost use Rattle.hsp_check.specs.Judged.{IsShaped};
-ghost use Rattle.hsp_check.specs.Laid.{AreLaidBy};
+ghost use Rattle.hsp_check.specs.ArcFlows.{AreFlowsOf};
 ghost use Rattle.hsp_check.specs.Reach.{network_in, network_with};
 ghost use Rattle.hsp_check.specs.Verdict.{IsVerdict, PlanMeets};
 
-use crate::arc_flows::arc_flows;
+use crate::arc_flows::flows_by_uses;
 use crate::indexing::IndexedArcs;
-use crate::judging::LaidPlan;
+use crate::judging::NetworkPlan;
 use crate::lists::NetworkLists;
 use crate::loads::loads_of;
 use crate::numbers::NetworkNumbers;
@@ -32,7 +32,7 @@ fn is_shaped(numbers: &NetworkNumbers, plan: &BestRef<'_>) -> bool
         && plan.host_prices().len() == numbers.limits.len()
 }
 
-// The verdict on a plan whose uses are laid on the arcs.
+// The verdict on a plan whose uses are the flows of the arcs.
 fn judge<'a>(
     alloc: Global,
     lists: NetworkLists<'a>,
@@ -41,7 +41,7 @@ fn judge<'a>(
     requires ranges { IsBest plan.now }
     requires shape { PlanMeets (network_in lists) plan.now Shape }
     requires uses { PlanMeets (network_in lists) plan.now NoSuchUse }
-    requires laid { AreLaidBy (table plan.now.uses) lists.laid.now }
+    requires arc_flows { AreFlowsOf (table plan.now.uses) lists.arc_flows.now }
     ensures { IfOk result (λ verdict. IsVerdict (network_in lists.entry) (best plan.now) verdict) }
 {
     let loads = loads_of(alloc, lists)?;
@@ -51,14 +51,14 @@ fn judge<'a>(
         hosts: plan.host_prices(),
         server_hosts: lists.server_hosts,
     };
-    let laid = LaidPlan {
+    let arc_flows = NetworkPlan {
         lists,
         prices,
         cost: plan.cost(),
         uses: plan.uses(),
         loads: &loads,
     };
-    Ok(laid.verdict())
+    Ok(arc_flows.verdict())
 }
 
 /// The verdict on the certificate of a plan.
@@ -68,19 +68,20 @@ pub(crate) fn check_plan(
     arcs: IndexedArcs,
     plan: &BestRef<'_>,
 ) -> Result<Verdict, AllocError>
-    requires network { IsNetwork (network_with numbers.now arcs.laid.items) }
+    requires network { IsNetwork (network_with numbers.now arcs.arc_flows.items) }
     requires index { AreByRow arcs }
-    requires bare { AreBare arcs.laid.items }
-    requires cheap { AreCheap (network_with numbers.now arcs.laid.items) }
-    requires few { length arcs.laid.items < 2 ^ 32 }
+    requires bare { AreBare arcs.arc_flows.items }
+    requires cheap { AreCheap (network_with numbers.now arcs.arc_flows.items) }
+    requires few { length arcs.arc_flows.items < 2 ^ 32 }
     requires ranges { IsBest plan.now }
-    ensures { IfOk result (IsVerdict (network_with numbers.now arcs.laid.items) (best plan.now)) }
+    ensures { IfOk result
+        (IsVerdict (network_with numbers.now arcs.arc_flows.items) (best plan.now)) }
 {
     if !is_shaped(numbers, plan) {
         return Ok(Verdict::No(Reason::Shape));
     }
-    let Some(laid) = arc_flows(arcs, plan.uses()) else {
+    let Some(arc_flows) = flows_by_uses(arcs, plan.uses()) else {
         return Ok(Verdict::No(Reason::NoSuchUse));
     };
-    judge(alloc, numbers.with(&laid), plan)
+    judge(alloc, numbers.with(&arc_flows), plan)
 }

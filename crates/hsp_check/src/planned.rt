@@ -8,7 +8,7 @@ ghost use Rattle.hsp_check.specs.Planned.{ArePlanned};
 ghost use Rattle.hsp_check.specs.Uses.{table};
 ghost use Rattle.hsp_check.specs.Valid.{IsValid};
 
-use crate::arc_flows::arc_flows;
+use crate::arc_flows::flows_by_uses;
 use crate::building::build_network;
 use crate::sums::ArcFlow;
 use hsp_cert::BestRef;
@@ -24,8 +24,9 @@ pub fn planned_arcs(
 ) -> Result<Vec<ArcFlow>, AllocError>
     requires ranges { IsBest plan.now }
     requires valid { IsValid (network_of instance.now) (best plan.now) }
-    ensures { IfOk result (λ laid. ArePlanned instance.now (table plan.now.uses) laid.items) }
+    ensures { IfOk result (λ arc_flows.
+        ArePlanned instance.now (table plan.now.uses) arc_flows.items) }
 {
-    let drawn = build_network(alloc, instance)?;
-    Ok(arc_flows(drawn.arcs, plan.uses()).unwrap())
+    let network = build_network(alloc, instance)?;
+    Ok(flows_by_uses(network.arcs, plan.uses()).unwrap())
 }

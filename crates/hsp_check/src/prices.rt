@@ -45,14 +45,14 @@ impl<'a> PriceLists<'a> {
     }
 
     /// Whether no row's price is above what an arc of it pays.
-    pub(crate) fn are_low(self, laid: &[ArcFlow]) -> bool
-        requires rows { All (λ l. l.arc.row < length self.rows.now) laid.now }
-        requires servers { All (λ l. l.arc.server < length self.server_hosts.now) laid.now }
-        requires cheap { All (λ l. l.arc.cost ≤ GREATEST_COST) laid.now }
-        ensures { IsTrue result ↔ AreLow self.entry laid.now }
+    pub(crate) fn are_low(self, arc_flows: &[ArcFlow]) -> bool
+        requires rows { All (λ l. l.arc.row < length self.rows.now) arc_flows.now }
+        requires servers { All (λ l. l.arc.server < length self.server_hosts.now) arc_flows.now }
+        requires cheap { All (λ l. l.arc.cost ≤ GREATEST_COST) arc_flows.now }
+        ensures { IsTrue result ↔ AreLow self.entry arc_flows.now }
     {
-        for place in 0..laid.len() {
-            let arc = laid[place].arc;
+        for place in 0..arc_flows.len() {
+            let arc = arc_flows[place].arc;
             if self.rows[arc.row as usize] > self.paid(arc) {
                 return false;
             }
@@ -61,14 +61,14 @@ impl<'a> PriceLists<'a> {
     }
 
     /// Whether each row's price is what an arc pays that it uses.
-    pub(crate) fn are_tight(self, laid: &[ArcFlow]) -> bool
-        requires rows { All (λ l. l.arc.row < length self.rows.now) laid.now }
-        requires servers { All (λ l. l.arc.server < length self.server_hosts.now) laid.now }
-        requires cheap { All (λ l. l.arc.cost ≤ GREATEST_COST) laid.now }
-        ensures { IsTrue result ↔ AreTight self.entry laid.now }
+    pub(crate) fn are_tight(self, arc_flows: &[ArcFlow]) -> bool
+        requires rows { All (λ l. l.arc.row < length self.rows.now) arc_flows.now }
+        requires servers { All (λ l. l.arc.server < length self.server_hosts.now) arc_flows.now }
+        requires cheap { All (λ l. l.arc.cost ≤ GREATEST_COST) arc_flows.now }
+        ensures { IsTrue result ↔ AreTight self.entry arc_flows.now }
     {
-        for place in 0..laid.len() {
-            let one = laid[place];
+        for place in 0..arc_flows.len() {
+            let one = arc_flows[place];
             if one.flow > 0 && self.rows[one.arc.row as usize] != self.paid(one.arc) {
                 return false;
             }

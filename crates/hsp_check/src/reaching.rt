@@ -39,8 +39,8 @@ pub fn reached_servers(
     ensures { IfOk result (λ servers.
         servers.items ≡ reached (network_of instance.now) (is_one_of set.now.rows)) }
 {
-    let drawn = build_network(alloc, instance)?;
-    let lists = drawn.numbers.with(&drawn.arcs.laid);
+    let network = build_network(alloc, instance)?;
+    let lists = network.numbers.with(&network.arcs.arc_flows);
     let rows = flags_of(alloc, set.rows(), lists.demands.len())?.unwrap();
     let servers = reached_by(alloc, lists, &rows)?;
     flagged(alloc, &servers)

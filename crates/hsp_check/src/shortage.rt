@@ -2,10 +2,10 @@
 
 ghost use Rattle.std.specs.Prelude.{◌≡◌, ℕ, ◌<◌, ◌≤◌, ◌^◌, false, length, All, IfOk, vec_len};
 ghost use Rattle.hsp_check.specs.Short.{capacity_of};
-ghost use Rattle.hsp_check.specs.Laid.{flag_at};
+ghost use Rattle.hsp_check.specs.ArcFlows.{flag_at};
 ghost use Rattle.hsp_check.specs.Lists.{AreFlagsOf, AreRooms, AreSmall, AreZero, flagged_sum, free_sum, hosted_sum};
 ghost use Rattle.hsp_check.specs.Reach.{network_in};
-ghost use Rattle.hsp_check.specs.Reached.{AreReached, AreRoomsOf, laid_reaches};
+ghost use Rattle.hsp_check.specs.Reached.{AreReached, AreRoomsOf, arcs_reach};
 
 use crate::lists::NetworkLists;
 use crate::sums::{ArcFlow, add_hosts};
@@ -27,14 +27,15 @@ pub(crate) fn sum_flagged(numbers: &[u64], flags: &[bool]) -> u128
 }
 
 // Flags the servers that arcs of the flagged rows lead to. No server is flagged at first.
-fn flag_each(reached: &mut [bool], laid: &[ArcFlow], rows: &[bool])
-    requires rows { All (λ l. l.arc.row < length rows.now) laid.now }
-    requires servers { All (λ l. l.arc.server < length reached.old) laid.now }
+fn flag_each(reached: &mut [bool], arc_flows: &[ArcFlow], rows: &[bool])
+    requires rows { All (λ l. l.arc.row < length rows.now) arc_flows.now }
+    requires servers { All (λ l. l.arc.server < length reached.old) arc_flows.now }
     requires none { AreFlagsOf (λ _. false) (length reached.old) reached.old }
-    ensures { AreFlagsOf (laid_reaches laid.now (flag_at rows.now)) (length reached.old) reached.new }
+    ensures { AreFlagsOf (arcs_reach arc_flows.now (flag_at rows.now)) (length reached.old)
+        reached.new }
 {
-    for place in 0..laid.len() {
-        let arc = laid[place].arc;
+    for place in 0..arc_flows.len() {
+        let arc = arc_flows[place].arc;
         if rows[arc.row as usize] {
             reached[arc.server as usize] = true;
         }
@@ -99,7 +100,7 @@ pub(crate) fn reached_by(
         AreReached lists.entry (flag_at rows.now) reached.items) }
 {
     let mut reached = vec![in alloc; false; lists.server_hosts.len()]?;
-    flag_each(&mut reached, lists.laid, rows);
+    flag_each(&mut reached, lists.arc_flows, rows);
     Ok(reached)
 }
 

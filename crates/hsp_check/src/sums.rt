@@ -1,9 +1,10 @@
 // The sums of a plan over its arcs, its servers and its hosts.
 
-ghost use Rattle.std.specs.Prelude.{◌≡◌, ℕ, ◌+◌, ◌*◌, ◌<◌, ◌≤◌, ◌==◌, ◌^◌, length, slice_index, slice_get, sum_by, option_and_then, All, IfOk, Some, vec_len, if◌then◌else◌};
+ghost use Rattle.std.specs.Prelude.{◌≡◌, ℕ, ◌+◌, ◌*◌, ◌<◌, ◌≤◌, ◌==◌, ◌^◌, length, slice_index, slice_get, sum_by};
+ghost use Rattle.std.specs.Prelude.{option_and_then, All, IfOk, Some, vec_len, if◌then◌else◌};
 ghost use Rattle.hsp_text.specs.declared.limits.TheConstants.{GREATEST_COST};
 ghost use Rattle.hsp_transport.specs.Sums.{sum_below, times};
-ghost use Rattle.hsp_check.specs.Laid.{end_of};
+ghost use Rattle.hsp_check.specs.ArcFlows.{end_of};
 ghost use Rattle.hsp_check.specs.Lists.{AreEndSums, AreHosted, AreSmall, AreZero, HostsAreBelow};
 ghost use Rattle.hsp_check.specs.Prices.{ArePrices};
 
@@ -50,15 +51,15 @@ fn cost_of(one: ArcFlow) -> u128
 }
 
 // Adds what goes through each row, or each server, to sums that are 0.
-fn add_each(sums: &mut [u128], end: End, laid: &[ArcFlow])
-    requires few { length laid.now < 2 ^ 32 }
-    requires ends { All (λ l. end_of end l.arc < length sums.old) laid.now }
+fn add_each(sums: &mut [u128], end: End, arc_flows: &[ArcFlow])
+    requires few { length arc_flows.now < 2 ^ 32 }
+    requires ends { All (λ l. end_of end l.arc < length sums.old) arc_flows.now }
     requires zero { AreZero sums.old }
-    ensures sums { AreEndSums end laid.now (length sums.old) sums.new }
+    ensures sums { AreEndSums end arc_flows.now (length sums.old) sums.new }
     ensures small { AreSmall (2 ^ 100) (length sums.old) sums.new }
 {
-    for place in 0..laid.len() {
-        let one = laid[place];
+    for place in 0..arc_flows.len() {
+        let one = arc_flows[place];
         let end = end_of(end, one.arc) as usize;
         sums[end] += flow_of(one);
     }
@@ -68,17 +69,17 @@ fn add_each(sums: &mut [u128], end: End, laid: &[ArcFlow])
 pub(crate) fn add_up(
     alloc: Global,
     end: End,
-    laid: &[ArcFlow],
+    arc_flows: &[ArcFlow],
     count: usize,
 ) -> Result<Vec<u128>, AllocError>
-    requires few { length laid.now < 2 ^ 32 }
-    requires ends { All (λ l. end_of end l.arc < count) laid.now }
+    requires few { length arc_flows.now < 2 ^ 32 }
+    requires ends { All (λ l. end_of end l.arc < count) arc_flows.now }
     ensures len { IfOk result (λ sums. vec_len sums ≡ count) }
-    ensures sums { IfOk result (λ sums. AreEndSums end laid.now count sums.items) }
+    ensures sums { IfOk result (λ sums. AreEndSums end arc_flows.now count sums.items) }
     ensures small { IfOk result (λ sums. AreSmall (2 ^ 100) count sums.items) }
 {
     let mut sums = vec![in alloc; 0u128; count]?;
-    add_each(&mut sums, end, laid);
+    add_each(&mut sums, end, arc_flows);
     Ok(sums)
 }
 
@@ -118,14 +119,14 @@ pub(crate) fn add_hosts(
 }
 
 /// What the plan costs.
-pub(crate) fn total_of(laid: &[ArcFlow]) -> u128
-    requires few { length laid.now < 2 ^ 32 }
-    requires cheap { All (λ l. l.arc.cost ≤ GREATEST_COST) laid.now }
-    ensures { result ≡ sum_by (λ l. l.arc.cost * l.flow) laid.now }
+pub(crate) fn total_of(arc_flows: &[ArcFlow]) -> u128
+    requires few { length arc_flows.now < 2 ^ 32 }
+    requires cheap { All (λ l. l.arc.cost ≤ GREATEST_COST) arc_flows.now }
+    ensures { result ≡ sum_by (λ l. l.arc.cost * l.flow) arc_flows.now }
 {
     let mut sum: u128 = 0;
-    for place in 0..laid.len() {
-        sum += cost_of(laid[place]);
+    for place in 0..arc_flows.len() {
+        sum += cost_of(arc_flows[place]);
     }
     sum
 }

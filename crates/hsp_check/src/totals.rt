@@ -4,13 +4,13 @@ ghost use Rattle.std.specs.Prelude.{IfOk};
 ghost use Rattle.hsp_cert.specs.Certificate.{IsBest};
 ghost use Rattle.hsp_cert.specs.Certificate.Claim.{best};
 ghost use Rattle.hsp_check.specs.Instance.{network_of};
-ghost use Rattle.hsp_check.specs.Laid.{AreLaidBy};
+ghost use Rattle.hsp_check.specs.ArcFlows.{AreFlowsOf};
 ghost use Rattle.hsp_check.specs.PlanSums.{AreSums};
 ghost use Rattle.hsp_check.specs.Reach.{network_in};
 ghost use Rattle.hsp_check.specs.Uses.{table};
 ghost use Rattle.hsp_check.specs.Valid.{IsValid, IsValidPlan};
 
-use crate::arc_flows::arc_flows;
+use crate::arc_flows::flows_by_uses;
 use crate::building::{IndexedNetwork, build_network};
 use crate::lists::NetworkLists;
 use crate::loads::{Loads, loads_of};
@@ -31,13 +31,13 @@ pub struct PlanSums {
     pub capacity_worth: u128,
 }
 
-// The sums of a plan that is laid on the lists, and of its prices.
+// The sums of a plan on the lists, and of its prices.
 fn sums_of(
     alloc: Global,
     lists: NetworkLists<'_>,
     plan: &BestRef<'_>,
 ) -> Result<PlanSums, AllocError>
-    requires laid { AreLaidBy (table plan.now.uses) lists.laid.now }
+    requires arc_flows { AreFlowsOf (table plan.now.uses) lists.arc_flows.now }
     requires valid { IsValidPlan (network_in lists) plan.now }
     ensures { IfOk result (AreSums (network_in lists.entry) plan.now) }
 {
@@ -46,7 +46,7 @@ fn sums_of(
     let hosts = worth_of(lists.limits, plan.host_prices());
     Ok(PlanSums {
         loads,
-        cost: total_of(lists.laid),
+        cost: total_of(lists.arc_flows),
         demand_worth: worth_of(lists.demands, plan.row_prices()),
         capacity_worth: servers + hosts,
     })
@@ -63,6 +63,6 @@ pub fn plan_sums(
     ensures { IfOk result (AreSums (network_of instance.now) plan.now) }
 {
     let IndexedNetwork { numbers, arcs } = build_network(alloc, instance)?;
-    let laid = arc_flows(arcs, plan.uses()).unwrap();
-    sums_of(alloc, numbers.with(&laid), plan)
+    let arc_flows = flows_by_uses(arcs, plan.uses()).unwrap();
+    sums_of(alloc, numbers.with(&arc_flows), plan)
 }

@@ -41,7 +41,8 @@ IsShownPlan inputs planned = IsPlanned inputs planned × IfOk planned (λ plan. 
 
 -- the verdict on a certificate, where Yes says the same of its plan
 abbrev pub IsShownVerdict : Inputs → List ℕ → Result Verdict Fault → Type 0
-IsShownVerdict inputs octets checked = IsChecked inputs octets checked × IfOk checked (λ verdict. verdict ≡ Yes → ShowsOf inputs octets)
+IsShownVerdict inputs octets checked =
+    IsChecked inputs octets checked × IfOk checked (λ verdict. verdict ≡ Yes → ShowsOf inputs octets)
 
 abbrev pub IsTold : Told → Answer → Type 0
 IsTold told answer = (answer.text.items ≡ told.text) × (answer.status ≡ told.status)

@@ -19,7 +19,8 @@ use Rattle.hsp_headline.specs.declared.inputs.Inputs.{Inputs}
 use Rattle.hsp_cli.specs.declared.answer.Answer.{Answer}
 use Rattle.hsp_cli.specs.declared.answer.Completed.{Completed}
 use Rattle.hsp_cli.specs.declared.failure.Failure.{Failure}
-use Rattle.hsp_cli.specs.Answers.{IsAnswered, IsShownPlan, IsShownVerdict, fields_told, plan_told, text_told, verdict_told}
+use Rattle.hsp_cli.specs.Answers.{IsAnswered, IsShownPlan, IsShownVerdict, fields_told, plan_told, text_told}
+use Rattle.hsp_cli.specs.Answers.{verdict_told}
 use Rattle.hsp_cli.specs.Dispatching.{Dispatches, Opened}
 use Rattle.hsp_cli.specs.Failing.{IsUnread, failure_of}
 use Rattle.hsp_cli.specs.Files.{Disk, HoldsRest}
@@ -46,7 +47,9 @@ pub record AreHeld (disk : Disk) (files : InputFiles) (inputs : Inputs) : Type 0
 
 -- one of the files of inputs may fail to be read
 abbrev pub OneFails : Disk → InputFiles → Type 0
-OneFails disk files = disk.fails files.settings ⊎ FailsNamed disk files.values ⊎ disk.fails files.demand ⊎ disk.fails files.costs ⊎ disk.fails files.capacity
+OneFails disk files =
+    disk.fails files.settings ⊎ FailsNamed disk files.values ⊎ disk.fails files.demand ⊎ disk.fails files.costs
+    ⊎ disk.fails files.capacity
 
 -- a file, which may fail to be read, wasn't read; or memory ran out
 abbrev pub LacksFile : {A : Type 0} → Type 0 → Result A Failure → Type 0
@@ -55,20 +58,24 @@ LacksFile MayFail answer = IsErrAnd answer (IsUnread MayFail)
 abbrev pub AnswersSites : Disk → List ℕ → Option (List ℕ) → List ℕ → Result Answer Failure → Type 0
 AnswersSites disk settings values handle answer =
     LacksFile (disk.fails settings ⊎ FailsNamed disk values) answer
-    ⊎ ((s : List ℕ) × (v : Option (List ℕ)) × disk.holds settings s × HoldsNamed disk values v × IsAnswered text_told (AreLocated s v handle) answer)
+    ⊎ ((s : List ℕ) × (v : Option (List ℕ)) × disk.holds settings s × HoldsNamed disk values v
+    × IsAnswered text_told (AreLocated s v handle) answer)
 
 abbrev pub AnswersSite : Disk → Option (List ℕ) → List ℕ → Result Answer Failure → Type 0
 AnswersSite disk index file answer =
-    LacksFile (disk.fails file) answer ⊎ ((octets : List ℕ) × disk.holds file octets × IsAnswered fields_told (IsSiteRun octets index) answer)
+    LacksFile (disk.fails file) answer
+    ⊎ ((octets : List ℕ) × disk.holds file octets × IsAnswered fields_told (IsSiteRun octets index) answer)
 
 abbrev pub AnswersPlan : Disk → InputFiles → Result Answer Failure → Type 0
 AnswersPlan disk files answer =
-    LacksFile (OneFails disk files) answer ⊎ ((inputs : Inputs) × AreHeld disk files inputs × IsAnswered plan_told (IsShownPlan inputs) answer)
+    LacksFile (OneFails disk files) answer
+    ⊎ ((inputs : Inputs) × AreHeld disk files inputs × IsAnswered plan_told (IsShownPlan inputs) answer)
 
 abbrev pub AnswersCheck : Disk → InputFiles → List ℕ → Result Answer Failure → Type 0
 AnswersCheck disk files plan answer =
     LacksFile (OneFails disk files ⊎ disk.fails plan) answer
-    ⊎ ((inputs : Inputs) × (octets : List ℕ) × AreHeld disk files inputs × disk.holds plan octets × IsAnswered verdict_told (IsShownVerdict inputs octets) answer)
+    ⊎ ((inputs : Inputs) × (octets : List ℕ) × AreHeld disk files inputs × disk.holds plan octets
+    × IsAnswered verdict_told (IsShownVerdict inputs octets) answer)
 
 -- the kind of report that is asked for
 abbrev pub told_kind : Kind → ReportKind
@@ -84,7 +91,8 @@ AnswersReport disk files plan asked answer =
 
 -- the answer to an order whose text is printed as one; a log's lines are not
 abbrev pub AnswersTo : Disk → Order → Result Answer Failure → Type 0
-AnswersTo disk (order.LocatePlace option servers handle) answer = IsAnswered text_told (λ text. text ≡ placed option servers handle) answer
+AnswersTo disk (order.LocatePlace option servers handle) answer =
+    IsAnswered text_told (λ text. text ≡ placed option servers handle) answer
 AnswersTo disk (order.LocateSites settings values handle) answer = AnswersSites disk settings values handle answer
 AnswersTo disk (order.Site index file) answer = AnswersSite disk index file answer
 AnswersTo disk (order.Plan inputs) answer = AnswersPlan disk inputs answer
@@ -103,15 +111,19 @@ abbrev pub DispatchFails : Disk → InputFiles → List ℕ → List ℕ → Typ
 DispatchFails disk files plan log = OneFails disk files ⊎ disk.fails plan ⊎ disk.fails log
 
 -- a file, which may fail to be read, wasn't read, or memory ran out, and nothing was written; or the log was answered
-abbrev pub DispatchesFrom : Disk → Type 0 → InputFiles → List ℕ → List ℕ → Option (List ℕ) → Option (List ℕ) → Option (List ℕ) → Result Completed Failure → Type 0
+abbrev pub DispatchesFrom : Disk → Type 0 → InputFiles → List ℕ → List ℕ → Option (List ℕ) → Option (List ℕ)
+    → Option (List ℕ) → Result Completed Failure → Type 0
 DispatchesFrom disk MayFail files plan log fronts old new ended =
     ((new ≡ old) × LacksFile (DispatchFails disk files plan log) ended)
     ⊎ ((it : Opened) × AreOpened disk files plan log it × Dispatches MayFail fronts it old new ended)
 
--- an order is carried out on an output, whose writes may fail or not: a log is answered, or the order's answer is printed
+-- an order is carried out on an output, whose writes may fail or not: a log is answered, or the order's answer is
+-- printed
 abbrev pub CarriesOut : Disk → Type 0 → Order → Option (List ℕ) → Option (List ℕ) → Result Completed Failure → Type 0
-CarriesOut disk MayFail (order.Dispatch inputs plan log fronts) old new ended = DispatchesFrom disk MayFail inputs plan log fronts old new ended
-CarriesOut disk MayFail order old new ended = (answer : Result Answer Failure) × AnswersTo disk order answer × Prints MayFail answer old new ended
+CarriesOut disk MayFail (order.Dispatch inputs plan log fronts) old new ended =
+    DispatchesFrom disk MayFail inputs plan log fronts old new ended
+CarriesOut disk MayFail order old new ended =
+    (answer : Result Answer Failure) × AnswersTo disk order answer × Prints MayFail answer old new ended
 
 -- the order that words give, in which clap finds no fault; or that they give none; or that memory ran out
 abbrev pub IsOrdered : List (List ℕ) → Result Order CommandFault → Type 0
@@ -120,10 +132,12 @@ IsOrdered words (Err command_fault.Usage) = IsUsage words
 IsOrdered words (Err command_fault.OutOfMemory) = ⊤
 
 -- it is carried out; where there is none, nothing was written, and the failure is reported
-abbrev pub ActsOn : Disk → Type 0 → Result Order CommandFault → Option (List ℕ) → Option (List ℕ) → Result Completed Failure → Type 0
+abbrev pub ActsOn : Disk → Type 0 → Result Order CommandFault → Option (List ℕ) → Option (List ℕ)
+    → Result Completed Failure → Type 0
 ActsOn disk MayFail (Ok order) old new ended = CarriesOut disk MayFail order old new ended
 ActsOn disk MayFail (Err fault) old new ended = (new ≡ old) × (ended ≡ Err (failure_of fault))
 
 -- the words are obeyed
 abbrev pub Obeys : Disk → Type 0 → List (List ℕ) → Option (List ℕ) → Option (List ℕ) → Result Completed Failure → Type 0
-Obeys disk MayFail words old new ended = (order : Result Order CommandFault) × IsOrdered words order × ActsOn disk MayFail order old new ended
+Obeys disk MayFail words old new ended =
+    (order : Result Order CommandFault) × IsOrdered words order × ActsOn disk MayFail order old new ended

@@ -32,36 +32,44 @@ MayFollowLines fault = ⊥
 abbrev pub LeavesNoLines : Fault → Type 0
 LeavesNoLines fault = IsBeforeLog fault ⊎ IsFailedWrite (Refused fault)
 
--- the fault is reported, and nothing else was done; or lines that may stand before it were handed on, and it is reported, or that
--- they couldn't be handed on, as may be
+-- the fault is reported, and nothing else was done; or lines that may stand before it were handed on, and it is
+-- reported, or that they couldn't be handed on, as may be
 abbrev pub HandsOn : Type 0 → Fault → Option (List ℕ) → Option (List ℕ) → Fault → Type 0
 HandsOn MayFail fault written new reported =
     ((new ≡ written) × (reported ≡ fault))
     ⊎ (MayFollowLines fault × Keeps written new × ((reported ≡ fault) ⊎ (MayFail × (reported ≡ Log WriteFailed))))
 
--- the last lines were handed on, and the run's sums are reported with status 0; or the last lines couldn't be handed on, as may be
+-- the last lines were handed on, and the run's sums are reported with status 0; or the last lines couldn't be handed
+-- on, as may be
 abbrev pub Completes : Type 0 → Option LogSums → Option (List ℕ) → Option (List ℕ) → Result Completed Failure → Type 0
 Completes MayFail sums written new ended =
-    Keeps written new × ((ended ≡ Ok (record { status = 0; sums = sums })) ⊎ (MayFail × (ended ≡ Err (Refused (Log WriteFailed)))))
+    Keeps written new
+    × ((ended ≡ Ok (record { status = 0; sums = sums })) ⊎ (MayFail × (ended ≡ Err (Refused (Log WriteFailed)))))
 
 -- the run's sums are reported, or its fault is
-abbrev pub TellsRun : {S : Type 0} → (S → Option LogSums) → Type 0 → Result S Fault → Option (List ℕ) → Option (List ℕ) → Result Completed Failure → Type 0
+abbrev pub TellsRun : {S : Type 0} → (S → Option LogSums) → Type 0 → Result S Fault → Option (List ℕ)
+    → Option (List ℕ) → Result Completed Failure → Type 0
 TellsRun sums_of MayFail (Ok sums) written new ended = Completes MayFail (sums_of sums) written new ended
-TellsRun sums_of MayFail (Err fault) written new ended = (reported : Fault) × HandsOn MayFail fault written new reported × (ended ≡ Err (Refused reported))
+TellsRun sums_of MayFail (Err fault) written new ended =
+    (reported : Fault) × HandsOn MayFail fault written new reported × (ended ≡ Err (Refused reported))
 
 -- the log's entries were answered on an output, and the run's end is reported
 abbrev pub AnswersEntries : Type 0 → Opened → Option (List ℕ) → Option (List ℕ) → Result Completed Failure → Type 0
 AnswersEntries MayFail it old new ended =
-    (written : Option (List ℕ)) × (answer : Result LogSums Fault) × IsDispatched it.inputs it.certificate (over it.left old written) answer
+    (written : Option (List ℕ)) × (answer : Result LogSums Fault)
+    × IsDispatched it.inputs it.certificate (over it.left old written) answer
     × TellsRun Some MayFail answer written new ended
 
 -- the same of its events, by as many fronts as a word spells; no sums are reported
-abbrev pub AnswersEvents : Type 0 → List ℕ → Opened → Option (List ℕ) → Option (List ℕ) → Result Completed Failure → Type 0
+abbrev pub AnswersEvents : Type 0 → List ℕ → Opened → Option (List ℕ) → Option (List ℕ) → Result Completed Failure
+    → Type 0
 AnswersEvents MayFail word it old new ended =
-    (written : Option (List ℕ)) × (answer : Result FrontSums Fault) × IsDispatchedAt word it.inputs it.certificate (over it.left old written) answer
+    (written : Option (List ℕ)) × (answer : Result FrontSums Fault)
+    × IsDispatchedAt word it.inputs it.certificate (over it.left old written) answer
     × TellsRun (λ sums. None) MayFail answer written new ended
 
 -- with a number of fronts, or without one
-abbrev pub Dispatches : Type 0 → Option (List ℕ) → Opened → Option (List ℕ) → Option (List ℕ) → Result Completed Failure → Type 0
+abbrev pub Dispatches : Type 0 → Option (List ℕ) → Opened → Option (List ℕ) → Option (List ℕ)
+    → Result Completed Failure → Type 0
 Dispatches MayFail None it old new ended = AnswersEntries MayFail it old new ended
 Dispatches MayFail (Some word) it old new ended = AnswersEvents MayFail word it old new ended

@@ -1,8 +1,8 @@
 -- The files that a command names.
 use Rattle.std.specs.Prelude.{◌≡◌, ⊤, ℕ, List, Option, Some, None}
 
--- files by their paths: which octets a file holds, and whether it may fail to be read whole, since it can't be opened, a read of it
--- fails, or it is too long
+-- files by their paths: which octets a file holds, and whether it may fail to be read whole, since it can't be opened,
+-- a read of it fails, or it is too long
 pub record Disk : Type 1 where
   pub holds : List ℕ → List ℕ → Type 0
   pub fails : List ℕ → Type 0

@@ -21,12 +21,14 @@ Puts MayFail text old new (Err failed) = MayFail × IsBegun old new text
 -- the text of an answer was written, and its status returned; or a write failed, as it may, and a beginning of the text
 -- was written
 abbrev pub PrintsText : Type 0 → Answer → Option (List ℕ) → Option (List ℕ) → Result Completed Failure → Type 0
-PrintsText MayFail answer old new (Ok completed) = Appends old new answer.text.items × (completed ≡ record { status = answer.status; sums = None })
+PrintsText MayFail answer old new (Ok completed) =
+    Appends old new answer.text.items × (completed ≡ record { status = answer.status; sums = None })
 PrintsText MayFail answer old new (Err Write) = MayFail × IsBegun old new answer.text.items
 PrintsText MayFail answer old new (Err failure) = ⊥
 
 -- the same of an answer; where there is none, nothing was written, and its failure is returned
-abbrev pub Prints : Type 0 → Result Answer Failure → Option (List ℕ) → Option (List ℕ) → Result Completed Failure → Type 0
+abbrev pub Prints : Type 0 → Result Answer Failure → Option (List ℕ) → Option (List ℕ) → Result Completed Failure
+    → Type 0
 Prints MayFail (Ok answer) old new ended = PrintsText MayFail answer old new ended
 Prints MayFail (Err failure) old new ended = (new ≡ old) × (ended ≡ Err failure)
 
@@ -36,7 +38,8 @@ IsFailedWrite Write = ⊤
 IsFailedWrite (Refused (Log log_fault.WriteFailed)) = ⊤
 IsFailedWrite failure = ⊥
 
--- What an output holds was handed on. Where the command failed, the output is as it was, or it was handed on, or a write failed.
+-- What an output holds was handed on. Where the command failed, the output is as it was, or it was handed on, or a
+-- write failed.
 abbrev pub IsHandedOn : {O : Type 0} → O → O → Option (List ℕ) → Option (List ℕ) → Result Completed Failure → Type 0
 IsHandedOn old new contents handed (Ok completed) = handed ≡ contents
 IsHandedOn old new contents handed (Err failure) = (new ≡ old) ⊎ (handed ≡ contents) ⊎ IsFailedWrite failure

@@ -4,7 +4,8 @@ ghost use Rattle.std.specs.Prelude.{◌≡◌, option_map};
 ghost use Rattle.hsp_runs.specs.Locate.{IsLocated};
 ghost use Rattle.hsp_runs.specs.Report.{IsReported};
 ghost use Rattle.hsp_runs.specs.SiteText.{IsSiteRun};
-ghost use Rattle.hsp_cli.specs.Answers.{IsAnswered, IsShownPlan, IsShownVerdict, fields_told, plan_status, plan_told, text_told, verdict_told};
+ghost use Rattle.hsp_cli.specs.Answers.{IsAnswered, IsShownPlan, IsShownVerdict, fields_told, plan_status, plan_told};
+ghost use Rattle.hsp_cli.specs.Answers.{text_told, verdict_told};
 ghost use Rattle.hsp_cli.specs.Printing.{IsHandedOn, Prints};
 
 use crate::failure::Failure;

@@ -3,7 +3,8 @@
 ghost use Rattle.std.specs.Prelude.{◌≡◌, map, string_bytes};
 ghost use Rattle.hsp_runs.specs.Locate.{placed};
 ghost use Rattle.hsp_cli.specs.Answers.{IsAnswered, text_told};
-ghost use Rattle.hsp_cli.specs.Commands.{AnswersCheck, AnswersPlan, AnswersReport, AnswersSite, AnswersSites, CarriesOut, Obeys, told_kind};
+ghost use Rattle.hsp_cli.specs.Commands.{AnswersCheck, AnswersPlan, AnswersReport, AnswersSite, AnswersSites};
+ghost use Rattle.hsp_cli.specs.Commands.{CarriesOut, Obeys, told_kind};
 ghost use Rattle.hsp_cli.specs.Printing.{IsHandedOn};
 
 use crate::answer::{

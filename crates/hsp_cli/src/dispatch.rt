@@ -2,7 +2,8 @@
 
 ghost use Rattle.std.specs.Prelude.{◌≡◌, ◌⊎◌, IfErr, IfOk, IsFalse, IsTrue};
 ghost use Rattle.hsp_cli.specs.Commands.{AreOpened, DispatchFails};
-ghost use Rattle.hsp_cli.specs.Dispatching.{AnswersEntries, AnswersEvents, Completes, Dispatches, HandsOn, LeavesNoLines, MayFollowLines, opened_log};
+ghost use Rattle.hsp_cli.specs.Dispatching.{AnswersEntries, AnswersEvents, Completes, Dispatches, HandsOn};
+ghost use Rattle.hsp_cli.specs.Dispatching.{LeavesNoLines, MayFollowLines, opened_log};
 ghost use Rattle.hsp_cli.specs.Failing.{IsUnread};
 ghost use Rattle.hsp_cli.specs.Printing.{IsFailedWrite, IsHandedOn};
 ghost use Rattle.hsp_runs.specs.Dispatch.{IsBeforeLog};

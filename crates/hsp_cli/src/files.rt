@@ -6,7 +6,7 @@ ghost use Rattle.hsp_cli.specs.Files.{Disk, HoldsRest, MayRead};
 
 use crate::failure::Failure;
 use hsp_cli_orders::Word;
-use hsp_runs::read_file;
+use hsp_text::read_file;
 use std::alloc::Global;
 use std::io::Read;
 use std::rt::Files;

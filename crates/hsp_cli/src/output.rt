@@ -24,7 +24,8 @@ pub trait Output: Write {
     /// Writes the whole text, and hands it on. Where a write fails, a beginning of the text was written, and nothing is
     /// tried again.
     fn put(&mut self, text: &[u8]) -> Result<(), WriteFailed>
-        ensures puts { Puts may_fail text.now (Self.contents self.old) (Self.contents self.new) result }
+        ensures puts { Puts may_fail text.now (Self.contents self.old) (Self.contents self.new)
+            result }
         ensures handed { OnOk result (handed self.new ≡ Self.contents self.new) };
 }
 

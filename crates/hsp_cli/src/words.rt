@@ -5,7 +5,7 @@ ghost use Rattle.hsp_cli.specs.Words.{AreOfLine, AreWords, seen};
 
 use crate::failure::Failure;
 use hsp_cli_orders::split_words;
-use hsp_runs::first_line;
+use hsp_text::first_line;
 use std::alloc::Global;
 use std::rt::Env;
 use std::{env, io};

@@ -14,12 +14,16 @@ word name = record (new_rule name) { required = true }
 
 -- the files of the inputs
 abbrev pub inputs : List Rule
-inputs = needed (codes "settings") ∷ option (codes "values") ∷ needed (codes "demand") ∷ needed (codes "costs") ∷ needed (codes "capacity") ∷ []
+inputs = needed (codes "settings") ∷ option (codes "values") ∷ needed (codes "demand") ∷ needed (codes "costs")
+    ∷ needed (codes "capacity") ∷ []
 
 -- the name and the arguments of each command of hsplan
 abbrev pub commands : List (Text × List Rule)
-commands =
-    (codes "locate", option (codes "option") ∷ option (codes "servers") ∷ option (codes "settings") ∷ option (codes "values") ∷ word (codes "handle") ∷ [])
+commands = (
+  codes "locate",
+  option (codes "option") ∷ option (codes "servers") ∷ option (codes "settings")
+      ∷ option (codes "values") ∷ word (codes "handle") ∷ [],
+)
     ∷ (codes "site", option (codes "index") ∷ word (codes "file") ∷ [])
     ∷ (codes "plan", inputs)
     ∷ (codes "check", inputs ++ needed (codes "plan") ∷ [])
@@ -29,10 +33,17 @@ commands =
 
 -- the same of hsplan-stream
 abbrev pub stream_commands : List (Text × List Rule)
-stream_commands =
-    (codes "kinds", needed (codes "settings") ∷ option (codes "values") ∷ needed (codes "costs") ∷ option (codes "unit") ∷ needed (codes "log") ∷ [])
+stream_commands = (
+  codes "kinds",
+  needed (codes "settings") ∷ option (codes "values") ∷ needed (codes "costs")
+      ∷ option (codes "unit") ∷ needed (codes "log") ∷ [],
+)
     ∷ (codes "places", needed (codes "settings") ∷ option (codes "values") ∷ needed (codes "log") ∷ [])
-    ∷ (codes "answer", inputs ++ needed (codes "plan") ∷ needed (codes "log") ∷ option (codes "unit") ∷ option (codes "fronts") ∷ option (codes "front") ∷ [])
+    ∷ (
+      codes "answer",
+      inputs ++ needed (codes "plan") ∷ needed (codes "log") ∷ option (codes "unit")
+          ∷ option (codes "fronts") ∷ option (codes "front") ∷ [],
+    )
     ∷ []
 
 -- a command with these arguments, in this order
@@ -40,7 +51,8 @@ abbrev pub with_rules : App → List Rule → App
 with_rules app rules = fold with_rule app rules
 
 abbrev pub with_commands : App → List (Text × List Rule) → App
-with_commands app commands = fold (λ app command. with_subcommand app (with_rules (new_app command.0) command.1).top) app commands
+with_commands app commands =
+    fold (λ app command. with_subcommand app (with_rules (new_app command.0) command.1).top) app commands
 
 -- a program without its commands: the words don't begin with its name
 abbrev pub bare_app : Text → App

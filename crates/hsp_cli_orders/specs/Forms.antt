@@ -18,9 +18,11 @@ files_in texts = record {
 
 abbrev pub order_in : Form → Order
 order_in (form.LocatePlace option servers handle) = order.LocatePlace option.now servers.now handle.now
-order_in (form.LocateSites settings values handle) = order.LocateSites settings.now (option_map (λ t. t.now) values) handle.now
+order_in (form.LocateSites settings values handle) =
+    order.LocateSites settings.now (option_map (λ t. t.now) values) handle.now
 order_in (form.Site index file) = order.Site (option_map (λ t. t.now) index) file.now
 order_in (form.Plan inputs) = order.Plan (files_in inputs)
 order_in (form.Check inputs plan) = order.Check (files_in inputs) plan.now
-order_in (form.Dispatch inputs plan log fronts) = order.Dispatch (files_in inputs) plan.now log.now (option_map (λ t. t.now) fronts)
+order_in (form.Dispatch inputs plan log fronts) =
+    order.Dispatch (files_in inputs) plan.now log.now (option_map (λ t. t.now) fronts)
 order_in (form.Report inputs plan kind) = order.Report (files_in inputs) plan.now kind

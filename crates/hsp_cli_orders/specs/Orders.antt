@@ -25,19 +25,26 @@ kind_word Shortage = codes "shortage"
 -- the values of a subcommand are the order's
 abbrev pub IsOrderIn : Order → Text → List Row → Type 0
 IsOrderIn (order.LocatePlace option servers handle) name rows =
-    (name ≡ codes "locate") × (first_of (codes "option") rows ≡ Some option) × (first_of (codes "servers") rows ≡ Some servers)
-    × (first_of (codes "settings") rows ≡ None) × (first_of (codes "values") rows ≡ None) × (first_of (codes "handle") rows ≡ Some handle)
+    (name ≡ codes "locate") × (first_of (codes "option") rows ≡ Some option)
+    × (first_of (codes "servers") rows ≡ Some servers)
+    × (first_of (codes "settings") rows ≡ None) × (first_of (codes "values") rows ≡ None)
+    × (first_of (codes "handle") rows ≡ Some handle)
 IsOrderIn (order.LocateSites settings values handle) name rows =
     (name ≡ codes "locate") × (first_of (codes "option") rows ≡ None) × (first_of (codes "servers") rows ≡ None)
-    × (first_of (codes "settings") rows ≡ Some settings) × (first_of (codes "values") rows ≡ values) × (first_of (codes "handle") rows ≡ Some handle)
-IsOrderIn (order.Site index file) name rows = (name ≡ codes "site") × (first_of (codes "index") rows ≡ index) × (first_of (codes "file") rows ≡ Some file)
+    × (first_of (codes "settings") rows ≡ Some settings) × (first_of (codes "values") rows ≡ values)
+    × (first_of (codes "handle") rows ≡ Some handle)
+IsOrderIn (order.Site index file) name rows =
+    (name ≡ codes "site") × (first_of (codes "index") rows ≡ index) × (first_of (codes "file") rows ≡ Some file)
 IsOrderIn (order.Plan inputs) name rows = (name ≡ codes "plan") × HasInputs rows inputs
-IsOrderIn (order.Check inputs plan) name rows = (name ≡ codes "check") × HasInputs rows inputs × (first_of (codes "plan") rows ≡ Some plan)
+IsOrderIn (order.Check inputs plan) name rows =
+    (name ≡ codes "check") × HasInputs rows inputs × (first_of (codes "plan") rows ≡ Some plan)
 IsOrderIn (order.Dispatch inputs plan log fronts) name rows =
-    (name ≡ codes "dispatch") × HasInputs rows inputs × (first_of (codes "plan") rows ≡ Some plan) × (first_of (codes "log") rows ≡ Some log)
+    (name ≡ codes "dispatch") × HasInputs rows inputs × (first_of (codes "plan") rows ≡ Some plan)
+    × (first_of (codes "log") rows ≡ Some log)
     × (first_of (codes "fronts") rows ≡ fronts)
 IsOrderIn (order.Report inputs plan kind) name rows =
-    (name ≡ codes "report") × HasInputs rows inputs × (first_of (codes "plan") rows ≡ Some plan) × (first_of (codes "kind") rows ≡ Some (kind_word kind))
+    (name ≡ codes "report") × HasInputs rows inputs × (first_of (codes "plan") rows ≡ Some plan)
+    × (first_of (codes "kind") rows ≡ Some (kind_word kind))
 
 -- no value asks for a place
 abbrev pub HasNoPlace : List Row → Type 0

@@ -12,7 +12,8 @@ abbrev pub front_in : FrontTexts → FrontWords
 front_in texts = record { fronts = texts.fronts.now; front = texts.front.now }
 
 abbrev pub stream_order_in : StreamForm → StreamOrder
-stream_order_in (form.Kinds settings values costs unit log) = order.Kinds settings.now (option_map (λ t. t.now) values) costs.now (option_map (λ t. t.now) unit) log.now
+stream_order_in (form.Kinds settings values costs unit log) =
+    order.Kinds settings.now (option_map (λ t. t.now) values) costs.now (option_map (λ t. t.now) unit) log.now
 stream_order_in (form.Places settings values log) = order.Places settings.now (option_map (λ t. t.now) values) log.now
 stream_order_in (form.Answer inputs plan log unit front) =
     order.Answer (files_in inputs) plan.now log.now (option_map (λ t. t.now) unit) (option_map front_in front)

@@ -1,6 +1,7 @@
--- What an order of hsplan-stream holds: a request for help or for the version, or the subcommand that clap met in the words with the
--- values of its options.
-use Rattle.std.specs.Prelude.{◌≡◌, ◌||◌, ⊤, Bool, List, [], ◌∷◌, codes, Option, Some, None, Result, Ok, Err, if◌then◌else◌}
+-- What an order of hsplan-stream holds: a request for help or for the version, or the subcommand that clap met in the
+-- words with the values of its options.
+use Rattle.std.specs.Prelude.{◌≡◌, ◌||◌, ⊤, Bool, List, [], ◌∷◌, codes, Option, Some, None, Result, Ok, Err}
+use Rattle.std.specs.Prelude.{if◌then◌else◌}
 use Rattle.std.specs.Str.{bytes_eq}
 use Rattle.clap.specs.Words.{Row, Text, fault_of, first_of, subcommand_of}
 use Rattle.hsp_cli_options.specs.Commands.{stream_app}
@@ -31,20 +32,25 @@ asked (command ∷ second ∷ third ∷ more) = None
 -- the number of fronts and that of one of them are both given, or neither is
 abbrev pub HasFront : List Row → Option FrontWords → Type 0
 HasFront rows None = (first_of (codes "fronts") rows ≡ None) × (first_of (codes "front") rows ≡ None)
-HasFront rows (Some words) = (first_of (codes "fronts") rows ≡ Some words.fronts) × (first_of (codes "front") rows ≡ Some words.front)
+HasFront rows (Some words) =
+    (first_of (codes "fronts") rows ≡ Some words.fronts) × (first_of (codes "front") rows ≡ Some words.front)
 
 -- the values of a subcommand are the order's
 abbrev pub IsStreamOrderIn : StreamOrder → Text → List Row → Type 0
 IsStreamOrderIn order.Help name rows = ⊥
 IsStreamOrderIn order.Version name rows = ⊥
 IsStreamOrderIn (order.Kinds settings values costs unit log) name rows =
-    (name ≡ codes "kinds") × (first_of (codes "settings") rows ≡ Some settings) × (first_of (codes "values") rows ≡ values)
-    × (first_of (codes "costs") rows ≡ Some costs) × (first_of (codes "unit") rows ≡ unit) × (first_of (codes "log") rows ≡ Some log)
+    (name ≡ codes "kinds") × (first_of (codes "settings") rows ≡ Some settings)
+    × (first_of (codes "values") rows ≡ values)
+    × (first_of (codes "costs") rows ≡ Some costs) × (first_of (codes "unit") rows ≡ unit)
+    × (first_of (codes "log") rows ≡ Some log)
 IsStreamOrderIn (order.Places settings values log) name rows =
-    (name ≡ codes "places") × (first_of (codes "settings") rows ≡ Some settings) × (first_of (codes "values") rows ≡ values)
+    (name ≡ codes "places") × (first_of (codes "settings") rows ≡ Some settings)
+    × (first_of (codes "values") rows ≡ values)
     × (first_of (codes "log") rows ≡ Some log)
 IsStreamOrderIn (order.Answer inputs plan log unit front) name rows =
-    (name ≡ codes "answer") × HasInputs rows inputs × (first_of (codes "plan") rows ≡ Some plan) × (first_of (codes "log") rows ≡ Some log)
+    (name ≡ codes "answer") × HasInputs rows inputs × (first_of (codes "plan") rows ≡ Some plan)
+    × (first_of (codes "log") rows ≡ Some log)
     × (first_of (codes "unit") rows ≡ unit) × HasFront rows front
 
 -- the order of what clap's matches give
@@ -54,7 +60,8 @@ IsStreamOrder o (Some (name, rows)) = IsStreamOrderIn o name rows
 
 -- the words give no order: clap refuses them, or what it found in them is the values of none
 abbrev pub IsStreamUsage : List Text → Type 0
-IsStreamUsage words = fault_of stream_app words ≡ [] → (o : StreamOrder) → IsStreamOrder o (subcommand_of stream_app words) → ⊥
+IsStreamUsage words =
+    fault_of stream_app words ≡ [] → (o : StreamOrder) → IsStreamOrder o (subcommand_of stream_app words) → ⊥
 
 -- the order of a command, in whose words clap finds no fault; or they give none; or memory ran out
 abbrev pub IsCommandOrder : List Text → Result StreamOrder CommandFault → Type 0

@@ -1,5 +1,5 @@
-// The forms of the orders of `hsplan-stream`: their texts, as they stand among the words, and the orders that are copied
-// from them.
+// The forms of the orders of `hsplan-stream`: their texts, as they stand among the words, and the orders that are
+// copied from them.
 
 ghost use Rattle.std.specs.Prelude.{◌≡◌, IfOk, option_map};
 ghost use Rattle.hsp_cli_orders.specs.Forms.{files_in};

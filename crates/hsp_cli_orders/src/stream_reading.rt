@@ -1,10 +1,12 @@
 // The order that words give to `hsplan-stream`.
 
-ghost use Rattle.std.specs.Prelude.{◌≡◌, [], IfNone, IfOk, IfSome, OnOk, Err, None, codes, map, option_map, string_bytes};
+ghost use Rattle.std.specs.Prelude.{◌≡◌, [], IfNone, IfOk, IfSome, OnOk, Err, None, codes, map, option_map};
+ghost use Rattle.std.specs.Prelude.{string_bytes};
 ghost use Rattle.clap.specs.Words.{fault_of, found_of, rows_of, subcommand_of};
 ghost use Rattle.hsp_cli_options.specs.Commands.{stream_app};
 ghost use Rattle.hsp_cli_orders.specs.StreamForms.{front_in, stream_order_in};
-ghost use Rattle.hsp_cli_orders.specs.StreamOrders.{HasFront, IsStreamOrder, IsStreamOrderIn, IsStreamOrdered, IsStreamUsage, asked, is_help, is_version};
+ghost use Rattle.hsp_cli_orders.specs.StreamOrders.{HasFront, IsStreamOrder, IsStreamOrderIn, IsStreamOrdered};
+ghost use Rattle.hsp_cli_orders.specs.StreamOrders.{IsStreamUsage, asked, is_help, is_version};
 ghost use Rattle.hsp_cli_orders.specs.declared.fault.CommandFault.TheVariants as fault;
 ghost use Rattle.hsp_cli_orders.specs.declared.stream_order.FrontWords.{FrontWords};
 ghost use Rattle.hsp_cli_orders.specs.declared.stream_order.StreamOrder.{StreamOrder};

@@ -37,5 +37,7 @@ IsHeadless header (first ∷ more) = same_fields first header ≡ false
 
 -- a read of known octets took the header, or found that the text has another first record or none
 abbrev pub TakesHeader : {R : Type 0} → (R → Option (List ℕ)) → Fields → Reader R → Reader R → Bool → Type 0
-TakesHeader remaining header old new true = IsKnown remaining old → IsHeaded header (records_left remaining old) (records_left remaining new) × IsKnown remaining new
+TakesHeader remaining header old new true =
+    IsKnown remaining old
+    → IsHeaded header (records_left remaining old) (records_left remaining new) × IsKnown remaining new
 TakesHeader remaining header old new false = IsKnown remaining old → IsHeadless header (records_left remaining old)

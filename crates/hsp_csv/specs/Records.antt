@@ -1,6 +1,8 @@
--- The records of a text of comma-separated values, as the `csv` crate states its reading, and those that a reader has left.
+-- The records of a text of comma-separated values, as the `csv` crate states its reading, and those that a reader has
+-- left.
 use Rattle.std.specs.Prelude.{◌≡◌, ◌+◌, Bool, true, false, ℕ, List, [], ◌∷◌, length, Option, Some, None, IsSome}
-use Rattle.csv.specs.Reading.{Ready, default_config, is_flexible, reader_config, reader_state, reader_trim, records, records_from, source_of, strip_bom}
+use Rattle.csv.specs.Reading.{Ready, default_config, is_flexible, reader_config, reader_state, reader_trim, records}
+use Rattle.csv.specs.Reading.{records_from, source_of, strip_bom}
 use Rattle.csv.specs.declared.parser.State.{State}
 use Rattle.csv.specs.declared.reader.Reader.{Reader}
 use Rattle.csv.specs.declared.reader.Trim.TheVariants as trim
@@ -35,5 +37,6 @@ pub record IsReading {R : Type 0} (reader : Reader R) : Type 0 where
 
 -- a read of known octets took the first of the records that were left, or found that none was left
 abbrev pub TakesRecord : {R : Type 0} → (R → Option (List ℕ)) → Reader R → Reader R → Bool → Fields → Type 0
-TakesRecord remaining old new true fields = IsKnown remaining old → (records_left remaining old ≡ fields ∷ records_left remaining new) × IsKnown remaining new
+TakesRecord remaining old new true fields =
+    IsKnown remaining old → (records_left remaining old ≡ fields ∷ records_left remaining new) × IsKnown remaining new
 TakesRecord remaining old new false fields = IsKnown remaining old → records_left remaining old ≡ []

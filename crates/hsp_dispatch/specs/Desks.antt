@@ -6,7 +6,8 @@ use Rattle.hsp_check.specs.Plan.{Plan}
 use Rattle.hsp_dispatch.specs.Dispatch.{Entry, IsSame, all_of, answers, rest, sums_of}
 use Rattle.hsp_dispatch.specs.Fronts.{Event, Tables, entries_at, event_answers, front_sums_of, fronts_of, left_at_front}
 use Rattle.hsp_dispatch.specs.Lines.{front_line, line_of}
-use Rattle.hsp_dispatch.specs.Log.{AreEntries, AreEvents, IsBadBody, IsBadEvent, IsBadFront, IsBadHandle, front_header, header_of}
+use Rattle.hsp_dispatch.specs.Log.{AreEntries, AreEvents, IsBadBody, IsBadEvent, IsBadFront, IsBadHandle, front_header}
+use Rattle.hsp_dispatch.specs.Log.{header_of}
 use Rattle.hsp_dispatch.specs.Runs.{Desk}
 use Rattle.hsp_dispatch.specs.Shares.{Held, left_of}
 use Rattle.hsp_dispatch.specs.declared.answer.FrontAnswer.{FrontAnswer}

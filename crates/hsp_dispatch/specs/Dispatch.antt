@@ -1,5 +1,7 @@
--- How queries are dispatched by a plan: the spread of a row, the answers to the entries of a log, and what they leave of the plan.
-use Rattle.std.specs.Prelude.{◌≡◌, ◌+◌, ◌-◌, ◌==◌, ◌&&◌, Bool, true, false, ℕ, zero, suc, List, [], ◌∷◌, ◌++◌, count_by, length, position, replicate, Option, None, Some, if◌then◌else◌}
+-- How queries are dispatched by a plan: the spread of a row, the answers to the entries of a log, and what they leave
+-- of the plan.
+use Rattle.std.specs.Prelude.{◌≡◌, ◌+◌, ◌-◌, ◌==◌, ◌&&◌, Bool, true, false, ℕ, zero, suc, List, [], ◌∷◌, ◌++◌, count_by}
+use Rattle.std.specs.Prelude.{length, position, replicate, Option, None, Some, if◌then◌else◌}
 use Rattle.std.specs.List.{find, slice_get}
 use Rattle.hsp_instance.specs.Instance.{Instance, Server, has_keys}
 use Rattle.hsp_instance.specs.declared.arc.Arc.{Arc}
@@ -101,7 +103,8 @@ is_in it row site entry answer = is_for it row entry && is_at site answer
 abbrev pub count_in : Instance → ℕ → ℕ → List Entry → List Answer → ℕ
 count_in it row site [] given = 0
 count_in it row site (entry ∷ more) [] = 0
-count_in it row site (entry ∷ more) (answer ∷ given) = (if is_in it row site entry answer then 1 else 0) + count_in it row site more given
+count_in it row site (entry ∷ more) (answer ∷ given) =
+    (if is_in it row site entry answer then 1 else 0) + count_in it row site more given
 
 abbrev pub assigned_in : Instance → Plan → List Entry → Plan
 assigned_in it x entries row site = count_in it row site entries (answers it x entries)
@@ -133,7 +136,12 @@ is_unknown Unknown = true
 
 -- how many answers there are of each kind
 abbrev pub sums_of : List Answer → LogSums
-sums_of given = record { assigned = count_by is_assigned given; spent = count_by is_spent given; unknown = count_by is_unknown given }
+sums_of given =
+    record {
+      assigned = count_by is_assigned given;
+      spent = count_by is_spent given;
+      unknown = count_by is_unknown given;
+    }
 
 -- the same, where there are no fronts
 abbrev pub all_of : LogSums → FrontSums

@@ -7,13 +7,17 @@ use Rattle.hsp_check.specs.Plan.{Feasible, Plan}
 use Rattle.hsp_transport.specs.Sums.{sum_below}
 use Rattle.hsp_dispatch.specs.Desks.{IsLeftBy, answers_by}
 use Rattle.hsp_dispatch.specs.Dispatch.{IsSame, answers, row_of}
-use Rattle.hsp_dispatch.specs.Fronts.{AreFrontsOf, Event, IsTakenAt, Tables, answer_among, answers_at, assigned_by_all, entries_at, front_answer, front_answers, fronts_of, left_at_front, rest_at, share_of, shares_of}
+use Rattle.hsp_dispatch.specs.Fronts.{AreFrontsOf, Event, IsTakenAt, Tables, answer_among, answers_at, assigned_by_all}
+use Rattle.hsp_dispatch.specs.Fronts.{entries_at, front_answer, front_answers, fronts_of, left_at_front, rest_at}
+use Rattle.hsp_dispatch.specs.Fronts.{share_of, shares_of}
 use Rattle.hsp_dispatch.specs.declared.answer.Answer.TheVariants.{Spent}
 use Rattle.hsp_dispatch.specs.declared.answer.FrontAnswer.TheVariants.{Answered}
 
 -- what the plan sends of a row to a site is the sum of what the fronts' shares send there
 abbrev pub SharesAddUp : Type 0
-SharesAddUp = (fronts : ℕ) → 0 < fronts → (x : Plan) (row site : ℕ) → sum_below fronts (λ front. shares_of fronts x front row site) ≡ x row site
+SharesAddUp =
+    (fronts : ℕ) → 0 < fronts → (x : Plan) (row site : ℕ)
+    → sum_below fronts (λ front. shares_of fronts x front row site) ≡ x row site
 
 -- the fronts hold what events leave of their shares
 pub record AreFrontsAfter (it : Instance) (x : Plan) (fronts : ℕ) (events : List Event) (tables : Tables) : Type 0 where
@@ -23,25 +27,31 @@ pub record AreFrontsAfter (it : Instance) (x : Plan) (fronts : ℕ) (events : Li
 
 -- fronts begin with no events behind them; each event is answered by its front's share and the earlier entries there
 abbrev pub BeginsWithShares : Type 0
-BeginsWithShares = (it : Instance) (x : Plan) (fronts : ℕ) (tables : Tables) → AreFrontsOf it x fronts tables → AreFrontsAfter it x fronts [] tables
+BeginsWithShares =
+    (it : Instance) (x : Plan) (fronts : ℕ) (tables : Tables) → AreFrontsOf it x fronts tables
+    → AreFrontsAfter it x fronts [] tables
 
 abbrev pub AnswersByShares : Type 0
 AnswersByShares =
-    (it : Instance) (x : Plan) (fronts : ℕ) (events : List Event) (event : Event) (old new : Tables) → AreFrontsAfter it x fronts events old
+    (it : Instance) (x : Plan) (fronts : ℕ) (events : List Event) (event : Event) (old new : Tables)
+    → AreFrontsAfter it x fronts events old
     → IsTakenAt event.front event.entry old new
-    → (answer_among old event.front event.entry ≡ front_answer it fronts x events event) × AreFrontsAfter it x fronts (events ++ event ∷ []) new
+    → (answer_among old event.front event.entry ≡ front_answer it fronts x events event)
+    × AreFrontsAfter it x fronts (events ++ event ∷ []) new
 
 -- the answers at a front are those of a dispatcher that has the front's share, to the front's own entries
 abbrev pub AnswersAsDispatchers : Type 0
 AnswersAsDispatchers =
     (it : Instance) (fronts : ℕ) (x : Plan) (front : ℕ) (events : List Event) → front < fronts
-    → answers_at front events (front_answers it fronts x events) ≡ map Answered (answers it (share_of fronts front x) (entries_at front events))
+    → answers_at front events (front_answers it fronts x events)
+    ≡ map Answered (answers it (share_of fronts front x) (entries_at front events))
 
 -- Fronts hold what events leave of their shares. Then they answer more events as those stand in one list, and hold
 -- what that list leaves.
 abbrev pub FrontsGoOn : Type 0
 FrontsGoOn =
-    (it : Instance) (x : Plan) (fronts : ℕ) (events more : List Event) (old new : Tables) → AreFrontsAfter it x fronts events old → IsLeftBy old more new
+    (it : Instance) (x : Plan) (fronts : ℕ) (events more : List Event) (old new : Tables)
+    → AreFrontsAfter it x fronts events old → IsLeftBy old more new
     → (front_answers it fronts x (events ++ more) ≡ front_answers it fronts x events ++ answers_by old more)
     × AreFrontsAfter it x fronts (events ++ more) new
 
@@ -61,7 +71,8 @@ EndsInTheSame =
 -- all fronts together have no more of a row's entries assigned to a site than the plan sends there
 abbrev pub NeverExceedsTogether : Type 0
 NeverExceedsTogether =
-    (it : Instance) (fronts : ℕ) (x : Plan) (events : List Event) (row site : ℕ) → 0 < fronts → assigned_by_all it fronts x events row site ≤ x row site
+    (it : Instance) (fronts : ℕ) (x : Plan) (events : List Event) (row site : ℕ) → 0 < fronts
+    → assigned_by_all it fronts x events row site ≤ x row site
 
 -- among the events is one at the front, of the row, that is answered by Spent
 pub record WasSpentAt (it : Instance) (fronts : ℕ) (x : Plan) (row front : ℕ) (events : List Event) : Type 0 where
@@ -83,6 +94,7 @@ IsSpentTogether =
 -- and where the plan is feasible, that is the whole number of the row
 abbrev pub IsServedTogether : Type 0
 IsServedTogether =
-    (it : Instance) (fronts : ℕ) (x : Plan) (events : List Event) (row : ℕ) (own : Row) → IsInstance it → Feasible (network_of it) x → 0 < fronts
+    (it : Instance) (fronts : ℕ) (x : Plan) (events : List Event) (row : ℕ) (own : Row) → IsInstance it
+    → Feasible (network_of it) x → 0 < fronts
     → slice_get it.rows row ≡ Some own → ((front : ℕ) → front < fronts → WasSpentAt it fronts x row front events)
     → sum_below (length it.sites) (λ site. assigned_by_all it fronts x events row site) ≡ own.count

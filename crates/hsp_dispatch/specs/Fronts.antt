@@ -1,8 +1,10 @@
 -- Fronts: dispatchers that share one plan, each with a fixed share of it.
-use Rattle.std.specs.Prelude.{◌≡◌, ◌≢◌, ◌<◌, ◌+◌, ◌-◌, ◌/◌, ◌%◌, ◌==◌, nat_lt, Bool, true, false, ℕ, List, [], ◌∷◌, ◌++◌, count_by, map, slice_index_or, Some, if◌then◌else◌}
+use Rattle.std.specs.Prelude.{◌≡◌, ◌≢◌, ◌<◌, ◌+◌, ◌-◌, ◌/◌, ◌%◌, ◌==◌, nat_lt, Bool, true, false, ℕ, List, [], ◌∷◌}
+use Rattle.std.specs.Prelude.{◌++◌, count_by, map, slice_index_or, Some, if◌then◌else◌}
 use Rattle.hsp_instance.specs.Instance.{Instance, IsInstance}
 use Rattle.hsp_check.specs.Plan.{Plan}
-use Rattle.hsp_dispatch.specs.Dispatch.{Entry, IsSame, answer_to, each_after, is_assigned, is_in, is_spent, is_unknown, rest, row_of}
+use Rattle.hsp_dispatch.specs.Dispatch.{Entry, IsSame, answer_to, each_after, is_assigned, is_in, is_spent, is_unknown}
+use Rattle.hsp_dispatch.specs.Dispatch.{rest, row_of}
 use Rattle.hsp_dispatch.specs.Shares.{Held, IsHeld, left_of}
 use Rattle.hsp_dispatch.specs.declared.answer.Answer.{Answer}
 use Rattle.hsp_dispatch.specs.declared.answer.FrontAnswer.{FrontAnswer}
@@ -30,12 +32,14 @@ share_of fronts front x row site = share fronts front (x row site)
 -- the entries at a front
 abbrev pub entries_at : ℕ → List Event → List Entry
 entries_at front [] = []
-entries_at front (event ∷ events) = if event.front == front then event.entry ∷ entries_at front events else entries_at front events
+entries_at front (event ∷ events) =
+    if event.front == front then event.entry ∷ entries_at front events else entries_at front events
 
 -- An event is answered by the table of its front and the earlier entries there.
 abbrev pub event_answer : Instance → ℕ → (ℕ → Plan) → List Event → Event → FrontAnswer
 event_answer it fronts tables earlier event =
-    if nat_lt event.front fronts then Answered (answer_to it (tables event.front) (entries_at event.front earlier) event.entry) else NoFront
+    if nat_lt event.front fronts
+    then Answered (answer_to it (tables event.front) (entries_at event.front earlier) event.entry) else NoFront
 
 -- the answers to events, after earlier ones
 unfoldable pub event_answers_after : Instance → ℕ → (ℕ → Plan) → List Event → List Event → List FrontAnswer
@@ -58,7 +62,8 @@ front_answers it fronts x events = event_answers it fronts (shares_of fronts x) 
 abbrev pub answers_at : ℕ → List Event → List FrontAnswer → List FrontAnswer
 answers_at front [] given = []
 answers_at front (event ∷ events) [] = []
-answers_at front (event ∷ events) (answer ∷ given) = if event.front == front then answer ∷ answers_at front events given else answers_at front events given
+answers_at front (event ∷ events) (answer ∷ given) =
+    if event.front == front then answer ∷ answers_at front events given else answers_at front events given
 
 -- ---- what is left
 
@@ -84,11 +89,13 @@ assigned_at it fronts x front events row site =
     count_in_fronts it row site (entries_at front events) (answers_at front events (front_answers it fronts x events))
 
 abbrev pub assigned_by_all : Instance → ℕ → Plan → List Event → Plan
-assigned_by_all it fronts x events row site = count_in_fronts it row site (entries_of events) (front_answers it fronts x events)
+assigned_by_all it fronts x events row site =
+    count_in_fronts it row site (entries_of events) (front_answers it fronts x events)
 
 -- what events leave of the share of a front
 abbrev pub rest_at : Instance → ℕ → Plan → ℕ → List Event → Plan
-rest_at it fronts x front events row site = share_of fronts front x row site - assigned_at it fronts x front events row site
+rest_at it fronts x front events row site =
+    share_of fronts front x row site - assigned_at it fronts x front events row site
 
 -- ---- sums
 
@@ -143,13 +150,15 @@ pub record AreFrontsOf (it : Instance) (x : Plan) (fronts : ℕ) (tables : Table
 -- the answer to an entry at a front, by what is left there
 abbrev pub answer_among : Tables → ℕ → Entry → FrontAnswer
 answer_among tables front entry =
-    if nat_lt front (fronts_of tables) then Answered (answer_to tables.instance (left_at_front tables front) [] entry) else NoFront
+    if nat_lt front (fronts_of tables)
+    then Answered (answer_to tables.instance (left_at_front tables front) [] entry) else NoFront
 
 -- an entry is taken of what its front has left; the others have left what they had
 pub record IsTakenAt (front : ℕ) (entry : Entry) (old new : Tables) : Type 0 where
   pub instance : new.instance ≡ old.instance
   pub many : fronts_of new ≡ fronts_of old
-  pub own : front < fronts_of old → IsSame (left_at_front new front) (rest old.instance (left_at_front old front) (entry ∷ []))
+  pub own : front < fronts_of old
+      → IsSame (left_at_front new front) (rest old.instance (left_at_front old front) (entry ∷ []))
   pub others : (other : ℕ) → other ≢ front → IsSame (left_at_front new other) (left_at_front old other)
 
 -- every entry for a row is taken of what a front has left

@@ -9,7 +9,8 @@ use Rattle.hsp_dispatch.specs.declared.answer.FrontAnswer.{FrontAnswer}
 use Rattle.hsp_dispatch.specs.declared.answer.FrontAnswer.TheVariants.{Answered, NoFront}
 use Rattle.hsp_dispatch.specs.declared.answer.FrontSums.{FrontSums}
 use Rattle.hsp_dispatch.specs.declared.answer.Given.{Given}
-use Rattle.hsp_dispatch.specs.declared.answer.Given.TheVariants.{NoFront as IsNoFront, Server as ByServer, Spent as IsSpent, Unknown as IsUnknown}
+use Rattle.hsp_dispatch.specs.declared.answer.Given.TheVariants.{NoFront as IsNoFront, Server as ByServer}
+use Rattle.hsp_dispatch.specs.declared.answer.Given.TheVariants.{Spent as IsSpent, Unknown as IsUnknown}
 
 abbrev pub name_in : Option Site → List ℕ
 name_in None = []

@@ -26,17 +26,20 @@ header_of Bodies = codes "region" ∷ codes "body" ∷ []
 abbrev pub front_header : Fields
 front_header = codes "front" ∷ codes "region" ∷ codes "handle" ∷ []
 
--- the octets of a handle that the second field of a row gives: the field itself, or the handle of the body of a resolution
--- request that its hexadecimal digits spell
+-- the octets of a handle that the second field of a row gives: the field itself, or the handle of the body of a
+-- resolution request that its hexadecimal digits spell
 abbrev pub Gives : Form → List ℕ → List ℕ → Type 0
 Gives Handles field octets = octets ≡ field
-Gives Bodies field octets = (body : List ℕ) × (request : RequestBody) × (decode_of field ≡ Ok body) × Means request_format body (Ok request) × (octets ≡ request.handle)
+Gives Bodies field octets =
+    (body : List ℕ) × (request : RequestBody) × (decode_of field ≡ Ok body) × Means request_format body (Ok request)
+    × (octets ≡ request.handle)
 
 -- the entry that a row spells: two fields, the second of which gives a handle
 abbrev pub IsEntryIn : Form → Fields → Entry → Type 0
 IsEntryIn form [] entry = ⊥
 IsEntryIn form (region ∷ []) entry = ⊥
-IsEntryIn form (region ∷ field ∷ []) entry = (entry.region ≡ region) × Gives form field entry.handle × (handle_in entry.handle ≡ Ok entry.handle)
+IsEntryIn form (region ∷ field ∷ []) entry =
+    (entry.region ≡ region) × Gives form field entry.handle × (handle_in entry.handle ≡ Ok entry.handle)
 IsEntryIn form (region ∷ field ∷ third ∷ more) entry = ⊥
 
 -- rows with their entries
@@ -72,7 +75,9 @@ abbrev pub IsEventIn : Fields → Event → Type 0
 IsEventIn [] event = ⊥
 IsEventIn (front ∷ []) event = ⊥
 IsEventIn (front ∷ region ∷ []) event = ⊥
-IsEventIn (front ∷ region ∷ handle ∷ []) event = IsFront front event.front × (event.entry.region ≡ region) × (event.entry.handle ≡ handle) × (handle_in handle ≡ Ok handle)
+IsEventIn (front ∷ region ∷ handle ∷ []) event =
+    IsFront front event.front × (event.entry.region ≡ region) × (event.entry.handle ≡ handle)
+    × (handle_in handle ≡ Ok handle)
 IsEventIn (front ∷ region ∷ handle ∷ fourth ∷ more) event = ⊥
 
 -- rows with their events

@@ -27,7 +27,8 @@ with_part part cell = record cell { left = part cell.left }
 -- the cells with a part of what each has; those of which nothing is left are left out
 abbrev pub parts_in : (ℕ → ℕ) → List Cell → List Cell
 parts_in part [] = []
-parts_in part (cell ∷ cells) = if part cell.left == 0 then parts_in part cells else record cell { left = part cell.left } ∷ parts_in part cells
+parts_in part (cell ∷ cells) =
+    if part cell.left == 0 then parts_in part cells else record cell { left = part cell.left } ∷ parts_in part cells
 
 -- for each row the cells that the uses give it, with a part of what each has
 pub record AreSharesOf (part : ℕ → ℕ) (it : Instance) (uses : List UseLine) (shares : List (List Cell)) : Type 0 where

@@ -1,5 +1,6 @@
 -- What a dispatcher holds: for each row, how many of its queries are left for which site.
-use Rattle.std.specs.Prelude.{◌≡◌, ◌-◌, ◌<◌, ◌==◌, ⊤, true, ℕ, List, [], ◌∷◌, length, slice_index_or, All, Option, None, Some, if◌then◌else◌}
+use Rattle.std.specs.Prelude.{◌≡◌, ◌-◌, ◌<◌, ◌==◌, ⊤, true, ℕ, List, [], ◌∷◌, length, slice_index_or, All, Option, None}
+use Rattle.std.specs.Prelude.{Some, if◌then◌else◌}
 use Rattle.std.specs.List.{AllByRecursion, list_all, slice_get}
 use Rattle.hsp_instance.specs.Instance.{Instance, IsInstance}
 use Rattle.hsp_instance.specs.declared.arc.Arc.{Arc}
@@ -27,7 +28,8 @@ left_at (cell ∷ cells) site = if cell.site == site then cell.left else left_at
 -- in ascending order of the sites, and nothing is used up
 abbrev pub AreCells : List Cell → Type 0
 AreCells [] = ⊤
-AreCells (cell ∷ cells) = (0 < cell.left) × (AllByRecursion (λ (later : Cell). cell.site < later.site) cells × AreCells cells)
+AreCells (cell ∷ cells) =
+    (0 < cell.left) × (AllByRecursion (λ (later : Cell). cell.site < later.site) cells × AreCells cells)
 
 -- the first cell
 abbrev pub first_of : List Cell → Option Cell
@@ -93,7 +95,8 @@ number_of (Some arc) = arc.server
 
 -- the cell that a use gives its row
 abbrev pub cell_of : Instance → UseLine → Cell
-cell_of it one = record { site = one.site; server = number_of (arc_to one.site (slice_get it.arcs one.row)); left = one.count }
+cell_of it one =
+    record { site = one.site; server = number_of (arc_to one.site (slice_get it.arcs one.row)); left = one.count }
 
 -- the cells that uses give a row
 abbrev pub cells_of : Instance → ℕ → List UseLine → List Cell

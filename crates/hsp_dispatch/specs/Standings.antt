@@ -1,5 +1,6 @@
 -- Where fronts stand among the cells of a row.
-use Rattle.std.specs.Prelude.{Option, Some, None, IfSome, ◌≡◌, ◌≤◌, ◌+◌, ◌-◌, ◌*◌, ◌==◌, nat_lt, slice_index, ℕ, zero, suc, List, [], ◌∷◌, ◌++◌, drop, map, if◌then◌else◌}
+use Rattle.std.specs.Prelude.{Option, Some, None, IfSome, ◌≡◌, ◌≤◌, ◌+◌, ◌-◌, ◌*◌, ◌==◌, nat_lt, slice_index, ℕ, zero}
+use Rattle.std.specs.Prelude.{suc, List, [], ◌∷◌, ◌++◌, drop, map, if◌then◌else◌}
 use Rattle.std.specs.List.{AllByRecursion, AllZip, flat_map, range_with_len}
 use Rattle.hsp_text.specs.declared.limits.TheConstants.{GREATEST_COUNT}
 use Rattle.hsp_dispatch.specs.Fronts.{share}
@@ -33,7 +34,8 @@ left_from fronts front left (cell ∷ later) = record cell { left = left } ∷ s
 
 -- the cells that a front has left, by where it stands
 abbrev pub cells_left : ℕ → ℕ → List Cell → Standing → List Cell
-cells_left fronts front cells standing = if standing.left == 0 then [] else left_from fronts front standing.left (drop standing.cell cells)
+cells_left fronts front cells standing =
+    if standing.left == 0 then [] else left_from fronts front standing.left (drop standing.cell cells)
 
 -- ---- all fronts and rows
 
@@ -45,7 +47,8 @@ place_of fronts front row = row * fronts + front
 abbrev pub lefts_from : ℕ → ℕ → ℕ → List (List Cell) → List ℕ → List (List Cell)
 lefts_from fronts front row [] lefts = []
 lefts_from fronts front row (cells ∷ rows) lefts =
-    left_among fronts front (slice_index lefts (place_of fronts front row)) cells ∷ lefts_from fronts front (row + 1) rows lefts
+    left_among fronts front (slice_index lefts (place_of fronts front row)) cells
+    ∷ lefts_from fronts front (row + 1) rows lefts
 
 -- the same of each front
 abbrev pub lefts_of : ℕ → List (List Cell) → List ℕ → List (List (List Cell))

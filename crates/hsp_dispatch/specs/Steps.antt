@@ -51,9 +51,11 @@ abbrev pub BeginsWithNone : RowAnswers → Type 0
 BeginsWithNone Answers = (form : Form) → Answers form [] [] none_counted
 
 -- One row more is answered, by this line: whatever was answered before, since any start with the same instance.
-abbrev pub GoesOn : {S : Type 0} → (S → Instance) → (S → S → RowAnswers) → S → S → Form → Fields → List ℕ → Given → Type 0
+abbrev pub GoesOn : {S : Type 0} → (S → Instance) → (S → S → RowAnswers) → S → S → Form → Fields → List ℕ → Given
+    → Type 0
 GoesOn {S} instance Answers old new form row line given =
-    (start : S) (rows : List Fields) (lines : List (List ℕ)) (sums : FrontSums) → instance old ≡ instance start → Answers start old form rows lines sums
+    (start : S) (rows : List Fields) (lines : List (List ℕ)) (sums : FrontSums) → instance old ≡ instance start
+    → Answers start old form rows lines sums
     → Answers start new form (rows ++ row ∷ []) (lines ++ line ∷ []) (counted sums given)
 
 -- a row of this number is refused by a fault that names it, or memory runs out
@@ -76,10 +78,12 @@ log_left remaining reader = records_in (reader_state reader) (source_of remainin
 
 -- the header was read, or the log has none, or a read failed
 abbrev pub TakesHeader : {R : Type 0} → (R → Option (List ℕ)) → Reader R → Reader R → Fields → Type 0
-TakesHeader remaining old new header = IsKnown remaining old → (records_left remaining old ≡ header ∷ records_left remaining new) × IsKnown remaining new
+TakesHeader remaining old new header =
+    IsKnown remaining old → (records_left remaining old ≡ header ∷ records_left remaining new) × IsKnown remaining new
 
 abbrev pub FailsHeader : {R : Type 0} → (R → Option (List ℕ)) → Reader R → (Form → Fields) → LogFault → Type 0
-FailsHeader remaining old header fault.Header = IsKnown remaining old → IsUnheaded header (Some (records_left remaining old))
+FailsHeader remaining old header fault.Header =
+    IsKnown remaining old → IsUnheaded header (Some (records_left remaining old))
 FailsHeader remaining old header fault.ReadFailed = ⊤
 FailsHeader remaining old header fault.OutOfMemory = ⊤
 FailsHeader remaining old header other = ⊥

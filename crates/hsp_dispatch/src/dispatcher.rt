@@ -4,7 +4,8 @@ ghost use Rattle.std.specs.Prelude.{◌≡◌, ◌<◌, ◌≤◌, IfOk, IfSome,
 ghost use Rattle.hsp_instance.specs.Instance.{IsInstance};
 ghost use Rattle.hsp_dispatch.specs.Dispatch.{IsSame};
 ghost use Rattle.hsp_dispatch.specs.Portions.{portion_of};
-ghost use Rattle.hsp_dispatch.specs.Shares.{IsLeftBy, IsPlanFor, IsRestOf, answer_by, first_answer, left_of, plan_of, query, taken_answer};
+ghost use Rattle.hsp_dispatch.specs.Shares.{IsLeftBy, IsPlanFor, IsRestOf, answer_by, first_answer, left_of, plan_of};
+ghost use Rattle.hsp_dispatch.specs.Shares.{query, taken_answer};
 ghost use Rattle.hsp_dispatch.specs.declared.portion.TheConstants.{GREATEST_UNIT};
 
 use crate::answer::Answer;
@@ -32,7 +33,8 @@ impl<'a> Model for Dispatcher<'a> {
 
     ghost view = { λ d. record { instance = d.instance.now; shares = d.shares.items } };
 
-    ghost invariant = { λ d. IsHeld (record { instance = d.instance.now; shares = d.shares.items }) };
+    ghost invariant = { λ d.
+        IsHeld (record { instance = d.instance.now; shares = d.shares.items }) };
 }
 
 impl<'a> Dispatcher<'a> {

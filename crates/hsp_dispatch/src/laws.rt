@@ -1,7 +1,10 @@
 // What holds of every plan and every log.
 
-ghost use Rattle.hsp_dispatch.specs.FrontLaws.{AnswersAsDispatchers, AnswersByShares, BeginsWithShares, EndsInTheSame, FrontsGoOn, GoesByItsEntries, IsServedTogether, IsSpentTogether, NeverExceedsTogether, SharesAddUp};
-ghost use Rattle.hsp_dispatch.specs.Laws.{DispatcherGoesOn, GoesByHash, GoesOnWithTheRest, IsServedWhole, IsSpentAfterAll, NeverExceeds};
+ghost use Rattle.hsp_dispatch.specs.FrontLaws.{AnswersAsDispatchers, AnswersByShares, BeginsWithShares, EndsInTheSame};
+ghost use Rattle.hsp_dispatch.specs.FrontLaws.{FrontsGoOn, GoesByItsEntries, IsServedTogether, IsSpentTogether};
+ghost use Rattle.hsp_dispatch.specs.FrontLaws.{NeverExceedsTogether, SharesAddUp};
+ghost use Rattle.hsp_dispatch.specs.Laws.{DispatcherGoesOn, GoesByHash, GoesOnWithTheRest, IsServedWhole};
+ghost use Rattle.hsp_dispatch.specs.Laws.{IsSpentAfterAll, NeverExceeds};
 
 /// No log has more of a row's entries assigned to a site than the plan sends there. Where an entry is answered `Spent`,
 /// all that the plan sends of its row was assigned before. If the plan is feasible, that is the row's whole number.
@@ -17,8 +20,8 @@ pub fn log_in_parts()
 {}
 
 /// Over all calls the answers are those to one list of all entries, or of all events, so far. What is left is what that
-/// list leaves. This holds for any mixture of `assign` and `run_log` on a dispatcher, and of `assign` and `run_fronts` on
-/// fronts, also after faults.
+/// list leaves. This holds for any mixture of `assign` and `run_log` on a dispatcher, and of `assign` and `run_fronts`
+/// on fronts, also after faults.
 pub fn over_all_calls()
     ensures dispatcher { DispatcherGoesOn }
     ensures fronts { FrontsGoOn }

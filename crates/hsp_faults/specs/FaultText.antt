@@ -15,7 +15,10 @@ use Rattle.hsp_cert.specs.declared.fault.CertFault.TheVariants as cert_fault
 use Rattle.hsp_dispatch.specs.declared.fault.LogFault.{LogFault}
 use Rattle.hsp_dispatch.specs.declared.fault.LogFault.TheVariants as log_fault
 use Rattle.hsp_faults.specs.declared.fault.Fault.{Fault}
-use Rattle.hsp_faults.specs.declared.fault.Fault.TheVariants.{BadOption, BadServers, BadIndex, Handle, Site, Settings, Values, NoValue, NotSiteValue, Demand, Costs, Capacity, Build, Cert, Refused, WrongKind, OutOfMemory, Log, BadFronts}
+use Rattle.hsp_faults.specs.declared.fault.Fault.TheVariants.{BadOption, BadServers, BadIndex, Handle, Site, Settings}
+use Rattle.hsp_faults.specs.declared.fault.Fault.TheVariants.{Values, NoValue, NotSiteValue, Demand, Costs, Capacity}
+use Rattle.hsp_faults.specs.declared.fault.Fault.TheVariants.{Build, Cert, Refused, WrongKind, OutOfMemory, Log}
+use Rattle.hsp_faults.specs.declared.fault.Fault.TheVariants.{BadFronts}
 use Rattle.hsp_faults.specs.VerdictText.{reason_word}
 
 abbrev pub handle_words : HandleFault → List ℕ
@@ -74,7 +77,8 @@ build_words (build_fault.ServerIdTwice site) = site_words (codes "ServerIdTwice"
 build_words build_fault.TooManyServers = codes "TooManyServers"
 build_words (build_fault.UnknownSite named row) = row_words (codes "UnknownSite table " ++ table_name named) row
 build_words (build_fault.UnknownServer row) = row_words (codes "UnknownServer") row
-build_words (build_fault.NoCapacity site id) = site_words (codes "NoCapacity") site ++ (codes " server_id " ++ decimal id)
+build_words (build_fault.NoCapacity site id) =
+    site_words (codes "NoCapacity") site ++ (codes " server_id " ++ decimal id)
 build_words build_fault.OutOfMemory = codes "OutOfMemory"
 
 abbrev pub cert_words : CertFault → List ℕ

@@ -5,4 +5,6 @@ use Rattle.hsp_dispatch.specs.declared.answer.LogSums.{LogSums}
 -- how many entries were answered by each kind of answer
 abbrev pub sums_text : LogSums → List ℕ
 sums_text sums =
-    codes "assigned " ++ (decimal sums.assigned ++ (codes " spent " ++ (decimal sums.spent ++ (codes " unknown " ++ (decimal sums.unknown ++ 10 ∷ [])))))
+    codes "assigned "
+    ++ (decimal sums.assigned
+    ++ (codes " spent " ++ (decimal sums.spent ++ (codes " unknown " ++ (decimal sums.unknown ++ 10 ∷ [])))))

@@ -1,7 +1,9 @@
 -- The line that states a verdict.
 use Rattle.std.specs.Prelude.{◌++◌, ◌∷◌, [], ℕ, List, codes, decimal}
 use Rattle.hsp_check.specs.declared.verdict.Reason.{Reason}
-use Rattle.hsp_check.specs.declared.verdict.Reason.TheVariants.{Shape, NoSuchUse, RowSum, Load, Cost, ArcPrice, UsedArcPrice, IdlePrice, DemandSum, CapacitySum, NotShort}
+use Rattle.hsp_check.specs.declared.verdict.Reason.TheVariants.{Shape, NoSuchUse, RowSum, Load, Cost, ArcPrice}
+use Rattle.hsp_check.specs.declared.verdict.Reason.TheVariants.{UsedArcPrice, IdlePrice, DemandSum, CapacitySum}
+use Rattle.hsp_check.specs.declared.verdict.Reason.TheVariants.{NotShort}
 use Rattle.hsp_check.specs.declared.verdict.Verdict.{Verdict}
 use Rattle.hsp_check.specs.declared.verdict.Verdict.TheVariants.{Yes, No}
 use Rattle.hsp_check.specs.Verdict.{number}

@@ -3,7 +3,8 @@
 ghost use Rattle.std.specs.Prelude.{◌≡◌, ◌++◌, ◌∷◌, OnOk, decimal};
 ghost use Rattle.hsp_tables.specs.declared.fault.TableFault.TheVariants as table_fault;
 ghost use Rattle.hsp_instance.specs.declared.fault.BuildFault.TheVariants as build_fault;
-ghost use Rattle.hsp_faults.specs.FaultText.{build_words, cert_words, handle_words, host_words, log_words, record_words, row_words, site_words, table_name, table_words};
+ghost use Rattle.hsp_faults.specs.FaultText.{build_words, cert_words, handle_words, host_words, log_words};
+ghost use Rattle.hsp_faults.specs.FaultText.{record_words, row_words, site_words, table_name, table_words};
 
 use hsp_cert::CertFault;
 use hsp_dispatch::LogFault;

@@ -13,8 +13,6 @@ mod names_tests;
 #[cfg(test)]
 mod record_tests;
 #[cfg(test)]
-mod same;
-#[cfg(test)]
 mod tables_tests;
 #[cfg(test)]
 mod text_tests;

@@ -21,7 +21,8 @@ digest option handle = md5 (map to_ascii_uppercase (hashed_part option handle))
 abbrev pub absolute_value : ℕ → ℕ
 absolute_value v = if nat_lt v (2 ^ 31) then v else 2 ^ 32 - v
 
--- the last four octets of a digest, the most significant first, as such an integer; its absolute value modulo the servers
+-- the last four octets of a digest, the most significant first, as such an integer; its absolute value modulo the
+-- servers
 abbrev pub place_of_digest : List ℕ → ℕ → ℕ
 place_of_digest octets servers = absolute_value (big_number 4 (drop 12 octets)) % servers
 

@@ -1,6 +1,6 @@
 -- The headline on one page: which inputs are accepted, which instance they define, what plans show of it, and that runs
--- answer wherever one is defined. These are relations between texts and what they hold, and of faults they name one: that
--- memory ran out. laws.rt ties them to the runs.
+-- answer wherever one is defined. These are relations between texts and what they hold, and of faults they name one:
+-- that memory ran out. laws.rt ties them to the runs.
 --
 -- Read before it: handles in hsp_names/specs/Handle.antt (RFC 3651, section 2), value lists and site records in
 -- hsp_record/specs (RFC 3651, sections 3.1 and 3.2.2), the responsible server in hsp_hash/specs/Place.antt (RFC 3652,

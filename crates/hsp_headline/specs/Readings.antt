@@ -19,7 +19,8 @@ ReadsSettings octets answer = answer ≡ told_as Settings (settings_of octets)
 -- the value list that octets spell
 abbrev pub AreListed : List ℕ → Result (List HandleValue) Fault → Type 0
 AreListed octets answer =
-    (reading : Result (List HandleValue) RecordFault) × Means values_format octets reading × (reading ≢ Err record_fault.OutOfMemory) × (answer ≡ told_as Values reading)
+    (reading : Result (List HandleValue) RecordFault) × Means values_format octets reading
+    × (reading ≢ Err record_fault.OutOfMemory) × (answer ≡ told_as Values reading)
 
 -- the same where a list is given
 abbrev pub some_list : Result (List HandleValue) Fault → Result (Option (List HandleValue)) Fault
@@ -28,11 +29,13 @@ some_list (Err e) = Err e
 
 abbrev pub ReadsValues : Option (List ℕ) → Result (Option (List HandleValue)) Fault → Type 0
 ReadsValues None answer = answer ≡ Ok None
-ReadsValues (Some octets) answer = (reading : Result (List HandleValue) Fault) × AreListed octets reading × (answer ≡ some_list reading)
+ReadsValues (Some octets) answer =
+    (reading : Result (List HandleValue) Fault) × AreListed octets reading × (answer ≡ some_list reading)
 
 -- the sites of settings and values
 abbrev pub AreSites : SettingsEntries → Option (List HandleValue) → Result (List Site) Fault → Type 0
-AreSites settings values answer = (sites : Result (List Site) BuildFault) × AreSitesOf settings values sites × (answer ≡ told_as Build sites)
+AreSites settings values answer =
+    (sites : Result (List Site) BuildFault) × AreSitesOf settings values sites × (answer ≡ told_as Build sites)
 
 -- the sites that the octets of settings and of values define
 abbrev pub AreSitesIn : List ℕ → Option (List ℕ) → Result (List Site) Fault → Type 0

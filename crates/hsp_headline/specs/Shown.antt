@@ -15,9 +15,9 @@ use Rattle.hsp_transport.specs.Sums.{times}
 use Rattle.hsp_check.specs.Uses.{table}
 use Rattle.hsp_check.specs.Verdict.{is_one_of}
 
--- The plan is best: feasible, and no feasible plan costs less. It has the stated cost, no arc's reduced cost is negative,
--- an arc in use has reduced cost 0, and servers and hosts with room left have price 0 (complementary slackness, section
--- 9.3). What its rows pay is the cost and what servers and hosts earn (section 9.4).
+-- The plan is best: feasible, and no feasible plan costs less. It has the stated cost, no arc's reduced cost is
+-- negative, an arc in use has reduced cost 0, and servers and hosts with room left have price 0 (complementary
+-- slackness, section 9.3). What its rows pay is the cost and what servers and hosts earn (section 9.4).
 pub record HoldsBest (n : Network) (c : certificates.Best) : Type 0 where
   pub allowed : All (λ u. is_allowed n u.row u.site ≡ true) c.uses
   pub best : Best n (table c.uses)

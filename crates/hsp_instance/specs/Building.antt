@@ -1,5 +1,6 @@
 -- The instance of five inputs, or their first fault: settings, values, demand, costs and capacities.
-use Rattle.std.specs.Prelude.{◌≡◌, ◌≢◌, ◌+◌, ◌==◌, ◌&&◌, ◌||◌, ⊤, Bool, false, ℕ, List, [], ◌∷◌, ◌++◌, codes, is_some, length, map, nat_lt, Option, Some, None, option_map, Result, Ok, Err, if◌then◌else◌}
+use Rattle.std.specs.Prelude.{◌≡◌, ◌≢◌, ◌+◌, ◌==◌, ◌&&◌, ◌||◌, ⊤, Bool, false, ℕ, List, [], ◌∷◌, ◌++◌, codes, is_some}
+use Rattle.std.specs.Prelude.{length, map, nat_lt, Option, Some, None, option_map, Result, Ok, Err, if◌then◌else◌}
 use Rattle.std.specs.List.{find, list_any, position_from}
 use Rattle.std.specs.Str.{bytes_eq}
 use Rattle.hsp_hash.specs.Option.{option_of}
@@ -19,7 +20,9 @@ use Rattle.hsp_text.specs.declared.limits.TheConstants.{MOST_SERVERS}
 use Rattle.hsp_instance.specs.Instance.{Host, Instance, Row, Server, Site, SiteServer, servers_of}
 use Rattle.hsp_instance.specs.declared.arc.Arc.{Arc}
 use Rattle.hsp_instance.specs.declared.fault.BuildFault.{BuildFault}
-use Rattle.hsp_instance.specs.declared.fault.BuildFault.TheVariants.{BadHashOption, BadRecord, NoCapacity, NoServer, NoValue, NotSiteValue, ServerIdTwice, TooManyServers, UnknownServer, UnknownSite}
+use Rattle.hsp_instance.specs.declared.fault.BuildFault.TheVariants.{BadHashOption, BadRecord, NoCapacity, NoServer}
+use Rattle.hsp_instance.specs.declared.fault.BuildFault.TheVariants.{NoValue, NotSiteValue, ServerIdTwice}
+use Rattle.hsp_instance.specs.declared.fault.BuildFault.TheVariants.{TooManyServers, UnknownServer, UnknownSite}
 use Rattle.hsp_instance.specs.declared.fault.Table.TheVariants.{Capacity, Costs}
 
 -- ---- sites
@@ -27,7 +30,8 @@ use Rattle.hsp_instance.specs.declared.fault.Table.TheVariants.{Capacity, Costs}
 -- the octets of the value of an index, which is of the type HS_SITE
 abbrev pub site_value : ℕ → Option HandleValue → Result (List ℕ) BuildFault
 site_value n None = Err (NoValue n)
-site_value n (Some value) = if bytes_eq value.type_octets (codes "HS_SITE") then Ok value.octets else Err (NotSiteValue n)
+site_value n (Some value) =
+    if bytes_eq value.type_octets (codes "HS_SITE") then Ok value.octets else Err (NotSiteValue n)
 
 -- the value of an index, if there is a list that has it
 abbrev pub value_of : Option (List HandleValue) → ℕ → Option HandleValue
@@ -73,7 +77,9 @@ site_of_reading n before name (Ok r) = or_fault (BadHashOption n) (option_of r.o
 
 -- what site octets are, or its first fault
 abbrev pub IsSiteIn : ℕ → ℕ → List ℕ → List ℕ → Result Site BuildFault → Type 0
-IsSiteIn n before name bytes answer = (reading : Result records.Site RecordFault) × IsReading bytes reading × (answer ≡ site_of_reading n before name reading)
+IsSiteIn n before name bytes answer =
+    (reading : Result records.Site RecordFault) × IsReading bytes reading
+    × (answer ≡ site_of_reading n before name reading)
 
 -- the same of the octets of a source, or that it has none
 abbrev pub IsSiteOf : ℕ → ℕ → List ℕ → Result (List ℕ) BuildFault → Result Site BuildFault → Type 0
@@ -82,12 +88,15 @@ IsSiteOf n before name (Ok bytes) answer = IsSiteIn n before name bytes answer
 
 -- the site of an entry after the sites before it, or its first fault
 abbrev pub IsNextSite : Option (List HandleValue) → List Site → SiteEntry → Result Site BuildFault → Type 0
-IsNextSite values earlier entry answer = IsSiteOf (length earlier) (servers_of earlier) entry.name (site_octets values (length earlier) entry.source) answer
+IsNextSite values earlier entry answer =
+    IsSiteOf (length earlier) (servers_of earlier) entry.name (site_octets values (length earlier) entry.source) answer
 
 -- the sites of entries in turn, after those before them, or the first fault
-abbrev pub AreSitesAfter : Option (List HandleValue) → List Site → List SiteEntry → Result (List Site) BuildFault → Type 0
+abbrev pub AreSitesAfter : Option (List HandleValue) → List Site → List SiteEntry → Result (List Site) BuildFault
+    → Type 0
 AreSitesAfter values earlier [] answer = answer ≡ Ok earlier
-AreSitesAfter values earlier (entry ∷ more) answer = Then (IsNextSite values earlier entry) (λ site rest. AreSitesAfter values (earlier ++ site ∷ []) more rest) answer
+AreSitesAfter values earlier (entry ∷ more) answer =
+    Then (IsNextSite values earlier entry) (λ site rest. AreSitesAfter values (earlier ++ site ∷ []) more rest) answer
 
 -- the sites of settings and values, or the first fault
 abbrev pub AreSitesOf : SettingsEntries → Option (List HandleValue) → Result (List Site) BuildFault → Type 0
@@ -102,7 +111,8 @@ is_named name site = bytes_eq name site.name
 -- a row of the costs whose site is not there, the first of them from row `n` on
 abbrev pub cost_fault : List Site → ℕ → List CostEntry → Option BuildFault
 cost_fault sites n [] = None
-cost_fault sites n (row ∷ rows) = if is_some (find (is_named row.site) sites) then cost_fault sites (n + 1) rows else Some (UnknownSite Costs n)
+cost_fault sites n (row ∷ rows) =
+    if is_some (find (is_named row.site) sites) then cost_fault sites (n + 1) rows else Some (UnknownSite Costs n)
 
 -- the fault of row `n` of the capacities, by the site that its name finds
 abbrev pub capacity_row_fault : ℕ → ℕ → Option Site → Option BuildFault
@@ -116,7 +126,8 @@ or_else (Some x) other = Some x
 -- the first fault of the capacities from row `n` on
 abbrev pub capacity_fault : List Site → ℕ → List CapacityEntry → Option BuildFault
 capacity_fault sites n [] = None
-capacity_fault sites n (row ∷ rows) = or_else (capacity_row_fault n row.server_id (find (is_named row.site) sites)) (capacity_fault sites (n + 1) rows)
+capacity_fault sites n (row ∷ rows) =
+    or_else (capacity_row_fault n row.server_id (find (is_named row.site) sites)) (capacity_fault sites (n + 1) rows)
 
 -- ---- servers
 
@@ -135,12 +146,21 @@ is_at address host = bytes_eq host.address address
 -- the server at a place of site `n`, or that it has no capacity
 abbrev pub server_at : List CapacityEntry → List Host → ℕ → List ℕ → ℕ → SiteServer → Result Server BuildFault
 server_at rows hosts n name place own = or_fault (NoCapacity n own.id) (capacity_of rows name own.id) >>= λ capacity.
-    Ok (record { site = n; place = place; id = own.id; capacity = capacity; host = position_from (is_at own.address) 0 hosts })
+    Ok (record {
+      site = n;
+      place = place;
+      id = own.id;
+      capacity = capacity;
+      host = position_from (is_at own.address) 0 hosts;
+    })
 
 -- the servers of site `n` from a place on, after those before them, or the first that has no capacity
-abbrev pub servers_at : List CapacityEntry → List Host → ℕ → List ℕ → ℕ → List Server → List SiteServer → Result (List Server) BuildFault
+abbrev pub servers_at : List CapacityEntry → List Host → ℕ → List ℕ → ℕ → List Server → List SiteServer
+    → Result (List Server) BuildFault
 servers_at rows hosts n name place earlier [] = Ok earlier
-servers_at rows hosts n name place earlier (own ∷ more) = server_at rows hosts n name place own >>= λ server. servers_at rows hosts n name (place + 1) (earlier ++ server ∷ []) more
+servers_at rows hosts n name place earlier (own ∷ more) =
+    server_at rows hosts n name place own >>= λ server.
+    servers_at rows hosts n name (place + 1) (earlier ++ server ∷ []) more
 
 -- the servers of site `n`, after those before them, or the first that has no capacity
 abbrev pub servers_with : List CapacityEntry → List Host → ℕ → List Server → Site → Result (List Server) BuildFault
@@ -149,7 +169,8 @@ servers_with rows hosts n earlier site = servers_at rows hosts n site.name 0 ear
 -- the same of sites from site `n` on
 abbrev pub servers_from : List CapacityEntry → List Host → ℕ → List Server → List Site → Result (List Server) BuildFault
 servers_from rows hosts n earlier [] = Ok earlier
-servers_from rows hosts n earlier (site ∷ more) = servers_with rows hosts n earlier site >>= λ servers. servers_from rows hosts (n + 1) servers more
+servers_from rows hosts n earlier (site ∷ more) =
+    servers_with rows hosts n earlier site >>= λ servers. servers_from rows hosts (n + 1) servers more
 
 -- ---- arcs
 
@@ -164,12 +185,15 @@ cost_of rows region name = option_map (λ (row : CostEntry). row.cost) (find (is
 -- the arc to site `n`, whose servers are numbered from `first` on, where a query has a cost there
 abbrev pub arc_to : List ℕ → ℕ → ℕ → Site → Option ℕ → List Arc
 arc_to handle n first site None = []
-arc_to handle n first site (Some cost) = record { site = n; server = first + server_place site.option handle (length site.servers); cost = cost } ∷ []
+arc_to handle n first site (Some cost) =
+    record { site = n; server = first + server_place site.option handle (length site.servers); cost = cost } ∷ []
 
 -- the arcs of a row to the sites from site `n` on
 abbrev pub arcs_from : List CostEntry → Row → ℕ → ℕ → List Site → List Arc
 arcs_from costs row n first [] = []
-arcs_from costs row n first (site ∷ more) = arc_to row.handle n first site (cost_of costs row.region site.name) ++ arcs_from costs row (n + 1) (first + length site.servers) more
+arcs_from costs row n first (site ∷ more) =
+    arc_to row.handle n first site (cost_of costs row.region site.name)
+    ++ arcs_from costs row (n + 1) (first + length site.servers) more
 
 -- ---- the instance
 
@@ -199,11 +223,19 @@ instance_with inputs sites =
     unless (cost_fault sites 0 inputs.costs) >>= λ _.
     unless (capacity_fault sites 0 inputs.capacities) >>= λ _.
     servers_from inputs.capacities hosts 0 [] sites >>= λ servers.
-    Ok (record { rows = rows; sites = sites; servers = servers; hosts = hosts; arcs = map (λ row. arcs_from inputs.costs row 0 0 sites) rows })
+    Ok (record {
+      rows = rows;
+      sites = sites;
+      servers = servers;
+      hosts = hosts;
+      arcs = map (λ row. arcs_from inputs.costs row 0 0 sites) rows;
+    })
 
 -- the instance of the inputs, or the first fault
 abbrev pub IsBuilt : Inputs → Result Instance BuildFault → Type 0
-IsBuilt inputs answer = (sites : Result (List Site) BuildFault) × AreSitesOf inputs.settings inputs.values sites × (answer ≡ (sites >>= instance_with inputs))
+IsBuilt inputs answer =
+    (sites : Result (List Site) BuildFault) × AreSitesOf inputs.settings inputs.values sites
+    × (answer ≡ (sites >>= instance_with inputs))
 
 -- inputs have one answer: the instance, or one first fault
 abbrev pub HasOneAnswer : Type 0

@@ -14,18 +14,21 @@ AreBelow count of_rows = AllByRecursion (λ group. group < count) of_rows
 
 -- two rows are of one region and have the same arcs
 pub record AreAlike (it : Instance) (a b : ℕ) : Type 0 where
-  pub region : option_map (λ row. row.region) (slice_get it.rows a) ≡ option_map (λ row. row.region) (slice_get it.rows b)
+  pub region : option_map (λ row. row.region) (slice_get it.rows a)
+      ≡ option_map (λ row. row.region) (slice_get it.rows b)
   pub arcs : slice_get it.arcs a ≡ slice_get it.arcs b
 
 -- a row of the group stands before row `end`
 abbrev pub IsSeenBefore : List ℕ → ℕ → ℕ → Type 0
 IsSeenBefore of_rows end group = (row : ℕ) × (row < end) × (slice_get of_rows row ≡ Some group)
 
--- Each row is in a group, two rows are in one group exactly where they are alike, and each group has a row. The groups are
--- numbered in first-seen order: a row of each group of a lower number stands before a row.
+-- Each row is in a group, two rows are in one group exactly where they are alike, and each group has a row. The groups
+-- are numbered in first-seen order: a row of each group of a lower number stands before a row.
 pub record AreGroups (it : Instance) (groups : Groups) : Type 0 where
   pub one_a_row : length groups.of_rows ≡ length it.rows
   pub below : AreBelow groups.count groups.of_rows
-  pub alike : (a b : ℕ) → a < length it.rows → b < length it.rows → (slice_get groups.of_rows a ≡ slice_get groups.of_rows b) ↔ AreAlike it a b
+  pub alike : (a b : ℕ) → a < length it.rows → b < length it.rows
+      → (slice_get groups.of_rows a ≡ slice_get groups.of_rows b) ↔ AreAlike it a b
   pub seen : (group : ℕ) → group < groups.count → IsSeenBefore groups.of_rows (length it.rows) group
-  pub in_order : (row group lower : ℕ) → slice_get groups.of_rows row ≡ Some group → lower < group → IsSeenBefore groups.of_rows row lower
+  pub in_order : (row group lower : ℕ) → slice_get groups.of_rows row ≡ Some group → lower < group
+      → IsSeenBefore groups.of_rows row lower

@@ -1,12 +1,16 @@
--- An instance: rows of demand, sites and their servers, hosts, and the arcs by which the queries of a row may go to a site.
-use Rattle.std.specs.Prelude.{◌≡◌, ◌≤◌, ◌<◌, ◌+◌, ◌^◌, ◌==◌, ◌&&◌, ⊤, Bool, true, ℕ, List, [], ◌∷◌, length, map, take, Option, None, Some, Ok}
+-- An instance: rows of demand, sites and their servers, hosts, and the arcs by which the queries of a row may go to a
+-- site.
+use Rattle.std.specs.Prelude.{◌≡◌, ◌≤◌, ◌<◌, ◌+◌, ◌^◌, ◌==◌, ◌&&◌, ⊤, Bool, true, ℕ, List, [], ◌∷◌, length, map, take}
+use Rattle.std.specs.Prelude.{Option, None, Some, Ok}
 use Rattle.std.specs.List.{AllByRecursion, IsDistinct, slice_get}
 use Rattle.std.specs.Str.{bytes_eq}
 use Rattle.hsp_hash.specs.declared.option.HashOption.{HashOption}
 use Rattle.hsp_names.specs.Handle.{handle_in}
 use Rattle.hsp_tables.specs.Table.{first_seen}
 use Rattle.hsp_text.specs.Name.{is_name}
-use Rattle.hsp_text.specs.declared.limits.TheConstants.{GREATEST_CAPACITY, GREATEST_COST, GREATEST_COUNT, GREATEST_LIMIT, MOST_DEMAND_ROWS, MOST_HOSTS, MOST_REGIONS, MOST_SERVERS, MOST_SITES}
+use Rattle.hsp_text.specs.declared.limits.TheConstants.{GREATEST_CAPACITY, GREATEST_COST, GREATEST_COUNT}
+use Rattle.hsp_text.specs.declared.limits.TheConstants.{GREATEST_LIMIT, MOST_DEMAND_ROWS, MOST_HOSTS, MOST_REGIONS}
+use Rattle.hsp_text.specs.declared.limits.TheConstants.{MOST_SERVERS, MOST_SITES}
 use Rattle.hsp_instance.specs.declared.arc.Arc.{Arc}
 
 -- `count` queries for a handle, from a region
@@ -165,8 +169,10 @@ pub record AreServers (sites : List Site) (hosts : ℕ) (servers : List Server) 
   pub few : length servers ≤ MOST_SERVERS
   pub each : AllByRecursion (IsServer sites hosts) servers
   pub count : length servers ≡ servers_of sites
-  pub at_place : (n place : ℕ) (site : Site) → slice_get sites n ≡ Some site → place < length site.servers → IsNumbered sites servers n place
-  pub number : (i : ℕ) (server : Server) → slice_get servers i ≡ Some server → i ≡ number_at sites server.site server.place
+  pub at_place : (n place : ℕ) (site : Site) → slice_get sites n ≡ Some site → place < length site.servers
+      → IsNumbered sites servers n place
+  pub number : (i : ℕ) (server : Server) → slice_get servers i ≡ Some server
+      → i ≡ number_at sites server.site server.place
 
 -- an arc within the limits, to a server of its site
 pub record IsArc (servers : List Server) (arc : Arc) : Type 0 where

@@ -26,7 +26,8 @@ HasCosts table sites known = costs_of_entry known ≡ costs_at table known.0.ite
 abbrev pub arcs_by : List ℕ → ℕ → ℕ → List Site → List (Option ℕ) → List Arc
 arcs_by handle n first [] costs = []
 arcs_by handle n first (site ∷ more) [] = []
-arcs_by handle n first (site ∷ more) (cost ∷ costs) = arc_to handle n first site cost ++ arcs_by handle (n + 1) (first + length site.servers) more costs
+arcs_by handle n first (site ∷ more) (cost ∷ costs) =
+    arc_to handle n first site cost ++ arcs_by handle (n + 1) (first + length site.servers) more costs
 
 -- the arcs of a row of demand to the sites
 abbrev pub arcs_of : List CostEntry → List Site → DemandEntry → List Arc

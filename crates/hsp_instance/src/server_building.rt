@@ -1,6 +1,7 @@
 // The hosts and the servers of an instance.
 
-ghost use Rattle.std.specs.Prelude.{◌≡◌, ◌≤◌, ◌<◌, ◌+◌, ◌⊎◌, ◌∷◌, ◌++◌, [], Ok, Err, Some, length, map, option_map, slice_get, OnOk, IfOk, IfErr};
+ghost use Rattle.std.specs.Prelude.{◌≡◌, ◌≤◌, ◌<◌, ◌+◌, ◌⊎◌, ◌∷◌, ◌++◌, [], Ok, Err, Some, length, map, option_map};
+ghost use Rattle.std.specs.Prelude.{slice_get, OnOk, IfOk, IfErr};
 ghost use Rattle.std.specs.List.{position_from};
 ghost use Rattle.hsp_tables.specs.Settings.{AreSettings};
 ghost use Rattle.hsp_text.specs.declared.limits.TheConstants.{MOST_HOSTS, MOST_SERVERS};
@@ -53,7 +54,8 @@ fn push_servers(
     requires hosts { length hosts.now ≤ MOST_HOSTS }
     requires few { length site.now.servers ≤ MOST_SERVERS }
     ensures ok { OnOk result
-        (servers_with capacities.now hosts.now number servers.old.items site.now ≡ Ok servers.new.items) }
+        (servers_with capacities.now hosts.now number servers.old.items site.now
+        ≡ Ok servers.new.items) }
     ensures err { IfErr result (λ e. (e ≡ OutOfMemory)
         ⊎ (servers_with capacities.now hosts.now number servers.old.items site.now ≡ Err e)) }
 {

@@ -1,10 +1,12 @@
 // The sites of settings, by the records that the settings or a value list hold.
 
-ghost use Rattle.std.specs.Prelude.{◌≡◌, ◌≤◌, ◌<◌, ◌+◌, ◌⊎◌, Ok, Err, Some, length, map, option_map, slice_get, take, OnOk, IfOk, IfErr};
+ghost use Rattle.std.specs.Prelude.{◌≡◌, ◌≤◌, ◌<◌, ◌+◌, ◌⊎◌, Ok, Err, Some, length, map, option_map, slice_get, take};
+ghost use Rattle.std.specs.Prelude.{OnOk, IfOk, IfErr};
 ghost use Rattle.hsp_tables.specs.SettingsRows.{source_shown};
 ghost use Rattle.hsp_instance.specs.declared.fault.BuildFault.TheVariants.{OutOfMemory};
 ghost use Rattle.hsp_text.specs.Answers.{Gives, GivesUnless, Stands};
-ghost use Rattle.hsp_instance.specs.Building.{AreSitesOf, IsSiteIn, IsSiteOf, checked_site, has_id, has_id_twice, server_of_record, site_octets, site_of_reading, site_value};
+ghost use Rattle.hsp_instance.specs.Building.{AreSitesOf, IsSiteIn, IsSiteOf, checked_site, has_id, has_id_twice};
+ghost use Rattle.hsp_instance.specs.Building.{server_of_record, site_octets, site_of_reading, site_value};
 
 use crate::fault::BuildFault;
 use crate::sites::{Site, SiteServer, Sites};

@@ -18,17 +18,20 @@ pub record IsSpread (n m : Network) (kind : ℕ → ℕ) (y x : Plan) : Type 0 w
   pub pooled : IsPooled n m kind x y
   pub alike : AreAlikeIn n m x y
 
--- for a feasible plan of the kinds there is one of the rows, in whole numbers, with the same cost and loads; for a best one
--- a best one
+-- for a feasible plan of the kinds there is one of the rows, in whole numbers, with the same cost and loads; for a best
+-- one a best one
 abbrev pub KindsSpreadPlans : Type 0
 KindsSpreadPlans =
-    (n m : Network) (kind : ℕ → ℕ) → IsNetwork n → IsNetwork m → AreKinds n m kind → HasOneArcASite m → (y : Plan) → Feasible m y →
+    (n m : Network) (kind : ℕ → ℕ) → IsNetwork n → IsNetwork m → AreKinds n m kind → HasOneArcASite m → (y : Plan)
+    → Feasible m y →
     (x : Plan) × IsSpread n m kind y x × (Best m y → Best n x)
 
--- under the prices of servers and hosts a plan of the rows has complementary slackness exactly where that of the kinds has it
+-- under the prices of servers and hosts a plan of the rows has complementary slackness exactly where that of the kinds
+-- has it
 abbrev pub PricesOfKinds : Type 0
 PricesOfKinds =
-    (n m : Network) (kind : ℕ → ℕ) → IsNetwork n → IsNetwork m → AreKinds n m kind → (x : Plan) (u of_kinds p q : List ℕ) →
+    (n m : Network) (kind : ℕ → ℕ) → IsNetwork n → IsNetwork m → AreKinds n m kind
+    → (x : Plan) (u of_kinds p q : List ℕ) →
     ArePricesOfKinds n kind u of_kinds → Prices n x u p q ↔ Prices m (pooled n kind x) of_kinds p q
 
 -- a set of kinds is short exactly where its rows are; where some rows are short, some kinds are
@@ -37,4 +40,5 @@ pub record ShortSetsAreKept (n m : Network) (kind : ℕ → ℕ) : Type 0 where
   pub of_rows : (set : ℕ → Bool) → IsShort n set → (kinds : ℕ → Bool) × IsShort m kinds
 
 abbrev pub ShortSetsOfKinds : Type 0
-ShortSetsOfKinds = (n m : Network) (kind : ℕ → ℕ) → IsNetwork n → IsNetwork m → AreKinds n m kind → ShortSetsAreKept n m kind
+ShortSetsOfKinds =
+    (n m : Network) (kind : ℕ → ℕ) → IsNetwork n → IsNetwork m → AreKinds n m kind → ShortSetsAreKept n m kind

@@ -30,13 +30,14 @@ HasOneArcASite n = (i s : ℕ) → i < length n.demands → arcs_to (arcs_of n i
 abbrev pub together : Network → (ℕ → ℕ) → (ℕ → ℕ) → ℕ → ℕ
 together n kind f k = sum_below (length n.demands) (λ i. if kind i == k then f i else 0)
 
--- The rows of m are the kinds of those of n. Each row is of a kind and has the arcs of its kind. Each kind has a row, and
--- asks for what its rows ask for together. Servers and hosts are the same.
+-- The rows of m are the kinds of those of n. Each row is of a kind and has the arcs of its kind. Each kind has a row,
+-- and asks for what its rows ask for together. Servers and hosts are the same.
 pub record AreKinds (n m : Network) (kind : ℕ → ℕ) : Type 0 where
   pub inside : (i : ℕ) → i < length n.demands → kind i < length m.demands
   pub seen : (k : ℕ) → k < length m.demands → (i : ℕ) × (i < length n.demands) × (kind i ≡ k)
   pub arcs : (i : ℕ) → i < length n.demands → arcs_of n i ≡ arcs_of m (kind i)
-  pub demands : (k : ℕ) → k < length m.demands → slice_index m.demands k ≡ together n kind (λ i. slice_index n.demands i) k
+  pub demands : (k : ℕ) → k < length m.demands
+      → slice_index m.demands k ≡ together n kind (λ i. slice_index n.demands i) k
   pub capacities : n.capacities ≡ m.capacities
   pub limits : n.limits ≡ m.limits
   pub host_of : (j : ℕ) → n.host_of j ≡ m.host_of j

@@ -18,11 +18,13 @@ sites_for costs sites region = filter (λ (site : Site). is_some (cost_of costs 
 abbrev pub places_at : List Site → List ℕ → List ℕ
 places_at sites handle = map (λ (site : Site). server_place site.option handle (length site.servers)) sites
 
--- two rows are of one kind: they are of one region, and the same server is responsible for both handles at each site where
--- the region has a cost
+-- two rows are of one kind: they are of one region, and the same server is responsible for both handles at each site
+-- where the region has a cost
 abbrev pub is_same_kind : List CostEntry → List Site → Row → Row → Bool
 is_same_kind costs sites a b =
-    bytes_eq a.region b.region && bytes_eq (places_at (sites_for costs sites a.region) a.handle) (places_at (sites_for costs sites a.region) b.handle)
+    bytes_eq a.region b.region
+    && bytes_eq (places_at (sites_for costs sites a.region) a.handle)
+    (places_at (sites_for costs sites a.region) b.handle)
 
 -- a row with the count of another row added
 abbrev pub with_count_of : Row → Row → Row
@@ -44,10 +46,18 @@ pub record Service : Type 0 where
 
 -- the network of rows
 abbrev pub network_for : Service → List Row → Network
-network_for at rows = network_of (record { rows = rows; sites = at.sites; servers = at.servers; hosts = at.hosts; arcs = map (λ row. arcs_from at.costs row 0 0 at.sites) rows })
+network_for at rows =
+    network_of
+    (record {
+      rows = rows;
+      sites = at.sites;
+      servers = at.servers;
+      hosts = at.hosts;
+      arcs = map (λ row. arcs_from at.costs row 0 0 at.sites) rows;
+    })
 
--- the rows of the table are the kinds of the rows; where its network is one, the network of the rows is one, with at most
--- one arc from a row to a site
+-- the rows of the table are the kinds of the rows; where its network is one, the network of the rows is one, with at
+-- most one arc from a row to a site
 abbrev pub TablesAreOfKinds : Type 0
 TablesAreOfKinds =
     (at : Service) (rows : List Row) →
@@ -61,4 +71,6 @@ KindsAreClasses = (costs : List CostEntry) (sites : List Site) → IsKinding (by
 
 -- rows of one kind have the same arcs
 abbrev pub KindsHaveArcs : Type 0
-KindsHaveArcs = (costs : List CostEntry) (sites : List Site) (a b : Row) → is_same_kind costs sites a b ≡ true → arcs_from costs a 0 0 sites ≡ arcs_from costs b 0 0 sites
+KindsHaveArcs =
+    (costs : List CostEntry) (sites : List Site) (a b : Row) → is_same_kind costs sites a b ≡ true
+    → arcs_from costs a 0 0 sites ≡ arcs_from costs b 0 0 sites

@@ -7,7 +7,8 @@ use Rattle.hsp_check.specs.Short.{IsShort}
 use Rattle.hsp_kinds.specs.Kinds.{AreAlikeIn}
 use Rattle.hsp_kinds.specs.Rows.{Service, kinds_of, network_for}
 
--- for each best plan of the one there is one of the other, of the same cost, that brings the same to each server and each host
+-- for each best plan of the one there is one of the other, of the same cost, that brings the same to each server and
+-- each host
 abbrev pub HasSamePlans : Network → Network → Type 0
 HasSamePlans n m =
     ((y : Plan) → Best m y → (x : Plan) × Best n x × AreAlikeIn n m x y)

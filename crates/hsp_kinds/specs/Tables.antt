@@ -10,7 +10,8 @@ pub record Kinding (A : Type 0) : Type 0 where
 -- the row joins the first of its kind, or stands last
 abbrev pub counted : {A : Type 0} → Kinding A → List A → A → List A
 counted by [] row = row ∷ []
-counted by (first ∷ rest) row = if by.same first row then by.with_count_of first row ∷ rest else first ∷ counted by rest row
+counted by (first ∷ rest) row =
+    if by.same first row then by.with_count_of first row ∷ rest else first ∷ counted by rest row
 
 -- rows after those of a table
 abbrev pub counted_all : {A : Type 0} → Kinding A → List A → List A → List A
@@ -21,8 +22,8 @@ counted_all by table (row ∷ rows) = counted_all by (counted by table row) rows
 abbrev pub table_of : {A : Type 0} → Kinding A → List A → List A
 table_of by rows = counted_all by [] rows
 
--- to be of one kind is an equivalence, a row stays of its kind as it takes the count of another, and counts add up in any
--- grouping and order
+-- to be of one kind is an equivalence, a row stays of its kind as it takes the count of another, and counts add up in
+-- any grouping and order
 pub record IsKinding {A : Type 0} (by : Kinding A) : Type 0 where
   pub reflexive : (a : A) → by.same a a ≡ true
   pub symmetric : (a b : A) → by.same a b ≡ true → by.same b a ≡ true
@@ -33,4 +34,6 @@ pub record IsKinding {A : Type 0} (by : Kinding A) : Type 0 where
 
 -- the table of a log in two parts is that of their tables
 abbrev pub LogInParts : Type 0
-LogInParts = (by : Kinding Row) → IsKinding by → (a b : List Row) → table_of by (table_of by a ++ table_of by b) ≡ table_of by (a ++ b)
+LogInParts =
+    (by : Kinding Row) → IsKinding by → (a b : List Row)
+    → table_of by (table_of by a ++ table_of by b) ≡ table_of by (a ++ b)

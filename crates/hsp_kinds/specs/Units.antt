@@ -26,4 +26,5 @@ pub record ServesAll (n : Network) (x : Plan) : Type 0 where
 
 -- so many times a feasible plan of the units serves all queries
 abbrev pub UnitsServeAll : Type 0
-UnitsServeAll = (n : Network) (unit : ℕ) → 0 < unit → (y : Plan) → Feasible (in_units unit n) y → ServesAll n (λ i s. unit * y i s)
+UnitsServeAll =
+    (n : Network) (unit : ℕ) → 0 < unit → (y : Plan) → Feasible (in_units unit n) y → ServesAll n (λ i s. unit * y i s)

@@ -38,8 +38,8 @@ pub fn kinds_are_classes()
     ensures { KindsAreClasses }
 {}
 
-/// The rows of the table are the kinds of its rows, and the arcs of a row are those of its kind. Where the network of the
-/// table is one, that of the rows is one. No row has two arcs to one site.
+/// The rows of the table are the kinds of its rows, and the arcs of a row are those of its kind. Where the network of
+/// the table is one, that of the rows is one. No row has two arcs to one site.
 pub fn tables_are_of_kinds()
     ensures { TablesAreOfKinds }
 {}

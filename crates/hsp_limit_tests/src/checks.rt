@@ -1,11 +1,10 @@
 // Certificates judged.
-use crate::inputs::{
-    BASE, EIGHT, Numbers, ONE_SERVER, Set, TWO, Texts, instance_of, judged, plan, shortage,
-};
-use crate::same::is_same;
+use crate::inputs::{Numbers, Set, TWO, instance_of, judged, plan, shortage};
 use hsp_cert::Certificate;
 use hsp_check::{PlanSums, Reason, Verdict, check, plan_sums, reached_servers};
 use hsp_instance::Instance;
+use hsp_test_support::is_same;
+use hsp_test_support::service::{BASE, HOST, ONE_SERVER, Texts};
 use std::alloc::Global;
 use std::process::Abort;
 
@@ -370,7 +369,7 @@ const WITH_A_HOST: [(Numbers, Verdict); 3] = [
 #[test]
 fn hosts_have_limits_and_prices(rt: HostRuntime) {
     let texts = Texts {
-        hosts: EIGHT,
+        hosts: HOST,
         ..BASE
     };
     plans_have(&rt, rt.alloc(), texts, &WITH_A_HOST);

@@ -1,6 +1,5 @@
 // Inputs, the instances and certificates that they make, and verdicts. Where a growth is refused, the second call finds
 // memory: so the tests insist on what they make.
-use crate::same::is_same;
 use hsp_cert::{Certificate, UseLine};
 use hsp_check::{Verdict, check};
 use hsp_instance::{BuildFault, Instance, build};
@@ -8,44 +7,17 @@ use hsp_tables::{
     Capacities, Costs, Demand, Settings, TableFault, read_capacity, read_costs, read_demand,
     read_settings,
 };
+use hsp_test_support::is_same;
+use hsp_test_support::service::Texts;
 use std::alloc::{AllocError, Global};
 use std::process::Abort;
 
-/// The texts of an instance; the hosts stand behind the sites in the settings.
-#[derive(Clone, Copy)]
-pub struct Texts<'a> {
-    pub sites: &'a [u8],
-    pub hosts: &'a [u8],
-    pub demand: &'a [u8],
-    pub costs: &'a [u8],
-    pub capacity: &'a [u8],
-}
-
-/// Two sites of two and three servers, three rows.
-pub const BASE: Texts<'static> = Texts {
-    sites: SITES,
-    hosts: b"",
-    demand: b"region,handle,count\nr1,10/1,5\nr1,10/2,4\nr2,10/3,3\n",
-    costs: b"region,site,cost\nr1,E,1\nr1,W,4\nr2,E,2\nr2,W,3\n",
-    capacity: b"site,server_id,capacity\nE,7,10\nE,3,6\nW,1,2\nW,2,10\nW,9,10\n",
-};
-
-const SITES: &[u8] =
-    b"[[site]]\nname = \"E\"\nrecord = \"00010200000100010000000000000000000000020000000700000000000000000000000000000001000000000000000000000003000000000000000000000000000000010000000000000000\"\n[[site]]\nname = \"W\"\nrecord = \"0001020000010001000000000000000000000003000000010000000000000000000000000000000200000000000000000000000200000000000000000000000000000002000000000000000000000009000000000000000000000000000000020000000000000000\"\n";
-
-/// A host on which the servers of E stand, which takes 8.
-pub const EIGHT: &[u8] = b"[[host]]\naddress = \"00000000000000000000000000000001\"\nlimit = 8\n";
-
-/// The same host, which takes 2.
+/// The host of the servers of E, which takes 2.
 pub const TWO: &[u8] = b"[[host]]\naddress = \"00000000000000000000000000000001\"\nlimit = 2\n";
 
 /// The same host, which takes more than all servers.
 pub const MOST: &[u8] =
     b"[[host]]\naddress = \"00000000000000000000000000000001\"\nlimit = 1000000000000\n";
-
-/// One site of one server.
-pub const ONE_SERVER: &[u8] =
-    b"[[site]]\nname = \"X\"\nrecord = \"000102000001000100000000000000000000000100000007000000000000000000000000000000010000000000000000\"\n";
 
 /// Two sites of one server each.
 pub const TWO_SITES_OF_ONE: &[u8] =

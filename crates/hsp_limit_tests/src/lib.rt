@@ -9,5 +9,3 @@ mod inputs;
 mod limits;
 #[cfg(test)]
 mod plans;
-#[cfg(test)]
-mod same;

@@ -1,11 +1,12 @@
 // A plan and a shortage of as many rows, regions, sites and servers as there may be.
 use crate::checks::{reached_twice, summed_twice};
-use crate::inputs::{Texts, instance_of};
+use crate::inputs::instance_of;
 use crate::plans::{is_solved, plans_over, solved};
-use crate::same::is_same;
 use hsp_cert::Certificate;
 use hsp_check::PlanSums;
 use hsp_flow::HeapFrontier;
+use hsp_test_support::is_same;
+use hsp_test_support::service::Texts;
 use hsp_text::push_whole;
 use std::alloc::{AllocError, Global};
 use std::process::Abort;

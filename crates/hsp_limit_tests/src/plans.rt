@@ -2,14 +2,13 @@
 
 ghost use Rattle.std.specs.Prelude.{ℕ, ⊤, None, slice_index_or, vec_len};
 
-use crate::inputs::{
-    BASE, EIGHT, MOST, ONE_SERVER, Set, TWO_SITES_OF_ONE, Texts, instance_of, judged,
-};
-use crate::same::is_same;
+use crate::inputs::{MOST, Set, TWO_SITES_OF_ONE, instance_of, judged};
 use hsp_cert::{Certificate, UseLine};
 use hsp_check::Verdict;
 use hsp_flow::{Effort, Frontier, HeapFrontier, ScanFrontier, solve, solve_counted, solve_with};
 use hsp_instance::Instance;
+use hsp_test_support::is_same;
+use hsp_test_support::service::{BASE, HOST, ONE_SERVER, Texts};
 use std::alloc::{AllocError, Global};
 use std::process::Abort;
 
@@ -172,7 +171,7 @@ fn handles_of_one_hash_are_planned(rt: HostRuntime) {
 #[test]
 fn hosts_are_planned_for(rt: HostRuntime) {
     let hosted = Texts {
-        hosts: EIGHT,
+        hosts: HOST,
         ..BASE
     };
     plans(&rt, rt.alloc(), hosted, 23, None);

@@ -8,7 +8,8 @@ use Rattle.std.proofs.lemmas.List.Folds.{list_any-append}
 use Rattle.hsp_names.specs.declared.fault.HandleFault.{HandleFault}
 use Rattle.hsp_names.specs.declared.fault.HandleFault.TheVariants.{TooLong, NotUtf8, NoSlash, EmptySegment}
 use Rattle.hsp_names.specs.Handle.{is_slash, has_slash, has_segments, naming_authority, local_name, handle_in, is_handle, IsHandle, PartsAreUnique, ReadingsAreHandles}
-use Rattle.hsp_names.proofs.Splitting.{cut_parts, slash_parts, authority_is_cut, cut_is_authority}
+use Rattle.hsp_text.proofs.Cuts.{cut_parts}
+use Rattle.hsp_names.proofs.Splitting.{slash_parts, authority_is_cut, cut_is_authority}
 
 -- a handle, where each test has passed
 pub is_one : (h : List ℕ) → is_handle h ≡ true → IsHandle h (naming_authority h) (local_name h)

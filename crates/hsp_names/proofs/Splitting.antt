@@ -3,12 +3,11 @@ use Rattle.std.proofs.Common.{◌≡◌, ◌<◌, ◌+◌, ◌-◌, ◌∙◌, �
 use Rattle.std.specs.Prelude.{IfNone, IfSome, OnSome}
 use Rattle.std.specs.List.{AllByRecursion, list_all, list_any, slice_split, onto_first, position_or_len, before_first, after_first, join_with_byte}
 use Rattle.std.proofs.lemmas.List.{take_rest, take-append-drop}
-use Rattle.std.proofs.Math.Seq.{take-append_seam, drop-cons}
+use Rattle.std.proofs.Math.Seq.{drop-cons}
 use Rattle.std.proofs.lemmas.List.Sums.{prefix_len_stops}
 use Rattle.std.proofs.lemmas.List.Splits.{slice_split_first, slice_split_at, length-slice_split, join_with_byte-slice_split}
 use Rattle.std.proofs.lemmas.Bool.{cases_Bool, cases_lt, eqb-true, lt-ltb, le-ltb, not_from_false, or_parts, or_from, and_parts, and_from, eq-eqb, ne_eqb, cases_eq, both_ways, not-true, not-false}
 use Rattle.std.proofs.lemmas.List.Folds.{list_any-append, list_any_at}
-use Rattle.std.proofs.lemmas.List.Prefix.{front_rest}
 use Rattle.std.specs.List as by_index
 use Rattle.hsp_names.specs.Handle.{is_slash, is_dot, has_slash, has_dot, IsSegment, IsNamingAuthority, has_segments, naming_authority, local_name}
 
@@ -63,20 +62,6 @@ first_piece text i e =
     let cut = take_rest text (i + 1) in
     let within : position_or_len is_dot text < length text = rw (← place.1) place.0 in
     rw (cut, place.1) (slice_split_first is_dot text 0 within)
-
--- what stands before an octet that passes, and after it
-pub cut_at : (p : ℕ → Bool) (xs : List ℕ) (y : ℕ) (ys : List ℕ) → list_any p xs ≡ false → p y ≡ true → position_or_len p (xs ++ y ∷ ys) ≡ length xs
-cut_at p [] y ys a b = rw b refl
-cut_at p (x ∷ xs) y ys a b = let parts = or_parts (p x) (list_any p xs) a in rw (parts.0, cut_at p xs y ys parts.1 b) (omega arith)
-
--- the parts of a text before and after its first octet that passes
-pub cut_parts : (p : ℕ → Bool) (xs : List ℕ) (y : ℕ) (ys : List ℕ) → list_any p xs ≡ false → p y ≡ true →
-    (before_first p (xs ++ y ∷ ys) ≡ xs) × (after_first p (xs ++ y ∷ ys) ≡ ys)
-cut_parts p xs y ys a b =
-    let at = cut_at p xs y ys a b in
-    let whole : xs ++ y ∷ ys ≡ (xs ++ y ∷ []) ++ ys = sym (append_assoc xs (y ∷ []) ys) in
-    let long : length (xs ++ y ∷ []) ≡ length xs + 1 = length-append xs (y ∷ []) in
-    rw at (take-append_seam xs (y ∷ ys), rw (← long) (front_rest (xs ++ y ∷ ys) (xs ++ y ∷ []) ys whole))
 
 -- before the first octet that passes none does
 before_clean : (p : ℕ → Bool) (xs : List ℕ) → list_any p (before_first p xs) ≡ false

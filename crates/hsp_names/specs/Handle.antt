@@ -1,5 +1,6 @@
 -- Handles (RFC 3651, section 2): a naming authority, one "/" (the octet 47), and a local name.
-use Rattle.std.specs.Prelude.{◌≡◌, ◌≤◌, ◌<◌, ◌==◌, ◌&&◌, ◌↔◌, not, Bool, true, false, ℕ, List, ◌∷◌, ◌++◌, length, nat_le, nat_lt, IsUtf8, Result, Ok, Err, if◌then◌else◌}
+use Rattle.std.specs.Prelude.{◌≡◌, ◌≤◌, ◌<◌, ◌==◌, ◌&&◌, ◌↔◌, not, Bool, true, false, ℕ, List, ◌∷◌, ◌++◌, length}
+use Rattle.std.specs.Prelude.{nat_le, nat_lt, IsUtf8, Result, Ok, Err, if◌then◌else◌}
 use Rattle.std.specs.List.{AllByRecursion, list_all, list_any, slice_split, before_first, after_first, join_with_byte}
 use Rattle.std.specs.Str.{is_utf8}
 use Rattle.hsp_text.specs.declared.limits.TheConstants.{LONGEST_HANDLE}
@@ -38,7 +39,8 @@ abbrev pub IsFault : List ℕ → HandleFault → Type 0
 IsFault h TooLong = LONGEST_HANDLE < length h
 IsFault h NotUtf8 = (length h ≤ LONGEST_HANDLE) × (IsUtf8 h → ⊥)
 IsFault h NoSlash = (length h ≤ LONGEST_HANDLE) × IsUtf8 h × (has_slash h ≡ false)
-IsFault h EmptySegment = (length h ≤ LONGEST_HANDLE) × IsUtf8 h × (has_slash h ≡ true) × ((n l : List ℕ) → IsHandle h n l → ⊥)
+IsFault h EmptySegment =
+    (length h ≤ LONGEST_HANDLE) × IsUtf8 h × (has_slash h ≡ true) × ((n l : List ℕ) → IsHandle h n l → ⊥)
 
 -- The parts of a handle: what stands before its first "/" and after it, and between the dots of the former.
 abbrev pub naming_authority : List ℕ → List ℕ
@@ -71,4 +73,5 @@ PartsAreUnique = (h n l n' l' : List ℕ) → IsHandle h n l → IsHandle h n' l
 
 -- what is read is a handle of the parts above, and every handle is read
 abbrev pub ReadingsAreHandles : Type 0
-ReadingsAreHandles = (h n l : List ℕ) → IsHandle h n l ↔ ((handle_in h ≡ Ok h) × (n ≡ naming_authority h) × (l ≡ local_name h))
+ReadingsAreHandles =
+    (h n l : List ℕ) → IsHandle h n l ↔ ((handle_in h ≡ Ok h) × (n ≡ naming_authority h) × (l ≡ local_name h))

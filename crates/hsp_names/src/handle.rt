@@ -1,9 +1,11 @@
 // A handle and its parts, lent from the octets that spell it.
 
-ghost use Rattle.std.specs.Prelude.{◌≡◌, ◌<◌, length, IsTrue, Ok, IfOk, IfErr, IfNone, IfSome, OnSome, true, false, position};
+ghost use Rattle.std.specs.Prelude.{◌≡◌, ◌<◌, length, IsTrue, Ok, IfOk, IfErr, IfNone, IfSome, OnSome, true, false};
+ghost use Rattle.std.specs.Prelude.{position};
 ghost use Rattle.std.specs.List.{position_or_len};
 ghost use Rattle.std.specs.Str.{is_utf8};
-ghost use Rattle.hsp_names.specs.Handle.{is_slash, has_slash, is_handle, has_segments, naming_authority, local_name, segments, handle_in, IsHandle, IsFault};
+ghost use Rattle.hsp_names.specs.Handle.{is_slash, has_slash, is_handle, has_segments, naming_authority, local_name};
+ghost use Rattle.hsp_names.specs.Handle.{segments, handle_in, IsHandle, IsFault};
 
 use crate::fault::HandleFault;
 use crate::segments::Segments;

@@ -12,4 +12,5 @@ AreOrdered ends = (j k : ℕ) → j ≤ k → k < length ends → slice_index en
 
 -- each is what a unit at the server costs beside the arc: the server's price and its host's
 abbrev pub ArePaid : List (Option ℕ) → List ℕ → List ℕ → List ℕ → Type 0
-ArePaid hosts p q paid = (j : ℕ) → j < length hosts → slice_index paid j ≡ slice_index p j + at_host (host_in hosts j) (λ h. slice_index q h)
+ArePaid hosts p q paid =
+    (j : ℕ) → j < length hosts → slice_index paid j ≡ slice_index p j + at_host (host_in hosts j) (λ h. slice_index q h)

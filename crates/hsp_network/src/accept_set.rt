@@ -112,7 +112,8 @@ fn reached_by(alloc: Global, network: &Network<'_>, set: &[bool]) -> Result<Vec<
 fn rooms_of(alloc: Global, capacities: &[u64], reached: &[bool]) -> Result<Vec<u64>, AllocError>
     requires many { length reached.now ≡ length capacities.now }
     ensures len { IfOk result (λ rooms. vec_len rooms ≡ length capacities.now) }
-    ensures rooms { IfOk result (λ rooms. AreRooms capacities.now (flag_at reached.now) rooms.items) }
+    ensures rooms { IfOk result (λ rooms.
+        AreRooms capacities.now (flag_at reached.now) rooms.items) }
 {
     let mut rooms = vec![in alloc; 0; capacities.len()]?;
     set_rooms(&mut rooms, capacities, reached);

@@ -1,6 +1,5 @@
 ghost use Rattle.hsp_instance.specs.Groups.{AreGroups};
 
-use crate::same::{is_same, is_same_of};
 use hsp_hash::HashOption;
 use hsp_instance::*;
 use hsp_record::{RecordFault, ValueList, decode_values};
@@ -8,21 +7,11 @@ use hsp_tables::{
     Capacities, Costs, Demand, Settings, TableFault, read_capacity, read_costs, read_demand,
     read_settings,
 };
+use hsp_test_support::service::{CAPACITY, COSTS, DEMAND, HOST, SETTINGS};
+use hsp_test_support::{is_same, is_same_of};
 use hsp_text::push_whole;
 use std::alloc::{AllocError, Global};
 use std::process::Abort;
-
-const SETTINGS: &[u8] =
-    b"[[site]]\nname = \"E\"\nrecord = \"00010200000100010000000000000000000000020000000700000000000000000000000000000001000000000000000000000003000000000000000000000000000000010000000000000000\"\n[[site]]\nname = \"W\"\nrecord = \"0001020000010001000000000000000000000003000000010000000000000000000000000000000200000000000000000000000200000000000000000000000000000002000000000000000000000009000000000000000000000000000000020000000000000000\"\n";
-
-// A host on which the servers of the first site stand.
-const HOST: &[u8] = b"[[host]]\naddress = \"00000000000000000000000000000001\"\nlimit = 8\n";
-
-const DEMAND: &[u8] = b"region,handle,count\nr1,10/1,5\nr1,10/2,4\nr2,10/3,3\n";
-
-const COSTS: &[u8] = b"region,site,cost\nr1,E,1\nr1,W,4\nr2,E,2\nr2,W,3\n";
-
-const CAPACITY: &[u8] = b"site,server_id,capacity\nE,7,10\nE,3,6\nW,1,2\nW,2,10\nW,9,10\n";
 
 // Two servers of the identifier 7.
 const TWICE: &[u8] =

@@ -9,5 +9,3 @@ mod instance_tests;
 mod mincost_tests;
 #[cfg(test)]
 mod propose_tests;
-#[cfg(test)]
-mod same;

@@ -3,7 +3,8 @@ use Rattle.std.specs.Prelude.{◌≡◌, ◌≢◌, ℕ, ◌+◌, ◌<◌, ◌�
 use Rattle.std.specs.List.{AllByRecursion, slice_index}
 use Rattle.std.specs.Int.{w32, to_be_bytes}
 use Rattle.hsp_record.specs.declared.fault.RecordFault.{RecordFault}
-use Rattle.hsp_record.specs.declared.fault.RecordFault.TheVariants.{Truncated, Trailing, TooManyServers, IndexTwice, OutOfMemory}
+use Rattle.hsp_record.specs.declared.fault.RecordFault.TheVariants.{Truncated, Trailing, TooManyServers, IndexTwice}
+use Rattle.hsp_record.specs.declared.fault.RecordFault.TheVariants.{OutOfMemory}
 
 -- each is an octet
 abbrev pub IsOctets : List ℕ → Type 0
@@ -61,13 +62,18 @@ pub record Format (A : Type 0) : Type 1 where
 abbrev pub spelling : {A : Type 0} → Format A → A → List ℕ
 spelling format x = joined (format.fields x)
 
--- The octets are the first ones of a spelling, no limit being passed in them, and end inside the field that begins at `at`.
+-- The octets are the first ones of a spelling, no limit being passed in them, and end inside the field that begins at
+-- `at`.
 abbrev pub IsTruncated : {A : Type 0} → Format A → List ℕ → ℕ → Type 0
-IsTruncated {A} format octets at = (format.HasTooManyServers octets → ⊥) × ((index : ℕ) → format.HasIndexTwice octets index → ⊥) × ((x : A) × format.Wide x × EndsIn (format.fields x) octets at)
+IsTruncated {A} format octets at =
+    (format.HasTooManyServers octets → ⊥) × ((index : ℕ) → format.HasIndexTwice octets index → ⊥)
+    × ((x : A) × format.Wide x × EndsIn (format.fields x) octets at)
 
 -- The first `at` octets are a spelling, and more follow.
 abbrev pub IsTrailing : {A : Type 0} → Format A → List ℕ → ℕ → Type 0
-IsTrailing {A} format octets at = (x : A) × format.Fits x × (rest : List ℕ) × (0 < length rest) × (octets ≡ spelling format x ++ rest) × (at ≡ length (spelling format x))
+IsTrailing {A} format octets at =
+    (x : A) × format.Fits x × (rest : List ℕ) × (0 < length rest) × (octets ≡ spelling format x ++ rest)
+    × (at ≡ length (spelling format x))
 
 -- What an answer says of the octets.
 abbrev pub Means : {A : Type 0} → Format A → List ℕ → Result A RecordFault → Type 0
@@ -90,7 +96,9 @@ HasOneSpelling {A} format = (x y : A) → format.Fits x → format.Fits y → sp
 
 -- What follows a spelling changes nothing of what is read, so no spelling is a proper prefix of another.
 abbrev pub HasNothingAfter : {A : Type 0} → Format A → Type 0
-HasNothingAfter {A} format = (x y : A) (after other : List ℕ) → format.Fits x → format.Fits y → spelling format x ++ after ≡ spelling format y ++ other → (x ≡ y) × (after ≡ other)
+HasNothingAfter {A} format =
+    (x y : A) (after other : List ℕ) → format.Fits x → format.Fits y
+    → spelling format x ++ after ≡ spelling format y ++ other → (x ≡ y) × (after ≡ other)
 
 -- No two answers are true of the same octets, where memory ran out at neither: they spell at most one value, or have
 -- one fault.

@@ -1,5 +1,6 @@
 -- Reading from left to right: what a reader takes from the front of the octets, and where it stops.
-use Rattle.std.specs.Prelude.{◌≡◌, ℕ, zero, suc, ◌-◌, ◌≤◌, List, [], ◌∷◌, ◌++◌, length, take, drop, Result, Ok, Err, nat_lt, nat_eq, Bool, if◌then◌else◌}
+use Rattle.std.specs.Prelude.{◌≡◌, ℕ, zero, suc, ◌-◌, ◌≤◌, List, [], ◌∷◌, ◌++◌, length, take, drop, Result, Ok, Err}
+use Rattle.std.specs.Prelude.{nat_lt, nat_eq, Bool, if◌then◌else◌}
 use Rattle.std.specs.List.{list_any, slice_index}
 use Rattle.std.specs.Int.{Width, w8, w16, w32, w64, byte_len, from_be_bytes}
 use Rattle.hsp_text.specs.Answers.{◌>>=◌}
@@ -9,7 +10,8 @@ use Rattle.hsp_record.specs.declared.fault.Stop.TheVariants.{Short, TooMany, Twi
 use Rattle.hsp_record.specs.declared.fault.ReadError.{ReadError}
 use Rattle.hsp_record.specs.declared.fault.ReadError.TheVariants.{Memory, Stopped}
 use Rattle.hsp_record.specs.declared.fault.RecordFault.{RecordFault}
-use Rattle.hsp_record.specs.declared.fault.RecordFault.TheVariants.{Truncated, Trailing, TooManyServers, IndexTwice, OutOfMemory}
+use Rattle.hsp_record.specs.declared.fault.RecordFault.TheVariants.{Truncated, Trailing, TooManyServers, IndexTwice}
+use Rattle.hsp_record.specs.declared.fault.RecordFault.TheVariants.{OutOfMemory}
 use Rattle.hsp_record.specs.Fields.{joined, all_fields}
 use Rattle.hsp_record.specs.Site.{AttributePair, Interface, Server, Site}
 use Rattle.hsp_record.specs.Values.{ValueReference, HandleValue, reference_fields}
@@ -44,7 +46,9 @@ octets_at n bytes = if nat_lt (length bytes) n then Err (Short (length bytes)) e
 
 -- an integer: a field
 abbrev pub number_at : Width → Reader ℕ
-number_at w bytes = if nat_lt (length bytes) (byte_len w) then Err (Short (length bytes)) else Ok (from_be_bytes w (take (byte_len w) bytes), drop (byte_len w) bytes)
+number_at w bytes =
+    if nat_lt (length bytes) (byte_len w) then Err (Short (length bytes))
+    else Ok (from_be_bytes w (take (byte_len w) bytes), drop (byte_len w) bytes)
 
 -- ---- readers made of readers
 
@@ -87,17 +91,37 @@ unfoldable pub attribute_at : Reader AttributePair
 attribute_at = seen (λ p. record { name = p.0; value = p.1 }) (both_at run_at run_at)
 
 unfoldable pub interface_at : Reader Interface
-interface_at = seen (λ p. record { service_type = p.0; protocol = p.1.0; port = p.1.1 }) (both_at (number_at w8) (both_at (number_at w8) (number_at w32)))
+interface_at =
+    seen (λ p. record { service_type = p.0; protocol = p.1.0; port = p.1.1 })
+    (both_at (number_at w8) (both_at (number_at w8) (number_at w32)))
 
 unfoldable pub server_at : Reader Server
-server_at = seen (λ p. record { id = p.0; address = p.1.0; key = p.1.1.0; interfaces = p.1.1.1 }) (both_at (number_at w32) (both_at (octets_at 16) (both_at run_at (list_at interface_at))))
+server_at =
+    seen (λ p. record { id = p.0; address = p.1.0; key = p.1.1.0; interfaces = p.1.1.1 })
+    (both_at (number_at w32) (both_at (octets_at 16) (both_at run_at (list_at interface_at))))
 
 -- a record without its servers, of its fields
 abbrev pub head_of : ℕ × ((ℕ × ℕ) × (ℕ × (ℕ × (ℕ × (List ℕ × List AttributePair))))) → Site
-head_of p = record { version = p.0; major = p.1.0.0; minor = p.1.0.1; serial = p.1.1.0; mask = p.1.1.1.0; option = p.1.1.1.1.0; filter = p.1.1.1.1.1.0; attributes = p.1.1.1.1.1.1; servers = [] }
+head_of p =
+    record {
+      version = p.0;
+      major = p.1.0.0;
+      minor = p.1.0.1;
+      serial = p.1.1.0;
+      mask = p.1.1.1.0;
+      option = p.1.1.1.1.0;
+      filter = p.1.1.1.1.1.0;
+      attributes = p.1.1.1.1.1.1;
+      servers = [];
+    }
 
 unfoldable pub head_at : Reader Site
-head_at = seen head_of (both_at (number_at w16) (both_at pair_at (both_at (number_at w16) (both_at (number_at w8) (both_at (number_at w8) (both_at run_at (list_at attribute_at)))))))
+head_at =
+    seen head_of
+    (both_at (number_at w16)
+    (both_at pair_at
+    (both_at (number_at w16)
+    (both_at (number_at w8) (both_at (number_at w8) (both_at run_at (list_at attribute_at)))))))
 
 -- a number of servers within the limit
 unfoldable pub server_count_at : Reader ℕ
@@ -128,14 +152,31 @@ references_in count octets = read_references (times_at reference_at count octets
 
 -- All of the octets spell that many references.
 abbrev pub AreReferences : ℕ → List ℕ → Type 0
-AreReferences count octets = (length (references_in count octets) ≡ count) × (joined (all_fields reference_fields (references_in count octets)) ≡ octets)
+AreReferences count octets =
+    (length (references_in count octets) ≡ count)
+    × (joined (all_fields reference_fields (references_in count octets)) ≡ octets)
 
 -- a value of an index that is known, of the fields behind it
 abbrev pub body_of : ℕ → List ℕ × (List ℕ × (ℕ × (ℕ × (ℕ × (ℕ × List ValueReference))))) → HandleValue
-body_of index p = record { index = index; type_octets = p.0; octets = p.1.0; permission = p.1.1.0; ttl_kind = p.1.1.1.0; ttl = p.1.1.1.1.0; timestamp = p.1.1.1.1.1.0; references = p.1.1.1.1.1.1 }
+body_of index p =
+    record {
+      index = index;
+      type_octets = p.0;
+      octets = p.1.0;
+      permission = p.1.1.0;
+      ttl_kind = p.1.1.1.0;
+      ttl = p.1.1.1.1.0;
+      timestamp = p.1.1.1.1.1.0;
+      references = p.1.1.1.1.1.1;
+    }
 
 unfoldable pub body_at : ℕ → Reader HandleValue
-body_at index = seen (body_of index) (both_at run_at (both_at run_at (both_at (number_at w8) (both_at (number_at w8) (both_at (number_at w32) (both_at (number_at w64) (list_at reference_at)))))))
+body_at index =
+    seen (body_of index)
+    (both_at run_at
+    (both_at run_at
+    (both_at (number_at w8)
+    (both_at (number_at w8) (both_at (number_at w32) (both_at (number_at w64) (list_at reference_at)))))))
 
 -- whether the index is one of those
 abbrev pub is_one_of : List ℕ → ℕ → Bool
@@ -160,7 +201,9 @@ value_list_at bytes = number_at w32 bytes >>= λ count. values_at [] count.0 cou
 -- ---- request bodies
 
 unfoldable pub request_at : Reader RequestBody
-request_at = seen (λ p. record { handle = p.0; indices = p.1.0; types = p.1.1 }) (both_at run_at (both_at (list_at (number_at w32)) (list_at run_at)))
+request_at =
+    seen (λ p. record { handle = p.0; indices = p.1.0; types = p.1.1 })
+    (both_at run_at (both_at (list_at (number_at w32)) (list_at run_at)))
 
 -- ---- answers
 

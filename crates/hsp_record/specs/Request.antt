@@ -1,4 +1,5 @@
--- The body of a resolution request, by the fields of RFC 3652 section 3.2.1, in the order and widths of this project's profile.
+-- The body of a resolution request, by the fields of RFC 3652 section 3.2.1, in the order and widths of this project's
+-- profile.
 use Rattle.std.specs.Prelude.{ℕ, ◌<◌, ◌^◌, List, [], ◌∷◌, ◌++◌, Result, Ok, Err}
 use Rattle.std.specs.Int.{w32, to_be_bytes}
 use Rattle.hsp_record.specs.declared.fault.RecordFault.{RecordFault}
@@ -11,7 +12,9 @@ pub record RequestBody : Type 0 where
   pub types : List (List ℕ)
 
 abbrev pub request_fields : RequestBody → List (List ℕ)
-request_fields r = run_fields r.handle ++ (list_fields (λ index. to_be_bytes w32 index ∷ []) r.indices ++ list_fields run_fields r.types)
+request_fields r =
+    run_fields r.handle
+    ++ (list_fields (λ index. to_be_bytes w32 index ∷ []) r.indices ++ list_fields run_fields r.types)
 
 pub record IsRequest (r : RequestBody) : Type 0 where
   pub handle : IsRun r.handle

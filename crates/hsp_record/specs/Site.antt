@@ -45,7 +45,9 @@ server_fields s = to_be_bytes w32 s.id ∷ s.address ∷ run_fields s.key ++ lis
 
 -- the fields before the number of servers
 abbrev pub head_fields : Site → List (List ℕ)
-head_fields s = to_be_bytes w16 s.version ∷ (s.major ∷ s.minor ∷ []) ∷ to_be_bytes w16 s.serial ∷ to_be_bytes w8 s.mask ∷ to_be_bytes w8 s.option ∷ run_fields s.filter ++ list_fields attribute_fields s.attributes
+head_fields s =
+    to_be_bytes w16 s.version ∷ (s.major ∷ s.minor ∷ []) ∷ to_be_bytes w16 s.serial ∷ to_be_bytes w8 s.mask
+    ∷ to_be_bytes w8 s.option ∷ run_fields s.filter ++ list_fields attribute_fields s.attributes
 
 abbrev pub site_fields : Site → List (List ℕ)
 site_fields s = head_fields s ++ list_fields server_fields s.servers
@@ -84,7 +86,8 @@ IsWideSite s = IsHead s × IsCounted IsServer s.servers
 abbrev pub IsSite : Site → Type 0
 IsSite s = IsWideSite s × (length s.servers ≤ MOST_SERVERS)
 
--- What stands before the number of servers begins a spelling, and the number's four octets are there and above the limit.
+-- What stands before the number of servers begins a spelling, and the number's four octets are there and above the
+-- limit.
 pub record HasTooManyServers (octets : List ℕ) : Type 0 where
   pub site : Site
   pub fits : IsHead site

@@ -25,7 +25,11 @@ reference_fields r = run_fields r.handle ++ (to_be_bytes w32 r.index ∷ [])
 
 -- the fields behind the index
 abbrev pub body_fields : HandleValue → List (List ℕ)
-body_fields v = run_fields v.type_octets ++ (run_fields v.octets ++ (to_be_bytes w8 v.permission ∷ to_be_bytes w8 v.ttl_kind ∷ to_be_bytes w32 v.ttl ∷ to_be_bytes w64 v.timestamp ∷ list_fields reference_fields v.references))
+body_fields v =
+    run_fields v.type_octets
+    ++ (run_fields v.octets
+    ++ (to_be_bytes w8 v.permission ∷ to_be_bytes w8 v.ttl_kind ∷ to_be_bytes w32 v.ttl
+    ∷ to_be_bytes w64 v.timestamp ∷ list_fields reference_fields v.references))
 
 abbrev pub value_fields : HandleValue → List (List ℕ)
 value_fields v = to_be_bytes w32 v.index ∷ body_fields v
@@ -63,7 +67,8 @@ IsWideList = IsCounted IsValue
 abbrev pub IsValueList : List HandleValue → Type 0
 IsValueList vs = IsWideList vs × HaveOwnIndices vs
 
--- What stands before an index begins the spelling of a list of `count` values, and the index's four octets are there and an earlier value's.
+-- What stands before an index begins the spelling of a list of `count` values, and the index's four octets are there
+-- and an earlier value's.
 pub record HasIndexTwice (octets : List ℕ) (index : ℕ) : Type 0 where
   pub count : ℕ
   pub counted : count < 2 ^ 32
@@ -74,7 +79,8 @@ pub record HasIndexTwice (octets : List ℕ) (index : ℕ) : Type 0 where
   pub again : Contains (indices earlier) index
   pub four : index < 2 ^ 32
   pub rest : List ℕ
-  pub begins : octets ≡ to_be_bytes w32 count ++ (joined (all_fields value_fields earlier) ++ (to_be_bytes w32 index ++ rest))
+  pub begins : octets ≡ to_be_bytes w32 count
+      ++ (joined (all_fields value_fields earlier) ++ (to_be_bytes w32 index ++ rest))
 
 abbrev pub values_format : Format (List HandleValue)
 values_format = record {

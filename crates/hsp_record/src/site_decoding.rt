@@ -1,9 +1,10 @@
 // Reading HS_SITE data into memory. A server record takes memory only after it was found whole.
 
-ghost use Rattle.std.specs.Prelude.{◌≡◌, List, Ok};
+ghost use Rattle.std.specs.Prelude.{◌≡◌, List, [], Ok};
 ghost use Rattle.hsp_record.specs.Site.{Interface};
 ghost use Rattle.hsp_text.specs.Answers.{Gives};
-ghost use Rattle.hsp_record.specs.Reading.{Finds, Reads, times_at, list_at, attribute_at, interface_at, server_at, head_of, head_at, server_count_at, servers_at, site_at};
+ghost use Rattle.hsp_record.specs.Reading.{Finds, Reads, times_at, list_at, attribute_at, interface_at, server_at};
+ghost use Rattle.hsp_record.specs.Reading.{head_at, server_count_at, servers_at, site_at};
 
 use crate::fault::{ReadError, Stop};
 use crate::reading::{read_address, read_octet, read_pair, read_run, read_u16, read_u32};
@@ -178,16 +179,17 @@ struct Head<'a> {
 #[tactic(auto, unfolding(crate::specs::Reading::head_at, crate::specs::Reading::list_at))]
 fn read_head(alloc: Global, bytes: &[u8]) -> Result<(Head<'_>, &[u8]), ReadError>
     ensures { Reads (λ x. (
-      head_of (
-        x.0.version,
-        (
-          (x.0.protocol.0, x.0.protocol.1),
-          (
-            x.0.serial,
-            (x.0.mask, (x.0.option, (x.0.filter.now, x.0.attributes.items))),
-          ),
-        ),
-      ),
+      record {
+        version = x.0.version;
+        major = x.0.protocol.0;
+        minor = x.0.protocol.1;
+        serial = x.0.serial;
+        mask = x.0.mask;
+        option = x.0.option;
+        filter = x.0.filter.now;
+        attributes = x.0.attributes.items;
+        servers = [];
+      },
       x.1.now,
     )) result
         (head_at bytes.now) }

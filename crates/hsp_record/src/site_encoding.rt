@@ -2,7 +2,8 @@
 
 ghost use Rattle.std.specs.Prelude.{◌≡◌, ◌<◌, ◌^◌, ◌++◌, length, OnOk, IfOk};
 ghost use Rattle.hsp_record.specs.Fields.{joined, list_fields, IsCounted, spelling};
-ghost use Rattle.hsp_record.specs.Site.{IsAttribute, IsServer, attribute_fields, interface_fields, server_fields, head_fields, site_format};
+ghost use Rattle.hsp_record.specs.Site.{IsAttribute, IsServer, attribute_fields, interface_fields, server_fields};
+ghost use Rattle.hsp_record.specs.Site.{head_fields, site_format};
 
 use crate::site::{Attribute, ServerRecord, ServiceInterface, SiteRecord};
 use crate::writing::{push_octet, push_run};

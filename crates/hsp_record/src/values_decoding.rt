@@ -2,7 +2,8 @@
 
 ghost use Rattle.std.specs.Prelude.{◌≡◌, [], List, length};
 ghost use Rattle.hsp_text.specs.Answers.{Gives};
-ghost use Rattle.hsp_record.specs.Reading.{Finds, Reads, times_at, list_at, reference_at, body_at, values_at, value_list_at};
+ghost use Rattle.hsp_record.specs.Reading.{Finds, Reads, times_at, list_at, reference_at, body_at, values_at};
+ghost use Rattle.hsp_record.specs.Reading.{value_list_at};
 
 use crate::fault::{ReadError, Stop};
 use crate::reading::{read_octet, read_run, read_u32, read_u64};

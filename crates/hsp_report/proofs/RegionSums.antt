@@ -13,7 +13,7 @@ use Rattle.hsp_check.specs.declared.arc.NetworkArc.{NetworkArc}
 use Rattle.hsp_check.specs.declared.sums.ArcFlow.{ArcFlow}
 use Rattle.hsp_check.specs.Plan.{Plan}
 use Rattle.hsp_check.specs.Planned.{ArePlanned}
-use Rattle.hsp_check.proofs.LaidSums.{laid_sum}
+use Rattle.hsp_check.proofs.FlowSums.{flow_sum}
 use Rattle.hsp_report.specs.Numbered.{row_at}
 use Rattle.hsp_report.specs.RegionReport.{is_of, region_cost}
 
@@ -24,12 +24,12 @@ seen_more rows i row names more at so_far added =
     rw so_far at added ∙ sym (first_seen-append (map (λ (r : Row). r.region) (take i rows)) row.region)
     ∙ ap first_seen (sym (map_take_next (λ (r : Row). r.region) rows i row at))
 
--- what is laid on the region's arcs is what the plan gives them
-pub cost_is : (it : Instance) (x : Plan) (laid : List ArcFlow) (region : List ℕ) (n sum : ℕ) → ArePlanned it x laid → length laid ≤ n →
-    sum ≡ sum_by (λ l. if is_of region (row_at it l.arc.row) then l.arc.cost * l.flow else 0) (take n laid) → sum ≡ region_cost it x region
-cost_is it x laid region n sum planned all so_far =
-    so_far ∙ rw (take_all n laid all) (laid_sum (λ a m. if is_of region (row_at it a.row) then a.cost * m else 0) x laid planned.is_laid.flows_are)
-    ∙ ap (λ (arcs : List NetworkArc). sum_by (λ a. if is_of region (row_at it a.row) then a.cost * x a.row a.site else 0) arcs) planned.is_laid.arcs_are
+-- the flows of the region's arcs are what the plan gives them
+pub cost_is : (it : Instance) (x : Plan) (arc_flows : List ArcFlow) (region : List ℕ) (n sum : ℕ) → ArePlanned it x arc_flows → length arc_flows ≤ n →
+    sum ≡ sum_by (λ l. if is_of region (row_at it l.arc.row) then l.arc.cost * l.flow else 0) (take n arc_flows) → sum ≡ region_cost it x region
+cost_is it x arc_flows region n sum planned all so_far =
+    so_far ∙ rw (take_all n arc_flows all) (flow_sum (λ a m. if is_of region (row_at it a.row) then a.cost * m else 0) x arc_flows planned.are_arc_flows.flows_are)
+    ∙ ap (λ (arcs : List NetworkArc). sum_by (λ a. if is_of region (row_at it a.row) then a.cost * x a.row a.site else 0) arcs) planned.are_arc_flows.arcs_are
 
 -- the line of one region more
 pub region_more : (f : List ℕ → List ℕ) (old out new : List ℕ) (regions : List (Bor (List ℕ))) (i : ℕ) (d : Bor (List ℕ)) → i < length regions →

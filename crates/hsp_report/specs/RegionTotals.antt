@@ -11,4 +11,6 @@ DemandsAddUp = (it : Instance) → sum_by (region_demand it) (regions_of it.rows
 
 -- their rows cost together what the plan costs
 abbrev pub CostsAddUp : Type 0
-CostsAddUp = (it : Instance) → IsInstance it → (x : Plan) → sum_by (region_cost it x) (regions_of it.rows) ≡ total (network_of it) x
+CostsAddUp =
+    (it : Instance) → IsInstance it → (x : Plan)
+    → sum_by (region_cost it x) (regions_of it.rows) ≡ total (network_of it) x

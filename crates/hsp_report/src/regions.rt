@@ -11,7 +11,8 @@ ghost use Rattle.hsp_check.specs.Valid.{IsValidPlan};
 ghost use Rattle.hsp_report.specs.Conditions.{IsPlanFor};
 ghost use Rattle.hsp_report.specs.Lent.{cost_in, names_in};
 ghost use Rattle.hsp_report.specs.Numbered.{row_at};
-ghost use Rattle.hsp_report.specs.RegionReport.{IsRegionReport, is_of, region_cost, region_demand, region_lines, region_report, total_line};
+ghost use Rattle.hsp_report.specs.RegionReport.{IsRegionReport, is_of, region_cost, region_demand, region_lines};
+ghost use Rattle.hsp_report.specs.RegionReport.{region_report, total_line};
 
 use crate::columns::{aligned, push_columns};
 use crate::naming::regions_of;
@@ -81,14 +82,14 @@ fn cost_in(instance: &Instance, region: &[u8], one: ArcFlow) -> u128
 }
 
 // What the queries of the region's rows cost.
-fn region_cost(instance: &Instance, laid: &[ArcFlow], region: &[u8]) -> u128
-    requires { (x : Plan) × ArePlanned instance.now x laid.now }
-    ensures { (x : Plan) → ArePlanned instance.now x laid.now
+fn region_cost(instance: &Instance, arc_flows: &[ArcFlow], region: &[u8]) -> u128
+    requires { (x : Plan) × ArePlanned instance.now x arc_flows.now }
+    ensures { (x : Plan) → ArePlanned instance.now x arc_flows.now
         → result ≡ region_cost instance.now x region.now }
 {
     let mut sum: u128 = 0;
-    for place in 0..laid.len() {
-        sum += cost_in(instance, region, laid[place]);
+    for place in 0..arc_flows.len() {
+        sum += cost_in(instance, region, arc_flows[place]);
     }
     sum
 }
@@ -97,16 +98,16 @@ fn region_cost(instance: &Instance, laid: &[ArcFlow], region: &[u8]) -> u128
 fn push_regions(
     out: &mut Vec<u8>,
     instance: &Instance,
-    laid: &[ArcFlow],
+    arc_flows: &[ArcFlow],
     regions: &[&[u8]],
 ) -> Result<(), AllocError>
-    requires { (x : Plan) × ArePlanned instance.now x laid.now }
-    ensures { OnOk result ((x : Plan) → ArePlanned instance.now x laid.now
+    requires { (x : Plan) × ArePlanned instance.now x arc_flows.now }
+    ensures { OnOk result ((x : Plan) → ArePlanned instance.now x arc_flows.now
         → out.new.items ≡ out.old.items ++ region_lines instance.now x (names_in regions.now)) }
 {
     for region in regions {
         let demand = region_demand(instance, region);
-        let cost = region_cost(instance, laid, region);
+        let cost = region_cost(instance, arc_flows, region);
         push_columns(out, &[aligned(10, demand), aligned(16, cost)], region)?;
     }
     Ok(())
@@ -136,11 +137,11 @@ fn regions_text(
     requires valid { IsValidPlan (network_of instance.now) plan.now }
     ensures { IfOk result (λ text. text.items ≡ region_report instance.now plan.now) }
 {
-    let laid = planned_arcs(alloc, instance, plan)?;
+    let arc_flows = planned_arcs(alloc, instance, plan)?;
     let regions = regions_of(alloc, instance)?;
     let mut text = Vec::new(alloc);
     text.extend_from_slice(HEADER)?;
-    push_regions(&mut text, instance, &laid, &regions)?;
+    push_regions(&mut text, instance, &arc_flows, &regions)?;
     push_total(&mut text, instance, plan)?;
     Ok(text)
 }

@@ -5,7 +5,8 @@ ghost use Rattle.hsp_instance.specs.Instance.{IsInstance};
 ghost use Rattle.hsp_check.specs.Instance.{network_of};
 ghost use Rattle.hsp_check.specs.Valid.{IsValidSet};
 ghost use Rattle.hsp_report.specs.Conditions.{IsShortageFor};
-ghost use Rattle.hsp_report.specs.ShortageReport.{IsShortageReport, missing_line, reached_line, reached_lines, row_line, row_lines, shortage_report};
+ghost use Rattle.hsp_report.specs.ShortageReport.{IsShortageReport, missing_line, reached_line, reached_lines};
+ghost use Rattle.hsp_report.specs.ShortageReport.{row_line, row_lines, shortage_report};
 
 use crate::columns::{aligned, push_columns, push_difference};
 use hsp_cert::{Certificate, ShortRef};

@@ -1,5 +1,5 @@
-use crate::same::is_same;
 use hsp_cli_orders::*;
+use hsp_test_support::is_same;
 use std::alloc::{AllocError, Global};
 use std::process::Abort;
 

@@ -17,5 +17,3 @@ mod line_tests;
 mod report_tests;
 #[cfg(test)]
 mod run_tests;
-#[cfg(test)]
-mod same;

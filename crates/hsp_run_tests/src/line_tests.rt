@@ -1,5 +1,4 @@
 use crate::held::{copied, copied_if_any, joined};
-use crate::same::is_same;
 use hsp_cert::CertFault;
 use hsp_check::Reason;
 use hsp_dispatch::LogFault;
@@ -8,6 +7,8 @@ use hsp_names::HandleFault;
 use hsp_record::RecordFault;
 use hsp_runs::*;
 use hsp_tables::TableFault;
+use hsp_test_support::is_same;
+use hsp_test_support::service::SETTINGS;
 use std::alloc::{AllocError, Global};
 use std::io::{self, Read};
 use std::process::Abort;
@@ -104,9 +105,6 @@ fn places_are_printed(rt: HostRuntime) {
         );
     }
 }
-
-pub(crate) const SETTINGS: &[u8] =
-    b"[[site]]\nname = \"E\"\nrecord = \"00010200000100010000000000000000000000020000000700000000000000000000000000000001000000000000000000000003000000000000000000000000000000010000000000000000\"\n[[site]]\nname = \"W\"\nrecord = \"0001020000010001000000000000000000000003000000010000000000000000000000000000000200000000000000000000000200000000000000000000000000000002000000000000000000000009000000000000000000000000000000020000000000000000\"\n";
 
 #[test]
 fn servers_at_sites_are_printed(rt: HostRuntime) {

@@ -1,6 +1,5 @@
 use crate::held::{copied, copied_if_any, joined};
-use crate::line_tests::{SETTINGS, is_told, list_of};
-use crate::same::is_same;
+use crate::line_tests::{is_told, list_of};
 use hsp_cert::CertFault;
 use hsp_check::{Reason, Verdict};
 use hsp_instance::BuildFault;
@@ -8,15 +7,11 @@ use hsp_names::HandleFault;
 use hsp_record::RecordFault;
 use hsp_runs::*;
 use hsp_tables::TableFault;
+use hsp_test_support::is_same;
+use hsp_test_support::service::{CAPACITY, COSTS, DEMAND, SETTINGS};
 use hsp_text::push_whole;
 use std::alloc::{AllocError, Global};
 use std::process::Abort;
-
-const DEMAND: &[u8] = b"region,handle,count\nr1,10/1,5\nr1,10/2,4\nr2,10/3,3\n";
-
-const COSTS: &[u8] = b"region,site,cost\nr1,E,1\nr1,W,4\nr2,E,2\nr2,W,3\n";
-
-const CAPACITY: &[u8] = b"site,server_id,capacity\nE,7,10\nE,3,6\nW,1,2\nW,2,10\nW,9,10\n";
 
 // Two sites, three rows, five servers.
 pub(crate) const BASE: Texts<'static> = Texts {

@@ -1,4 +1,3 @@
-pub mod Consuming
 pub mod Dispatching
 pub mod Printing
 pub mod Showing

@@ -17,7 +17,8 @@ use Rattle.hsp_headline.specs.declared.inputs.Inputs.{Inputs}
 
 -- the instance with the claim, where that is valid for it, otherwise the first reason why it isn't
 abbrev pub IsAccepted : Instance → Claim → Result Accepted Fault → Type 0
-IsAccepted instance claim (Ok accepted) = (accepted.instance ≡ instance) × (accepted.certificate ≡ claim) × IsValid (network_of instance) claim
+IsAccepted instance claim (Ok accepted) =
+    (accepted.instance ≡ instance) × (accepted.certificate ≡ claim) × IsValid (network_of instance) claim
 IsAccepted instance claim (Err (Refused reason)) = IsVerdict (network_of instance) claim (No reason)
 IsAccepted instance claim (Err e) = ⊥
 

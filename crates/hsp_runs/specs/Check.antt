@@ -21,7 +21,8 @@ use Rattle.hsp_text.specs.Answers.{Then, told_as}
 -- the certificate that octets spell
 abbrev pub IsCertificate : List ℕ → Result Claim Fault → Type 0
 IsCertificate octets answer =
-    (reading : Result Claim CertFault) × Means octets reading × (reading ≢ Err cert_fault.OutOfMemory) × (answer ≡ told_as Cert reading)
+    (reading : Result Claim CertFault) × Means octets reading × (reading ≢ Err cert_fault.OutOfMemory)
+    × (answer ≡ told_as Cert reading)
 
 -- the verdict on a claim, which is Yes exactly where the claim is valid for the instance
 abbrev pub IsVerdict : Instance → Claim → Result Verdict Fault → Type 0

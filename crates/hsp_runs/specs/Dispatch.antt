@@ -72,18 +72,21 @@ AnswersAs staff it (short c) run answer = Refuses run WrongKind answer
 
 -- by what is accepted, or memory ran out before that
 abbrev pub AnswersBy : {S : Type 0} → Staff S → Accepted → Streams → Result S Fault → Type 0
-AnswersBy staff accepted run answer = Refuses run OutOfMemory answer ⊎ AnswersAs staff accepted.instance accepted.certificate run answer
+AnswersBy staff accepted run answer =
+    Refuses run OutOfMemory answer ⊎ AnswersAs staff accepted.instance accepted.certificate run answer
 
 -- by what is accepted; where nothing is, its fault is returned
 abbrev pub AnswersWhere : {S : Type 0} → Staff S → Result Accepted Fault → Streams → Result S Fault → Type 0
 AnswersWhere staff (Ok accepted) run answer = AnswersAs staff accepted.instance accepted.certificate run answer
 AnswersWhere staff (Err e) run answer = Refuses run e answer
 
--- first the inputs are read, then the certificate, and then it is judged; where it is accepted, the log is answered. Or memory ran
--- out before that.
+-- first the inputs are read, then the certificate, and then it is judged; where it is accepted, the log is answered. Or
+-- memory ran out before that.
 abbrev pub IsAnsweredBy : {S : Type 0} → Staff S → Inputs → List ℕ → Streams → Result S Fault → Type 0
 IsAnsweredBy staff inputs octets run answer =
-    Refuses run OutOfMemory answer ⊎ ((accepted : Result Accepted Fault) × IsAcceptedOf inputs octets accepted × AnswersWhere staff accepted run answer)
+    Refuses run OutOfMemory answer
+    ⊎ ((accepted : Result Accepted Fault) × IsAcceptedOf inputs octets accepted
+    × AnswersWhere staff accepted run answer)
 
 abbrev pub IsDispatched : Inputs → List ℕ → Streams → Result LogSums Fault → Type 0
 IsDispatched inputs octets run answer = IsAnsweredBy a_dispatcher inputs octets run answer

@@ -1,4 +1,3 @@
-pub mod Input
 pub mod Locate
 pub mod SiteText
 pub mod Always

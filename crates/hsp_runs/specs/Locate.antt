@@ -1,5 +1,6 @@
 -- The texts that state where a handle is served.
-use Rattle.std.specs.Prelude.{◌≡◌, ◌++◌, ◌∷◌, [], ℕ, List, length, codes, decimal, option_map, slice_get, Option, Some, None, Result, Ok, Err, if◌then◌else◌}
+use Rattle.std.specs.Prelude.{◌≡◌, ◌++◌, ◌∷◌, [], ℕ, List, length, codes, decimal, option_map, slice_get, Option, Some}
+use Rattle.std.specs.Prelude.{None, Result, Ok, Err, if◌then◌else◌}
 use Rattle.std.specs.Str.{bytes_eq}
 use Rattle.hsp_text.specs.declared.limits.TheConstants.{MOST_SERVERS}
 use Rattle.hsp_names.specs.Handle.{handle_in}
@@ -44,7 +45,8 @@ number_line n = decimal n ++ 10 ∷ []
 -- the place of the server, or the first fault
 abbrev pub placed : List ℕ → List ℕ → List ℕ → Result (List ℕ) Fault
 placed option servers octets =
-    option_at option >>= λ o. servers_at servers >>= λ n. handle_at octets >>= λ h. Ok (number_line (server_place o h n))
+    option_at option >>= λ o. servers_at servers >>= λ n. handle_at octets >>= λ h.
+    Ok (number_line (server_place o h n))
 
 -- a site's line: its name, and the place and the identifier of the handle's server
 abbrev pub line_at : Site → ℕ → Option SiteServer → List ℕ
@@ -71,4 +73,5 @@ AreLocated settings values octets =
 -- the text, or the first fault
 abbrev pub IsLocated : Locate → List ℕ → Result (List ℕ) Fault → Type 0
 IsLocated (Place option servers) octets answer = answer ≡ placed option.items servers.items octets
-IsLocated (Sites settings values) octets answer = AreLocated settings.items (option_map (λ v. v.items) values) octets answer
+IsLocated (Sites settings values) octets answer =
+    AreLocated settings.items (option_map (λ v. v.items) values) octets answer

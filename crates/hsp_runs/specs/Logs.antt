@@ -1,5 +1,5 @@
--- What a run over a log shows of a plan, by a dispatcher or by fronts that share the plan, and that each plan that holds
--- answers logs.
+-- What a run over a log shows of a plan, by a dispatcher or by fronts that share the plan, and that each plan that
+-- holds answers logs.
 use Rattle.std.specs.Prelude.{◌≡◌, ◌≢◌, ◌≤◌, ◌<◌, ◌⊎◌, ℕ, List, decimal, map, Result, Ok, Err, IfErr}
 use Rattle.hsp_text.specs.declared.limits.TheConstants.{MOST_FRONTS}
 use Rattle.hsp_csv.specs.Records.{Fields}

@@ -1,5 +1,6 @@
 -- The text of a site record, and what printing one answers.
-use Rattle.std.specs.Prelude.{◌≡◌, ◌++◌, ◌∷◌, [], ◌+◌, ◌==◌, ⊤, ℕ, Bool, true, false, List, length, codes, decimal, find, Option, Some, None, Result, Ok, Err, Vec}
+use Rattle.std.specs.Prelude.{◌≡◌, ◌++◌, ◌∷◌, [], ◌+◌, ◌==◌, ⊤, ℕ, Bool, true, false, List, length, codes, decimal}
+use Rattle.std.specs.Prelude.{find, Option, Some, None, Result, Ok, Err, Vec}
 use Rattle.std.specs.declared.alloc.Global.{Global}
 use Rattle.std.specs.Str.{bytes_eq}
 use Rattle.hex.specs.Hex.{encode_lower}
@@ -16,17 +17,22 @@ use Rattle.hsp_text.specs.Writing.{numbered, spaced}
 
 abbrev pub numbers_text : Site → List ℕ
 numbers_text s =
-    numbered (codes "version") (s.version ∷ []) ++ (numbered (codes "protocol") (s.major ∷ s.minor ∷ []) ++ (numbered (codes "serial") (s.serial ∷ [])
+    numbered (codes "version") (s.version ∷ [])
+    ++ (numbered (codes "protocol") (s.major ∷ s.minor ∷ []) ++ (numbered (codes "serial") (s.serial ∷ [])
     ++ (numbered (codes "mask") (s.mask ∷ []) ++ numbered (codes "option") (s.option ∷ []))))
 
 abbrev pub counts_text : Site → List ℕ
 counts_text s =
-    numbered (codes "filter") (length s.filter ∷ []) ++ (numbered (codes "attributes") (length s.attributes ∷ []) ++ numbered (codes "servers") (length s.servers ∷ []))
+    numbered (codes "filter") (length s.filter ∷ [])
+    ++ (numbered (codes "attributes") (length s.attributes ∷ []) ++ numbered (codes "servers") (length s.servers ∷ []))
 
 -- place, identifier, address in hexadecimal digits, number of key octets, number of interfaces
 abbrev pub server_line : ℕ → Server → List ℕ
 server_line place s =
-    codes "server " ++ (decimal place ++ (codes " " ++ (decimal s.id ++ (codes " " ++ (encode_lower s.address ++ spaced (length s.key ∷ length s.interfaces ∷ []))))))
+    codes "server "
+    ++ (decimal place
+    ++ (codes " "
+    ++ (decimal s.id ++ (codes " " ++ (encode_lower s.address ++ spaced (length s.key ∷ length s.interfaces ∷ []))))))
 
 abbrev pub server_lines : ℕ → List Server → List ℕ
 server_lines place [] = []
@@ -49,7 +55,8 @@ IsRecordRun octets (Err e) = ⊥
 
 -- the value with the index, in the list that octets spell, or none
 abbrev pub IsFound : List ℕ → ℕ → Option HandleValue → Type 0
-IsFound octets index found = (vs : List HandleValue) × Means values_format octets (Ok vs) × (find (λ v. v.index == index) vs ≡ found)
+IsFound octets index found =
+    (vs : List HandleValue) × Means values_format octets (Ok vs) × (find (λ v. v.index == index) vs ≡ found)
 
 abbrev pub is_site_value : HandleValue → Bool
 is_site_value v = bytes_eq v.type_octets (codes "HS_SITE")
@@ -59,8 +66,10 @@ abbrev pub IsValueRun : List ℕ → ℕ → Result (Vec ℕ Global) Fault → T
 IsValueRun octets index (Err fault.OutOfMemory) = ⊤
 IsValueRun octets index (Err (fault.Values e)) = IsRefused (Means values_format octets) e
 IsValueRun octets index (Err fault.NoValue) = IsFound octets index None
-IsValueRun octets index (Err fault.NotSiteValue) = (v : HandleValue) × IsFound octets index (Some v) × (is_site_value v ≡ false)
-IsValueRun octets index answer = (v : HandleValue) × IsFound octets index (Some v) × (is_site_value v ≡ true) × IsRecordRun v.octets answer
+IsValueRun octets index (Err fault.NotSiteValue) =
+    (v : HandleValue) × IsFound octets index (Some v) × (is_site_value v ≡ false)
+IsValueRun octets index answer =
+    (v : HandleValue) × IsFound octets index (Some v) × (is_site_value v ≡ true) × IsRecordRun v.octets answer
 
 -- by the digits of an index, where they are given
 abbrev pub IsIndexRun : List ℕ → Result ℕ WholeFault → Result (Vec ℕ Global) Fault → Type 0

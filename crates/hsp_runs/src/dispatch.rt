@@ -35,8 +35,8 @@ fn dispatched<R: Read + Drop, W: Write>(
 ///
 /// Faults in this order: those of the inputs (`Settings`, `Values`, `Demand`, `Costs`, `Capacity`, `Build`), `Cert`,
 /// `Refused`, and `WrongKind` for a shortage, all with nothing written; then `Log`, when the entries before it were
-/// answered. A run stops anywhere if memory runs out. Where the inputs define an instance, and the certificate is a plan
-/// that holds for it, there is no other fault than `Log`, unless memory runs out.
+/// answered. A run stops anywhere if memory runs out. Where the inputs define an instance, and the certificate is a
+/// plan that holds for it, there is no other fault than `Log`, unless memory runs out.
 pub fn dispatch_run<R: Read + Drop, W: Write>(
     alloc: Global,
     inputs: &Inputs,

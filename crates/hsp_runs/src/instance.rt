@@ -3,7 +3,8 @@
 ghost use Rattle.std.specs.Prelude.{IfOk, option_map};
 ghost use Rattle.hsp_runs.specs.Always.{GivesTheDefinedAlways};
 ghost use Rattle.hsp_headline.specs.Headline.{Defines};
-ghost use Rattle.hsp_headline.specs.Instance.{BuildsInstance, IsInstanceOf, IsWithCosts, IsWithDemand, IsWithSettings, IsWithValues, ReadsCapacities, ReadsCosts, ReadsDemand};
+ghost use Rattle.hsp_headline.specs.Instance.{BuildsInstance, IsInstanceOf, IsWithCosts, IsWithDemand, IsWithSettings};
+ghost use Rattle.hsp_headline.specs.Instance.{IsWithValues, ReadsCapacities, ReadsCosts, ReadsDemand};
 ghost use Rattle.hsp_headline.specs.Memory.{OrNoMemory};
 
 use crate::readings::{settings_in, values_in};
@@ -55,8 +56,8 @@ struct Sources<'s, 'v, 'l> {
     values: Option<&'v ValueList<'l>>,
 }
 
-// The instance of what was read.
-fn built(
+// Builds the instance of what was read.
+fn build_read(
     alloc: Global,
     sources: Sources<'_, '_, '_>,
     demand: &Demand,
@@ -85,8 +86,8 @@ fn built(
     }
 }
 
-// The instance, after the costs were read.
-fn with_costs(
+// Reads the capacities, and builds the instance.
+fn read_capacities_on(
     alloc: Global,
     inputs: &Inputs,
     sources: Sources<'_, '_, '_>,
@@ -97,11 +98,11 @@ fn with_costs(
         (option_map (λ v. v.now) sources.entry.values) demand.now costs.now) result }
 {
     let capacity = capacities_in(alloc, &inputs.capacity)?;
-    built(alloc, sources, demand, costs, &capacity)
+    build_read(alloc, sources, demand, costs, &capacity)
 }
 
-// The instance, after the demand was read.
-fn with_demand(
+// Reads the costs, the capacities after them, and builds the instance.
+fn read_costs_on(
     alloc: Global,
     inputs: &Inputs,
     sources: Sources<'_, '_, '_>,
@@ -111,11 +112,11 @@ fn with_demand(
         (option_map (λ v. v.now) sources.entry.values) demand.now) result }
 {
     let costs = costs_in(alloc, &inputs.costs)?;
-    with_costs(alloc, inputs, sources, demand, &costs)
+    read_capacities_on(alloc, inputs, sources, demand, &costs)
 }
 
-// The instance, after the values were read.
-fn with_values(
+// Reads the demand, the tables after it, and builds the instance.
+fn read_demand_on(
     alloc: Global,
     inputs: &Inputs,
     settings: &Settings,
@@ -125,23 +126,23 @@ fn with_values(
         (option_map (λ v. v.now) values.entry)) result }
 {
     let demand = demand_in(alloc, &inputs.demand)?;
-    with_demand(alloc, inputs, Sources { settings, values }, &demand)
+    read_costs_on(alloc, inputs, Sources { settings, values }, &demand)
 }
 
-// The instance, after the settings were read.
-fn with_settings(alloc: Global, inputs: &Inputs, settings: &Settings) -> Result<Instance, Fault>
+// Reads the values, the tables after them, and builds the instance.
+fn read_values_on(alloc: Global, inputs: &Inputs, settings: &Settings) -> Result<Instance, Fault>
     ensures { OrNoMemory (IsWithSettings inputs.now settings.now) result }
 {
     let values = values_in(alloc, inputs.values.as_deref())?;
-    with_values(alloc, inputs, settings, values.as_ref())
+    read_demand_on(alloc, inputs, settings, values.as_ref())
 }
 
-// The instance of the inputs, or their first fault.
-fn first_answer(alloc: Global, inputs: &Inputs) -> Result<Instance, Fault>
+// Reads the inputs in their order, the settings first, and builds the instance.
+fn read_in_turn(alloc: Global, inputs: &Inputs) -> Result<Instance, Fault>
     ensures { OrNoMemory (IsInstanceOf inputs.now) result }
 {
     let settings = settings_in(alloc, &inputs.settings)?;
-    with_settings(alloc, inputs, &settings)
+    read_values_on(alloc, inputs, &settings)
 }
 
 /// The instance that the inputs define.
@@ -156,5 +157,5 @@ pub(crate) fn instance_in(alloc: Global, inputs: &Inputs) -> Result<Instance, Fa
     ensures always { GivesTheDefinedAlways inputs.now result }
 {
     instances_are_defined();
-    first_answer(alloc, inputs)
+    read_in_turn(alloc, inputs)
 }

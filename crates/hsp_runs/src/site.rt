@@ -4,7 +4,8 @@ ghost use Rattle.std.specs.Prelude.{◌≡◌, ◌++◌, ◌∷◌, [], ◌<◌,
 ghost use Rattle.hex.specs.Hex.{encode_lower};
 ghost use Rattle.hsp_record.specs.Site.{IsSite};
 ghost use Rattle.hsp_text.specs.Writing.{numbered};
-ghost use Rattle.hsp_runs.specs.SiteText.{IsRecordRun, IsSiteRun, IsValueRun, counts_text, numbers_text, server_line, server_lines, site_text};
+ghost use Rattle.hsp_runs.specs.SiteText.{IsRecordRun, IsSiteRun, IsValueRun, counts_text, numbers_text, server_line};
+ghost use Rattle.hsp_runs.specs.SiteText.{server_lines, site_text};
 
 use hsp_faults::Fault;
 use hsp_record::{RecordFault, ServerRecord, SiteRecord, decode_site, decode_values};

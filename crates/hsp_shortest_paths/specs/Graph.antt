@@ -10,8 +10,10 @@ pub record Graph (nodes : ℕ) (tails heads costs capacities supplies : List ℕ
   pub tails_in : (k : ℕ) → k < length tails → slice_index tails k < nodes
   pub down : (k : ℕ) → k < length tails → slice_index heads k < slice_index tails k
 
--- the arcs that leave sources cost `greatest_cost` at the most and others nothing; with no more prices than `price_bound` every number fits
-pub record Scale (first nodes : ℕ) (tails heads costs : List ℕ) (greatest_cost price_bound longest_arc : ℕ) : Type 0 where
+-- the arcs that leave sources cost `greatest_cost` at the most and others nothing; with no more prices than
+-- `price_bound` every number fits
+pub record Scale (first nodes : ℕ) (tails heads costs : List ℕ) (greatest_cost price_bound longest_arc : ℕ) :
+    Type 0 where
   pub dear : (k : ℕ) → k < length tails → slice_index costs k ≤ greatest_cost
   pub free : (k : ℕ) → k < length tails → slice_index tails k < first → slice_index costs k ≡ 0
   pub low : (k : ℕ) → k < length tails → slice_index heads k < first

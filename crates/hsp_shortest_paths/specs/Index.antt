@@ -1,4 +1,5 @@
--- The arcs of each node in a chain, from the last of them back to the first: `ends` has the end of each arc by which it is chained.
+-- The arcs of each node in a chain, from the last of them back to the first: `ends` has the end of each arc by which it
+-- is chained.
 use Rattle.std.specs.Prelude.{◌≡◌, ◌≢◌, ℕ, ◌-◌, ◌<◌, ◌≤◌, List, length, slice_index}
 
 -- the last of the first `upto` arcs whose end is the node v, counted from 1; 0 where there is none

@@ -1,5 +1,5 @@
--- The arcs of a transportation network: node 0 is the sink, then come the hosts, the servers and the sources. The arc of a host
--- leads to the sink, that of a server to its host or to the sink, and each arc from its source to its server.
+-- The arcs of a transportation network: node 0 is the sink, then come the hosts, the servers and the sources. The arc
+-- of a host leads to the sink, that of a server to its host or to the sink, and each arc from its source to its server.
 use Rattle.std.specs.Prelude.{◌≡◌, ℕ, ◌+◌, ◌*◌, ◌<◌, List, length, slice_index, Option, Some, None}
 use Rattle.hsp_network.specs.Network.{Transport, host_of}
 
@@ -31,13 +31,15 @@ pub record Appends (old new : List ℕ) (n : ℕ) (f : ℕ → ℕ) : Type 0 whe
 pub record TailsOf (net : Transport) (tails : List ℕ) : Type 0 where
   pub many : length tails ≡ base_of net + length net.sources
   pub node : (k : ℕ) → k < base_of net → slice_index tails k ≡ 1 + k
-  pub arc : (k : ℕ) → k < length net.sources → slice_index tails (base_of net + k) ≡ first_of net + slice_index net.sources k
+  pub arc : (k : ℕ) → k < length net.sources
+      → slice_index tails (base_of net + k) ≡ first_of net + slice_index net.sources k
 
 pub record HeadsOf (net : Transport) (heads : List ℕ) : Type 0 where
   pub many : length heads ≡ base_of net + length net.sources
   pub host : (h : ℕ) → h < hosts_of net → slice_index heads h ≡ 0
   pub server : (j : ℕ) → j < servers_of net → slice_index heads (hosts_of net + j) ≡ host_node (host_of net j)
-  pub arc : (k : ℕ) → k < length net.sources → slice_index heads (base_of net + k) ≡ 1 + hosts_of net + slice_index net.servers k
+  pub arc : (k : ℕ) → k < length net.sources
+      → slice_index heads (base_of net + k) ≡ 1 + hosts_of net + slice_index net.servers k
 
 pub record CostsOf (net : Transport) (costs : List ℕ) : Type 0 where
   pub many : length costs ≡ base_of net + length net.sources
@@ -60,7 +62,8 @@ pub record IsSmall (net : Transport) : Type 0 where
   pub few : first_of net + length net.demands + 1 < 4294967296
   pub few_arcs : base_of net + length net.sources < 4294967296
   pub cheap : (k : ℕ) → k < length net.sources →
-      (first_of net + length net.demands + 1) * ((first_of net + length net.demands + 1) * slice_index net.costs k) < 18446744073709551615
+      (first_of net + length net.demands + 1) *
+      ((first_of net + length net.demands + 1) * slice_index net.costs k) < 18446744073709551615
   pub low : (i : ℕ) → i < length net.demands → slice_index net.demands i < 18446744073709551615
 
 -- the lists of a network's arcs

@@ -9,7 +9,8 @@ use Rattle.hsp_network.specs.declared.network.Network.{Network}
 
 -- no bound of the network's costs is below `greatest_cost`
 abbrev pub IsLeastBound : Network → ℕ → Type 0
-IsLeastBound network least = (greatest_cost : ℕ) → BoundsCosts (problem_of network) greatest_cost → least ≤ greatest_cost
+IsLeastBound network least =
+    (greatest_cost : ℕ) → BoundsCosts (problem_of network) greatest_cost → least ≤ greatest_cost
 
 -- the arcs are the network's
 pub record IsArcsOf (network : Network) (n : Arcs) : Type 0 where

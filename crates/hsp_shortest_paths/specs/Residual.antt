@@ -1,6 +1,6 @@
--- The residual network of a flow (Network Flows, section 2.4), its potentials (section 9.3), and a shortest path tree in it.
--- Arc k leads from the node `tails[k]` to the node `heads[k]`; node 0 is the sink. A residual arc is an arc with a direction:
--- `true` along the arc, over what is left of its capacity, `false` against it, over what flows on it.
+-- The residual network of a flow (Network Flows, section 2.4), its potentials (section 9.3), and a shortest path tree
+-- in it. Arc k leads from the node `tails[k]` to the node `heads[k]`; node 0 is the sink. A residual arc is an arc with
+-- a direction: `true` along the arc, over what is left of its capacity, `false` against it, over what flows on it.
 use Rattle.std.specs.Prelude.{◌≡◌, ◌≢◌, ℕ, ◌+◌, ◌-◌, ◌<◌, ◌≤◌, ◌==◌, Bool, true, false, List, length, slice_index}
 use Rattle.hsp_network.specs.Sums.{only}
 use Rattle.hsp_shortest_paths.specs.Sums.{through}
@@ -50,7 +50,8 @@ takes n price k false = price (slice_index n.tails.now k)
 
 -- no residual arc has a negative reduced cost
 abbrev pub AreOptimal : Arcs → Flow → (ℕ → ℕ) → Type 0
-AreOptimal n f price = (k : ℕ) (d : Bool) → k < length n.tails.now → 0 < width f k d → gives n price k d ≤ takes n price k d
+AreOptimal n f price =
+    (k : ℕ) (d : Bool) → k < length n.tails.now → 0 < width f k d → gives n price k d ≤ takes n price k d
 
 -- what flows on an arc and its residual capacity are its capacity
 abbrev pub IsBalanced : Arcs → Flow → ℕ → Type 0
@@ -63,7 +64,8 @@ pub record IsConserved (n : Arcs) (f : Flow) : Type 0 where
   pub excess_many : length f.excess.now ≡ nodes n
   pub balanced : (k : ℕ) → k < length n.tails.now → IsBalanced n f k
   pub conserved : (v : ℕ) → v < nodes n → v ≢ 0 →
-      through n.tails.now f.flows.now v + slice_index f.excess.now v ≡ through n.heads.now f.flows.now v + slice_index n.supplies.now v
+      through n.tails.now f.flows.now v + slice_index f.excess.now v
+      ≡ through n.heads.now f.flows.now v + slice_index n.supplies.now v
   pub within : (v : ℕ) → v < nodes n → slice_index f.excess.now v ≤ slice_index n.supplies.now v
 
 -- with prices at which no residual arc has a negative reduced cost
@@ -75,7 +77,8 @@ pub record Sound (n : Arcs) (f : Flow) (price : ℕ → ℕ) : Type 0 where
 
 -- distances that no residual arc undercuts, below the sink's
 abbrev pub AreRelaxed : Arcs → Flow → SearchTree → Type 0
-AreRelaxed n f t = (k : ℕ) (d : Bool) → k < length n.tails.now → 0 < width f k d → distance t (from n k d) < distance t 0 →
+AreRelaxed n f t =
+    (k : ℕ) (d : Bool) → k < length n.tails.now → 0 < width f k d → distance t (from n k d) < distance t 0 →
     distance t (to n k d) + gives n (prices f) k d ≤ distance t (from n k d) + takes n (prices f) k d
 
 -- the prices after a search: each raised by what the node's distance lacks to the sink's
@@ -121,18 +124,21 @@ pub record Walk (n : Arcs) (f : Flow) (t : SearchTree) (price : ℕ → ℕ) (ro
       through n.tails.now f.flows.now v + slice_index f.excess.now v + only root v amount
       ≡ through n.heads.now f.flows.now v + slice_index n.supplies.now v + only at v amount
   pub paid : AreOptimal n f price
-  pub fits : (v : ℕ) → v < nodes n → v ≢ root → distance t v ≤ distance t 0 → slice_index t.depth.now v ≤ slice_index t.depth.now at →
+  pub fits : (v : ℕ) → v < nodes n → v ≢ root → distance t v ≤ distance t 0
+      → slice_index t.depth.now v ≤ slice_index t.depth.now at →
       slice_index t.amount.now v ≤ width f (slice_index t.predecessor.now v) (way n t v)
 
 -- `amount` was sent over the residual arc of the arc k, and nothing else is changed
 pub record Pushes (n : Arcs) (f f' : Flow) (k : ℕ) (d : Bool) (amount : ℕ) : Type 0 where
   pub flows_many : length f'.flows.now ≡ length f.flows.now
   pub residual_many : length f'.residual_capacity.now ≡ length f.residual_capacity.now
-  pub sum : slice_index f'.flows.now k + slice_index f'.residual_capacity.now k ≡ slice_index f.flows.now k + slice_index f.residual_capacity.now k
+  pub sum : slice_index f'.flows.now k + slice_index f'.residual_capacity.now k
+      ≡ slice_index f.flows.now k + slice_index f.residual_capacity.now k
   pub less : width f' k d + amount ≡ width f k d
   pub flows_same : (j : ℕ) → j ≢ k → slice_index f'.flows.now j ≡ slice_index f.flows.now j
   pub residual_same : (j : ℕ) → j ≢ k → slice_index f'.residual_capacity.now j ≡ slice_index f.residual_capacity.now j
-  pub moved : (v : ℕ) → through n.tails.now f'.flows.now v + through n.heads.now f.flows.now v + only (to n k d) v amount
+  pub moved : (v : ℕ)
+      → through n.tails.now f'.flows.now v + through n.heads.now f.flows.now v + only (to n k d) v amount
       ≡ through n.tails.now f.flows.now v + through n.heads.now f'.flows.now v + only (from n k d) v amount
   pub price : f'.price.now ≡ f.price.now
   pub excess : f'.excess.now ≡ f.excess.now

@@ -1,8 +1,11 @@
--- A search for the sink by Dijkstra's algorithm over reduced costs (Network Flows, sections 4.5 and 9.7), in the middle of its work.
-use Rattle.std.specs.Prelude.{◌≡◌, ◌≢◌, ℕ, ◌+◌, ◌*◌, ◌<◌, ◌≤◌, ◌&&◌, Bool, true, false, length, slice_index, slice_set, Option, Some, None, is_none, min, nat_lt, if◌then◌else◌}
+-- A search for the sink by Dijkstra's algorithm over reduced costs (Network Flows, sections 4.5 and 9.7), in the middle
+-- of its work.
+use Rattle.std.specs.Prelude.{◌≡◌, ◌≢◌, ℕ, ◌+◌, ◌*◌, ◌<◌, ◌≤◌, ◌&&◌, Bool, true, false, length, slice_index, slice_set}
+use Rattle.std.specs.Prelude.{Option, Some, None, is_none, min, nat_lt, if◌then◌else◌}
 use Rattle.hsp_network.specs.Sums.{sum_below}
 use Rattle.hsp_shortest_paths.specs.Frontier.{Changes}
-use Rattle.hsp_shortest_paths.specs.Residual.{AreRelaxed, Flow, IsOnPath, Arcs, SearchTree, Sound, distance, from, gives, nodes, predecessor, prices, takes, to, way, width}
+use Rattle.hsp_shortest_paths.specs.Residual.{AreRelaxed, Flow, IsOnPath, Arcs, SearchTree, Sound, distance, from}
+use Rattle.hsp_shortest_paths.specs.Residual.{gives, nodes, predecessor, prices, takes, to, way, width}
 pub use Rattle.hsp_shortest_paths.specs.declared.arcs.Visit.{Visit}
 pub use Rattle.hsp_shortest_paths.specs.declared.arcs.Ways.{Ways}
 pub use Rattle.hsp_shortest_paths.specs.declared.arcs.Offer.{Offer}
@@ -61,16 +64,19 @@ pub record Labels (n : Arcs) (f : Flow) (t : SearchTree) (held : ℕ → Option 
   pub no_more : (v : ℕ) → v < nodes n → distance t v < top → slice_index t.amount.now v ≤ slice_index f.excess.now root
 
 -- and the residual arcs of settled nodes are relaxed where they were `looked` at
-pub record Search (n : Arcs) (f : Flow) (t : SearchTree) (held : ℕ → Option ℕ) (root now : ℕ) (looked : ℕ → Bool → Type 0) : Type 0 where
+pub record Search (n : Arcs) (f : Flow) (t : SearchTree) (held : ℕ → Option ℕ) (root now : ℕ)
+    (looked : ℕ → Bool → Type 0) : Type 0 where
   pub labels : Labels n f t held root now
   pub open labels use *
-  pub relaxed : (k : ℕ) (d : Bool) → k < length n.tails.now → 0 < width f k d → Settled held t (from n k d) → looked k d → IsRelaxed n f t k d
+  pub relaxed : (k : ℕ) (d : Bool) → k < length n.tails.now → 0 < width f k d → Settled held t (from n k d)
+      → looked k d → IsRelaxed n f t k d
 
 -- the search is over: no residual arc leads out of what it reached, and the sink is not among it
 pub record Closed (n : Arcs) (f : Flow) (t : SearchTree) (root : ℕ) : Type 0 where
   pub root_in : distance t root < top
   pub sink_out : top ≤ distance t 0
-  pub out : (k : ℕ) (d : Bool) → k < length n.tails.now → 0 < width f k d → distance t (from n k d) < top → distance t (to n k d) < top
+  pub out : (k : ℕ) (d : Bool) → k < length n.tails.now → 0 < width f k d → distance t (from n k d) < top
+      → distance t (to n k d) < top
 
 -- the offer of the way over a residual arc that leaves the node that is settled
 pub record IsWay (n : Arcs) (f : Flow) (t : SearchTree) (at : Visit) (k : ℕ) (d : Bool) (o : Offer) : Type 0 where
@@ -80,7 +86,8 @@ pub record IsWay (n : Arcs) (f : Flow) (t : SearchTree) (at : Visit) (k : ℕ) (
   pub exact : o.distance + gives n (prices f) k d ≡ at.distance + takes n (prices f) k d
   pub amount : o.amount ≡ min (slice_index t.amount.now at.node) (width f k d)
 
--- what a search knows of the node that is offered a way lets it take it: it waits, unless it was not reached or is no farther
+-- what a search knows of the node that is offered a way lets it take it: it waits, unless it was not reached or is no
+-- farther
 pub record MayBeOffered (held : ℕ → Option ℕ) (t : SearchTree) (o : Offer) : Type 0 where
   pub from_in : o.from < length t.distance.now
   pub to_in : o.to < length t.distance.now
@@ -148,7 +155,8 @@ pub record IsVisited (n : Arcs) (t : SearchTree) (held : ℕ → Option ℕ) (at
   pub counted : Counted n t held (at.turn + 1) (at.distance + n.longest_arc)
 
 -- and those of its residual arcs which were `seen` are relaxed
-pub record Expanding (n : Arcs) (f : Flow) (t : SearchTree) (held : ℕ → Option ℕ) (at : Visit) (seen : ℕ → Bool → Type 0) : Type 0 where
+pub record Expanding (n : Arcs) (f : Flow) (t : SearchTree) (held : ℕ → Option ℕ) (at : Visit)
+    (seen : ℕ → Bool → Type 0) : Type 0 where
   pub visit : IsVisited n t held at
   pub open visit use *
   pub search : Search n f t held at.root at.distance (λ k d. from n k d ≡ at.node → seen k d)
@@ -200,8 +208,8 @@ pub record Spread (n : Arcs) (f : Flow) (t : SearchTree) (root turn : ℕ) : Typ
   pub within : up + down ≤ turn * n.greatest_cost
   pub priced : Priced n f t root up down
 
--- ways over the arcs that leave the node that is settled let prices and distances lie farther apart by their greatest cost the one
--- way, ways back over those that enter it the other way
+-- ways over the arcs that leave the node that is settled let prices and distances lie farther apart by their greatest
+-- cost the one way, ways back over those that enter it the other way
 abbrev pub Widens : Arcs → Flow → SearchTree → SearchTree → Ways → Type 0
 Widens n f t t' w = (cost up down : ℕ) →
     ((k : ℕ) → k < length n.tails.now → from n k w.along ≡ w.at.node → slice_index n.costs.now k ≤ cost) →

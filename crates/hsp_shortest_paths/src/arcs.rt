@@ -41,8 +41,8 @@ pub struct Arcs<'a> {
         before_leaving.now },
     pub ghost by_head: { AreChains (length supplies.now) heads.now last_entering.now
         before_entering.now },
-    pub ghost scale: { Scale first (length supplies.now) tails.now heads.now costs.now greatest_cost price_bound
-        longest_arc },
+    pub ghost scale: { Scale first (length supplies.now) tails.now heads.now costs.now greatest_cost
+        price_bound longest_arc },
 }
 
 /// The lists of a network's arcs: `supplies` has an entry for each node, the other lists have one for each arc.

@@ -1,4 +1,5 @@
-ghost use Rattle.std.specs.Prelude.{◌≡◌, ℕ, ◌+◌, ◌<◌, ◌≤◌, ◌↔◌, IfOk, IsOk, IsTrue, OnOk, IfSome, IsSomeAnd, IfNone, OnErr, Option};
+ghost use Rattle.std.specs.Prelude.{◌≡◌, ℕ, ◌+◌, ◌<◌, ◌≤◌, ◌↔◌, IfOk, IsOk, IsTrue, OnOk, IfSome, IsSomeAnd, IfNone};
+ghost use Rattle.std.specs.Prelude.{OnErr, Option};
 ghost use Rattle.hsp_shortest_paths.specs.Frontier.{Changes, HoldsNone, IsLeast};
 
 use std::alloc::{AllocError, Global};

@@ -1,4 +1,5 @@
-ghost use Rattle.std.specs.Prelude.{◌≡◌, ℕ, ◌<◌, ◌≤◌, ◌-◌, ◌↔◌, IsTrue, ⊤, true, Option, Some, None, slice_index_or, length, vec_len};
+ghost use Rattle.std.specs.Prelude.{◌≡◌, ℕ, ◌<◌, ◌≤◌, ◌-◌, ◌↔◌, IsTrue, ⊤, true, Option, Some, None, slice_index_or};
+ghost use Rattle.std.specs.Prelude.{length, vec_len};
 ghost use Rattle.std.specs.List.{list_any};
 ghost use Rattle.std.specs.BinaryHeap.{heap_capacity, heap_items, heap_len, IsHeap, IsHeap-prop};
 ghost use Rattle.hsp_shortest_paths.specs.Frontier.{Pairs, is_pair, later_pair};

@@ -1,5 +1,5 @@
-// Residual arcs: an arc with a direction. Along the arc, its capacity is what is left of the capacity of the arc. Against
-// it, its capacity is what flows on the arc.
+// Residual arcs: an arc with a direction. Along the arc, its capacity is what is left of the capacity of the arc.
+// Against it, its capacity is what flows on the arc.
 
 ghost use Rattle.std.specs.Prelude.{◌≡◌, ◌+◌, ◌<◌, length};
 ghost use Rattle.hsp_shortest_paths.specs.Index.{AreChains};

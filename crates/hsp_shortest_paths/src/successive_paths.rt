@@ -1,4 +1,5 @@
-ghost use Rattle.std.specs.Prelude.{◌≡◌, ◌≢◌, ℕ, ◌+◌, ◌*◌, ◌<◌, ◌≤◌, ◌^◌, length, slice_index, OnOk, IfOk, IfNone, IfSome, IsTrue, false};
+ghost use Rattle.std.specs.Prelude.{◌≡◌, ◌≢◌, ℕ, ◌+◌, ◌*◌, ◌<◌, ◌≤◌, ◌^◌, length, slice_index, OnOk, IfOk, IfNone};
+ghost use Rattle.std.specs.Prelude.{IfSome, IsTrue, false};
 ghost use Rattle.hsp_shortest_paths.specs.Residual.{nodes};
 ghost use Rattle.hsp_shortest_paths.specs.Search.{AreAllMet, Blank, HasStuckSource, LeavesOthers, Ready, Stuck};
 

@@ -1,5 +1,7 @@
-ghost use Rattle.std.specs.Prelude.{◌≡◌, ℕ, ◌+◌, ◌-◌, ◌<◌, ◌≤◌, [], IfOk, None, OnOk, length, replicate, slice_index, slice_index_or};
-ghost use Rattle.hsp_shortest_paths.specs.Layout.{Appends, CapacitiesOf, CostsOf, HeadsOf, IsSmall, SuppliesOf, TailsOf, host_node};
+ghost use Rattle.std.specs.Prelude.{◌≡◌, ℕ, ◌+◌, ◌-◌, ◌<◌, ◌≤◌, [], IfOk, None, OnOk, length, replicate, slice_index};
+ghost use Rattle.std.specs.Prelude.{slice_index_or};
+ghost use Rattle.hsp_shortest_paths.specs.Layout.{Appends, CapacitiesOf, CostsOf, HeadsOf, IsSmall, SuppliesOf};
+ghost use Rattle.hsp_shortest_paths.specs.Layout.{TailsOf, host_node};
 ghost use Rattle.hsp_network.specs.Problem.{problem_of};
 
 use hsp_network::Network;

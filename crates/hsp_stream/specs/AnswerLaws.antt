@@ -12,10 +12,12 @@ use Rattle.hsp_stream.specs.Telling.{entries_in, entry_for}
 -- no more is assigned of a row to a site than the plan sends there
 abbrev pub AnswersKeepWithin : Type 0
 AnswersKeepWithin =
-    (costs : List CostEntry) (it : Instance) (x : Plan) (asked : List Asked) (row site : ℕ) → assigned_in it x (entries_in costs it asked) row site ≤ x row site
+    (costs : List CostEntry) (it : Instance) (x : Plan) (asked : List Asked) (row site : ℕ)
+    → assigned_in it x (entries_in costs it asked) row site ≤ x row site
 
 -- an entry that is answered by the row of its kind is assigned to the server that is responsible for its own handle
 abbrev pub GoesByOwnHash : Type 0
 GoesByOwnHash =
-    (inputs : Inputs) (it : Instance) (x : Plan) (earlier : List Entry) (entry : Entry) → IsBuilt inputs (Ok it) → KeepsToArcs it x
+    (inputs : Inputs) (it : Instance) (x : Plan) (earlier : List Entry) (entry : Entry) → IsBuilt inputs (Ok it)
+    → KeepsToArcs it x
     → IsByHash it entry (answer_to it x earlier (entry_for inputs.costs it entry))

@@ -38,7 +38,8 @@ Refuses fault run = (run.after ≡ run.before) × (run.answer ≡ Err fault)
 
 -- the log is answered by a plan, or memory ran out before it was read
 abbrev pub EndsLog : List CostEntry → Instance → Plan → Run → Type 0
-EndsLog costs it x run = Refuses OutOfMemory run ⊎ Went run.before run.after (λ events. EndsBy costs it x events run.answer)
+EndsLog costs it x run =
+    Refuses OutOfMemory run ⊎ Went run.before run.after (λ events. EndsBy costs it x events run.answer)
 
 -- the log is answered by a portion of a plan, and not by a shortage
 abbrev pub AnswersAs : Portion → List CostEntry → Instance → Claim → Run → Type 0
@@ -52,7 +53,8 @@ HasCosts inputs = (costs : List CostEntry) × ReadsCosts inputs.costs.items (Ok 
 -- by what is accepted and by the costs of the inputs; where nothing is accepted, its fault is returned
 abbrev pub AnswersWhere : Portion → Inputs → Result Accepted Fault → Run → Type 0
 AnswersWhere portion inputs (Ok accepted) run =
-    (costs : List CostEntry) × ReadsCosts inputs.costs.items (Ok costs) × AnswersAs portion costs accepted.instance accepted.certificate run
+    (costs : List CostEntry) × ReadsCosts inputs.costs.items (Ok costs)
+    × AnswersAs portion costs accepted.instance accepted.certificate run
 AnswersWhere portion inputs (Err e) run = Refuses (input_told e) run
 
 -- First the inputs are read, then the certificate, and then it is judged; where it is accepted, the log is answered. Or
@@ -60,7 +62,9 @@ AnswersWhere portion inputs (Err e) run = Refuses (input_told e) run
 abbrev pub AnswersPortion : Inputs → List ℕ → Run → Result Portion StreamFault → Type 0
 AnswersPortion inputs octets run (Err e) = Refuses e run
 AnswersPortion inputs octets run (Ok portion) =
-    Refuses OutOfMemory run ⊎ ((accepted : Result Accepted Fault) × IsAcceptedOf inputs octets accepted × AnswersWhere portion inputs accepted run)
+    Refuses OutOfMemory run
+    ⊎ ((accepted : Result Accepted Fault) × IsAcceptedOf inputs octets accepted
+    × AnswersWhere portion inputs accepted run)
 
 -- the words of the portion are read before all else
 abbrev pub IsAnswered : PortionWords → Inputs → List ℕ → Run → Type 0

@@ -13,9 +13,10 @@ use Rattle.hsp_stream.specs.declared.fault.StreamFault.{StreamFault}
 use Rattle.hsp_stream.specs.declared.fault.StreamFault.TheVariants as fault
 use Rattle.hsp_stream.specs.declared.given.StreamSums.{StreamSums}
 
--- The first rows that came in were answered by a plan `x` and by nothing else, each query by the row of its kind. No answer
--- was owed at a read. The header, of this form, was among the rows, or none was yet.
-pub record Answered (costs : List CostEntry) (it : Instance) (x : Plan) (form : Option Form) (sums : StreamSums) (events : List Event) : Type 0 where
+-- The first rows that came in were answered by a plan `x` and by nothing else, each query by the row of its kind. No
+-- answer was owed at a read. The header, of this form, was among the rows, or none was yet.
+pub record Answered (costs : List CostEntry) (it : Instance) (x : Plan) (form : Option Form) (sums : StreamSums)
+    (events : List Event) : Type 0 where
   pub rows : List (List ℕ)
   pub lines : List (List ℕ)
   pub later : List (List ℕ)
@@ -25,9 +26,11 @@ pub record Answered (costs : List CostEntry) (it : Instance) (x : Plan) (form : 
   pub prompt : IsPrompt lines events
 
 -- the same of a header or none, and of some sums
-abbrev pub SomeAnswered : List CostEntry → Instance → Plan → List Event → (List (List ℕ) → List (List ℕ) → Type 0) → Type 0
+abbrev pub SomeAnswered : List CostEntry → Instance → Plan → List Event → (List (List ℕ) → List (List ℕ) → Type 0)
+    → Type 0
 SomeAnswered costs it x events So =
-    (form : Option Form) × (sums : StreamSums) × (some : Answered costs it x form sums events) × So some.lines some.later
+    (form : Option Form) × (sums : StreamSums) × (some : Answered costs it x form sums events)
+    × So some.lines some.later
 
 -- no header came: what came next is neither a blank row nor a header, or the log ended
 abbrev pub LacksHeader : List Event → List (List ℕ) → Type 0
@@ -43,13 +46,17 @@ StopsBy costs it x events (fault.Log row_fault.ReadFailed) =
     SomeAnswered costs it x events (λ lines later. (later ≡ []) × (sent_in events ≡ concat lines))
 StopsBy costs it x events (fault.Log row_fault.WriteFailed) =
     SomeAnswered costs it x events (λ lines later. (unsent : List ℕ) × (concat lines ≡ sent_in events ++ unsent))
-StopsBy costs it x events fault.OutOfMemory = SomeAnswered costs it x events (λ lines later. sent_in events ≡ concat lines)
+StopsBy costs it x events fault.OutOfMemory =
+    SomeAnswered costs it x events (λ lines later. sent_in events ≡ concat lines)
 StopsBy costs it x events (fault.Log row_fault.Header) =
-    (sums : StreamSums) × (some : Answered costs it x None sums events) × LacksHeader events some.later × (sent_in events ≡ concat some.lines)
+    (sums : StreamSums) × (some : Answered costs it x None sums events) × LacksHeader events some.later
+    × (sent_in events ≡ concat some.lines)
 StopsBy costs it x events other = ⊥
 
--- all rows until the end of the log were answered, a header and the rows behind it, and all their lines were sent; or why not
+-- all rows until the end of the log were answered, a header and the rows behind it, and all their lines were sent; or
+-- why not
 abbrev pub EndsBy : List CostEntry → Instance → Plan → List Event → Result StreamSums StreamFault → Type 0
 EndsBy costs it x events (Ok sums) =
-    (form : Form) × (all : Answered costs it x (Some form) sums events) × (all.later ≡ []) × (sent_in events ≡ concat all.lines) × (has_ended events ≡ true)
+    (form : Form) × (all : Answered costs it x (Some form) sums events) × (all.later ≡ [])
+    × (sent_in events ≡ concat all.lines) × (has_ended events ≡ true)
 EndsBy costs it x events (Err e) = StopsBy costs it x events e

@@ -39,7 +39,8 @@ AsksByFields form other asked = asked ≡ bad Fields
 -- what a row asks
 abbrev pub Asks : Form → List ℕ → Asked → Type 0
 Asks form row asked =
-    ((LONGEST_ROW < length row) × (asked ≡ bad TooLong)) ⊎ ((length row ≤ LONGEST_ROW) × AsksByFields form (row_of row) asked)
+    ((LONGEST_ROW < length row) × (asked ≡ bad TooLong))
+    ⊎ ((length row ≤ LONGEST_ROW) × AsksByFields form (row_of row) asked)
 
 -- the form that a row states as a header; a blank row states none
 abbrev pub States : Shape → Option Form → Type 0
@@ -62,7 +63,8 @@ abbrev pub AreAsked : Option Form → List (List ℕ) → List Asked → Option 
 AreAsked first [] [] last = last ≡ first
 AreAsked first [] (asked ∷ more) last = ⊥
 AreAsked first (row ∷ rows) [] last = ⊥
-AreAsked first (row ∷ rows) (asked ∷ more) last = (next : Option Form) × AsksAt first row asked next × AreAsked next rows more last
+AreAsked first (row ∷ rows) (asked ∷ more) last =
+    (next : Option Form) × AsksAt first row asked next × AreAsked next rows more last
 
 -- a row before the header that is neither blank nor a header
 abbrev pub IsNoHeader : Option Form → List ℕ → Type 0

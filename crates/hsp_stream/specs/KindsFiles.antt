@@ -15,7 +15,8 @@ use Rattle.hsp_stream.specs.declared.kinds_files.KindsInputs.{KindsInputs}
 
 -- the sites and the costs, where the sites of all costs are there
 abbrev pub are_checked : List Site → List CostEntry → Result Files Fault
-are_checked sites costs = told_as Build (unless (cost_fault sites 0 costs)) >>= λ _. Ok (record { sites = sites; costs = costs })
+are_checked sites costs =
+    told_as Build (unless (cost_fault sites 0 costs)) >>= λ _. Ok (record { sites = sites; costs = costs })
 
 -- what is read after the costs, the values and the settings
 abbrev pub AreWithCosts : SettingsEntries → Option (List HandleValue) → List CostEntry → Result Files Fault → Type 0
@@ -25,7 +26,8 @@ abbrev pub AreWithValues : KindsInputs → SettingsEntries → Option (List Hand
 AreWithValues inputs settings values = Then (ReadsCosts inputs.costs.items) (AreWithCosts settings values)
 
 abbrev pub AreWithSettings : KindsInputs → SettingsEntries → Result Files Fault → Type 0
-AreWithSettings inputs settings = Then (ReadsValues (option_map (λ v. v.items) inputs.values)) (AreWithValues inputs settings)
+AreWithSettings inputs settings =
+    Then (ReadsValues (option_map (λ v. v.items) inputs.values)) (AreWithValues inputs settings)
 
 -- the sites and the costs of the files, read in the order of settings, values and costs
 abbrev pub AreFilesIn : KindsInputs → Result Files Fault → Type 0

@@ -21,7 +21,8 @@ abbrev pub entry_of : Row → DemandEntry
 entry_of row = record { region = row.region; handle = row.handle; count = row.count }
 
 -- the table of a log in units, its text, and what is read of the text as a table of demand: these rows
-pub record IsReadBack (costs : List CostEntry) (sites : List Site) (unit : ℕ) (records : List Fields) (text : List ℕ) : Type 0 where
+pub record IsReadBack (costs : List CostEntry) (sites : List Site) (unit : ℕ) (records : List Fields)
+    (text : List ℕ) : Type 0 where
   pub rows : List Row
   pub table : (table_of costs sites [] records >>= table_in_units unit) ≡ Ok rows
   pub printed : text ≡ table_text rows
@@ -31,7 +32,8 @@ pub record IsReadBack (costs : List CostEntry) (sites : List Site) (unit : ℕ) 
 abbrev pub PrintedTableIsReadBack : Type 0
 PrintedTableIsReadBack =
     (costs : List CostEntry) (sites : List Site) (unit : ℕ) (records : List Fields) (text : List ℕ)
-    → (table_of costs sites [] records >>= λ rows. table_in_units unit rows >>= λ units. Ok (table_text units)) ≡ Ok text
+    → (table_of costs sites [] records >>= λ rows. table_in_units unit rows >>= λ units. Ok (table_text units))
+    ≡ Ok text
     → IsReadBack costs sites unit records text
 
 -- a record spells a row, whatever its number
@@ -47,8 +49,8 @@ SpellRows form [] (row ∷ rows) = ⊥
 SpellRows form (fields ∷ more) [] = ⊥
 SpellRows form (fields ∷ more) (row ∷ rows) = Spells form fields row × SpellRows form more rows
 
--- The table of a log is that of the kinds of its rows, by the sites where their regions have costs. Sums above 2^64 - 1 are
--- kept as that.
+-- The table of a log is that of the kinds of its rows, by the sites where their regions have costs. Sums above 2^64 - 1
+-- are kept as that.
 abbrev pub TableIsOfKinds : Type 0
 TableIsOfKinds =
     (costs : List CostEntry) (sites : List Site) (form : CountForm) (records : List Fields) (table : List Row)
@@ -57,16 +59,19 @@ TableIsOfKinds =
 
 -- the unit that is reported for a count brings it down to the greatest count of a demand, and no smaller one does
 abbrev pub ReportedUnitIsTheLeast : Type 0
-ReportedUnitIsTheLeast = (count unit : ℕ) → 0 < unit → (rounded_up unit count ≤ GREATEST_COUNT) ↔ (rounded_up GREATEST_COUNT count ≤ unit)
+ReportedUnitIsTheLeast =
+    (count unit : ℕ) → 0 < unit → (rounded_up unit count ≤ GREATEST_COUNT) ↔ (rounded_up GREATEST_COUNT count ≤ unit)
 
 -- a count that a row of a log may have
 abbrev pub IsLogCount : Row → Type 0
 IsLogCount row = row.count ≤ GREATEST_ROW_COUNT
 
--- The rows of a log in two parts: the tables of the parts, one after the other as a log with counts, have the table of the
--- whole log, where that has a table and the parts' counts are such as a log may have.
+-- The rows of a log in two parts: the tables of the parts, one after the other as a log with counts, have the table of
+-- the whole log, where that has a table and the parts' counts are such as a log may have.
 abbrev pub PartsMakeTheTable : Type 0
 PartsMakeTheTable =
     (costs : List CostEntry) (sites : List Site) (form : CountForm) (a b : List Fields) (first second all : List Row)
-    → rows_from costs sites form 0 [] a ≡ Ok first → rows_from costs sites form 0 [] b ≡ Ok second → rows_from costs sites form 0 [] (a ++ b) ≡ Ok all
-    → AllByRecursion IsLogCount (first ++ second) → rows_from costs sites Counts 0 [] (records_of_rows (first ++ second)) ≡ Ok all
+    → rows_from costs sites form 0 [] a ≡ Ok first → rows_from costs sites form 0 [] b ≡ Ok second
+    → rows_from costs sites form 0 [] (a ++ b) ≡ Ok all
+    → AllByRecursion IsLogCount (first ++ second)
+    → rows_from costs sites Counts 0 [] (records_of_rows (first ++ second)) ≡ Ok all

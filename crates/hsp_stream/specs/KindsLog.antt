@@ -1,5 +1,6 @@
 -- The table of the kinds of a log, or the log's first fault.
-use Rattle.std.specs.Prelude.{◌≡◌, ◌+◌, ◌⊎◌, ℕ, List, [], ◌∷◌, codes, Option, None, Some, Result, Ok, Err, if◌then◌else◌}
+use Rattle.std.specs.Prelude.{◌≡◌, ◌+◌, ◌⊎◌, ℕ, List, [], ◌∷◌, codes, Option, None, Some, Result, Ok, Err}
+use Rattle.std.specs.Prelude.{if◌then◌else◌}
 use Rattle.hsp_csv.specs.Header.{same_fields}
 use Rattle.hsp_csv.specs.Records.{Fields}
 use Rattle.hsp_csv.specs.declared.fault.RecordsFault.{RecordsFault}
@@ -92,7 +93,8 @@ with_record costs sites form row table fields =
     or_fault (Log (fault.Fields row)) (parts_in form fields) >>= with_parts costs sites row table
 
 -- the table with the rows of records, numbered from a row on, or the first fault
-abbrev pub rows_from : List CostEntry → List Site → CountForm → ℕ → List Row → List Fields → Result (List Row) StreamFault
+abbrev pub rows_from : List CostEntry → List Site → CountForm → ℕ → List Row → List Fields
+    → Result (List Row) StreamFault
 rows_from costs sites form row table [] = Ok table
 rows_from costs sites form row table (fields ∷ more) =
     with_record costs sites form row table fields >>= λ next. rows_from costs sites form (row + 1) next more

@@ -7,7 +7,8 @@ use Rattle.hsp_stream.specs.declared.kinds_log.LogRow.{LogRow}
 use Rattle.hsp_stream.specs.declared.kinds_log.Parts.{Parts}
 
 abbrev pub parts_shown : Parts → log.Parts
-parts_shown parts = record { region = parts.region.now; handle = parts.handle.now; count = option_map (λ o. o.now) parts.count }
+parts_shown parts =
+    record { region = parts.region.now; handle = parts.handle.now; count = option_map (λ o. o.now) parts.count }
 
 abbrev pub row_shown : LogRow → Row
 row_shown row = record { region = row.region.now; handle = octets_of row.handle; count = row.count }

@@ -10,10 +10,12 @@ use Rattle.hsp_stream.specs.declared.fault.RowFault.TheVariants.{CountTooLarge}
 use Rattle.hsp_stream.specs.declared.fault.StreamFault.{StreamFault}
 use Rattle.hsp_stream.specs.declared.fault.StreamFault.TheVariants.{Log}
 
--- the count of a row of the table in units; where it is above the greatest count of a demand, a unit that brings it down
+-- the count of a row of the table in units; where it is above the greatest count of a demand, a unit that brings it
+-- down
 abbrev pub in_unit : ℕ → ℕ → ℕ → Result ℕ StreamFault
 in_unit row unit count =
-    if nat_lt GREATEST_COUNT (rounded_up unit count) then Err (Log (CountTooLarge row (rounded_up GREATEST_COUNT count)))
+    if nat_lt GREATEST_COUNT (rounded_up unit count)
+    then Err (Log (CountTooLarge row (rounded_up GREATEST_COUNT count)))
     else Ok (rounded_up unit count)
 
 abbrev pub with_count : Row → ℕ → Row

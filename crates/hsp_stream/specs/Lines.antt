@@ -62,5 +62,6 @@ status_in fault.OutOfMemory = 4
 -- how many rows were answered by each kind of answer
 abbrev pub sums_text : StreamSums → List ℕ
 sums_text sums =
-    codes "assigned " ++ (decimal sums.assigned ++ (codes " spent " ++ (decimal sums.spent ++ (codes " unknown " ++ (decimal sums.unknown
+    codes "assigned "
+    ++ (decimal sums.assigned ++ (codes " spent " ++ (decimal sums.spent ++ (codes " unknown " ++ (decimal sums.unknown
     ++ (codes " refused " ++ (decimal sums.refused ++ 10 ∷ [])))))))

@@ -7,11 +7,13 @@ use Rattle.hsp_instance.specs.Instance.{Site, SiteServer}
 abbrev pub header_line : List ℕ
 header_line = codes "handle,site,place,server_id" ++ 10 ∷ []
 
--- a handle, a site's name, and the place and the identifier of the handle's server there; texts are quoted where they need it
+-- a handle, a site's name, and the place and the identifier of the handle's server there; texts are quoted where they
+-- need it
 abbrev pub place_line_at : List ℕ → List ℕ → ℕ → Option SiteServer → List ℕ
 place_line_at handle name place None = []
 place_line_at handle name place (Some own) =
-    field_text default_writer handle ++ (44 ∷ (field_text default_writer name ++ (44 ∷ (decimal place ++ (44 ∷ (decimal own.id ++ 10 ∷ []))))))
+    field_text default_writer handle
+    ++ (44 ∷ (field_text default_writer name ++ (44 ∷ (decimal place ++ (44 ∷ (decimal own.id ++ 10 ∷ []))))))
 
 abbrev pub place_line : List ℕ → Site → List ℕ
 place_line handle site =

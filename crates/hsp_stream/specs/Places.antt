@@ -1,5 +1,6 @@
 -- What a desk answers that states the servers of the handles of a log.
-use Rattle.std.specs.Prelude.{◌≡◌, ◌+◌, ◌-◌, ◌^◌, ◌&&◌, ⊤, ℕ, List, [], codes, length, min, nat_lt, Option, None, Some, Result, Ok, Err, if◌then◌else◌}
+use Rattle.std.specs.Prelude.{◌≡◌, ◌+◌, ◌-◌, ◌^◌, ◌&&◌, ⊤, ℕ, List, [], codes, length, min, nat_lt, Option, None, Some}
+use Rattle.std.specs.Prelude.{Result, Ok, Err, if◌then◌else◌}
 use Rattle.std.specs.Str.{bytes_eq}
 use Rattle.csv.specs.Reading.{strip_bom}
 use Rattle.hsp_text.specs.Answers.{◌>>=◌, or_fault, told_as}
@@ -23,7 +24,8 @@ use Rattle.hsp_stream.specs.declared.handle_rows.HandleForm.TheVariants.{Handle,
 abbrev pub form_of : Shape → Option HandleForm
 form_of blank = None
 form_of (one only) = if bytes_eq only (codes "handle") then Some Handle else None
-form_of (two first second) = if bytes_eq first (codes "region") && bytes_eq second (codes "handle") then Some RegionAndHandle else None
+form_of (two first second) =
+    if bytes_eq first (codes "region") && bytes_eq second (codes "handle") then Some RegionAndHandle else None
 form_of other = None
 
 -- the form by the first row, after a byte order mark: none yet where the row is blank
@@ -49,7 +51,9 @@ handle_field RegionAndHandle other = None
 
 -- the handle of the row of a number, or its fault
 abbrev pub handle_at : ℕ → Option (List ℕ) → Result (Option (List ℕ)) RowFault
-handle_at number field = or_fault (Fields number) field >>= λ octets. told_as (BadHandle number) (handle_in octets) >>= λ handle. Ok (Some handle)
+handle_at number field =
+    or_fault (Fields number) field >>= λ octets. told_as (BadHandle number) (handle_in octets) >>= λ handle.
+    Ok (Some handle)
 
 -- the same of a row of any shape: a blank row has none
 abbrev pub handle_by : ℕ → HandleForm → Shape → Result (Option (List ℕ)) RowFault
@@ -59,7 +63,8 @@ handle_by number form (two first second) = handle_at number (handle_field form (
 handle_by number form other = Err (Fields number)
 
 abbrev pub handle_in_row : ℕ → HandleForm → List ℕ → Result (Option (List ℕ)) RowFault
-handle_in_row number form line = if nat_lt LONGEST_ROW (length line) then Err (BadHandle number TooLong) else handle_by number form (row_of line)
+handle_in_row number form line =
+    if nat_lt LONGEST_ROW (length line) then Err (BadHandle number TooLong) else handle_by number form (row_of line)
 
 -- the answer, seen by view, is what is given, unless memory ran out
 abbrev pub GivesOrRefuses : {X Y F : Type 0} → (X → Y) → Result X (Refusal F) → Result Y F → Type 0

@@ -1,5 +1,6 @@
 -- What rows are answered, by the answers to their queries: lines and sums.
-use Rattle.std.specs.Prelude.{◌<◌, ◌+◌, ⊤, Bool, true, false, ℕ, List, [], ◌∷◌, ◌++◌, codes, count_by, Option, None, Some}
+use Rattle.std.specs.Prelude.{◌<◌, ◌+◌, ⊤, Bool, true, false, ℕ, List, [], ◌∷◌, ◌++◌, codes, count_by, Option, None}
+use Rattle.std.specs.Prelude.{Some}
 use Rattle.std.specs.List.{slice_get}
 use Rattle.hsp_instance.specs.Instance.{Instance}
 use Rattle.hsp_faults.specs.FaultText.{handle_words}

@@ -39,9 +39,10 @@ entries_in costs it (bad refusal ∷ more) = entries_in costs it more
 
 -- ---- all rows
 
--- Rows were answered by a plan `x`, each query by the row of its kind, and `left` is left of the plan. The form of the log
--- was `first` before the rows, and is `last` behind them, none before the header.
-pub record AreAnswered (costs : List CostEntry) (it : Instance) (x left : Plan) (first last : Option Form) (rows lines : List (List ℕ)) (sums : StreamSums) : Type 0 where
+-- Rows were answered by a plan `x`, each query by the row of its kind, and `left` is left of the plan. The form of the
+-- log was `first` before the rows, and is `last` behind them, none before the header.
+pub record AreAnswered (costs : List CostEntry) (it : Instance) (x left : Plan) (first last : Option Form)
+    (rows lines : List (List ℕ)) (sums : StreamSums) : Type 0 where
   pub asked : List Asked
   pub asks : AreAsked first rows asked last
   pub lines_are : lines ≡ map (said_line it) (said asked (answers it x (entries_in costs it asked)))
@@ -67,7 +68,9 @@ pub record IsGiven (old : Telling) (asked : Asked) (new : Telling) (given : Give
   pub instance : new.held.instance ≡ old.held.instance
   pub among : IsAmong (length old.held.instance.servers) given
   pub said_is : said_of old.held.instance given ≡ said_by old asked
-  pub left : IsSame (left_of new.held) (rest old.held.instance (left_of old.held) (entries_in old.costs old.held.instance (asked ∷ [])))
+  pub left :
+      IsSame (left_of new.held)
+      (rest old.held.instance (left_of old.held) (entries_in old.costs old.held.instance (asked ∷ [])))
 
 -- a desk: the form of the log, once its header was taken, who answers, and the sums so far
 pub record Answering : Type 0 where

@@ -44,7 +44,8 @@ front_at fronts word = below fronts (whole_within MOST_FRONTS word)
 -- the portion of a unit and of so many fronts
 abbrev pub portion_among : PortionWords → ℕ → ℕ → Result Portion StreamFault
 portion_among words unit fronts =
-    word_or (option_map (λ v. v.items) words.front) 0 (front_at fronts) >>= λ front. Ok (record { fronts = fronts; front = front; unit = unit })
+    word_or (option_map (λ v. v.items) words.front) 0 (front_at fronts) >>= λ front.
+    Ok (record { fronts = fronts; front = front; unit = unit })
 
 -- the portion of a unit
 abbrev pub portion_with : PortionWords → ℕ → Result Portion StreamFault

@@ -113,10 +113,10 @@ fn answer_inputs<P: Peer>(
 /// Answers the rows of a log that a peer sends, by a portion of the plan that the octets of `certificate` spell, until
 /// no more rows come. Every answer is sent before the next read, which may wait.
 ///
-/// The first row that isn't blank is the header, `region,handle` or `region,body`. A byte order mark before it is passed
-/// over. Each later row that isn't blank is answered by one line. A query is answered by the row of its region and
-/// handle, or else by the first row of its kind: `assigned SITE PLACE SERVER_ID`, `spent` or `unknown`. A faulty row is
-/// answered `refused` and its fault, and the talk goes on. The sums stop at 2^64 - 1.
+/// The first row that isn't blank is the header, `region,handle` or `region,body`. A byte order mark before it is
+/// passed over. Each later row that isn't blank is answered by one line. A query is answered by the row of its region
+/// and handle, or else by the first row of its kind: `assigned SITE PLACE SERVER_ID`, `spent` or `unknown`. A faulty
+/// row is answered `refused` and its fault, and the talk goes on. The sums stop at 2^64 - 1.
 ///
 /// Faults in this order: `BadUnit`, `Input(BadFronts)`, `BadFront`, then `Input` with the faults of [`accepted_in`] and
 /// `WrongKind` for a shortage, all with nothing read or sent. Then `Log` with `Header`, `ReadFailed` or `WriteFailed`,

@@ -1,7 +1,8 @@
 // How a row is answered, and the sums of answers.
 
 ghost use Rattle.std.specs.Prelude.{◌≡◌, ◌++◌, ◌<◌, OnOk, length};
-ghost use Rattle.hsp_stream.specs.Saying.{IsAmong, given_line, given_of, none_said, refusal_words, refused_line, with_given};
+ghost use Rattle.hsp_stream.specs.Saying.{IsAmong, given_line, given_of, none_said, refusal_words, refused_line};
+ghost use Rattle.hsp_stream.specs.Saying.{with_given};
 ghost use Rattle.hsp_stream.specs.declared.row_refusal.RowRefusal.TheVariants.{BadHandle};
 
 use crate::row_refusal::RowRefusal;

@@ -56,15 +56,15 @@ fn text_of_log<R: Read + Drop>(
 
 /// The table of the kinds of the rows that the log has, as comma-separated values.
 ///
-/// Rows are of one kind where they have one region and where, at each site at which the region has a cost, one server is
-/// responsible for their handles. The table has the header `region,handle,count` and a line for each kind, in
+/// Rows are of one kind where they have one region and where, at each site at which the region has a cost, one server
+/// is responsible for their handles. The table has the header `region,handle,count` and a line for each kind, in
 /// first-seen order: the region and the handle of the kind's first row, and the sum of the counts of its rows. With a
 /// unit, that sum is divided by the unit and rounded up. The log has the header `region,handle` or
 /// `region,handle,count`; without a count each row counts 1.
 ///
-/// Faults in this order: `BadUnit`; of the files those of [`KindsInputs`] as `hsplan plan` reports them, and last a cost
-/// of an unknown site; of the log `ReadFailed`, `Header`, and row by row `Fields`, `BadName`, `BadHandle`, `BadNumber`,
-/// `TooManyRegions`, `TooManyKinds`; at the end `CountTooLarge`. Sums above 2^64 - 1 count as 2^64 - 1.
+/// Faults in this order: `BadUnit`; of the files those of [`KindsInputs`] as `hsplan plan` reports them, and last a
+/// cost of an unknown site; of the log `ReadFailed`, `Header`, and row by row `Fields`, `BadName`, `BadHandle`,
+/// `BadNumber`, `TooManyRegions`, `TooManyKinds`; at the end `CountTooLarge`. Sums above 2^64 - 1 count as 2^64 - 1.
 ///
 /// Where the octets of the log are known, the result is the one that these definitions give, unless a read fails or
 /// memory runs out.

@@ -30,8 +30,8 @@ pub(crate) struct Files {
     pub(crate) costs: Costs,
 }
 
-// The sites and the costs, after the sites of all costs were checked.
-fn checked(sites: Sites, costs: Costs) -> Result<Files, Fault>
+// Checks that each cost is of a site that is there.
+fn check_sites(sites: Sites, costs: Costs) -> Result<Files, Fault>
     ensures { Gives (λ files. files) result (are_checked sites costs) }
 {
     match check_costs(&sites, &costs) {
@@ -40,8 +40,8 @@ fn checked(sites: Sites, costs: Costs) -> Result<Files, Fault>
     }
 }
 
-// The files, after the costs were read.
-fn with_costs(
+// Builds the sites, and checks the costs.
+fn read_sites_on(
     alloc: Global,
     settings: &Settings,
     values: Option<&ValueList<'_>>,
@@ -51,11 +51,11 @@ fn with_costs(
         result }
 {
     let sites = sites_of(alloc, settings, values)?;
-    checked(sites, costs)
+    check_sites(sites, costs)
 }
 
-// The files, after the values were read.
-fn with_values(
+// Reads the costs, builds the sites, and checks the costs.
+fn read_costs_on(
     alloc: Global,
     inputs: &KindsInputs,
     settings: &Settings,
@@ -65,15 +65,15 @@ fn with_values(
         (option_map (λ v. v.now) values.entry)) result }
 {
     let costs = costs_in(alloc, &inputs.costs)?;
-    with_costs(alloc, settings, values, costs)
+    read_sites_on(alloc, settings, values, costs)
 }
 
-// The files, after the settings were read.
-fn with_settings(alloc: Global, inputs: &KindsInputs, settings: &Settings) -> Result<Files, Fault>
+// Reads the values and what follows them.
+fn read_values_on(alloc: Global, inputs: &KindsInputs, settings: &Settings) -> Result<Files, Fault>
     ensures { OrNoMemory (AreWithSettings inputs.now settings.now) result }
 {
     let values = values_in(alloc, inputs.values.as_deref())?;
-    with_values(alloc, inputs, settings, values.as_ref())
+    read_costs_on(alloc, inputs, settings, values.as_ref())
 }
 
 /// The sites and the costs that the files define.
@@ -84,5 +84,5 @@ pub(crate) fn files_in(alloc: Global, inputs: &KindsInputs) -> Result<Files, Fau
     ensures { OrNoMemory (AreFilesIn inputs.now) result }
 {
     let settings = settings_in(alloc, &inputs.settings)?;
-    with_settings(alloc, inputs, &settings)
+    read_values_on(alloc, inputs, &settings)
 }

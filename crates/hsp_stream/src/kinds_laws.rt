@@ -1,6 +1,7 @@
 // What holds of tables of kinds.
 
-ghost use Rattle.hsp_stream.specs.KindsLaws.{PartsMakeTheTable, PrintedTableIsReadBack, TableIsOfKinds, ReportedUnitIsTheLeast};
+ghost use Rattle.hsp_stream.specs.KindsLaws.{PartsMakeTheTable, PrintedTableIsReadBack, TableIsOfKinds};
+ghost use Rattle.hsp_stream.specs.KindsLaws.{ReportedUnitIsTheLeast};
 
 use hsp_kinds::log_in_parts;
 use hsp_tables::laws::reading_is_the_relation;

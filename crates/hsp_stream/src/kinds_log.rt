@@ -6,7 +6,8 @@ ghost use Rattle.hsp_csv.specs.Records.{IsKnown, IsReading, records_left, record
 ghost use Rattle.hsp_text.specs.Answers.{Gives};
 ghost use Rattle.hsp_text.specs.Name.{is_name};
 ghost use Rattle.hsp_tally.specs.Tally.{IsWhole};
-ghost use Rattle.hsp_stream.specs.KindsLog.{IsReadFault, count_in, form_of, kinds_told, log_joined, parts_in, parts_joined, record_joined, row_of, rows_joined};
+ghost use Rattle.hsp_stream.specs.KindsLog.{IsReadFault, count_in, form_of, kinds_told, log_joined, parts_in};
+ghost use Rattle.hsp_stream.specs.KindsLog.{parts_joined, record_joined, row_of, rows_joined};
 ghost use Rattle.hsp_stream.specs.KindsShown.{parts_shown, row_shown};
 ghost use Rattle.hsp_stream.specs.declared.fault.StreamFault.TheVariants.{OutOfMemory};
 ghost use Rattle.hsp_stream.specs.declared.kinds_log.CountForm.TheVariants.{Counts, Ones};

@@ -4,7 +4,8 @@ ghost use Rattle.std.specs.Prelude.{◌≡◌, ◌≤◌, ◌<◌, IfOk, option_
 ghost use Rattle.hsp_text.specs.Answers.{Gives};
 ghost use Rattle.hsp_text.specs.declared.limits.TheConstants.{MOST_FRONTS};
 ghost use Rattle.hsp_dispatch.specs.declared.portion.TheConstants.{GREATEST_UNIT};
-ghost use Rattle.hsp_stream.specs.Words.{IsPortion, front_at, fronts_at, portion_among, portion_at, portion_with, unit_at, word_or};
+ghost use Rattle.hsp_stream.specs.Words.{IsPortion, front_at, fronts_at, portion_among, portion_at, portion_with};
+ghost use Rattle.hsp_stream.specs.Words.{unit_at, word_or};
 
 use crate::fault::StreamFault;
 use hsp_dispatch::{GREATEST_UNIT, Portion};

@@ -24,24 +24,29 @@ use Rattle.hsp_stream_cli.specs.declared.texts.TheConstants.{HELP, VERSION}
 
 -- a file, which may fail to be read, wasn't read, or memory ran out; nothing was written
 abbrev pub LacksFile : Type 0 → Option (List ℕ) → Option (List ℕ) → Ended → Type 0
-LacksFile MayFail old new ended = (new ≡ old) × ((failure : Failure) × IsUnread MayFail failure × (ended ≡ Err (file_failure failure)))
+LacksFile MayFail old new ended =
+    (new ≡ old) × ((failure : Failure) × IsUnread MayFail failure × (ended ≡ Err (file_failure failure)))
 
 -- the table of a log is printed
-abbrev pub PrintsKinds : Disk → Type 0 → List ℕ → Option (List ℕ) → List ℕ → Option (List ℕ) → List ℕ → Option (List ℕ) → Option (List ℕ) → Ended → Type 0
+abbrev pub PrintsKinds : Disk → Type 0 → List ℕ → Option (List ℕ) → List ℕ → Option (List ℕ) → List ℕ
+    → Option (List ℕ) → Option (List ℕ) → Ended → Type 0
 PrintsKinds disk MayFail settings values costs unit log old new ended =
     LacksFile (KindsFail disk settings values costs ⊎ disk.fails log) old new ended
-    ⊎ ((inputs : KindsInputs) × (left : Option (List ℕ)) × AreKindsHeld disk settings values costs inputs × HoldsRest disk log left
+    ⊎ ((inputs : KindsInputs) × (left : Option (List ℕ)) × AreKindsHeld disk settings values costs inputs
+    × HoldsRest disk log left
     × PrintsTable MayFail inputs unit left old new ended)
 
 -- the places of a log's handles are stated
 abbrev pub StatesPlaces : Disk → List ℕ → Option (List ℕ) → List ℕ → Option (List ℕ) → Option (List ℕ) → Ended → Type 0
 StatesPlaces disk settings values log old new ended =
     LacksFile (SourcesFail disk settings values ⊎ disk.fails log) old new ended
-    ⊎ ((sources : Sources) × (left : Option (List ℕ)) × AreSourcesHeld disk settings values sources × HoldsRest disk log left
+    ⊎ ((sources : Sources) × (left : Option (List ℕ)) × AreSourcesHeld disk settings values sources
+    × HoldsRest disk log left
     × TalksOver left old new (EndsPlaces sources ended))
 
 -- a log is answered
-abbrev pub AnswersLog : Disk → InputFiles → List ℕ → List ℕ → Option (List ℕ) → Option FrontWords → Option (List ℕ) → Option (List ℕ) → Ended → Type 0
+abbrev pub AnswersLog : Disk → InputFiles → List ℕ → List ℕ → Option (List ℕ) → Option FrontWords → Option (List ℕ)
+    → Option (List ℕ) → Ended → Type 0
 AnswersLog disk files plan log unit front old new ended =
     LacksFile (DispatchFails disk files plan log) old new ended ⊎ ((new ≡ old) × (ended ≡ Err Memory))
     ⊎ ((it : Opened) × (words : PortionWords) × AreOpened disk files plan log it × IsPortion unit front words
@@ -51,9 +56,12 @@ AnswersLog disk files plan log unit front old new ended =
 abbrev pub CarriesOut : Disk → Type 0 → StreamOrder → Option (List ℕ) → Option (List ℕ) → Ended → Type 0
 CarriesOut disk MayFail order.Help old new ended = PrintsText MayFail HELP.now old new ended
 CarriesOut disk MayFail order.Version old new ended = PrintsText MayFail VERSION.now old new ended
-CarriesOut disk MayFail (order.Kinds settings values costs unit log) old new ended = PrintsKinds disk MayFail settings values costs unit log old new ended
-CarriesOut disk MayFail (order.Places settings values log) old new ended = StatesPlaces disk settings values log old new ended
-CarriesOut disk MayFail (order.Answer files plan log unit front) old new ended = AnswersLog disk files plan log unit front old new ended
+CarriesOut disk MayFail (order.Kinds settings values costs unit log) old new ended =
+    PrintsKinds disk MayFail settings values costs unit log old new ended
+CarriesOut disk MayFail (order.Places settings values log) old new ended =
+    StatesPlaces disk settings values log old new ended
+CarriesOut disk MayFail (order.Answer files plan log unit front) old new ended =
+    AnswersLog disk files plan log unit front old new ended
 
 -- the order is carried out; where there is none, nothing was written, and the failure is reported
 abbrev pub ActsOn : Disk → Type 0 → Result StreamOrder CommandFault → Option (List ℕ) → Option (List ℕ) → Ended → Type 0
@@ -62,4 +70,5 @@ ActsOn disk MayFail (Err fault) old new ended = (new ≡ old) × (ended ≡ Err 
 
 -- the words are obeyed
 abbrev pub Obeys : Disk → Type 0 → List (List ℕ) → Option (List ℕ) → Option (List ℕ) → Ended → Type 0
-Obeys disk MayFail words old new ended = (order : Result StreamOrder CommandFault) × IsStreamOrdered words order × ActsOn disk MayFail order old new ended
+Obeys disk MayFail words old new ended =
+    (order : Result StreamOrder CommandFault) × IsStreamOrdered words order × ActsOn disk MayFail order old new ended

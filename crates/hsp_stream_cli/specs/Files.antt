@@ -6,11 +6,13 @@ use Rattle.hsp_stream.specs.declared.kinds_files.KindsInputs.{KindsInputs}
 use Rattle.hsp_stream_cli.specs.declared.files.Sources.{Sources}
 
 -- each source is what its own file holds
-pub record AreSourcesHeld (disk : Disk) (settings : List ℕ) (values : Option (List ℕ)) (sources : Sources) : Type 0 where
+pub record AreSourcesHeld (disk : Disk) (settings : List ℕ) (values : Option (List ℕ)) (sources : Sources) :
+    Type 0 where
   pub settings_held : disk.holds settings sources.settings.items
   pub values_held : HoldsNamed disk values (option_map (λ v. v.items) sources.values)
 
-pub record AreKindsHeld (disk : Disk) (settings : List ℕ) (values : Option (List ℕ)) (costs : List ℕ) (inputs : KindsInputs) : Type 0 where
+pub record AreKindsHeld (disk : Disk) (settings : List ℕ) (values : Option (List ℕ)) (costs : List ℕ)
+    (inputs : KindsInputs) : Type 0 where
   pub settings_held : disk.holds settings inputs.settings.items
   pub values_held : HoldsNamed disk values (option_map (λ v. v.items) inputs.values)
   pub costs_held : disk.holds costs inputs.costs.items

@@ -21,10 +21,12 @@ abbrev pub IsTable : KindsInputs → Option (List ℕ) → Option (List ℕ) →
 IsTable inputs unit left text = IfSome left (λ octets. IsKindsText inputs unit (records_of octets) (Ok text))
 
 abbrev pub IsTableFault : KindsInputs → Option (List ℕ) → Option (List ℕ) → StreamFault → Type 0
-IsTableFault inputs unit left fault = IsReadFault fault ⊎ IfSome left (λ octets. IsKindsText inputs unit (records_of octets) (Err fault))
+IsTableFault inputs unit left fault =
+    IsReadFault fault ⊎ IfSome left (λ octets. IsKindsText inputs unit (records_of octets) (Err fault))
 
 -- the table is printed; or nothing was written, and its fault is returned
-abbrev pub PrintsTable : Type 0 → KindsInputs → Option (List ℕ) → Option (List ℕ) → Option (List ℕ) → Option (List ℕ) → Ended → Type 0
+abbrev pub PrintsTable : Type 0 → KindsInputs → Option (List ℕ) → Option (List ℕ) → Option (List ℕ)
+    → Option (List ℕ) → Ended → Type 0
 PrintsTable MayFail inputs unit left old new ended =
     ((text : List ℕ) × IsTable inputs unit left text × PrintsText MayFail text old new ended)
     ⊎ ((fault : StreamFault) × IsTableFault inputs unit left fault × (new ≡ old) × (ended ≡ Err (Refused fault)))

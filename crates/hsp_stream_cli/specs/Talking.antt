@@ -23,18 +23,22 @@ octets_known coming written name = record { events = None; coming = coming; writ
 
 -- what holds of a peer before a talk and after it: of a reader that has some octets left, and of a writer
 abbrev pub TalksOver : Option (List ℕ) → Option (List ℕ) → Option (List ℕ) → (Known → Known → Type 0) → Type 0
-TalksOver left old new Holds = (rest : Option (List ℕ)) × (name : GName) × Holds (octets_known left old name) (octets_known rest new name)
+TalksOver left old new Holds =
+    (rest : Option (List ℕ)) × (name : GName) × Holds (octets_known left old name) (octets_known rest new name)
 
 -- places were stated, or the run's fault is returned
 abbrev pub EndsPlaces : Sources → Ended → Known → Known → Type 0
-EndsPlaces sources (Ok None) old new = ArePlaced sources.settings.items (option_map (λ v. v.items) sources.values) old new
+EndsPlaces sources (Ok None) old new =
+    ArePlaced sources.settings.items (option_map (λ v. v.items) sources.values) old new
 EndsPlaces sources (Ok (Some sums)) old new = ⊥
-EndsPlaces sources (Err (Refused fault)) old new = ArePlacedUntil sources.settings.items (option_map (λ v. v.items) sources.values) old new fault
+EndsPlaces sources (Err (Refused fault)) old new =
+    ArePlacedUntil sources.settings.items (option_map (λ v. v.items) sources.values) old new fault
 EndsPlaces sources (Err failure) old new = ⊥
 
 -- a log was answered, and its sums are returned, or the run's fault
 abbrev pub EndsAnswers : Inputs → List ℕ → PortionWords → Ended → Known → Known → Type 0
 EndsAnswers inputs octets words (Ok (Some sums)) old new = IsAnswered words inputs octets (run_of old new (Ok sums))
 EndsAnswers inputs octets words (Ok None) old new = ⊥
-EndsAnswers inputs octets words (Err (Refused fault)) old new = IsAnswered words inputs octets (run_of old new (Err fault))
+EndsAnswers inputs octets words (Err (Refused fault)) old new =
+    IsAnswered words inputs octets (run_of old new (Err fault))
 EndsAnswers inputs octets words (Err failure) old new = ⊥

@@ -1,12 +1,13 @@
 // Rows that were seen, kinds, and rows that are found by their kinds. Where memory ran out once, it is there again.
 
-use crate::same::is_same;
-use crate::worked::{COSTS, PLAN, SETTINGS, inputs_of};
+use crate::worked::{COSTS, PLAN, inputs_of};
 use hsp_instance::{Instance, Sites};
 use hsp_names::HandleRef;
 use hsp_runs::{Accepted, accepted_in, costs_in, sites_in};
 use hsp_tables::Costs;
 use hsp_tally::{Kinds, RowFinder, SeenRows};
+use hsp_test_support::is_same;
+use hsp_test_support::service::SETTINGS;
 use std::alloc::{AllocError, Global};
 
 // Puts in a number, and once more where memory ran out. Whether it is in then.
@@ -36,8 +37,8 @@ fn a_row_of_more_than_256_octets_is_not_kept(rt: HostRuntime) {
     is_same(&rt, seen.find(b"r1", &long), None);
 }
 
-// Whether the row was seen before it was counted and after it, how many kinds there are then, and the count of the first
-// kind, if it is that of 10/1. None where memory ran out.
+// Whether the row was seen before it was counted and after it, how many kinds there are then, and the count of the
+// first kind, if it is that of 10/1. None where memory ran out.
 type Counted = Option<(bool, bool, u32, Option<u64>)>;
 
 // The count of the first kind, if it is that of 10/1.

@@ -1,14 +1,11 @@
 // A service of two sites, E of two and W of three servers, which both hash the local name.
 //
-// Of two servers the local names 1, 3 and 7 are at place 1, and 2, 4 and 9 at place 0. Of three servers 3 is at place 0,
-// 2 at place 1, and 1, 4, 7 and 9 are at place 2.
+// Of two servers the local names 1, 3 and 7 are at place 1, and 2, 4 and 9 at place 0. Of three servers 3 is at place
+// 0, 2 at place 1, and 1, 4, 7 and 9 are at place 2.
 
 use hsp_runs::Inputs;
+use hsp_test_support::service::SETTINGS;
 use std::alloc::{AllocError, Global};
-
-/// E has the servers 7 and 3, W the servers 1, 2 and 9.
-pub(crate) const SETTINGS: &[u8] =
-    b"[[site]]\nname = \"E\"\nrecord = \"00010200000100010000000000000000000000020000000700000000000000000000000000000001000000000000000000000003000000000000000000000000000000010000000000000000\"\n[[site]]\nname = \"W\"\nrecord = \"0001020000010001000000000000000000000003000000010000000000000000000000000000000200000000000000000000000200000000000000000000000000000002000000000000000000000009000000000000000000000000000000020000000000000000\"\n";
 
 /// Region r1 may use both sites, and r2 may use E.
 pub(crate) const COSTS: &[u8] = b"region,site,cost\nr1,E,1\nr1,W,5\nr2,E,2\n";

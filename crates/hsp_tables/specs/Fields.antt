@@ -39,12 +39,15 @@ abbrev pub greatest_of_32_bits : ℕ
 greatest_of_32_bits = 4294967295
 
 -- the row that three fields spell by its number, of a record that has three
-abbrev pub of_three : {Row : Type 0} → (ℕ → List ℕ → List ℕ → List ℕ → Result Row TableFault) → ℕ → csv.Fields → Result Row TableFault
+abbrev pub of_three : {Row : Type 0} → (ℕ → List ℕ → List ℕ → List ℕ → Result Row TableFault) → ℕ → csv.Fields
+    → Result Row TableFault
 of_three read row (first ∷ second ∷ third ∷ []) = read row first second third
 of_three read row _ = Err (fault.Fields row)
 
 -- a record of more fields or fewer spells none
-pub not_three : {Row : Type 0} (read : ℕ → List ℕ → List ℕ → List ℕ → Result Row TableFault) (row : ℕ) (fields : csv.Fields) → length fields ≢ 3 → of_three read row fields ≡ Err (fault.Fields row)
+pub not_three :
+    {Row : Type 0} (read : ℕ → List ℕ → List ℕ → List ℕ → Result Row TableFault) (row : ℕ) (fields : csv.Fields)
+    → length fields ≢ 3 → of_three read row fields ≡ Err (fault.Fields row)
 not_three read row [] other = refl
 not_three read row (a ∷ []) other = refl
 not_three read row (a ∷ b ∷ []) other = refl

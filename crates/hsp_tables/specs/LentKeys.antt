@@ -24,7 +24,8 @@ hashed_alike a b c d h =
     let is = equal_names a b c d h in
     rw (is.0, is.1) refl
 
-pub compared_alike : (a b c d y z : List ℕ) → (bytes_eq a b && bytes_eq c d) ≡ true → (bytes_eq a y && bytes_eq c z) ≡ (bytes_eq b y && bytes_eq d z)
+pub compared_alike : (a b c d y z : List ℕ) → (bytes_eq a b && bytes_eq c d) ≡ true
+    → (bytes_eq a y && bytes_eq c z) ≡ (bytes_eq b y && bytes_eq d z)
 compared_alike a b c d y z h =
     let is = equal_names a b c d h in
     rw (is.0, is.1) refl
@@ -35,12 +36,14 @@ equal_servers a b m n h =
     let is = both (bytes_eq a b) (n == m) h in
     ((bytes_decides a b).0 is.0, eqb-true n m is.1)
 
-pub server_hashed_alike : (a b : List ℕ) (m n : ℕ) → (bytes_eq a b && (n == m)) ≡ true → (slice u8 a ++ u32 m) ≡ (slice u8 b ++ u32 n)
+pub server_hashed_alike : (a b : List ℕ) (m n : ℕ) → (bytes_eq a b && (n == m)) ≡ true
+    → (slice u8 a ++ u32 m) ≡ (slice u8 b ++ u32 n)
 server_hashed_alike a b m n h =
     let is = equal_servers a b m n h in
     rw (is.0, is.1) refl
 
-pub server_compared_alike : (a b : List ℕ) (m n : ℕ) (y : List ℕ) (k : ℕ) → (bytes_eq a b && (n == m)) ≡ true → (bytes_eq a y && (k == m)) ≡ (bytes_eq b y && (n == k))
+pub server_compared_alike : (a b : List ℕ) (m n : ℕ) (y : List ℕ) (k : ℕ) → (bytes_eq a b && (n == m)) ≡ true
+    → (bytes_eq a y && (k == m)) ≡ (bytes_eq b y && (n == k))
 server_compared_alike a b m n y k h =
     let is = equal_servers a b m n h in
     rw (is.0, is.1, nat_eq_equiv.symm k m) refl

@@ -1,5 +1,6 @@
 -- A table: the records of a text as rows under a header, or the first fault.
-use Rattle.std.specs.Prelude.{◌≡◌, ◌≢◌, ◌≤◌, ◌↔◌, ◌⊎◌, Bool, ℕ, List, [], ◌∷◌, ◌++◌, length, fold, map, nat_lt, Result, Ok, Err, if◌then◌else◌}
+use Rattle.std.specs.Prelude.{◌≡◌, ◌≢◌, ◌≤◌, ◌↔◌, ◌⊎◌, Bool, ℕ, List, [], ◌∷◌, ◌++◌, length, fold, map, nat_lt, Result}
+use Rattle.std.specs.Prelude.{Ok, Err, if◌then◌else◌}
 use Rattle.std.specs.List.{IsDistinct}
 use Rattle.std.specs.Str.{bytes_eq}
 use Rattle.indexmap.specs.IndexSet.{insert_key}
@@ -11,8 +12,8 @@ use Rattle.hsp_text.specs.declared.limits.TheConstants.{MOST_REGIONS}
 use Rattle.hsp_text.specs.Answers.{◌>>=◌}
 use Rattle.hsp_tables.specs.InTurn.{AreKeyed, Reading, SpellInTurn, keyed_after, rows_after}
 
--- a kind of table: its header, the limit of its rows, the row that the fields of a record spell by its number, when two rows
--- have one key, whether its rows are of regions, and the region of a row
+-- a kind of table: its header, the limit of its rows, the row that the fields of a record spell by its number, when two
+-- rows have one key, whether its rows are of regions, and the region of a row
 pub record Table (Row : Type 0) : Type 0 where
   pub header : Fields
   pub most_rows : ℕ
@@ -35,17 +36,20 @@ seen_with table seen row = if table.has_regions then insert_key bytes_eq seen (t
 
 -- a row whose region is not one too many
 abbrev pub of_few_regions : {Row : Type 0} → Table Row → List Row → Row → Result Row TableFault
-of_few_regions table earlier row = if nat_lt MOST_REGIONS (length (regions_of table (earlier ++ row ∷ []))) then Err TooManyRegions else Ok row
+of_few_regions table earlier row =
+    if nat_lt MOST_REGIONS (length (regions_of table (earlier ++ row ∷ []))) then Err TooManyRegions else Ok row
 
 -- the row of a record after the rows before it, or its first fault
 abbrev pub row_after : {Row : Type 0} → Table Row → Reading Fields Row
 row_after table earlier fields =
-    keyed_after table.most_rows TooManyRows table.row_in table.same_key RowTwice earlier fields >>= of_few_regions table earlier
+    keyed_after table.most_rows TooManyRows table.row_in table.same_key RowTwice earlier fields
+    >>= of_few_regions table earlier
 
 -- the rows that the records give, or the first fault
 abbrev pub table_of : {Row : Type 0} → Table Row → List Fields → Result (List Row) TableFault
 table_of table [] = Err Header
-table_of table (first ∷ body) = if same_fields first table.header then rows_after (row_after table) [] body else Err Header
+table_of table (first ∷ body) =
+    if same_fields first table.header then rows_after (row_after table) [] body else Err Header
 
 -- what the rows of a table are: within its limits, each as it should be, and no two with one key
 pub record AreRows {Row : Type 0} (table : Table Row) (Is : Row → Type 0) (rows : List Row) : Type 0 where
@@ -56,7 +60,8 @@ pub record AreRows {Row : Type 0} (table : Table Row) (Is : Row → Type 0) (row
 abbrev pub SpellRows : {Row : Type 0} → Table Row → ℕ → List Fields → List Row → Type 0
 SpellRows table number body rows = SpellInTurn table.row_in number body rows
 
--- as a relation: the records are the header and those that spell the rows, which are within the limits, no two with one key
+-- as a relation: the records are the header and those that spell the rows, which are within the limits, no two with one
+-- key
 pub record IsTable {Row : Type 0} (table : Table Row) (records : List Fields) (rows : List Row) : Type 0 where
   pub body : List Fields
   pub headed : records ≡ table.header ∷ body
@@ -86,8 +91,11 @@ IsTableFault table records fault = (LacksHeader table records × (fault ≡ Head
 -- the reading is the relation: records give exactly the rows of which they are the table, or exactly their first fault
 pub record ReadsAsItsRelation {Row : Type 0} (table : Table Row) : Type 0 where
   pub rows : (records : List Fields) (rows : List Row) → (table_of table records ≡ Ok rows) ↔ IsTable table records rows
-  pub fault : (records : List Fields) (fault : TableFault) → (table_of table records ≡ Err fault) ↔ IsTableFault table records fault
+  pub fault : (records : List Fields) (fault : TableFault)
+      → (table_of table records ≡ Err fault) ↔ IsTableFault table records fault
 
 -- a fault is decided by the records up to it: whatever records follow, it stays
 abbrev pub KeepsFirstFault : {Row : Type 0} → Table Row → Type 0
-KeepsFirstFault table = (first : Fields) (body more : List Fields) (fault : TableFault) → table_of table (first ∷ body) ≡ Err fault → table_of table (first ∷ (body ++ more)) ≡ Err fault
+KeepsFirstFault table =
+    (first : Fields) (body more : List Fields) (fault : TableFault) → table_of table (first ∷ body) ≡ Err fault
+    → table_of table (first ∷ (body ++ more)) ≡ Err fault

@@ -77,7 +77,8 @@ impl Capacities {
     /// The capacity of the server with this identifier at a site, or None where no row states it.
     pub fn find(&self, site: &[u8], server_id: u32) -> Option<u64>
         ensures { result ≡ option_map (λ (row : CapacityEntry). row.capacity)
-            (find (λ (row : CapacityEntry). bytes_eq row.site site.now && (row.server_id == server_id)) self.now) }
+            (find (λ (row : CapacityEntry).
+            bytes_eq row.site site.now && (row.server_id == server_id)) self.now) }
     {
         let capacity = self.rows.get(LentServer { site, server_id })?;
         Some(*capacity)

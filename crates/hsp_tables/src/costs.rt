@@ -76,7 +76,8 @@ impl Costs {
     /// What a query from a region costs at a site, or None where no row states it.
     pub fn find(&self, region: &[u8], site: &[u8]) -> Option<u64>
         ensures { result ≡ option_map (λ (row : CostEntry). row.cost)
-            (find (λ (row : CostEntry). bytes_eq row.region region.now && bytes_eq row.site site.now) self.now) }
+            (find (λ (row : CostEntry).
+            bytes_eq row.region region.now && bytes_eq row.site site.now) self.now) }
     {
         let (first, second) = (region, site);
         let cost = self.rows.get(LentPair { first, second })?;

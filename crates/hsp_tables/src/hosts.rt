@@ -80,7 +80,8 @@ fn has_address(hosts: &[Host], new: &Host) -> bool
 // Adds the host of a further element.
 fn add_host(hosts: &mut Vec<Host>, value: &Value) -> Result<(), TableFault>
     ensures ok { OnOk result (
-        with_row host_after (map host_entry hosts.old.items) (view value.now) ≡ Ok (map host_entry hosts.new.items)) }
+        with_row host_after (map host_entry hosts.old.items) (view value.now)
+        ≡ Ok (map host_entry hosts.new.items)) }
     ensures err { IfErr result (λ e. (e ≡ OutOfMemory)
         ⊎ (with_row host_after (map host_entry hosts.old.items) (view value.now) ≡ Err e)) }
 {

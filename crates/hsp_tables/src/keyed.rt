@@ -101,7 +101,8 @@ impl Equivalent<PairKey> for LentPair<'_> {
 
     ghost respects_hash = { λ q k h. hashed_alike q.first.now k.first q.second.now k.second h };
 
-    ghost respects_eq = { λ q x y h. compared_alike q.first.now x.first q.second.now x.second y.first y.second h };
+    ghost respects_eq = { λ q x y h.
+        compared_alike q.first.now x.first q.second.now x.second y.first y.second h };
 
     fn equivalent(&self, key: &PairKey) -> bool {
         self.first == key.first() && self.second == key.second()
@@ -130,10 +131,11 @@ impl Equivalent<ServerKey> for LentServer<'_> {
 
     ghost use Rattle.hsp_tables.specs.LentKeys.{server_hashed_alike, server_compared_alike};
 
-    ghost respects_hash = { λ q k h. server_hashed_alike q.site.now k.site.items q.server_id k.server_id h };
+    ghost respects_hash = { λ q k h.
+        server_hashed_alike q.site.now k.site.items q.server_id k.server_id h };
 
-    ghost respects_eq = { λ q x y h. server_compared_alike q.site.now x.site.items q.server_id x.server_id
-        y.site.items y.server_id h };
+    ghost respects_eq = { λ q x y h. server_compared_alike q.site.now x.site.items q.server_id
+        x.server_id y.site.items y.server_id h };
 
     fn equivalent(&self, key: &ServerKey) -> bool {
         self.site == key.site.as_slice() && key.server_id == self.server_id

@@ -6,7 +6,8 @@ ghost use Rattle.toml.specs.Data.{get_member};
 ghost use Rattle.toml.specs.View.{table_view, view};
 ghost use Rattle.hsp_tables.specs.declared.fault.TableFault.TheVariants.{OutOfMemory};
 ghost use Rattle.hsp_text.specs.Answers.{Gives, GivesUnless};
-ghost use Rattle.hsp_tables.specs.Settings.{document_in, integer_of, is_host_key, is_root_key, is_site_key, keys_in, text_of};
+ghost use Rattle.hsp_tables.specs.Settings.{document_in, integer_of, is_host_key, is_root_key, is_site_key, keys_in};
+ghost use Rattle.hsp_tables.specs.Settings.{text_of};
 
 use crate::fault::TableFault;
 use std::alloc::Global;

@@ -6,7 +6,8 @@ ghost use Rattle.toml.specs.View.{items_view, table_view, view};
 ghost use Rattle.hsp_tables.specs.declared.fault.TableFault.TheVariants.{OutOfMemory};
 ghost use Rattle.hsp_text.specs.Answers.{Gives, GivesUnless};
 ghost use Rattle.hsp_tables.specs.InTurn.{rows_after, with_row};
-ghost use Rattle.hsp_tables.specs.Settings.{elements_in, index_source, record_source, same_name, site_after, site_in, site_name, site_source};
+ghost use Rattle.hsp_tables.specs.Settings.{elements_in, index_source, record_source, same_name, site_after, site_in};
+ghost use Rattle.hsp_tables.specs.Settings.{site_name, site_source};
 ghost use Rattle.hsp_tables.specs.SettingsRows.{site_entry, source_entry};
 
 use crate::fault::TableFault;
@@ -86,7 +87,8 @@ fn site_source(
     index: Option<&Value>,
 ) -> Result<OwnedSource, TableFault>
     ensures { GivesUnless OutOfMemory source_entry result (
-        site_source number (option_map (λ v. view v.now) octets.entry) (option_map (λ v. view v.now) index.entry)) }
+        site_source number (option_map (λ v. view v.now) octets.entry)
+        (option_map (λ v. view v.now) index.entry)) }
 {
     match (octets, index) {
         (Some(octets), None) => record_source(alloc, number, octets),
@@ -126,7 +128,8 @@ fn has_name(sites: &[Site], new: &Site) -> bool
 // Adds the site of a further element.
 fn add_site(alloc: Global, sites: &mut Vec<Site>, value: &Value) -> Result<(), TableFault>
     ensures ok { OnOk result (
-        with_row site_after (map site_entry sites.old.items) (view value.now) ≡ Ok (map site_entry sites.new.items)) }
+        with_row site_after (map site_entry sites.old.items) (view value.now)
+        ≡ Ok (map site_entry sites.new.items)) }
     ensures err { IfErr result (λ e. (e ≡ OutOfMemory)
         ⊎ (with_row site_after (map site_entry sites.old.items) (view value.now) ≡ Err e)) }
 {

@@ -1,6 +1,7 @@
 // Tables: rows under a header, each found by its key.
 
-ghost use Rattle.std.specs.Prelude.{◌≡◌, ◌≢◌, ◌⊎◌, [], ◌∷◌, ℕ, Some, None, Ok, Err, length, map, option_map, if◌then◌else◌, OnOk, IfErr};
+ghost use Rattle.std.specs.Prelude.{◌≡◌, ◌≢◌, ◌⊎◌, [], ◌∷◌, ℕ, Some, None, Ok, Err, length, map, option_map};
+ghost use Rattle.std.specs.Prelude.{if◌then◌else◌, OnOk, IfErr};
 ghost use Rattle.csv.specs.Records.{fields_of};
 ghost use Rattle.std.specs.Str.{bytes_eq};
 ghost use Rattle.indexmap.specs.IndexSet.{insert_key};
@@ -49,7 +50,8 @@ pub(crate) trait Kind {
     /// The region of the row of a key, where rows are of regions.
     fn region_of(key: &Self::Key) -> Option<&[u8]>
         ensures { (number : ℕ) → option_map (λ o. o.now) result
-            ≡ (if table.has_regions then Some (table.region_of (entry (key.now, number))) else None) };
+            ≡ (if table.has_regions then Some (table.region_of (entry (key.now, number)))
+            else None) };
 
     /// A record of more fields or fewer spells no row.
     ghost of_three: { (row : ℕ) (fields : Record) → length fields ≢ 3

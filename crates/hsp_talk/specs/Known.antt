@@ -5,8 +5,8 @@ use Rattle.std.specs.Io.KnownBytes.{Appends, Consumes, IsAtEnd}
 use Rattle.hsp_talk.specs.Talk.{Event, has_ended, received_in, sent_in}
 use Rattle.hsp_talk.specs.Talk.Event.{sent}
 
--- What is known of a peer, as far as it is: the events so far; the octets that are still to come, and all octets that were
--- written; and the name of a writer that is lent.
+-- What is known of a peer, as far as it is: the events so far; the octets that are still to come, and all octets that
+-- were written; and the name of a writer that is lent.
 pub record Known : Type 0 where
   pub events : Option (List Event)
   pub coming : Option (List ℕ)
@@ -28,8 +28,8 @@ abbrev pub HasNoMore : Option (List ℕ) → Option (List ℕ) → Type 0
 HasNoMore None new = ⊤
 HasNoMore (Some old) new = IsAtEnd new
 
--- Some events happened at a peer: they are added to those that are known, the octets that they received had still to come,
--- none come behind an end, and the octets that they sent were written.
+-- Some events happened at a peer: they are added to those that are known, the octets that they received had still to
+-- come, none come behind an end, and the octets that they sent were written.
 pub record GoesOn (old new : Known) (more : List Event) : Type 0 where
   pub added : AreMore old.events new.events more
   pub came : Consumes old.coming new.coming (received_in more)

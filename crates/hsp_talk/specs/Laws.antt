@@ -4,7 +4,9 @@ use Rattle.hsp_talk.specs.Talk.{last_line, line_feed, whole_lines}
 
 -- octets are their whole lines, each with its end, and then their last line
 abbrev pub LinesMakeOctets : Type 0
-LinesMakeOctets = (octets : List ℕ) → octets ≡ flat_map (λ line. line ++ line_feed ∷ []) (whole_lines [] octets) ++ last_line [] octets
+LinesMakeOctets =
+    (octets : List ℕ)
+    → octets ≡ flat_map (λ line. line ++ line_feed ∷ []) (whole_lines [] octets) ++ last_line [] octets
 
 -- no line goes on after an end
 abbrev pub IsOneLine : List ℕ → Type 0

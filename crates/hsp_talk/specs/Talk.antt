@@ -14,12 +14,14 @@ line_feed = 10
 -- the lines that octets end, each without its end; the first goes on with a line that has begun
 abbrev pub whole_lines : List ℕ → List ℕ → List (List ℕ)
 whole_lines begun [] = []
-whole_lines begun (octet ∷ octets) = if octet == line_feed then begun ∷ whole_lines [] octets else whole_lines (begun ++ octet ∷ []) octets
+whole_lines begun (octet ∷ octets) =
+    if octet == line_feed then begun ∷ whole_lines [] octets else whole_lines (begun ++ octet ∷ []) octets
 
 -- the line that octets begin and do not end
 abbrev pub last_line : List ℕ → List ℕ → List ℕ
 last_line begun [] = begun
-last_line begun (octet ∷ octets) = if octet == line_feed then last_line [] octets else last_line (begun ++ octet ∷ []) octets
+last_line begun (octet ∷ octets) =
+    if octet == line_feed then last_line [] octets else last_line (begun ++ octet ∷ []) octets
 
 abbrev pub is_line_feed : ℕ → Bool
 is_line_feed octet = octet == line_feed
@@ -61,7 +63,9 @@ has_ended (sent octets ∷ events) = has_ended events
 
 -- the rows that came in: of the whole lines, and at the end of the last line too
 abbrev pub rows_in : List Event → List (List ℕ)
-rows_in events = rows_of (whole_lines [] (received_in events) ++ (if has_ended events then last_line [] (received_in events) ∷ [] else []))
+rows_in events =
+    rows_of (whole_lines [] (received_in events)
+    ++ (if has_ended events then last_line [] (received_in events) ∷ [] else []))
 
 -- ---- answers
 
@@ -72,7 +76,8 @@ TakesRow D = D → List ℕ → D → List ℕ → Type 0
 -- rows are taken in turn, from the first desk to the last, each with its answer
 abbrev pub AreTaken : {D : Type 0} → TakesRow D → D → List (List ℕ) → D → List (List ℕ) → Type 0
 AreTaken Takes first [] last [] = last ≡ first
-AreTaken {D} Takes first (row ∷ rows) last (answer ∷ answers) = (next : D) × Takes first row next answer × AreTaken Takes next rows last answers
+AreTaken {D} Takes first (row ∷ rows) last (answer ∷ answers) =
+    (next : D) × Takes first row next answer × AreTaken Takes next rows last answers
 AreTaken Takes first [] last (answer ∷ answers) = ⊥
 AreTaken Takes first (row ∷ rows) last [] = ⊥
 
@@ -95,7 +100,8 @@ pub record Took {D : Type 0} (Takes : TakesRow D) (first last : D) (events : Lis
 -- all rows until the end were taken and all their answers were sent
 abbrev pub HeldToTheEnd : {D : Type 0} → TakesRow D → D → D → List Event → Type 0
 HeldToTheEnd Takes first last events =
-    (took : Took Takes first last events) × (took.later ≡ []) × (sent_in events ≡ concat took.answers) × (has_ended events ≡ true)
+    (took : Took Takes first last events) × (took.later ≡ []) × (sent_in events ≡ concat took.answers)
+    × (has_ended events ≡ true)
 
 -- `Refuses desk row next fault`: a desk refuses a row by this fault, and is the next desk then
 abbrev pub RefusesRow : Type 0 → Type 0 → Type 1
@@ -110,7 +116,8 @@ abbrev pub StoppedBy : {D F : Type 0} → TakesRow D → RefusesRow D F → D �
 StoppedBy Takes Refuses first last events stop.ReadFailed =
     (took : Took Takes first last events) × (took.later ≡ []) × (sent_in events ≡ concat took.answers)
 StoppedBy {D} Takes Refuses first last events stop.WriteFailed =
-    (at : D) × (took : Took Takes first at events) × (unsent : List ℕ) × (concat took.answers ≡ sent_in events ++ unsent)
+    (at : D) × (took : Took Takes first at events) × (unsent : List ℕ)
+    × (concat took.answers ≡ sent_in events ++ unsent)
 StoppedBy {D} Takes Refuses first last events stop.OutOfMemory =
     (at : D) × (took : Took Takes first at events) × (sent_in events ≡ concat took.answers)
 StoppedBy {D} Takes Refuses first last events (stop.Fault fault) =

@@ -1,6 +1,7 @@
 // The talk.
 
-ghost use Rattle.std.specs.Prelude.{◌≡◌, ◌<◌, ◌≤◌, ◌+◌, ◌++◌, ◌∷◌, [], IfErr, IfOk, IfSome, OnErr, OnOk, length, position};
+ghost use Rattle.std.specs.Prelude.{◌≡◌, ◌<◌, ◌≤◌, ◌+◌, ◌++◌, ◌∷◌, [], IfErr, IfOk, IfSome, OnErr, OnOk, length};
+ghost use Rattle.std.specs.Prelude.{position};
 ghost use Rattle.hsp_talk.specs.declared.limits.TheConstants.{LONGEST_ROW};
 ghost use Rattle.hsp_talk.specs.Known.{GoesOn, SendsSome, Went, sending};
 ghost use Rattle.hsp_talk.specs.Talk.{HeldToTheEnd, StoppedBy, cut, is_line_feed, last_line, rows_of, whole_lines};

@@ -37,7 +37,8 @@ sites_of known = known.1.items
 
 -- the sites of a region are those where it has a cost, and each has a server
 abbrev pub HasSites : List CostEntry → List Site → KnownSites → Type 0
-HasSites costs sites known = (sites_of known ≡ map hash_of (sites_for costs sites (name_of known))) × AllByRecursion HasServer (sites_of known)
+HasSites costs sites known =
+    (sites_of known ≡ map hash_of (sites_for costs sites (name_of known))) × AllByRecursion HasServer (sites_of known)
 
 -- regions in first-seen order, with one that may be among them
 abbrev pub with_region : List (List ℕ) → List ℕ → List (List ℕ)
@@ -56,4 +57,5 @@ pub record KeyEntry : Type 0 where
   pub places : List ℕ
 
 abbrev pub key_of : List CostEntry → List Site → Row → KeyEntry
-key_of costs sites row = record { region = row.region; places = places_at (sites_for costs sites row.region) row.handle }
+key_of costs sites row =
+    record { region = row.region; places = places_at (sites_for costs sites row.region) row.handle }

@@ -1,5 +1,6 @@
 -- The map that holds kinds by their keys.
-use Rattle.std.specs.Prelude.{◌≡◌, ◌≤◌, ◌+◌, ◌&&◌, Bool, ℕ, zero, suc, true, List, [], ◌∷◌, length, map, nat_lt, position, Some}
+use Rattle.std.specs.Prelude.{◌≡◌, ◌≤◌, ◌+◌, ◌&&◌, Bool, ℕ, zero, suc, true, List, [], ◌∷◌, length, map, nat_lt}
+use Rattle.std.specs.Prelude.{position, Some}
 use Rattle.std.specs.List.{AllByRecursion}
 use Rattle.std.specs.Str.{bytes_eq}
 use Rattle.hsp_text.specs.declared.limits.TheConstants.{MOST_DEMAND_ROWS, MOST_REGIONS}
@@ -48,8 +49,14 @@ is_key lent key = bytes_eq lent.region.now key.region.items && bytes_eq lent.pla
 
 -- a row beside its lent key
 abbrev pub lent_row : LentKind → List ℕ → ℕ → KeyEntry × Row
-lent_row lent handle count =
-    (record { region = lent.region.now; places = lent.places.now }, record { region = lent.region.now; handle = handle; count = count })
+lent_row lent handle count = (
+  record { region = lent.region.now; places = lent.places.now },
+  record {
+    region = lent.region.now;
+    handle = handle;
+    count = count;
+  },
+)
 
 -- there would be kinds too many
 abbrev pub IsKindFault : KindsFault → List (KeyEntry × Row) → Type 0

@@ -5,7 +5,8 @@ use Rattle.std.specs.Hash.{slice, u32, u8}
 use Rattle.std.specs.Str.{bytes_eq}
 use Rattle.hsp_tables.specs.LentKeys.{both}
 
-pub hashed_alike : (a b c d : List ℕ) → (bytes_eq a b && bytes_eq c d) ≡ true → (slice u8 a ++ slice u32 c) ≡ (slice u8 b ++ slice u32 d)
+pub hashed_alike : (a b c d : List ℕ) → (bytes_eq a b && bytes_eq c d) ≡ true
+    → (slice u8 a ++ slice u32 c) ≡ (slice u8 b ++ slice u32 d)
 hashed_alike a b c d h =
     let is = both (bytes_eq a b) (bytes_eq c d) h in
     let first : a ≡ b = (bytes_decides a b).0 is.0 in

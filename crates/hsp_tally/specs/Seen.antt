@@ -18,7 +18,8 @@ of_row region handle seen = bytes_eq region seen.region && bytes_eq handle seen.
 abbrev pub seen_with : List Seen → Seen → List Seen
 seen_with [] row = row ∷ []
 seen_with (first ∷ rest) row =
-    if of_row row.region row.handle first then record first { number = row.number } ∷ rest else first ∷ seen_with rest row
+    if of_row row.region row.handle first then record first { number = row.number } ∷ rest
+    else first ∷ seen_with rest row
 
 -- the row was put in, or left out
 abbrev pub IsPut : List Seen → List Seen → Seen → Type 0

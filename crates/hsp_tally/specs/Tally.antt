@@ -1,5 +1,6 @@
 -- Tables of kinds, as the rows of a log are counted.
-use Rattle.std.specs.Prelude.{◌≡◌, ◌≤◌, ◌<◌, ◌+◌, ◌-◌, ◌^◌, ⊤, true, ℕ, List, [], ◌∷◌, ◌++◌, length, map, min, nat_lt, position, Result, Ok, Err, Some, if◌then◌else◌}
+use Rattle.std.specs.Prelude.{◌≡◌, ◌≤◌, ◌<◌, ◌+◌, ◌-◌, ◌^◌, ⊤, true, ℕ, List, [], ◌∷◌, ◌++◌, length, map, min, nat_lt}
+use Rattle.std.specs.Prelude.{position, Result, Ok, Err, Some, if◌then◌else◌}
 use Rattle.std.specs.List.{AllByRecursion}
 use Rattle.hsp_text.specs.declared.limits.TheConstants.{MOST_DEMAND_ROWS, MOST_REGIONS}
 use Rattle.hsp_tables.specs.Costs.{CostEntry}
@@ -23,7 +24,8 @@ with_more row more = record { region = row.region; handle = row.handle; count = 
 abbrev pub by_capped : List CostEntry → List Site → Kinding Row
 by_capped costs sites = record { same = is_same_kind costs sites; with_count_of = λ a b. with_more a b.count }
 
--- a table of kinds: the costs and sites by which kinds are told apart, the regions that were sought, and a row for each kind
+-- a table of kinds: the costs and sites by which kinds are told apart, the regions that were sought, and a row for each
+-- kind
 pub record KindTable : Type 0 where
   pub costs : List CostEntry
   pub sites : List Site

@@ -18,7 +18,8 @@ use std::alloc::{AllocError, Global};
 use std::hash::Hash;
 use std::marker::Model;
 
-// What the rows of a kind share: their region, and the places of their handles at the sites where the region has a cost.
+// What the rows of a kind share: their region, and the places of their handles at the sites where the region has a
+// cost.
 #[derive(Debug, PartialEq, Eq, Hash, Drop)]
 pub(crate) struct KindKey {
     region: Vec<u8>,
@@ -58,15 +59,17 @@ impl Equivalent<KindKey> for LentKind<'_> {
     ghost use Rattle.std.specs.Prelude.{◌≡◌, ◌&&◌};
     ghost use Rattle.std.specs.Str.{bytes_eq};
 
-    ghost equivalent = { λ q k. bytes_eq q.region.now k.region.items && bytes_eq q.places.now k.places.items };
+    ghost equivalent = { λ q k.
+        bytes_eq q.region.now k.region.items && bytes_eq q.places.now k.places.items };
 
     ghost use Rattle.hsp_tables.specs.LentKeys.{compared_alike};
     ghost use Rattle.hsp_tally.specs.LentKinds.{hashed_alike};
 
-    ghost respects_hash = { λ q k h. hashed_alike q.region.now k.region.items q.places.now k.places.items h };
+    ghost respects_hash = { λ q k h.
+        hashed_alike q.region.now k.region.items q.places.now k.places.items h };
 
-    ghost respects_eq = { λ q x y h. compared_alike q.region.now x.region.items q.places.now x.places.items
-        y.region.items y.places.items h };
+    ghost respects_eq = { λ q x y h. compared_alike q.region.now x.region.items q.places.now
+        x.places.items y.region.items y.places.items h };
 
     fn equivalent(&self, key: &KindKey) -> bool {
         self.region == key.region.as_slice() && self.places == key.places.as_slice()

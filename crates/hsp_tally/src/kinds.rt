@@ -1,6 +1,7 @@
 // Kinds of rows, counted as the rows of a log come in.
 
-ghost use Rattle.std.specs.Prelude.{◌≡◌, ◌≤◌, ◌<◌, ◌⊎◌, [], Err, IfErr, IfOk, IsTrue, Ok, OnErr, OnOk, Some, false, length, map, position, slice_get, true};
+ghost use Rattle.std.specs.Prelude.{◌≡◌, ◌≤◌, ◌<◌, ◌⊎◌, [], Err, IfErr, IfOk, IsTrue, Ok, OnErr, OnOk, Some, false};
+ghost use Rattle.std.specs.Prelude.{length, map, position, slice_get, true};
 ghost use Rattle.std.specs.Map.{keys_of};
 ghost use Rattle.hsp_instance.specs.Instance.{IsNamed};
 ghost use Rattle.hsp_kinds.specs.Tables.{counted};

@@ -2,8 +2,8 @@
 
 ghost use Rattle.hsp_tally.specs.Tally.{CappedKindsAreClasses, TablesAreCapped};
 
-/// To be of one kind is an equivalence, a row keeps its kind as it takes a count, and counts add up in any order, also as
-/// far as a table keeps them. So the table of a log in two parts is that of their tables.
+/// To be of one kind is an equivalence, a row keeps its kind as it takes a count, and counts add up in any order, also
+/// as far as a table keeps them. So the table of a log in two parts is that of their tables.
 pub fn capped_kinds_are_classes()
     ensures { CappedKindsAreClasses }
 {}

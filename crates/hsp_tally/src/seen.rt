@@ -108,7 +108,8 @@ impl Equivalent<SeenKey> for LentSeen<'_> {
 
     ghost respects_hash = { λ q k h. hashed_alike q.region.now k.first q.handle.now k.second h };
 
-    ghost respects_eq = { λ q x y h. compared_alike q.region.now x.first q.handle.now x.second y.first y.second h };
+    ghost respects_eq = { λ q x y h.
+        compared_alike q.region.now x.first q.handle.now x.second y.first y.second h };
 
     fn equivalent(&self, key: &SeenKey) -> bool {
         self.region == key.region() && self.handle == key.handle()
@@ -117,8 +118,8 @@ impl Equivalent<SeenKey> for LentSeen<'_> {
 
 /// Rows that were seen, by region and handle, each with a number.
 ///
-/// There are at most 65,536 rows, each of at most 256 octets, so that they never take more than 25 megabytes. Once it is
-/// full it stays as it is.
+/// There are at most 65,536 rows, each of at most 256 octets, so that they never take more than 25 megabytes. Once it
+/// is full it stays as it is.
 #[derive(Drop)]
 pub struct SeenRows {
     rows: IndexMap<SeenKey, u32>,

@@ -1,2 +1,4 @@
 pub mod Kept
+pub mod Cuts
+mod Consuming
 pub mod Numerals

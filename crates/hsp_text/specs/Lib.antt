@@ -2,4 +2,5 @@ pub mod Answers
 pub mod Whole
 pub mod Name
 pub mod Lines
+pub mod Input
 pub mod Writing

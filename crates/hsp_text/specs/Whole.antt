@@ -1,6 +1,7 @@
--- Whole numbers in texts: decimal digits, the most significant first, without sign and without a leading zero except `0` itself.
--- The digits of a number n are std's `decimal n`.
-use Rattle.std.specs.Prelude.{◌≡◌, ◌<◌, ◌^◌, ◌↔◌, ◌==◌, ◌&&◌, ◌||◌, not, Bool, true, false, ℕ, List, [], ◌∷◌, length, nat_le, Result, Ok, Err, decimal, if◌then◌else◌}
+-- Whole numbers in texts: decimal digits, the most significant first, without sign and without a leading zero except
+-- `0` itself. The digits of a number n are std's `decimal n`.
+use Rattle.std.specs.Prelude.{◌≡◌, ◌<◌, ◌^◌, ◌↔◌, ◌==◌, ◌&&◌, ◌||◌, not, Bool, true, false, ℕ, List, [], ◌∷◌, length}
+use Rattle.std.specs.Prelude.{nat_le, Result, Ok, Err, decimal, if◌then◌else◌}
 use Rattle.std.specs.Str.{all_ascii_digits}
 use Rattle.std.specs.Str.Parse.{digits_value}
 use Rattle.hsp_text.specs.declared.whole.WholeFault.{WholeFault}
@@ -21,4 +22,5 @@ whole_within max text = if is_whole text then up_to max (digits_value 10 text) e
 
 -- only the digits of a number spell it
 abbrev pub DigitsSpellTheirNumber : Type 0
-DigitsSpellTheirNumber = (n : ℕ) (text : List ℕ) → n < 2 ^ 64 → ((is_whole text ≡ true) × (digits_value 10 text ≡ n)) ↔ (text ≡ decimal n)
+DigitsSpellTheirNumber =
+    (n : ℕ) (text : List ℕ) → n < 2 ^ 64 → ((is_whole text ≡ true) × (digits_value 10 text ≡ n)) ↔ (text ≡ decimal n)

@@ -1,6 +1,8 @@
-// What every other part reads and writes: whole numbers in decimal digits, names and lines. The limits are here too.
+// What every other part reads and writes: whole files, lines, names and whole numbers in decimal digits. The limits are
+// here too.
 #![tactic(auto)]
 
+mod input;
 pub mod laws;
 pub mod limits;
 mod lines;
@@ -10,6 +12,7 @@ mod whole;
 mod wide;
 mod writing;
 
+pub use input::{first_line, read_file};
 pub use lines::next_line;
 pub use name::is_name;
 pub use output::{WriteFailed, put_all};

@@ -17,8 +17,8 @@ demand_of n set = sum_below (length n.demands) (λ i. if set i then slice_index 
 abbrev pub reached_capacity : {A : Type 0} → Network A → (ℕ → Bool) → ℕ → ℕ
 reached_capacity n set j = if reaches n set j then slice_index n.capacities j else 0
 
--- what the servers that the set may use can take, each once: each by itself that stands on no host, and for each host the smaller of
--- its limit and the sum of its servers
+-- what the servers that the set may use can take, each once: each by itself that stands on no host, and for each host
+-- the smaller of its limit and the sum of its servers
 abbrev pub capacity_of : {A : Type 0} → Network A → (ℕ → Bool) → ℕ
 capacity_of n set =
     sum_below (length n.capacities) (λ j. if is_none (n.host_of j) then reached_capacity n set j else 0)

@@ -1,5 +1,6 @@
 -- What lists of numbers, of flags and of servers' hosts hold.
-use Rattle.std.specs.Prelude.{◌≡◌, ℕ, ◌<◌, ◌≤◌, ◌==◌, Bool, false, List, length, slice_index, slice_index_or, Option, Some, None, is_none, min, if◌then◌else◌}
+use Rattle.std.specs.Prelude.{◌≡◌, ℕ, ◌<◌, ◌≤◌, ◌==◌, Bool, false, List, length, slice_index, slice_index_or, Option}
+use Rattle.std.specs.Prelude.{Some, None, is_none, min, if◌then◌else◌}
 use Rattle.hsp_transport.specs.Sums.{sum_below}
 
 -- whether a source, a server or a host is among those that the flags name
@@ -25,7 +26,8 @@ AreWithin bounds loads = (j : ℕ) → j < length bounds → slice_index loads j
 
 -- the price is 0 of each load that is below its bound
 abbrev pub AreIdle : List ℕ → List ℕ → List ℕ → Type 0
-AreIdle bounds loads prices = (j : ℕ) → j < length bounds → slice_index loads j < slice_index bounds j → slice_index prices j ≡ 0
+AreIdle bounds loads prices =
+    (j : ℕ) → j < length bounds → slice_index loads j < slice_index bounds j → slice_index prices j ≡ 0
 
 -- each number is 0
 abbrev pub AreZero : List ℕ → Type 0

@@ -1,5 +1,5 @@
--- Dual prices of a flow. They show that it is a cheapest one by complementary slackness: no reduced cost is negative, it is 0 where
--- something flows, and what is not full has no price (Network Flows, section 9.4).
+-- Dual prices of a flow. They show that it is a cheapest one by complementary slackness: no reduced cost is negative,
+-- it is 0 where something flows, and what is not full has no price (Network Flows, section 9.4).
 use Rattle.std.specs.Prelude.{◌≡◌, ℕ, ◌+◌, ◌<◌, ◌≤◌, List, length, All, slice_index, Option, Some, None}
 use Rattle.hsp_transport.specs.Network.{Network}
 use Rattle.hsp_transport.specs.Flow.{load, host_load}

@@ -3,4 +3,4 @@ use Rattle.hsp_check.specs.Index.{bare_arc}
 use Rattle.hsp_check.proofs.indexing.push_arcs.Given as goal
 
 abbrev pub invariant-loop-arc : goal.invariant-loop-arc
-invariant-loop-arc l = l.laid.items ≡ l.initial.laid.items ++ map (bare_arc l.row) (take l.arc-index l.arcs)
+invariant-loop-arc l = l.arc_flows.items ≡ l.initial.arc_flows.items ++ map (bare_arc l.row) (take l.arc-index l.arcs)

@@ -1,6 +1,6 @@
 use Rattle.std.proofs.Common.{◌≡◌, sym, true, false}
 use Rattle.std.proofs.lemmas.List.{append-nil}
-use Rattle.hsp_check.specs.Laid.{flag_at}
+use Rattle.hsp_check.specs.ArcFlows.{flag_at}
 use Rattle.hsp_check.proofs.Reached.{kept_more}
 use Rattle.hsp_check.proofs.reaching.flagged.Goals as goal
 use Rattle.hsp_check.proofs.reaching.flagged.Goals.{then-flags-place+in_ok-push, else-flags-place}

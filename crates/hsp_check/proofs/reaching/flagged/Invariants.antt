@@ -1,7 +1,7 @@
 use Rattle.std.proofs.Common.{◌≡◌}
 use Rattle.std.specs.Prelude.{filter}
 use Rattle.std.specs.List.{range_with_len}
-use Rattle.hsp_check.specs.Laid.{flag_at}
+use Rattle.hsp_check.specs.ArcFlows.{flag_at}
 use Rattle.hsp_check.proofs.reaching.flagged.Given as goal
 
 abbrev pub invariant-loop-place : goal.invariant-loop-place

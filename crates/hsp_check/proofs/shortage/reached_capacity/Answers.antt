@@ -1,5 +1,5 @@
 use Rattle.std.proofs.Common.{◌∙◌, ◌+◌, ap₂, refl, sym, rules}
-use Rattle.hsp_check.specs.Laid.{flag_at}
+use Rattle.hsp_check.specs.ArcFlows.{flag_at}
 use Rattle.hsp_check.specs.Network.{transport}
 use Rattle.hsp_check.specs.Reach.{network_in}
 use Rattle.hsp_check.proofs.Shortages.{rooms_are}

@@ -1,5 +1,5 @@
 use Rattle.std.proofs.Common.{◌≡◌, ℕ, ◌<◌, ◌≤◌, length, slice_index, if◌then◌else◌}
-use Rattle.hsp_check.specs.Laid.{flag_at}
+use Rattle.hsp_check.specs.ArcFlows.{flag_at}
 use Rattle.hsp_check.proofs.shortage.set_rooms.Given as goal
 
 abbrev pub invariant-loop-server : goal.invariant-loop-server

@@ -17,7 +17,7 @@ loop-place-preserved c =
     record {
       sums = λ v l.
           let there : v < length c.loop-place.sums = rw length-set at l in
-          end_more c.args.end c.args.laid.now c.loop-place.sums c.loop-place.place c.end_of-end.result c.flow_of.result v no_arc c.loop-place-test.true inside
+          end_more c.args.end c.args.arc_flows.now c.loop-place.sums c.loop-place.place c.end_of-end.result c.flow_of.result v no_arc c.loop-place-test.true inside
           c.end_of-end.ensures c.flow_of.ensures.flow (c.loop-place.invariant.sums v there);
       small = λ v l.
           let there : v < length c.loop-place.sums = rw length-set at l in

@@ -1,7 +1,7 @@
 use Rattle.std.proofs.Common.{◌<◌, length}
 use Rattle.hsp_check.specs.declared.arc.NetworkArc.{NetworkArc}
 use Rattle.hsp_check.specs.declared.sums.ArcFlow.{ArcFlow}
-use Rattle.hsp_check.proofs.LaidSums.{all_of_map}
+use Rattle.hsp_check.proofs.FlowSums.{all_of_map}
 use Rattle.hsp_transport.proofs.Places.{hosts_below}
 use Rattle.hsp_check.proofs.numbers.NetworkNumbers.with.Goals as goal
 
@@ -12,9 +12,9 @@ invariant_of-result-clause-server_hosts_in c =
 
 pub invariant_of-result-clause-rows_in : goal.invariant_of-result-clause-rows_in
 invariant_of-result-clause-rows_in c =
-    rw c.deref.ensures.value (all_of_map (λ (l : ArcFlow). l.arc) (λ (a : NetworkArc). a.row < length c.args.self.now.demands.items) c.args.laid.now c.requires.network.sources)
+    rw c.deref.ensures.value (all_of_map (λ (l : ArcFlow). l.arc) (λ (a : NetworkArc). a.row < length c.args.self.now.demands.items) c.args.arc_flows.now c.requires.network.sources)
 
 pub invariant_of-result-clause-servers_in : goal.invariant_of-result-clause-servers_in
 invariant_of-result-clause-servers_in c =
     rw (c.deref-4.ensures.value, ← c.args.self.now.servers_many)
-    (all_of_map (λ (l : ArcFlow). l.arc) (λ (a : NetworkArc). a.server < length c.args.self.now.capacities.items) c.args.laid.now c.requires.network.servers)
+    (all_of_map (λ (l : ArcFlow). l.arc) (λ (a : NetworkArc). a.server < length c.args.self.now.capacities.items) c.args.arc_flows.now c.requires.network.servers)

@@ -1,7 +1,7 @@
 use Rattle.std.proofs.Common.{◌≤◌, ◌-◌, length}
 use Rattle.std.specs.Io.KnownBytes.{Consumes}
 use Rattle.hsp_text.specs.declared.limits.TheConstants.{LARGEST_FILE}
-use Rattle.hsp_runs.proofs.input.read_file.Given as goal
+use Rattle.hsp_text.proofs.input.read_file.Given as goal
 
 abbrev pub invariant-pieces : goal.invariant-pieces
 invariant-pieces g l = record {

@@ -6,8 +6,8 @@ use Rattle.std.specs.Io.KnownBytes.{Consumes, IsAtEnd}
 use Rattle.std.proofs.lemmas.List.{append-nil}
 use Rattle.std.proofs.lemmas.List.Folds.{list_any-append}
 use Rattle.std.proofs.lemmas.Bool.{ne_eqb, or_parts, or_from}
-use Rattle.hsp_names.proofs.Splitting.{cut_parts}
-use Rattle.hsp_runs.specs.Input.{is_lf, first_line_of}
+use Rattle.hsp_text.proofs.Cuts.{cut_parts}
+use Rattle.hsp_text.specs.Input.{is_lf, first_line_of}
 
 -- nothing was taken yet
 pub consumes_none : (a : Option (List ℕ)) → Consumes a a []

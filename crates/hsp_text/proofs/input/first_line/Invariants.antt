@@ -2,8 +2,8 @@ use Rattle.std.proofs.Common.{◌≡◌, ◌≤◌, ◌-◌, length, false}
 use Rattle.std.specs.List.{list_any}
 use Rattle.std.specs.Io.KnownBytes.{Consumes}
 use Rattle.hsp_text.specs.declared.limits.TheConstants.{LONGEST_FIRST_LINE}
-use Rattle.hsp_runs.specs.Input.{is_lf}
-use Rattle.hsp_runs.proofs.input.first_line.Given as goal
+use Rattle.hsp_text.specs.Input.{is_lf}
+use Rattle.hsp_text.proofs.input.first_line.Given as goal
 
 abbrev pub invariant-octets : goal.invariant-octets
 invariant-octets g l = record {

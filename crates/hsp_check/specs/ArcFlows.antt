@@ -14,13 +14,13 @@ end_of end.Server a = a.server
 
 -- only the arcs
 abbrev pub arcs_in : List ArcFlow → List NetworkArc
-arcs_in laid = map (λ l. l.arc) laid
+arcs_in arc_flows = map (λ l. l.arc) arc_flows
 
 -- each arc has what the plan gives it
-abbrev pub AreLaidBy : Plan → List ArcFlow → Type 0
-AreLaidBy x laid = All (λ l. l.flow ≡ planned x l.arc) laid
+abbrev pub AreFlowsOf : Plan → List ArcFlow → Type 0
+AreFlowsOf x arc_flows = All (λ l. l.flow ≡ planned x l.arc) arc_flows
 
 -- the arcs, each with what the plan gives it
-pub record IsLaid (arcs : List NetworkArc) (x : Plan) (laid : List ArcFlow) : Type 0 where
-  pub arcs_are : arcs_in laid ≡ arcs
-  pub flows_are : AreLaidBy x laid
+pub record AreArcFlows (arcs : List NetworkArc) (x : Plan) (arc_flows : List ArcFlow) : Type 0 where
+  pub arcs_are : arcs_in arc_flows ≡ arcs
+  pub flows_are : AreFlowsOf x arc_flows

@@ -1,7 +1,7 @@
 use Rattle.std.proofs.Common.{◌≡◌, length, length-append, arith, rules, refl}
-use Rattle.hsp_runs.proofs.Consuming.{consumes_none, consumes_more, line_ends, line_feeds, one_octet, unbroken_more}
-use Rattle.hsp_runs.proofs.input.first_line.Goals as goal
-use Rattle.hsp_runs.proofs.input.first_line.Goals.{then-count-eq0-via-then-count-eq0, then-count-eq0-via-else-count-eq0+then-octet-eq10}
+use Rattle.hsp_text.proofs.Consuming.{consumes_none, consumes_more, line_ends, line_feeds, one_octet, unbroken_more}
+use Rattle.hsp_text.proofs.input.first_line.Goals as goal
+use Rattle.hsp_text.proofs.input.first_line.Goals.{then-count-eq0-via-then-count-eq0, then-count-eq0-via-else-count-eq0+then-octet-eq10}
 
 pub octets-init : goal.octets-init
 octets-init g c = record {

@@ -1,9 +1,9 @@
 // Whole files and first lines, from any reader.
 
 ghost use Rattle.std.specs.Prelude.{◌≡◌, ◌≤◌, length, IfOk, IfSome};
-ghost use Rattle.hsp_runs.specs.Input.{first_line_of};
+ghost use Rattle.hsp_text.specs.Input.{first_line_of};
 
-use hsp_text::limits::{LARGEST_FILE, LONGEST_FIRST_LINE};
+use crate::limits::{LARGEST_FILE, LONGEST_FIRST_LINE};
 use std::alloc::{AllocError, Global};
 use std::io::Read;
 

@@ -1,5 +1,5 @@
 use Rattle.std.proofs.Common.{rules}
-use Rattle.hsp_check.proofs.judging.LaidPlan.verdict.Goals as goal
+use Rattle.hsp_check.proofs.judging.NetworkPlan.verdict.Goals as goal
 
 pub returns : goal.returns
 returns c = search rules
