@@ -47,6 +47,7 @@ fn is_next(most: u64, prices: &[u64], number: u64, price: u64) -> bool
     number == prices.len() as u64 && number < most && is_price(price)
 }
 
+// Whether a use may follow what the plan holds.
 fn may_use(plan: &PricedPlan, one: UseLine) -> bool
     ensures { result ≡ may_use plan.now one }
 {
@@ -57,6 +58,7 @@ fn may_use(plan: &PricedPlan, one: UseLine) -> bool
         && is_after(plan.uses.last().copied(), one)
 }
 
+// Whether the price of a row may follow.
 fn may_row_price(plan: &PricedPlan, number: u64, price: u64) -> bool
     ensures { result ≡ may_row_price plan.now number price }
 {
@@ -65,18 +67,21 @@ fn may_row_price(plan: &PricedPlan, number: u64, price: u64) -> bool
         && is_next(MOST_DEMAND_ROWS as u64, &plan.row_prices, number, price)
 }
 
+// Whether the price of a server may follow.
 fn may_server_price(plan: &PricedPlan, number: u64, price: u64) -> bool
     ensures { result ≡ may_server_price plan.now number price }
 {
     plan.host_prices.len() == 0 && is_next(MOST_SERVERS as u64, &plan.server_prices, number, price)
 }
 
+// Whether the price of a host may follow.
 fn may_host_price(version: u64, plan: &PricedPlan, number: u64, price: u64) -> bool
     ensures { result ≡ may_host_price version plan.now number price }
 {
     version == 2 && is_next(MOST_HOSTS as u64, &plan.host_prices, number, price)
 }
 
+// Whether a row may follow those of the set.
 fn may_row(set: &ShortSet, row: u32) -> bool
     ensures { result ≡ may_row set.now row }
 {
@@ -107,6 +112,7 @@ fn row_in(row: u64) -> Option<u32>
     Some(row as u32)
 }
 
+// Adds a use, and returns whether it may stand there.
 fn take_use(plan: &mut PricedPlan, row: u64, site: u64, count: u64) -> Result<bool, AllocError>
     ensures { IfOk result
         (λ taken. Took (use_step plan.old (use_in row site count)) taken plan.new) }
@@ -121,6 +127,7 @@ fn take_use(plan: &mut PricedPlan, row: u64, site: u64, count: u64) -> Result<bo
     Ok(true)
 }
 
+// Adds the price of a row, and returns whether it may stand there.
 fn take_row_price(plan: &mut PricedPlan, number: u64, price: u64) -> Result<bool, AllocError>
     ensures { IfOk result (λ taken. Took (row_price_step plan.old number price) taken plan.new) }
 {
@@ -131,6 +138,7 @@ fn take_row_price(plan: &mut PricedPlan, number: u64, price: u64) -> Result<bool
     Ok(true)
 }
 
+// Adds the price of a server, and returns whether it may stand there.
 fn take_server_price(plan: &mut PricedPlan, number: u64, price: u64) -> Result<bool, AllocError>
     ensures { IfOk result (λ taken. Took (server_price_step plan.old number price) taken plan.new) }
 {
@@ -141,6 +149,7 @@ fn take_server_price(plan: &mut PricedPlan, number: u64, price: u64) -> Result<b
     Ok(true)
 }
 
+// Adds the price of a host, and returns whether it may stand there.
 fn take_host_price(
     version: u64,
     plan: &mut PricedPlan,
@@ -187,6 +196,7 @@ fn take_row(set: &mut ShortSet, item: Item) -> Result<bool, AllocError>
     Ok(true)
 }
 
+// Takes the version, and returns whether it is known.
 fn take_version(draft: &mut Draft, version: u64) -> bool
     ensures { Took (version_step draft.old version) result draft.new }
 {
@@ -209,6 +219,7 @@ fn take_kind(draft: &mut Draft) -> bool
     true
 }
 
+// Takes the cost of a plan, and returns whether it is within its range.
 fn take_cost(draft: &mut Draft, cost: u64) -> bool
     ensures { Took (cost_step draft.old cost) result draft.new }
 {
@@ -220,6 +231,7 @@ fn take_cost(draft: &mut Draft, cost: u64) -> bool
     true
 }
 
+// Takes the demand of a set, and returns whether it is within its range.
 fn take_demand(draft: &mut Draft, demand: u64) -> bool
     ensures { Took (demand_step draft.old demand) result draft.new }
 {
@@ -231,6 +243,7 @@ fn take_demand(draft: &mut Draft, demand: u64) -> bool
     true
 }
 
+// Takes the capacity that a set reaches, and returns whether it is within its range.
 fn take_capacity(draft: &mut Draft, capacity: u64) -> bool
     ensures { Took (capacity_step draft.old capacity) result draft.new }
 {

@@ -30,12 +30,14 @@ fn word_among(words: &[Word], octets: &[u8]) -> Option<Word>
     None
 }
 
+// The word of a certificate that octets spell.
 fn word_of(octets: &[u8]) -> Option<Word>
     ensures { result ≡ word_in octets.now }
 {
     word_among(&WORDS, octets)
 }
 
+// The whole number that octets spell, below 2^64.
 fn number_of(octets: &[u8]) -> Option<u64>
     ensures { result ≡ number_in octets.now }
 {

@@ -12,18 +12,21 @@ pub(crate) const LAST_ROW: u32 = MOST_DEMAND_ROWS as u32 - 1;
 
 pub(crate) const LAST_SITE: u32 = MOST_SITES as u32 - 1;
 
+/// Whether a use is within the ranges of rows, sites and counts.
 pub(crate) fn is_use(one: UseLine) -> bool
     ensures { result ≡ is_use one }
 {
     one.row <= LAST_ROW && one.site <= LAST_SITE && 1 <= one.count && one.count <= GREATEST_COUNT
 }
 
+/// Whether a price is within its range.
 pub(crate) fn is_price(price: u64) -> bool
     ensures { result ≡ is_price price }
 {
     price <= GREATEST_PRICE
 }
 
+/// Whether a row is within its range.
 pub(crate) fn is_row(row: u32) -> bool
     ensures { result ≡ is_row row }
 {
@@ -40,6 +43,7 @@ pub(crate) fn is_after(last: Option<UseLine>, next: UseLine) -> bool
     }
 }
 
+/// Whether a row may follow the last one.
 pub(crate) fn is_row_after(last: Option<u32>, next: u32) -> bool
     ensures { result ≡ goes_on_from nat_lt last next }
 {
@@ -49,6 +53,7 @@ pub(crate) fn is_row_after(last: Option<u32>, next: u32) -> bool
     }
 }
 
+/// Whether each use is within its ranges.
 pub(crate) fn are_uses(uses: &[UseLine]) -> bool
     ensures { result ≡ list_all is_use uses.now }
 {
@@ -60,6 +65,7 @@ pub(crate) fn are_uses(uses: &[UseLine]) -> bool
     true
 }
 
+/// Whether uses ascend by row, then by site.
 pub(crate) fn are_ascending(uses: &[UseLine]) -> bool
     ensures { result ≡ ascends is_before uses.now }
 {
@@ -73,6 +79,7 @@ pub(crate) fn are_ascending(uses: &[UseLine]) -> bool
     true
 }
 
+/// Whether each row is within its range.
 pub(crate) fn are_rows(rows: &[u32]) -> bool
     ensures { result ≡ list_all is_row rows.now }
 {
@@ -84,6 +91,7 @@ pub(crate) fn are_rows(rows: &[u32]) -> bool
     true
 }
 
+/// Whether rows ascend.
 pub(crate) fn are_rows_ascending(rows: &[u32]) -> bool
     ensures { result ≡ ascends nat_lt rows.now }
 {
@@ -97,6 +105,7 @@ pub(crate) fn are_rows_ascending(rows: &[u32]) -> bool
     true
 }
 
+/// Whether there are not too many prices, and each is within its range.
 pub(crate) fn are_prices(prices: &[u64], most: usize) -> bool
     ensures { result ≡ (nat_le (length prices.now) most && list_all is_price prices.now) }
 {

@@ -24,6 +24,7 @@ fn add_line(draft: &mut Draft, line: &[u8]) -> Result<bool, AllocError>
     }
 }
 
+// Reads line by line up to the end line, behind which nothing may follow.
 fn read_lines(alloc: Global, text: &[u8]) -> Result<Certificate, CertFault>
     ensures { Means text.now result }
 {

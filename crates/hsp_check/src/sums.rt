@@ -25,6 +25,7 @@ pub(crate) enum End {
     Server,
 }
 
+// The row of an arc, or its server.
 fn end_of(end: End, arc: NetworkArc) -> u32
     ensures { result ≡ end_of end arc }
 {
@@ -34,6 +35,7 @@ fn end_of(end: End, arc: NetworkArc) -> u32
     }
 }
 
+// The flow of an arc, wide enough to be added.
 fn flow_of(one: ArcFlow) -> u128
     ensures flow { result ≡ one.flow }
     ensures fits { result < 2 ^ 64 }

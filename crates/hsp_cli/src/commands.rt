@@ -19,6 +19,7 @@ use hsp_cli_orders::{InputFiles, Kind, Order, Word, read_command};
 use hsp_runs::{Locate, ReportKind};
 use std::alloc::Global;
 
+// Carries out `locate` by a hash option and a number of servers.
 fn locate_place(
     alloc: Global,
     option: &Word,
@@ -33,6 +34,7 @@ fn locate_place(
     locate_answer(alloc, &Locate::Place { option, servers }, handle.as_bytes())
 }
 
+// Carries out `locate` by the sites of settings.
 fn locate_sites<S: FileSource>(
     alloc: Global,
     files: &S,
@@ -51,6 +53,7 @@ fn locate_sites<S: FileSource>(
     )
 }
 
+// Carries out `site`.
 fn site<S: FileSource>(
     alloc: Global,
     files: &S,
@@ -66,6 +69,7 @@ fn site<S: FileSource>(
     }
 }
 
+// Carries out `plan`.
 fn plan<S: FileSource>(alloc: Global, files: &S, named: &InputFiles) -> Result<Answer, Failure>
     ensures { AnswersPlan (S.disk files.now) named.now result }
 {
@@ -73,6 +77,7 @@ fn plan<S: FileSource>(alloc: Global, files: &S, named: &InputFiles) -> Result<A
     plan_answer(alloc, &inputs)
 }
 
+// Carries out `check`.
 fn check<S: FileSource>(
     alloc: Global,
     files: &S,
@@ -97,6 +102,7 @@ fn told_kind(kind: Kind) -> ReportKind
     }
 }
 
+// Carries out `report`.
 fn report<S: FileSource>(
     alloc: Global,
     files: &S,

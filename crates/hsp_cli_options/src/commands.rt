@@ -9,6 +9,7 @@ use crate::tables::{Argument, COMMANDS, STREAM_COMMANDS, Subcommand};
 use clap::{Arg, Command};
 use std::alloc::{AllocError, Global};
 
+// The argument as `clap` takes it.
 fn arg_of<'a>(alloc: Global, argument: Argument<'a>) -> Arg<'a>
     ensures rule { rule_of result ≡ rule_told argument.entry }
     ensures local { result.global ≡ false }
@@ -47,6 +48,7 @@ fn command_of<'a>(alloc: Global, subcommand: Subcommand<'a>) -> Result<Command<'
     with_arguments(alloc, command, subcommand.others)
 }
 
+// The command with a further subcommand.
 fn with_subcommand<'a>(
     alloc: Global,
     command: Command<'a>,
@@ -58,6 +60,7 @@ fn with_subcommand<'a>(
     command.subcommand(command_of(alloc, subcommand)?)
 }
 
+// The command with further subcommands.
 fn with_subcommands<'a>(
     alloc: Global,
     mut command: Command<'a>,

@@ -54,12 +54,14 @@ pub enum Form<'a> {
     },
 }
 
+/// The word of a text.
 pub(crate) fn word_of(alloc: Global, text: &str) -> Result<Word, AllocError>
     ensures { IfOk result (λ word. word ≡ text.now) }
 {
     Ok(Word::new(String::from_str(alloc, text)?))
 }
 
+/// The word of a text, if there is one.
 pub(crate) fn word_if_any(alloc: Global, text: Option<&str>) -> Result<Option<Word>, AllocError>
     ensures { IfOk result (λ word. word ≡ option_map (λ t. t.now) text.entry) }
 {
@@ -69,6 +71,7 @@ pub(crate) fn word_if_any(alloc: Global, text: Option<&str>) -> Result<Option<Wo
     }
 }
 
+/// The names of the input files.
 pub(crate) fn files_of(alloc: Global, texts: &InputTexts<'_>) -> Result<InputFiles, AllocError>
     ensures { IfOk result (λ files. files ≡ files_in texts.now) }
 {

@@ -17,6 +17,7 @@ impl Model for Word {
 }
 
 impl Word {
+    /// The word that a text spells.
     pub(crate) fn new(text: String) -> Word
         ensures { result ≡ string_bytes text }
     {

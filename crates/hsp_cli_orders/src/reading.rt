@@ -28,6 +28,7 @@ pub(crate) fn text_of<'a>(matches: &ArgMatches<'a>, name: &str) -> Option<&'a st
     matches.get_str(name)
 }
 
+/// The names of the input files, or None where one is absent.
 pub(crate) fn inputs_of<'a>(matches: &ArgMatches<'a>) -> Option<InputTexts<'a>>
     ensures given { IfSome result
         (λ texts. HasInputs (rows_of (found_of matches.now)) (files_in texts)) }
@@ -104,6 +105,7 @@ fn locate_of<'a>(matches: &ArgMatches<'a>) -> Option<Form<'a>>
     place_of(matches)
 }
 
+// The form of `site`, or None where a word is absent.
 fn site_of<'a>(matches: &ArgMatches<'a>) -> Option<Form<'a>>
     ensures order { IfSome result (λ form.
         IsOrderIn (order_in form) (codes "site") (rows_of (found_of matches.now))) }
@@ -116,6 +118,7 @@ fn site_of<'a>(matches: &ArgMatches<'a>) -> Option<Form<'a>>
     })
 }
 
+// The form of `plan`, or None where a word is absent.
 fn plan_of<'a>(matches: &ArgMatches<'a>) -> Option<Form<'a>>
     ensures order { IfSome result (λ form.
         IsOrderIn (order_in form) (codes "plan") (rows_of (found_of matches.now))) }
@@ -127,6 +130,7 @@ fn plan_of<'a>(matches: &ArgMatches<'a>) -> Option<Form<'a>>
     })
 }
 
+// The form of `check`, or None where a word is absent.
 fn check_of<'a>(matches: &ArgMatches<'a>) -> Option<Form<'a>>
     ensures order { IfSome result (λ form.
         IsOrderIn (order_in form) (codes "check") (rows_of (found_of matches.now))) }
@@ -139,6 +143,7 @@ fn check_of<'a>(matches: &ArgMatches<'a>) -> Option<Form<'a>>
     })
 }
 
+// The form of `dispatch`, or None where a word is absent.
 fn dispatch_of<'a>(matches: &ArgMatches<'a>) -> Option<Form<'a>>
     ensures order { IfSome result (λ form.
         IsOrderIn (order_in form) (codes "dispatch") (rows_of (found_of matches.now))) }
@@ -166,6 +171,7 @@ fn kind_of(word: &str) -> Option<Kind>
     }
 }
 
+// The form of `report`, or None where a word is absent.
 fn report_of<'a>(matches: &ArgMatches<'a>) -> Option<Form<'a>>
     ensures order { IfSome result (λ form.
         IsOrderIn (order_in form) (codes "report") (rows_of (found_of matches.now))) }

@@ -77,6 +77,7 @@ fn places_order(
     })
 }
 
+// The words of a front.
 fn front_of(alloc: Global, texts: &FrontTexts<'_>) -> Result<FrontWords, AllocError>
     ensures { IfOk result (λ front. front ≡ front_in texts.now) }
 {
@@ -86,6 +87,7 @@ fn front_of(alloc: Global, texts: &FrontTexts<'_>) -> Result<FrontWords, AllocEr
     })
 }
 
+// The words of a front, if there are any.
 fn front_if_any(
     alloc: Global,
     texts: &Option<FrontTexts<'_>>,

@@ -107,6 +107,7 @@ pub(crate) fn push_table_fault(out: &mut Vec<u8>, fault: &TableFault) -> Result<
     }
 }
 
+// The name of a table in the text of a fault.
 fn table_name(table: Table) -> &'static [u8]
     ensures { result.now ≡ table_name table }
 {

@@ -8,6 +8,7 @@ use crate::fault_words::push_with;
 use hsp_check::{Reason, Verdict};
 use std::alloc::{AllocError, Global};
 
+// The number of a reason, in the order in which reasons are looked for.
 fn reason_number(reason: Reason) -> u64
     ensures { result ≡ number reason }
 {

@@ -36,6 +36,7 @@ fn is_text(octets: &[u8]) -> bool
     }
 }
 
+// The place of the first slash.
 fn first_slash(octets: &[u8]) -> Option<usize>
     ensures { result ≡ position is_slash octets.now }
 {

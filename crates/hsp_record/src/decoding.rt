@@ -47,6 +47,7 @@ fn check_end(len: usize, rest: &[u8]) -> Result<(), RecordFault>
     }
 }
 
+// Reads a site, behind which nothing may follow.
 fn site_answer(alloc: Global, octets: &[u8]) -> Result<SiteRecord, RecordFault>
     ensures { GivesUnless RecordFault.OutOfMemory (λ x. x) result
         (answer_of octets.now (site_at octets.now)) }
@@ -74,6 +75,7 @@ pub fn decode_site(alloc: Global, octets: &[u8]) -> Result<SiteRecord, RecordFau
     site_answer(alloc, octets)
 }
 
+// Reads a list of values, behind which nothing may follow.
 fn values_answer(alloc: Global, octets: &[u8]) -> Result<ValueList<'_>, RecordFault>
     ensures { GivesUnless RecordFault.OutOfMemory (λ x. x) result
         (answer_of octets.now (value_list_at octets.now)) }
@@ -102,6 +104,7 @@ pub fn decode_values(alloc: Global, octets: &[u8]) -> Result<ValueList<'_>, Reco
     values_answer(alloc, octets)
 }
 
+// Reads a request, behind which nothing may follow.
 fn request_answer(octets: &[u8]) -> Result<Request<'_>, RecordFault>
     ensures { result ≡ handle_of (answer_of octets.now (request_at octets.now)) }
 {

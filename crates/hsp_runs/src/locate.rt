@@ -30,6 +30,7 @@ pub enum Locate {
     },
 }
 
+// The hash option that a word names.
 fn option_at(text: &[u8]) -> Result<HashOption, Fault>
     ensures { Gives (λ option. option) result (option_at text.now) }
 {
@@ -45,6 +46,7 @@ fn option_at(text: &[u8]) -> Result<HashOption, Fault>
     Err(Fault::BadOption)
 }
 
+// The number of servers that a text spells.
 fn servers_at(text: &[u8]) -> Result<u32, Fault>
     ensures given { Gives (λ servers. servers) result (servers_at text.now) }
     ensures some { IfOk result (λ servers. 1 ≤ servers) }
@@ -52,6 +54,7 @@ fn servers_at(text: &[u8]) -> Result<u32, Fault>
     count_at(text, MOST_SERVERS as u32, Fault::BadServers)
 }
 
+// The handle that octets spell.
 fn handle_at(octets: &[u8]) -> Result<HandleRef<'_>, Fault>
     ensures { Gives (λ handle. octets_of handle) result (handle_at octets.now) }
 {

@@ -15,6 +15,7 @@ use std::alloc::{AllocError, Global};
 // The greatest index of a value.
 const MOST_INDEX: u64 = 4_294_967_295;
 
+// The lines of the numbers at the front of a record.
 fn push_numbers(out: &mut Vec<u8>, site: &SiteRecord) -> Result<(), AllocError>
     ensures { OnOk result (out.new.items ≡ out.old.items ++ numbers_text site.now) }
 {
@@ -26,6 +27,7 @@ fn push_numbers(out: &mut Vec<u8>, site: &SiteRecord) -> Result<(), AllocError>
     push_line(out, b"option", &[u64::from(site.option_octet())])
 }
 
+// A line of a word and a count.
 fn push_counted(out: &mut Vec<u8>, word: &[u8], count: usize) -> Result<(), AllocError>
     ensures { OnOk result (out.new.items ≡ out.old.items ++ numbered word.now (count ∷ [])) }
 {
@@ -39,6 +41,7 @@ fn push_filter(out: &mut Vec<u8>, filter: &[u8]) -> Result<(), AllocError>
     push_counted(out, b"filter", filter.len())
 }
 
+// The line of the filter, and how many attributes and servers there are.
 fn push_counts(out: &mut Vec<u8>, site: &SiteRecord) -> Result<(), AllocError>
     ensures { OnOk result (out.new.items ≡ out.old.items ++ counts_text site.now) }
 {

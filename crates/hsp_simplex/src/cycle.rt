@@ -71,6 +71,7 @@ struct Climb {
 }
 
 impl Climb {
+    // A climb that begins at a node.
     #[inline(always)]
     fn from(tree: &Tree, node: usize, bottleneck: u64) -> Climb {
         Climb {

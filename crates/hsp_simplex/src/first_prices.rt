@@ -8,7 +8,7 @@
 
 use crate::graph::{Graph, ROOT};
 use crate::lists::{get_or, increase, set};
-use crate::star::{Arc, ForwardStar};
+use crate::star::{ForwardStar, StarArc};
 use crate::tree::INFINITE_COST;
 use std::alloc::{AllocError, Global};
 
@@ -37,6 +37,7 @@ struct Step {
 }
 
 impl Step {
+    // The step of a round: what a full load adds to a price, and what each round takes off.
     fn new(rise: u64) -> Step {
         Step {
             rise,
@@ -94,14 +95,14 @@ impl FirstPrices {
 
     /// What a unit on the arc costs with the prices where it leads, scaled.
     #[inline(always)]
-    pub(crate) fn cost_with_price(&self, arc: Arc) -> u64 {
+    pub(crate) fn cost_with_price(&self, arc: StarArc) -> u64 {
         let cost = u64::from(arc.cost).wrapping_mul(self.scale);
         get_or(&self.totals, arc.head as usize, 0).wrapping_add(cost)
     }
 
     /// What a unit costs by the cheapest of the arcs.
     #[inline(always)]
-    pub(crate) fn least_cost(&self, arcs: &[Arc]) -> u64 {
+    pub(crate) fn least_cost(&self, arcs: &[StarArc]) -> u64 {
         let mut least = INFINITE_COST;
         for arc in arcs {
             least = least.min(self.cost_with_price(*arc));
@@ -109,6 +110,7 @@ impl FirstPrices {
         least
     }
 
+    // What each unit adds to the price of its server or host, by their capacities, times 65,536.
     fn set_unit_rises(&mut self, graph: &Graph, step: Step) {
         let rise = step.rise.wrapping_mul(65_536);
         for node in graph.transshipment_nodes() {
@@ -133,8 +135,9 @@ impl FirstPrices {
         }
     }
 
+    // The server of the arc with the least cost and price together.
     #[inline(always)]
-    fn cheapest_server(&self, arcs: &[Arc]) -> usize {
+    fn cheapest_server(&self, arcs: &[StarArc]) -> usize {
         let mut least = INFINITE_COST;
         let mut server = 0u32;
         for arc in arcs {
@@ -145,6 +148,7 @@ impl FirstPrices {
         server as usize
     }
 
+    // Loads a server and its host with a demand, and raises the price of the server.
     #[inline(always)]
     fn take(&mut self, graph: &Graph, server: usize, demand: u64, step: Step) {
         let rise = self.rise_for(server, demand, step);
@@ -153,6 +157,7 @@ impl FirstPrices {
         increase(&mut self.loads, graph.outlet_head(server), demand);
     }
 
+    // What units add to a price, at most the rise of the step.
     #[inline(always)]
     fn rise_for(&self, node: usize, units: u64, step: Step) -> u64 {
         let unit_rise = get_or(&self.unit_rises, node, 0);
@@ -172,6 +177,7 @@ impl FirstPrices {
         set(&mut self.totals, ROOT, 0);
     }
 
+    // Lowers the prices of all servers, and adds those of their hosts anew.
     fn lower_servers(&mut self, graph: &Graph, step: Step) {
         for server in graph.servers() {
             let price = get_or(&self.prices, server, 0).saturating_sub(step.fall);

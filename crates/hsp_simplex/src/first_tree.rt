@@ -20,11 +20,13 @@ struct Room {
 }
 
 impl Room {
+    // The capacity that is left at a node.
     #[inline(always)]
     fn at(&self, node: usize) -> u64 {
         get_or(&self.left, node, 0)
     }
 
+    // Whether a server and its host both have capacity left.
     #[inline(always)]
     fn is_open(&self, graph: &Graph, server: usize) -> bool {
         let host = graph.outlet_head(server);
@@ -98,6 +100,7 @@ impl Tree {
         Ok(tree)
     }
 
+    // Hangs each server below its host or the root, and each host below the root, without a flow.
     fn attach_outlets(&mut self, graph: &Graph) {
         for node in graph.transshipment_nodes() {
             let link = Node::leaf(graph, graph.outlet_head(node), graph.outlet_of(node), 0);

@@ -8,7 +8,7 @@
 // tail.
 
 use crate::lists::{ABSENT, get_or, increase, number_of};
-use crate::star::{Arc, ForwardStar};
+use crate::star::{ForwardStar, StarArc};
 use hsp_network::Network;
 use std::alloc::{AllocError, Global};
 use std::ops::Range;
@@ -33,6 +33,7 @@ pub struct Graph {
 }
 
 impl Graph {
+    /// The number of nodes, the root among them.
     #[inline(always)]
     pub(crate) fn node_count(&self) -> usize {
         self.transit_count().saturating_add(self.source_count)
@@ -44,26 +45,31 @@ impl Graph {
         self.transshipment_count.saturating_add(1)
     }
 
+    /// The nodes of hosts, which follow the root.
     #[inline(always)]
     pub(crate) fn hosts(&self) -> Range<usize> {
         1..self.host_count.saturating_add(1)
     }
 
+    /// The nodes of servers, which follow those of hosts.
     #[inline(always)]
     pub(crate) fn servers(&self) -> Range<usize> {
         self.host_count.saturating_add(1)..self.transit_count()
     }
 
+    /// The nodes of hosts and servers.
     #[inline(always)]
     pub(crate) fn transshipment_nodes(&self) -> Range<usize> {
         1..self.transit_count()
     }
 
+    /// Whether the node is that of a source; these come last.
     #[inline(always)]
     pub(crate) fn is_source(&self, node: usize) -> bool {
         node > self.transshipment_count
     }
 
+    /// The node of a source.
     #[inline(always)]
     pub(crate) fn source_node(&self, source: usize) -> usize {
         self.transshipment_count
@@ -87,6 +93,7 @@ impl Graph {
         number_of(self.star.arcs.len().wrapping_add(node))
     }
 
+    /// Whether the arc leads from a server or a host towards the root.
     #[inline(always)]
     pub(crate) fn is_outlet(&self, arc: u32) -> bool {
         arc != ABSENT && arc as usize >= self.star.arcs.len()
@@ -98,11 +105,13 @@ impl Graph {
         (outlet as usize).wrapping_sub(self.star.arcs.len())
     }
 
+    /// Where the outlet of a node leads: to its host, or to the root, the node 0.
     #[inline(always)]
     pub(crate) fn outlet_head(&self, node: usize) -> usize {
         get_or(&self.outlet_heads, node, 0) as usize
     }
 
+    /// The capacity of the outlet of a node.
     #[inline(always)]
     pub(crate) fn outlet_capacity(&self, node: usize) -> u64 {
         get_or(&self.outlet_capacities, node, 0)
@@ -134,6 +143,7 @@ impl Graph {
     }
 }
 
+// All arcs of the network, in forward star order.
 fn star_of(alloc: Global, network: &Network<'_>) -> Result<ForwardStar, AllocError> {
     Ok(ForwardStar {
         arcs: source_arcs(alloc, network)?,
@@ -142,7 +152,8 @@ fn star_of(alloc: Global, network: &Network<'_>) -> Result<ForwardStar, AllocErr
     })
 }
 
-fn source_arcs(alloc: Global, network: &Network<'_>) -> Result<Vec<Arc>, AllocError> {
+// The arcs, each with its cost and the node of its server.
+fn source_arcs(alloc: Global, network: &Network<'_>) -> Result<Vec<StarArc>, AllocError> {
     let mut arcs = Vec::with_capacity(alloc, network.servers.len())?;
     let first_server = number_of(network.limits.len()).wrapping_add(1);
     for arc in 0..network.servers.len() {
@@ -153,11 +164,12 @@ fn source_arcs(alloc: Global, network: &Network<'_>) -> Result<Vec<Arc>, AllocEr
         } else {
             ABSENT
         };
-        arcs.push(Arc { cost, head })?;
+        arcs.push(StarArc { cost, head })?;
     }
     Ok(arcs)
 }
 
+// How many arcs each source has, one place behind its number.
 fn arc_counts(alloc: Global, network: &Network<'_>) -> Result<Vec<u64>, AllocError> {
     let mut counts = vec![in alloc; 0; network.demands.len().saturating_add(1)]?;
     for source in network.sources {
@@ -166,6 +178,7 @@ fn arc_counts(alloc: Global, network: &Network<'_>) -> Result<Vec<u64>, AllocErr
     Ok(counts)
 }
 
+// The place of the first arc of each source, and how many arcs there are.
 fn first_arcs(alloc: Global, network: &Network<'_>) -> Result<Vec<u32>, AllocError> {
     let mut first_arcs = Vec::new(alloc);
     let mut sum = 0u64;
@@ -176,6 +189,7 @@ fn first_arcs(alloc: Global, network: &Network<'_>) -> Result<Vec<u32>, AllocErr
     Ok(first_arcs)
 }
 
+// Where the outlet of each node leads.
 fn outlet_heads(alloc: Global, network: &Network<'_>) -> Result<Vec<u32>, AllocError> {
     let mut heads = vec![in alloc; 0; network.limits.len().saturating_add(1)]?;
     for host in network.hosts {

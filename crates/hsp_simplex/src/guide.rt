@@ -23,6 +23,7 @@ pub struct Guide {
 }
 
 impl Guide {
+    /// First prices from a few rounds over all arcs, then over the cheapest of each source.
     pub(crate) fn new(alloc: Global, graph: &Graph) -> Result<Guide, AllocError> {
         let mut prices = FirstPrices::zero(alloc, graph)?;
         let first_rise = prices.first_rise(graph);

@@ -7,6 +7,7 @@
 /// The number that no node and no arc has.
 pub const ABSENT: u32 = u32::MAX;
 
+/// The item at a place, or the fallback where there is none.
 #[inline(always)]
 pub fn get_or<T: Copy>(list: &[T], place: usize, fallback: T) -> T {
     match list.get(place) {
@@ -15,6 +16,7 @@ pub fn get_or<T: Copy>(list: &[T], place: usize, fallback: T) -> T {
     }
 }
 
+/// Puts an item at a place, where there is one.
 #[inline(always)]
 pub fn set<T: Drop>(list: &mut [T], place: usize, item: T) {
     if place < list.len() {

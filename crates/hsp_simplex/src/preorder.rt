@@ -31,12 +31,14 @@ impl ChildLists {
         Ok(children)
     }
 
+    // Adds a child in front of the other children of its parent.
     fn add(&mut self, child: usize, parent: usize) {
         let sibling = get_or(&self.first, parent, ABSENT);
         set(&mut self.next, child, sibling);
         set(&mut self.first, parent, number_of(child));
     }
 
+    // Appends the children of a node to a stack.
     fn push_children(&self, stack: &mut Vec<u32>, node: usize) -> Result<(), AllocError> {
         let mut child = get_or(&self.first, node, ABSENT);
         for _ in 0..self.next.len() {
@@ -114,6 +116,7 @@ impl Tree {
         }
     }
 
+    // Adds to the number of nodes in the subtree of a node.
     fn add_to_weight(&mut self, node: usize, weight: u32) {
         if node < self.nodes.len() {
             self.nodes[node].weight = self.nodes[node].weight.wrapping_add(weight);

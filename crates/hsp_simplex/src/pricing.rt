@@ -8,7 +8,7 @@
 use crate::cycle::Entering;
 use crate::graph::Graph;
 use crate::lists::get_or;
-use crate::star::{Arc, ForwardStar};
+use crate::star::{ForwardStar, StarArc};
 use crate::tree::{INFINITE_COST, OutletState, Tree};
 use std::ops::Range;
 
@@ -28,6 +28,7 @@ struct Schedule {
 }
 
 impl Schedule {
+    // How many sources are priced between two batches of outlets, and how large a batch is.
     fn of(graph: &Graph) -> Schedule {
         let sources = graph.source_count;
         let outlets = graph.transshipment_count;
@@ -98,6 +99,7 @@ impl Tree {
         self.effort.pivots.wrapping_sub(before)
     }
 
+    // Lets the best arc of a source enter, where it violates optimality by more than the threshold.
     #[inline(always)]
     fn price_source(&mut self, graph: &Graph, star: &ForwardStar, source: usize, threshold: u64) {
         let tail = graph.source_node(source);
@@ -118,13 +120,13 @@ impl Tree {
 
     // What a unit costs by an arc.
     #[inline(always)]
-    fn potential_by(&self, arc: Arc) -> u64 {
+    fn potential_by(&self, arc: StarArc) -> u64 {
         get_or(&self.potentials, arc.head as usize, INFINITE_COST).wrapping_add(u64::from(arc.cost))
     }
 
     // What a unit costs by the cheapest of the arcs.
     #[inline(always)]
-    fn least_potential(&self, arcs: &[Arc]) -> u64 {
+    fn least_potential(&self, arcs: &[StarArc]) -> u64 {
         let mut least = INFINITE_COST;
         for arc in arcs {
             least = least.min(self.potential_by(*arc));
@@ -144,6 +146,7 @@ impl Tree {
         place
     }
 
+    // Lets each outlet of the nodes enter that violates optimality by more than the threshold.
     fn price_outlets(&mut self, graph: &Graph, nodes: Range<usize>, threshold: u64) {
         for node in nodes {
             if node <= graph.transshipment_count {
@@ -166,6 +169,7 @@ impl Tree {
         }
     }
 
+    // Lets an outlet enter: backwards where its flow is at its capacity.
     fn enter_outlet(&mut self, graph: &Graph, node: usize, violation: u64) {
         let above = graph.outlet_head(node);
         let is_full = self.outlet(node) == OutletState::AtUpper;

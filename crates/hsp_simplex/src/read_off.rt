@@ -82,6 +82,7 @@ fn total_prices(alloc: Global, graph: &Graph, prices: &[u64]) -> Result<Vec<u64>
     Ok(totals)
 }
 
+// The least cost and price together of the arcs of a source.
 fn least_cost(graph: &Graph, totals: &[u64], source: usize) -> Option<u64> {
     graph
         .star

@@ -66,6 +66,7 @@ pub fn short_set(
     Ok(reached.sources)
 }
 
+// What flows into each server.
 fn server_loads(alloc: Global, graph: &Graph, flows: &[u64]) -> Result<Vec<u64>, AllocError> {
     let mut loads = vec![in alloc; 0; graph.transit_count()]?;
     for (arc, flow) in graph.star.arcs.iter().zip(flows) {
@@ -76,6 +77,7 @@ fn server_loads(alloc: Global, graph: &Graph, flows: &[u64]) -> Result<Vec<u64>,
 
 // Each of these returns whether it reached anything new.
 impl Reached {
+    // Marks the sources within reach and their servers. Whether any is new.
     fn spread_sources(&mut self, graph: &Graph, flows: &[u64]) -> bool {
         let mut any = false;
         for source in 0..graph.source_count {
@@ -99,6 +101,7 @@ impl Reached {
         within
     }
 
+    // Marks a source and the servers of its arcs. Whether any is new.
     fn reach_servers(&mut self, graph: &Graph, source: usize) -> bool {
         let mut any = mark(&mut self.sources, source);
         for arc in graph.star.arcs_of(source) {

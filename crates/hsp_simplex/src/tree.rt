@@ -112,6 +112,7 @@ impl Tree {
         })
     }
 
+    /// What the tree holds of a node.
     #[inline(always)]
     pub(crate) fn node(&self, node: usize) -> Node {
         let missing = Node {
@@ -125,11 +126,13 @@ impl Tree {
         get_or(&self.nodes, node, missing)
     }
 
+    /// The state of the outlet of a node.
     #[inline(always)]
     pub(crate) fn outlet(&self, node: usize) -> OutletState {
         get_or(&self.outlets, node, OutletState::Basic)
     }
 
+    /// The potential of a node.
     #[inline(always)]
     pub(crate) fn potential(&self, node: usize) -> u64 {
         get_or(&self.potentials, node, ROOT_POTENTIAL)

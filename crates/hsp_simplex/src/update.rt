@@ -28,7 +28,7 @@ pub struct Exchange {
 
 /// Where a subtree is set down in the preorder, and whether it is the first below its new parent.
 #[derive(Clone, Copy, Drop)]
-struct Site {
+struct Landing {
     place: usize,
     leads: bool,
 }
@@ -37,19 +37,19 @@ impl Tree {
     /// Cuts the subtree off that hangs by the leaving arc, and attaches it by the entering one.
     pub(crate) fn move_subtree(&mut self, graph: &Graph, exchange: &Exchange) {
         let cut = self.part_of(graph, exchange.top);
-        let site = self.site_of(graph, exchange, cut);
+        let landing = self.landing_of(graph, exchange, cut);
         self.pass_lead(graph, exchange.top, cut);
         self.move_weight(exchange);
         self.reverse_stem(graph, exchange);
-        if site.leads && graph.is_source(exchange.outer) {
+        if landing.leads && graph.is_source(exchange.outer) {
             self.set_lead(exchange.outer, number_of(exchange.inner));
         }
         self.change_potentials(cut, exchange.change);
-        self.set_down(cut, site.place);
+        self.set_down(cut, landing.place);
     }
 
     // Where to set the subtree down: at the nearer end of its new parent's part, or beside a leaf among its siblings.
-    fn site_of(&self, graph: &Graph, exchange: &Exchange, cut: Part) -> Site {
+    fn landing_of(&self, graph: &Graph, exchange: &Exchange, cut: Part) -> Landing {
         let outer = self.node(exchange.outer);
         let top = self.node(exchange.top);
         let is_leaf = outer.weight == 1;
@@ -66,7 +66,7 @@ impl Tree {
         };
         let is_low = distance(low, cut) < distance(part.end, cut);
         let only_top = top.parent as usize == exchange.outer && outer.weight / 2 == top.weight / 2;
-        Site {
+        Landing {
             place: if is_low { low } else { part.end },
             leads: is_low || is_leaf || only_top,
         }
@@ -81,6 +81,7 @@ impl Tree {
         }
     }
 
+    // Sets which node of a source stands first below it.
     fn set_lead(&mut self, source: usize, lead: u32) {
         if source < self.nodes.len() {
             self.nodes[source].lead = lead;
@@ -171,6 +172,7 @@ impl Tree {
         }
     }
 
+    // Copies a part of the preorder to the gathered nodes, and returns how many these then are.
     fn copy(&mut self, count: usize, part: Part) -> usize {
         let mut count = count;
         for node in between(&self.preorder, part.start, part.end) {

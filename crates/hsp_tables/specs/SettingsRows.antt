@@ -3,7 +3,7 @@ use Rattle.hsp_tables.specs.Settings.{HostEntry, SiteEntry, SiteSource, index, o
 use Rattle.hsp_tables.specs.declared.hosts.Host.{Host}
 use Rattle.hsp_tables.specs.declared.sites.OwnedSource.{OwnedSource}
 use Rattle.hsp_tables.specs.declared.sites.OwnedSource.TheVariants as owned
-use Rattle.hsp_tables.specs.declared.sites.Site.{Site}
+use Rattle.hsp_tables.specs.declared.sites.SettingsSite.{SettingsSite}
 use Rattle.hsp_tables.specs.declared.sites.Source.{Source}
 use Rattle.hsp_tables.specs.declared.sites.Source.TheVariants as lent
 
@@ -11,7 +11,7 @@ abbrev pub source_entry : OwnedSource → SiteSource
 source_entry (owned.Octets bytes) = octets bytes.items
 source_entry (owned.Index i) = index i
 
-abbrev pub site_entry : Site → SiteEntry
+abbrev pub site_entry : SettingsSite → SiteEntry
 site_entry site = record { name = site.name.items; source = source_entry site.source }
 
 abbrev pub host_entry : Host → HostEntry

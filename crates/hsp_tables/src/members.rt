@@ -37,18 +37,21 @@ pub(crate) fn member<'a>(table: &'a Table, key: &str) -> Option<&'a Value>
     table.get(key)
 }
 
+// Whether the settings may have this member.
 fn is_root_key(key: &str) -> bool
     ensures { result ≡ is_root_key key.now }
 {
     key == "site" || key == "host"
 }
 
+// Whether a site may have this member.
 fn is_site_key(key: &str) -> bool
     ensures { result ≡ is_site_key key.now }
 {
     key == "name" || key == "record" || key == "index"
 }
 
+// Whether a host may have this member.
 fn is_host_key(key: &str) -> bool
     ensures { result ≡ is_host_key key.now }
 {

@@ -11,7 +11,7 @@ ghost use Rattle.hsp_tables.specs.SettingsRows.{host_entry, site_entry, source_s
 use crate::fault::TableFault;
 use crate::hosts::{Host, hosts_in};
 use crate::members::{document_in, has_root_keys, member};
-use crate::sites::{OwnedSource, Site, Source, sites_in};
+use crate::sites::{OwnedSource, SettingsSite, Source, sites_in};
 use std::alloc::Global;
 use std::marker::Model;
 use toml::{Table, Value};
@@ -21,7 +21,7 @@ use toml::{Table, Value};
 /// There are at most 32 sites and 1,024 hosts.
 #[derive(Drop)]
 pub struct Settings {
-    sites: Vec<Site>,
+    sites: Vec<SettingsSite>,
     hosts: Vec<Host>,
 }
 
@@ -95,7 +95,7 @@ impl Settings {
 }
 
 // The sites of the array `site`, if there is one.
-fn listed_sites(alloc: Global, table: &Table) -> Result<Vec<Site>, TableFault>
+fn listed_sites(alloc: Global, table: &Table) -> Result<Vec<SettingsSite>, TableFault>
     ensures { GivesUnless OutOfMemory (λ v. map site_entry v.items) result (
         listed (BadSite 0) site_after (get_member (codes "site") (table_view table.now))) }
 {

@@ -36,7 +36,7 @@ pub(crate) enum OwnedSource {
 
 // A site of the settings.
 #[derive(Debug, Drop)]
-pub(crate) struct Site {
+pub(crate) struct SettingsSite {
     pub(crate) name: Vec<u8>,
     pub(crate) source: OwnedSource,
 }
@@ -98,7 +98,7 @@ fn site_source(
 }
 
 // The site that a table spells.
-fn site_in(alloc: Global, number: u32, table: &Table) -> Result<Site, TableFault>
+fn site_in(alloc: Global, number: u32, table: &Table) -> Result<SettingsSite, TableFault>
     ensures { GivesUnless OutOfMemory site_entry result (site_in number (table_view table.now)) }
 {
     if !has_site_keys(table) {
@@ -107,14 +107,14 @@ fn site_in(alloc: Global, number: u32, table: &Table) -> Result<Site, TableFault
     let name = site_name(number, member(table, "name"))?;
     let octets = member(table, "record");
     let source = site_source(alloc, number, octets, member(table, "index"))?;
-    Ok(Site {
+    Ok(SettingsSite {
         name: Vec::from_slice(alloc, name)?,
         source,
     })
 }
 
 // Whether an earlier site has the name of a site.
-fn has_name(sites: &[Site], new: &Site) -> bool
+fn has_name(sites: &[SettingsSite], new: &SettingsSite) -> bool
     ensures { result ≡ list_any (same_name (site_entry new.now)) (map site_entry sites.now) }
 {
     for site in sites {
@@ -126,7 +126,7 @@ fn has_name(sites: &[Site], new: &Site) -> bool
 }
 
 // Adds the site of a further element.
-fn add_site(alloc: Global, sites: &mut Vec<Site>, value: &Value) -> Result<(), TableFault>
+fn add_site(alloc: Global, sites: &mut Vec<SettingsSite>, value: &Value) -> Result<(), TableFault>
     ensures ok { OnOk result (
         with_row site_after (map site_entry sites.old.items) (view value.now)
         ≡ Ok (map site_entry sites.new.items)) }
@@ -149,7 +149,7 @@ fn add_site(alloc: Global, sites: &mut Vec<Site>, value: &Value) -> Result<(), T
 }
 
 // The sites of the elements of an array.
-pub(crate) fn sites_in(alloc: Global, values: &[Value]) -> Result<Vec<Site>, TableFault>
+pub(crate) fn sites_in(alloc: Global, values: &[Value]) -> Result<Vec<SettingsSite>, TableFault>
     ensures { GivesUnless OutOfMemory (λ v. map site_entry v.items) result (
         rows_after site_after [] (elements_in (items_view values.now))) }
 {
