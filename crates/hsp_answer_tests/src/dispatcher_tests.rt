@@ -1,7 +1,7 @@
+use crate::same::is_same;
 use crate::worked::{held_dispatcher, held_instance};
 use hsp_dispatch::*;
 use hsp_names::HandleRef;
-use hsp_test_support::is_same;
 use std::process::Abort;
 
 // The last row's queries go to the first site and then to the second, as the plan sends them.

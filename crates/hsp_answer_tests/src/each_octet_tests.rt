@@ -1,11 +1,11 @@
 // Logs whose reader and whose writer fails behind each octet in turn, and gives or takes one octet a call.
 
 use crate::fakes::{FakeReader, FakeWriter};
+use crate::same::is_same;
 use crate::worked::{dispatcher, fronts, held_certificate, held_instance, left_at_two, left_of};
 use hsp_cert::Certificate;
 use hsp_dispatch::*;
 use hsp_instance::Instance;
-use hsp_test_support::is_same;
 use std::alloc::Global;
 use std::process::Abort;
 

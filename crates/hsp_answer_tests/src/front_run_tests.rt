@@ -1,8 +1,8 @@
 use crate::fakes::{ALL, FakeReader, FakeWriter, Limits, Lines, ONE_BY_ONE, Rows};
+use crate::same::is_same;
 use crate::worked::{best_fronts, held_fronts, held_instance, instance, left_at_two};
 use hsp_dispatch::*;
 use hsp_instance::Instance;
-use hsp_test_support::is_same;
 use std::alloc::Global;
 use std::process::Abort;
 

@@ -1,9 +1,9 @@
+use crate::same::is_same;
 use crate::worked::{
     held_certificate_of, held_fronts, held_fronts_by, held_instance, held_instance_of, left_at_two,
 };
 use hsp_dispatch::*;
 use hsp_names::HandleRef;
-use hsp_test_support::is_same;
 use std::alloc::Global;
 use std::process::Abort;
 

@@ -18,4 +18,6 @@ mod report_tests;
 #[cfg(test)]
 mod run_tests;
 #[cfg(test)]
+mod same;
+#[cfg(test)]
 mod worked;

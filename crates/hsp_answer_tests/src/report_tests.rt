@@ -5,11 +5,11 @@ ghost use Rattle.hsp_check.specs.Valid.{IsValid};
 ghost use Rattle.hsp_report.specs.Conditions.{IsPlanFor, IsShortageFor};
 
 use crate::building::instance_by;
+use crate::same::is_same;
 use hsp_cert::{Certificate, UseLine};
 use hsp_check::{Verdict, check};
 use hsp_instance::Instance;
 use hsp_report::*;
-use hsp_test_support::is_same;
 use hsp_test_support::service::{BASE, HOST, ONE_SERVER, Texts};
 use hsp_text::push_whole;
 use std::alloc::{AllocError, Global};

@@ -1,8 +1,8 @@
 use crate::fakes::{ALL, FakeReader, FakeWriter, Limits, Lines, ONE_BY_ONE, Rows};
+use crate::same::is_same;
 use crate::worked::{best_dispatcher, held_dispatcher, held_instance, instance, left_of};
 use hsp_dispatch::*;
 use hsp_instance::Instance;
-use hsp_test_support::is_same;
 use std::alloc::Global;
 use std::process::Abort;
 

@@ -1,5 +1,5 @@
+use crate::same::{is_same, is_same_of};
 use hsp_cert::*;
-use hsp_test_support::{is_same, is_same_of};
 use hsp_text::push_line;
 use std::alloc::{AllocError, Global};
 use std::process::Abort;

@@ -1,8 +1,8 @@
 ghost use Rattle.hsp_csv.specs.Records.{IsReading};
 
+use crate::same::is_same;
 use csv::{ByteRecord, Reader};
 use hsp_csv::*;
-use hsp_test_support::is_same;
 use std::alloc::{AllocError, Global};
 use std::io;
 use std::io::{ErrorKind, Read};

@@ -1,6 +1,6 @@
+use crate::same::is_same;
 use hsp_hash::*;
 use hsp_names::HandleRef;
-use hsp_test_support::is_same;
 use std::process::Abort;
 
 fn place(option: HashOption, handle: &[u8], servers: u32) -> Option<u32> {

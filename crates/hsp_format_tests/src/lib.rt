@@ -13,6 +13,8 @@ mod names_tests;
 #[cfg(test)]
 mod record_tests;
 #[cfg(test)]
+mod same;
+#[cfg(test)]
 mod tables_tests;
 #[cfg(test)]
 mod text_tests;

@@ -1,5 +1,5 @@
+use crate::same::is_same;
 use hsp_names::*;
-use hsp_test_support::is_same;
 use std::process::Abort;
 
 fn fault_of(octets: &[u8]) -> Option<HandleFault> {

@@ -1,7 +1,7 @@
 // The worked cases, and the readers of a record that has something in every field.
 
+use crate::same::{is_same, is_same_of};
 use hsp_record::*;
-use hsp_test_support::{is_same, is_same_of};
 use std::alloc::{AllocError, Global};
 use std::fmt::Debug;
 use std::process::Abort;

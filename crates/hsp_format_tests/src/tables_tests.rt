@@ -1,7 +1,7 @@
+use crate::same::{is_same, is_same_of};
 use hsp_names::HandleFault;
 use hsp_tables::*;
 use hsp_test_support::service::{CAPACITY, COSTS, DEMAND, SETTINGS};
-use hsp_test_support::{is_same, is_same_of};
 use hsp_text::push_whole;
 use std::alloc::{AllocError, Global};
 use std::process::Abort;

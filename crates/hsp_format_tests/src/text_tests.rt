@@ -1,4 +1,4 @@
-use hsp_test_support::is_same;
+use crate::same::is_same;
 use hsp_text::*;
 use std::alloc::{AllocError, Global};
 use std::io;

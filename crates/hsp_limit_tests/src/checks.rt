@@ -1,9 +1,9 @@
 // Certificates judged.
 use crate::inputs::{Numbers, Set, TWO, instance_of, judged, plan, shortage};
+use crate::same::is_same;
 use hsp_cert::Certificate;
 use hsp_check::{PlanSums, Reason, Verdict, check, plan_sums, reached_servers};
 use hsp_instance::Instance;
-use hsp_test_support::is_same;
 use hsp_test_support::service::{BASE, HOST, ONE_SERVER, Texts};
 use std::alloc::Global;
 use std::process::Abort;

@@ -1,5 +1,6 @@
 // Inputs, the instances and certificates that they make, and verdicts. Where a growth is refused, the second call finds
 // memory: so the tests insist on what they make.
+use crate::same::is_same;
 use hsp_cert::{Certificate, UseLine};
 use hsp_check::{Verdict, check};
 use hsp_instance::{BuildFault, Instance, build};
@@ -7,7 +8,6 @@ use hsp_tables::{
     Capacities, Costs, Demand, Settings, TableFault, read_capacity, read_costs, read_demand,
     read_settings,
 };
-use hsp_test_support::is_same;
 use hsp_test_support::service::Texts;
 use std::alloc::{AllocError, Global};
 use std::process::Abort;

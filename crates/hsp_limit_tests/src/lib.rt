@@ -9,3 +9,5 @@ mod inputs;
 mod limits;
 #[cfg(test)]
 mod plans;
+#[cfg(test)]
+mod same;

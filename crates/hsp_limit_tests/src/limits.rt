@@ -2,10 +2,10 @@
 use crate::checks::{reached_twice, summed_twice};
 use crate::inputs::instance_of;
 use crate::plans::{is_solved, plans_over, solved};
+use crate::same::is_same;
 use hsp_cert::Certificate;
 use hsp_check::PlanSums;
 use hsp_flow::HeapFrontier;
-use hsp_test_support::is_same;
 use hsp_test_support::service::Texts;
 use hsp_text::push_whole;
 use std::alloc::{AllocError, Global};

@@ -3,11 +3,11 @@
 ghost use Rattle.std.specs.Prelude.{ℕ, ⊤, None, slice_index_or, vec_len};
 
 use crate::inputs::{MOST, Set, TWO_SITES_OF_ONE, instance_of, judged};
+use crate::same::is_same;
 use hsp_cert::{Certificate, UseLine};
 use hsp_check::Verdict;
 use hsp_flow::{Effort, Frontier, HeapFrontier, ScanFrontier, solve, solve_counted, solve_with};
 use hsp_instance::Instance;
-use hsp_test_support::is_same;
 use hsp_test_support::service::{BASE, HOST, ONE_SERVER, Texts};
 use std::alloc::{AllocError, Global};
 use std::process::Abort;

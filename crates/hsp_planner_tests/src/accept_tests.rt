@@ -1,7 +1,7 @@
 // What the test accepts and what it refuses, on networks that are small enough to be solved by hand.
 
+use crate::same::is_same;
 use hsp_network::*;
-use hsp_test_support::is_same;
 use std::alloc::{AllocError, Global};
 use std::process::Abort;
 

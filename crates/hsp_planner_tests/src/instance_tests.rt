@@ -1,5 +1,6 @@
 ghost use Rattle.hsp_instance.specs.Groups.{AreGroups};
 
+use crate::same::{is_same, is_same_of};
 use hsp_hash::HashOption;
 use hsp_instance::*;
 use hsp_record::{RecordFault, ValueList, decode_values};
@@ -8,7 +9,6 @@ use hsp_tables::{
     read_settings,
 };
 use hsp_test_support::service::{CAPACITY, COSTS, DEMAND, HOST, SETTINGS};
-use hsp_test_support::{is_same, is_same_of};
 use hsp_text::push_whole;
 use std::alloc::{AllocError, Global};
 use std::process::Abort;

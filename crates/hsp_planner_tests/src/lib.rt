@@ -9,3 +9,5 @@ mod instance_tests;
 mod mincost_tests;
 #[cfg(test)]
 mod propose_tests;
+#[cfg(test)]
+mod same;

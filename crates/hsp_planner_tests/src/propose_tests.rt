@@ -1,9 +1,9 @@
-// Proposals for networks that can be worked by hand. Want of memory is no answer: each call is made once more then, and
+// Proposals for networks that can be worked by hand. Running out of memory is no answer: each call is made once more then, and
 // has to succeed.
 
+use crate::same::is_same;
 use hsp_network::{Network, NetworkLists, Outcome, PricedFlow};
 use hsp_simplex::{SimplexEffort, propose, propose_counted};
-use hsp_test_support::is_same;
 use std::alloc::{AllocError, Global};
 use std::process::Abort;
 

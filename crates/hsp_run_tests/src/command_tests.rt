@@ -1,9 +1,9 @@
+use crate::same::is_same;
 use hsp_cli_orders::*;
-use hsp_test_support::is_same;
 use std::alloc::{AllocError, Global};
 use std::process::Abort;
 
-// The words of a line. Want of memory is met by a second call, here and below: where one growth is
+// The words of a line. Running out of memory is met by a second call, here and below: where one growth is
 // refused, it answers as with ample memory.
 fn words_of(rt: &impl Abort, alloc: Global, line: &[u8]) -> Option<Vec<String>> {
     match split_words(alloc, line) {

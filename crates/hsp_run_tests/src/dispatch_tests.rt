@@ -1,10 +1,10 @@
 use crate::held::joined;
 use crate::line_tests::{Broken, is_told};
 use crate::run_tests::{BASE, CHEAPER_PLAN, LACKING, PLAN, SHORTAGE, Texts, inputs_of};
+use crate::same::is_same;
 use hsp_check::Reason;
 use hsp_dispatch::{LogFault, LogSums};
 use hsp_runs::*;
-use hsp_test_support::is_same;
 use std::alloc::{AllocError, Global};
 use std::io::{self, Read, Write};
 use std::process::Abort;

@@ -1,10 +1,10 @@
 use crate::dispatch_tests::{Cut, Page, page_of};
 use crate::line_tests::{Broken, is_told};
 use crate::run_tests::{BASE, CHEAPER_PLAN, LACKING, PLAN, SHORTAGE, Texts, inputs_of};
+use crate::same::is_same;
 use hsp_check::Reason;
 use hsp_dispatch::{FrontSums, LogFault};
 use hsp_runs::*;
-use hsp_test_support::is_same;
 use std::alloc::Global;
 use std::io::Read;
 use std::process::Abort;

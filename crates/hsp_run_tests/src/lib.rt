@@ -17,3 +17,5 @@ mod line_tests;
 mod report_tests;
 #[cfg(test)]
 mod run_tests;
+#[cfg(test)]
+mod same;

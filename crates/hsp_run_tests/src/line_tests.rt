@@ -1,4 +1,5 @@
 use crate::held::{copied, copied_if_any, joined};
+use crate::same::is_same;
 use hsp_cert::CertFault;
 use hsp_check::Reason;
 use hsp_dispatch::LogFault;
@@ -7,7 +8,6 @@ use hsp_names::HandleFault;
 use hsp_record::RecordFault;
 use hsp_runs::*;
 use hsp_tables::TableFault;
-use hsp_test_support::is_same;
 use hsp_test_support::service::SETTINGS;
 use std::alloc::{AllocError, Global};
 use std::io::{self, Read};

@@ -1,9 +1,9 @@
 use crate::run_tests::{BASE, CHEAPER_PLAN, LACKING, PLAN, SHORTAGE, Texts, UNASKED, inputs_of};
+use crate::same::is_same;
 use hsp_cert::CertFault;
 use hsp_check::Reason;
 use hsp_runs::*;
 use hsp_tables::TableFault;
-use hsp_test_support::is_same;
 use std::alloc::Global;
 use std::process::Abort;
 

@@ -1,5 +1,6 @@
 use crate::held::{copied, copied_if_any, joined};
 use crate::line_tests::{is_told, list_of};
+use crate::same::is_same;
 use hsp_cert::CertFault;
 use hsp_check::{Reason, Verdict};
 use hsp_instance::BuildFault;
@@ -7,7 +8,6 @@ use hsp_names::HandleFault;
 use hsp_record::RecordFault;
 use hsp_runs::*;
 use hsp_tables::TableFault;
-use hsp_test_support::is_same;
 use hsp_test_support::service::{CAPACITY, COSTS, DEMAND, SETTINGS};
 use hsp_text::push_whole;
 use std::alloc::{AllocError, Global};

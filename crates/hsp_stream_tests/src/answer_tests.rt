@@ -2,11 +2,11 @@
 //
 // For r1 the handles 10/7 and 10/1 are one kind, and 10/4 and 10/9 are one; for r2 10/4 and 10/2 are one.
 
+use crate::same::is_same;
 use crate::worked::{PLAN, inputs_of, owned_word};
 use hsp_faults::Fault;
 use hsp_stream::{PortionWords, RowFault, StreamFault, StreamSums, answer_run};
 use hsp_talk::Joined;
-use hsp_test_support::is_same;
 use std::alloc::{AllocError, Global};
 use std::process::Abort;
 

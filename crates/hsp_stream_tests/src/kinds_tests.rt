@@ -1,12 +1,12 @@
 // The run that joins the rows of a log to kinds, from the octets of its files and its log to the table.
 
+use crate::same::is_same;
 use crate::worked::{COSTS, owned};
 use hsp_faults::Fault;
 use hsp_instance::BuildFault;
 use hsp_names::HandleFault;
 use hsp_stream::{KindsInputs, RowFault, StreamFault, kinds_run};
 use hsp_tables::TableFault;
-use hsp_test_support::is_same;
 use hsp_test_support::service::SETTINGS;
 use std::alloc::{AllocError, Global};
 use std::process::Abort;

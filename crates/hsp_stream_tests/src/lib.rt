@@ -13,6 +13,8 @@ mod row_tests;
 #[cfg(test)]
 mod run_tests;
 #[cfg(test)]
+mod same;
+#[cfg(test)]
 mod tally_tests;
 #[cfg(test)]
 mod worked;

@@ -1,5 +1,6 @@
 // The lines of faults and sums, and the statuses.
 
+use crate::same::is_same;
 use hsp_check::Reason;
 use hsp_faults::Fault;
 use hsp_names::HandleFault;
@@ -7,7 +8,6 @@ use hsp_stream::{
     RowFault, StreamFault, StreamSums, stream_fault_line, stream_status, stream_sums_line,
 };
 use hsp_tables::TableFault;
-use hsp_test_support::is_same;
 use std::alloc::{AllocError, Global};
 use std::process::Abort;
 

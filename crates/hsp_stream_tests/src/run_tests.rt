@@ -1,11 +1,11 @@
 // The run that states places, from the octets of its files and logs to what it prints.
 
+use crate::same::is_same;
 use hsp_faults::Fault;
 use hsp_names::HandleFault;
 use hsp_stream::{RowFault, StreamFault, places_run};
 use hsp_tables::TableFault;
 use hsp_talk::Joined;
-use hsp_test_support::is_same;
 use hsp_test_support::service::SETTINGS;
 use std::alloc::Global;
 use std::process::Abort;

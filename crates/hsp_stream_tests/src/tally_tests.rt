@@ -1,12 +1,12 @@
 // Rows that were seen, kinds, and rows that are found by their kinds. Where memory ran out once, it is there again.
 
+use crate::same::is_same;
 use crate::worked::{COSTS, PLAN, inputs_of};
 use hsp_instance::{Instance, Sites};
 use hsp_names::HandleRef;
 use hsp_runs::{Accepted, accepted_in, costs_in, sites_in};
 use hsp_tables::Costs;
 use hsp_tally::{Kinds, RowFinder, SeenRows};
-use hsp_test_support::is_same;
 use hsp_test_support::service::SETTINGS;
 use std::alloc::{AllocError, Global};
 

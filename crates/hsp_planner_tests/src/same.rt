@@ -1,0 +1,20 @@
+// What was returned, compared with what was wanted. It stands in functions of its own, since a test that compares many
+// values in place is expensive to prove.
+
+use std::fmt::Debug;
+use std::process::Abort;
+
+/// Fails a test unless what was returned is what was wanted.
+pub fn is_same<T: PartialEq + Debug + Drop>(rt: &impl Abort, told: T, wanted: T) {
+    assert_eq!(rt; told, wanted);
+}
+
+/// Fails a test unless what was returned of a case is what was wanted.
+pub fn is_same_of<C: Debug, T: PartialEq + Debug + Drop>(
+    rt: &impl Abort,
+    case: &C,
+    told: T,
+    wanted: T,
+) {
+    assert_eq!(rt; told, wanted, "{case:?}");
+}
