@@ -22,12 +22,12 @@ pub returns-in-Some : goal.returns-in-Some
 returns-in-Some c =
     let n = network_of c.args.instance.now in
     let claim = c.args.certificate.now in
-    let network = c.in_ok-numbers in
-    let network = network_with network.field-0.numbers network.field-0.arcs.arc_flows.items in
+    let built = c.in_ok-numbers in
+    let network = network_with built.field-0.numbers built.field-0.arcs.arc_flows.items in
     let plan = is_best claim c.in-Some.plan c.in-Some.ensures.plan in
     let ranges : IsCertificate claim = subst (λ c. IsCertificate c) (sym plan) c.in-Some.ensures.ranges in
     let told : (v : Verdict) → IsVerdict network (best c.in-Some.plan) v → Says n claim v = λ v is.
-    says n claim v network.ensures.is ranges (subst (λ n. IsVerdict n claim v) network.ensures.network (subst (λ c. IsVerdict network c v) (sym plan) is)) in
+    says n claim v built.ensures.is ranges (subst (λ n. IsVerdict n claim v) built.ensures.network (subst (λ c. IsVerdict network c v) (sym plan) is)) in
     record {
       verdict = where_ok _ _ c.check_plan.result (λ v is. (told v is).verdict) c.check_plan.ensures;
       valid = where_ok _ _ c.check_plan.result (λ v is. (told v is).valid) c.check_plan.ensures;
@@ -41,12 +41,12 @@ pub returns : goal.returns
 returns c =
     let n = network_of c.args.instance.now in
     let claim = c.args.certificate.now in
-    let network = c.in_ok-numbers in
-    let network = (rw c.deref.ensures.value at c.with.ensures.network) ∙ network.ensures.network in
+    let built = c.in_ok-numbers in
+    let network = (rw c.deref.ensures.value at c.with.ensures.network) ∙ built.ensures.network in
     let set = is_short claim c.unwrap-set.result (sym c.unwrap-set.ensures ∙ c.as_short.ensures.set) in
     let ranges : IsCertificate claim = subst (λ c. IsCertificate c) (sym set) (rw c.unwrap-set.ensures at c.as_short.ensures.ranges) in
     let told : (v : Verdict) → IsVerdict (network_in c.with.result) (short c.unwrap-set.result) v → Says n claim v = λ v is.
-    says n claim v network.ensures.is ranges (subst (λ n. IsVerdict n claim v) network (subst (λ c'. IsVerdict (network_in c.with.result) c' v) (sym set) is)) in
+    says n claim v built.ensures.is ranges (subst (λ n. IsVerdict n claim v) network (subst (λ c'. IsVerdict (network_in c.with.result) c' v) (sym set) is)) in
     record {
       verdict = where_ok _ _ c.check_set.result (λ v is. (told v is).verdict) c.check_set.ensures;
       valid = where_ok _ _ c.check_set.result (λ v is. (told v is).valid) c.check_set.ensures;
