@@ -1,6 +1,5 @@
 -- What a map has at a key is the number of the row of the key.
-use Rattle.std.proofs.Common.{◌≡◌, ◌∙◌, ◌&&◌, ◌==◌, ℕ, Bool, true, false, List, [], ◌∷◌, Some, map, option_map, refl, sym, ap, if◌then◌else◌}
-use Rattle.std.proofs.lemmas.Bool.{false≢true}
+use Rattle.std.proofs.Common.{◌≡◌, ◌∙◌, ◌&&◌, ◌==◌, ℕ, Bool, List, [], ◌∷◌, map, option_map, refl, sym, arith}
 use Rattle.std.proofs.lemmas.Cmp.{nat_list_eq_equiv}
 use Rattle.std.proofs.lemmas.List.{length-map}
 use Rattle.std.specs.List.{find, position, position_or_len}
@@ -22,14 +21,7 @@ value_found : {K Row : Type 0} (test : K → Bool) (is : Row → Bool) (row_of :
     → ((e : K × ℕ) → test e.0 ≡ is (row_of e)) → ((e : K × ℕ) → number (row_of e) ≡ e.1)
     → (es : List (K × ℕ)) → lookup test es ≡ option_map number (find is (map row_of es))
 value_found test is row_of number tells has [] = refl
-value_found test is row_of number tells has (e ∷ es) = chosen (test e.0) (is (row_of e)) (tells e) (value_found test is row_of number tells has es)
-  where
-    chosen : (a b : Bool) → a ≡ b → lookup test es ≡ option_map number (find is (map row_of es))
-        → (if a then Some e.1 else lookup test es) ≡ option_map number (if b then Some (row_of e) else find is (map row_of es))
-    chosen true true same later = ap Some (sym (has e))
-    chosen true false same later = absurd (false≢true (sym same))
-    chosen false true same later = absurd (false≢true same)
-    chosen false false same later = later
+value_found test is row_of number tells has (e ∷ es) = grind (arith, tells e, has e, value_found test is row_of number tells has es)
 
 pub cost_found : (region site : List ℕ) (es : List (PairName × ℕ)) → lookup (λ (k : PairName). bytes_eq region k.first && bytes_eq site k.second) es
     ≡ option_map (λ (row : CostEntry). row.cost) (find (λ (row : CostEntry). bytes_eq row.region region && bytes_eq row.site site) (map cost_entry es))

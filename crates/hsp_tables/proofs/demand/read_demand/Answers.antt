@@ -5,4 +5,4 @@ use Rattle.hsp_tables.proofs.TableRows.{demand_is_read}
 use Rattle.hsp_tables.proofs.demand.read_demand.Goals as goal
 
 pub invariant_of-result : goal.invariant_of-result
-invariant_of-result c = rw c.in_ok-rows-2.ensures.ok (demand_is_read (records_of c.args.text.now) (map demand_entry c.in_ok-rows.rows.entries) c.in_ok-rows.ensures)
+invariant_of-result c = rw c.in_ok-rows-2.ensures.ok ((demand_is_read (records_of c.args.text.now) (map demand_entry c.in_ok-rows.rows.entries)).0 c.in_ok-rows.ensures).1
