@@ -5,12 +5,12 @@ use Rattle.std.specs.List.{AllByRecursion, slice_get}
 use Rattle.hsp_hash.specs.Place.{server_place}
 use Rattle.hsp_tables.specs.Costs.{CostEntry}
 use Rattle.hsp_text.specs.Answers.{◌>>=◌}
-use Rattle.hsp_instance.specs.Building.{AreSitesOf, Inputs, arc_to, arcs_from, capacity_fault, cost_fault, cost_of, host_of_entry, instance_with, row_of, servers_from, unless}
+use Rattle.hsp_instance.specs.Building.{AreSitesOf, Inputs, arc_to, arcs_from, capacity_fault, cost_fault, cost_of, IsBuilt, host_of_entry, row_of, servers_from, unless}
 use Rattle.hsp_instance.specs.Instance.{Host, Instance, Row, Server, Site, servers_of}
 use Rattle.hsp_instance.specs.Parts.{BuiltHasItsParts, HasPartsOf, IsAmong, IsArcOf, responsible_at}
 use Rattle.hsp_instance.specs.declared.fault.BuildFault.{BuildFault}
 use Rattle.hsp_instance.proofs.Lists.{all_append, back_at}
-use Rattle.hsp_instance.proofs.ServerLists.{are_from, both_gave, from_at, from_count}
+use Rattle.hsp_instance.proofs.ServerLists.{are_from, from_at, from_count}
 use Rattle.hsp_instance.proofs.SiteSums.{servers_of-taken}
 
 module _ (table : List CostEntry) (whole : List Site) (row : Row) where
@@ -76,17 +76,29 @@ parts_are inputs sites servers are built =
       );
     }
 
-pub built_has_its_parts : BuiltHasItsParts
-built_has_its_parts inputs it built = by built.0 built.1 built.2
+-- what is built, by its steps
+pub record BuiltOf (inputs : Inputs) (it : Instance) : Type 0 where
+  pub sites : AreSitesOf inputs.settings inputs.values (Ok it.sites)
+  pub costs : cost_fault it.sites 0 inputs.costs ≡ None
+  pub capacities : capacity_fault it.sites 0 inputs.capacities ≡ None
+  pub rows : it.rows ≡ map row_of inputs.demand
+  pub hosts : it.hosts ≡ map host_of_entry inputs.settings.hosts
+  pub servers : servers_from inputs.capacities it.hosts 0 [] it.sites ≡ Ok it.servers
+  pub arcs : it.arcs ≡ map (λ row. arcs_from inputs.costs row 0 0 it.sites) it.rows
+
+pub built_of : (inputs : Inputs) (it : Instance) → IsBuilt inputs (Ok it) → BuiltOf inputs it
+built_of inputs it (Err fault, are, e) = cc (e)
+built_of inputs it (Ok sites, are, e) =
+    let (servers, costs, capacities, made, same) =
+    in_steps (cost_fault sites 0 inputs.costs) (capacity_fault sites 0 inputs.capacities) (servers_from inputs.capacities (map host_of_entry inputs.settings.hosts) 0 [] sites) (sym e) in
+    rw (← same) (record { sites = are; costs = costs; capacities = capacities; rows = refl; hosts = refl; servers = made; arcs = refl })
   where
-    by : (sites : Result (List Site) BuildFault) → AreSitesOf inputs.settings inputs.values sites → Ok it ≡ (sites >>= instance_with inputs) → HasPartsOf inputs it
-    by (Err fault) are e = cc (e)
-    by (Ok sites) are e =
-        let with_servers : List Server → Result Instance BuildFault = λ servers. Ok (parts inputs sites servers) in
-        let made = servers_from inputs.capacities (map host_of_entry inputs.settings.hosts) 0 [] sites in
-        let checked = unless (capacity_fault sites 0 inputs.capacities) in
-        let costs = both_gave (unless (cost_fault sites 0 inputs.costs)) (λ _. checked >>= λ _. made >>= with_servers) it (sym e) in
-        let capacities = both_gave checked (λ _. made >>= with_servers) it costs.2 in
-        let servers = both_gave made with_servers it capacities.2 in
-        let same : parts inputs sites servers.0 ≡ it = cc (servers.2) in
-        rw (← same) (parts_are inputs sites servers.0 are servers.1)
+    in_steps : (a b : Option BuildFault) (r : Result (List Server) BuildFault) → (unless a >>= λ _. unless b >>= λ _. r >>= λ servers. Ok (parts inputs sites servers)) ≡ Ok it
+        → (servers : List Server) × (a ≡ None) × (b ≡ None) × (r ≡ Ok servers) × (parts inputs sites servers ≡ it)
+    in_steps a b r e = grind arith
+
+pub built_has_its_parts : BuiltHasItsParts
+built_has_its_parts inputs it built =
+    let of = built_of inputs it built in
+    let same : parts inputs it.sites it.servers ≡ it = rw (← of.rows, ← of.hosts, ← of.arcs) refl in
+    rw same at (parts_are inputs it.sites it.servers of.sites (rw of.hosts at of.servers))

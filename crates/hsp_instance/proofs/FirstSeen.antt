@@ -1,8 +1,7 @@
 -- Rows in groups: the kinds of the first rows, each once in first-seen order, and the number of each row's kind.
-use Rattle.std.proofs.Common.{◌≡◌, ◌∙◌, ◌⊎◌, inl, inr, ◌≤◌, ◌<◌, ◌+◌, ◌==◌, ◌&&◌, ℕ, zero, suc, Bool, true, false, cond, List, [], ◌∷◌, ◌++◌, Option, Some, None, get_or, length, option_map, refl, ap, sym, arith, add-zero, length-append}
-use Rattle.std.proofs.lemmas.Bool.{cases_lt, eqb-true}
-use Rattle.std.proofs.lemmas.Bool.Decides.{Decides-eqb}
-use Rattle.std.proofs.lemmas.Map.Keys.{IsDistinct-head, IsDistinct-tail}
+use Rattle.std.proofs.Common.{◌≡◌, ◌∙◌, ◌⊎◌, inl, inr, ◌≤◌, ◌<◌, ◌+◌, ℕ, Bool, true, false, cond, List, [], ◌∷◌, ◌++◌, Some, get_or, length, option_map, refl, ap, sym, arith, add-zero, length-append}
+use Rattle.std.proofs.lemmas.Bool.{cases_lt}
+use Rattle.std.proofs.lemmas.Bool.Decides.{nat_tests}
 use Rattle.std.proofs.lemmas.Option.{slice_get-get_or, slice_get_within}
 use Rattle.std.proofs.lemmas.Slice.Eq.{slice_eq-Decides}
 use Rattle.std.specs.Bool.{Decides}
@@ -17,20 +16,16 @@ use Rattle.hsp_instance.specs.contracts.arc.ArcPartialEq.TheImpl.{eq-value as Ar
 use Rattle.hsp_instance.specs.contracts.grouping.KindPartialEq.TheImpl.{eq-value as Kinds}
 use Rattle.hsp_instance.specs.declared.arc.Arc.{Arc}
 use Rattle.hsp_instance.specs.declared.grouping.Kind.{Kind}
-use Rattle.hsp_instance.proofs.Lists.{all_at, all_from, back_at, front_at, pushed_at}
+use Rattle.hsp_instance.proofs.Lists.{all_from, back_at, front_at, one_place, pushed_at}
 
 -- `==` of arcs and of kinds
 same_as_itself : (a : Arc) → Arcs.it a a ≡ true
-same_as_itself a = rw ((Decides-eqb a.site a.site).1 refl, (Decides-eqb a.server a.server).1 refl, (Decides-eqb a.cost a.cost).1 refl) refl
+same_as_itself a = grind (arith, nat_tests)
 
 same_parts : (a b : Arc) → Arcs.it a b ≡ true → a ≡ b
 same_parts a b e =
-    let site = both (a.site == b.site) ((a.server == b.server) && (a.cost == b.cost)) e in
-    let more = both (a.server == b.server) (a.cost == b.cost) site.1 in
-    let s = eqb-true a.site b.site site.0 in
-    let t = eqb-true a.server b.server more.0 in
-    let u = eqb-true a.cost b.cost more.1 in
-    λ i. record { site = s i; server = t i; cost = u i }
+    let parts : (a.site ≡ b.site) × (a.server ≡ b.server) × (a.cost ≡ b.cost) = grind (arith, nat_tests) in
+    λ i. record { site = parts.0 i; server = parts.1 i; cost = parts.2 i }
 
 same_arcs : (a b : Arc) → Decides (Arcs.it a b) (a ≡ b)
 same_arcs a b = (same_parts a b, λ (e : a ≡ b). rw e (same_as_itself b))
@@ -49,20 +44,7 @@ kinds_same a b region arcs = rw ((bytes_decides a.region.now b.region.now).1 reg
 
 -- kinds that are equal stand at one place of a list that has each once
 same_place : (kinds : List Kind) (i j : ℕ) (a b : Kind) → IsDistinct Kinds.it kinds → slice_get kinds i ≡ Some a → slice_get kinds j ≡ Some b → Kinds.it a b ≡ true → i ≡ j
-same_place [] i j a b unique at there e = let none : ◌≡◌ {A = Option Kind} None (Some a) = at in cc
-same_place (kind ∷ kinds) zero zero a b unique at there e = refl
-same_place (kind ∷ kinds) zero (suc j) a b unique at there e =
-    let other : Kinds.it kind b ≡ false = all_at (λ (y : Kind). Kinds.it kind y ≡ false) kinds j b (IsDistinct-head Kinds.it kind kinds unique) there in
-    let same : kind ≡ a = cc (at) in
-    let both_ways : Kinds.it kind b ≡ true = rw same e in
-    cc
-same_place (kind ∷ kinds) (suc i) zero a b unique at there e =
-    let other : Kinds.it kind a ≡ false = all_at (λ (y : Kind). Kinds.it kind y ≡ false) kinds i a (IsDistinct-head Kinds.it kind kinds unique) at in
-    let same : kind ≡ b = cc (there) in
-    let is = same_kinds a b e in
-    let both_ways : Kinds.it kind a ≡ true = rw same (kinds_same b a (sym is.0) (sym is.1)) in
-    cc
-same_place (kind ∷ kinds) (suc i) (suc j) a b unique at there e = ap suc (same_place kinds i j a b (IsDistinct-tail Kinds.it kind kinds unique) at there e)
+same_place = one_place Kinds.it (λ a b e. let is = same_kinds a b e in kinds_same b a (sym is.0) (sym is.1))
 
 -- a row of an instance is of the kind
 pub record IsOf (it : Instance) (row : ℕ) (kind : Kind) : Type 0 where

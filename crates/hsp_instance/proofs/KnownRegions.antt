@@ -1,5 +1,6 @@
 -- The costs of regions in the map that holds those that were sought.
-use Rattle.std.proofs.Common.{◌≡◌, ◌∙◌, ◌<◌, ◌+◌, ℕ, zero, suc, not, Bool, true, false, cond, List, [], ◌∷◌, Option, Some, None, Vec, Global, option_map, refl, ap, sym, length, arith}
+use Rattle.std.proofs.Common.{◌≡◌, ◌∙◌, ◌<◌, ◌+◌, ℕ, zero, suc, not, Bool, true, false, cond, List, [], ◌∷◌, Option, Some, Vec, Global, option_map, refl, ap, sym, length, arith}
+use Rattle.std.proofs.lemmas.Bool.{cond_both}
 use Rattle.std.proofs.lemmas.Option.{slice_get-map}
 use Rattle.std.specs.Cmp.Lexicographic.{bytes_decides}
 use Rattle.std.specs.List.{AllByRecursion, position_or_len, slice_get}
@@ -21,13 +22,8 @@ module _ (table : List CostEntry) (sites : List Site) (name : List ℕ) where
 
   -- what the map has at a name are its costs
   pub costs_found : (es : List KnownRegion) (costs : Vec (Option ℕ) Global) → AllByRecursion (HasCosts table sites) es → lookup (is_name name) es ≡ Some costs → costs.items ≡ costs_at table name sites
-  costs_found [] costs all at = let none : ◌≡◌ {A = Option (Vec (Option ℕ) Global)} None (Some costs) = at in cc
-  costs_found (e ∷ es) costs all at = chosen (is_name name e.0) refl at (λ later. costs_found es costs all.1 later)
-    where
-      chosen : (is : Bool) → is_name name e.0 ≡ is → cond is (Some e.1) (lookup (is_name name) es) ≡ Some costs
-          → (lookup (is_name name) es ≡ Some costs → costs.items ≡ costs_at table name sites) → costs.items ≡ costs_at table name sites
-      chosen true is same later = let here : e.1 ≡ costs = cc same in ap (λ (v : Vec (Option ℕ) Global). v.items) (sym here) ∙ costs_here e all.0 is
-      chosen false is there later = later there
+  costs_found [] costs all at = grind arith
+  costs_found (e ∷ es) costs all at = grind (arith, costs_here e all.0, costs_found es costs all.1)
 
   -- they stand at its place
   pub costs_known : (es : List KnownRegion) (i : ℕ) → AllByRecursion (HasCosts table sites) es → i < length es → slice_get (values_of es) i ≡ lookup (is_name name) es
@@ -43,12 +39,9 @@ module _ (table : List CostEntry) (sites : List Site) (key : Vec ℕ Global) (co
   pub costs_added : (es : List KnownRegion) → costs.items ≡ costs_at table key.items sites → AllByRecursion (HasCosts table sites) es
       → AllByRecursion (HasCosts table sites) (insert_entry (λ a b. bytes_eq a.items b.items) es key costs)
   costs_added [] has all = (has, tt)
-  costs_added (e ∷ es) has all = chosen (bytes_eq key.items e.0.items) refl (costs_added es has all.1)
-    where
-      chosen : (is : Bool) → bytes_eq key.items e.0.items ≡ is → AllByRecursion (HasCosts table sites) (insert_entry (λ a b. bytes_eq a.items b.items) es key costs)
-          → AllByRecursion (HasCosts table sites) (cond is ((e.0, costs) ∷ es) (e ∷ insert_entry (λ a b. bytes_eq a.items b.items) es key costs))
-      chosen true is more = (has ∙ ap (λ region. costs_at table region sites) ((bytes_decides key.items e.0.items).0 is), all.1)
-      chosen false is more = (all.0, more)
+  costs_added (e ∷ es) has all =
+      cond_both (bytes_eq key.items e.0.items) ((e.0, costs) ∷ es) (e ∷ insert_entry (λ a b. bytes_eq a.items b.items) es key costs) (AllByRecursion (HasCosts table sites))
+      (λ is. (has ∙ ap (λ region. costs_at table region sites) ((bytes_decides key.items e.0.items).0 is), all.1)) (λ is. (all.0, costs_added es has all.1))
 
 -- they stand at the place of the region
 pub costs_placed : (key : Vec ℕ Global) (costs : Vec (Option ℕ) Global) (es : List KnownRegion)

@@ -1,51 +1,35 @@
 -- The servers of an instance: those of each site after those of the sites before it.
-use Rattle.std.proofs.Common.{◌≡◌, ◌∙◌, inl, inr, ◌≤◌, ◌<◌, ◌+◌, ℕ, zero, suc, Bool, true, false, cond, List, [], ◌∷◌, ◌++◌, Option, Some, None, Result, Ok, Err, length, refl, ap, sym, subst, arith, append_assoc, add-zero, zero-add, length-append}
+use Rattle.std.proofs.Common.{◌≡◌, ◌∙◌, inl, inr, ◌≤◌, ◌+◌, ℕ, zero, suc, List, [], ◌∷◌, ◌++◌, Option, Some, None, Ok, length, refl, ap, sym, subst, arith, append_assoc, add-zero, zero-add, length-append}
 use Rattle.std.proofs.Math.Seq.{append_snoc}
+use Rattle.std.proofs.lemmas.Bool.{cond_both}
 use Rattle.std.proofs.lemmas.List.{append-nil}
 use Rattle.std.specs.List.{AllByRecursion, position_from, slice_get}
 use Rattle.std.specs.Str.{bytes_eq}
 use Rattle.hsp_tables.specs.Capacities.{CapacityEntry, IsCapacityEntry}
-use Rattle.hsp_text.specs.Answers.{◌>>=◌, or_fault}
 use Rattle.hsp_text.specs.declared.limits.TheConstants.{GREATEST_CAPACITY}
 use Rattle.hsp_instance.specs.Building.{capacity_of, is_at, is_capacity_of, server_at, servers_at, servers_from}
 use Rattle.hsp_instance.specs.Instance.{Host, IsHostOf, IsServer, Server, Site, SiteServer, number_at, servers_of}
 use Rattle.hsp_instance.specs.Parts.{IsServerOf}
-use Rattle.hsp_instance.specs.declared.fault.BuildFault.{BuildFault}
-use Rattle.hsp_instance.specs.declared.fault.BuildFault.TheVariants.{NoCapacity}
+use Rattle.hsp_tables.proofs.TurnLaws.{first_step}
 use Rattle.hsp_instance.proofs.Lists.{all_append, append_at, back_at, found_within, front_at}
-
--- two steps that gave an answer each gave one
-pub both_gave : {A B : Type 0} (r : Result A BuildFault) (f : A → Result B BuildFault) (y : B) → (r >>= f) ≡ Ok y → (x : A) × (r ≡ Ok x) × (f x ≡ Ok y)
-both_gave (Ok x) f y e = (x, refl, e)
-both_gave (Err fault) f y e = cc (e)
 
 -- a capacity is within its limit
 capacity_within : (rows : List CapacityEntry) (name : List ℕ) (id c : ℕ) → AllByRecursion IsCapacityEntry rows → capacity_of rows name id ≡ Some c → c ≤ GREATEST_CAPACITY
 capacity_within rows name id c all e = found_within IsCapacityEntry GREATEST_CAPACITY (λ (row : CapacityEntry). row.capacity) (is_capacity_of name id) rows c (λ row is. is.capacity) all e
 
 -- the number of a host is one of theirs
-one_of : (hosts n : ℕ) (found : Bool) (more : Option ℕ) → n < hosts → IsHostOf hosts more → IsHostOf hosts (cond found (Some n) more)
-one_of hosts n true more less is = less
-one_of hosts n false more less is = is
-
 host_within : (n : ℕ) (hosts : List Host) (address : List ℕ) → IsHostOf (n + length hosts) (position_from (is_at address) n hosts)
 host_within n [] address = tt
 host_within n (host ∷ hosts) address =
     let e : n + 1 + length hosts ≡ n + suc (length hosts) = omega arith in
-    one_of (n + suc (length hosts)) n (bytes_eq host.address address) (position_from (is_at address) (n + 1) hosts) (omega arith) (rw e at (host_within (n + 1) hosts address))
+    cond_both (bytes_eq host.address address) (Some n) (position_from (is_at address) (n + 1) hosts) (IsHostOf (n + suc (length hosts))) (λ here. omega arith) (λ past. rw e at (host_within (n + 1) hosts address))
 
 module _ (rows : List CapacityEntry) (hosts : List Host) where
   made : (n : ℕ) (name : List ℕ) (place : ℕ) (own : SiteServer) (server : Server) → server_at rows hosts n name place own ≡ Ok server → IsServerOf rows hosts n name place own server
-  made n name place own server e = by (capacity_of rows name own.id) refl e
-    where
-      by : (found : Option ℕ) → capacity_of rows name own.id ≡ found
-          → (or_fault (NoCapacity n own.id) found >>= λ capacity. Ok (record { site = n; place = place; id = own.id; capacity = capacity; host = position_from (is_at own.address) 0 hosts })) ≡ Ok server
-          → IsServerOf rows hosts n name place own server
-      by None is e = cc (e)
-      by (Some c) is e =
-          let it : Server = record { site = n; place = place; id = own.id; capacity = c; host = position_from (is_at own.address) 0 hosts } in
-          let same : it ≡ server = cc (e) in
-          rw (← same) (record { site = refl; place = refl; id = refl; capacity = is; host = refl })
+  made n name place own server e =
+      let parts : (server.site ≡ n) × (server.place ≡ place) × (server.id ≡ own.id) × (capacity_of rows name own.id ≡ Some server.capacity)
+      × (server.host ≡ position_from (is_at own.address) 0 hosts) = grind arith in
+      record { site = parts.0; place = parts.1; id = parts.2; capacity = parts.3; host = parts.4 }
 
   -- the servers of site `n` from a place on
   abbrev pub AreOwn : ℕ → List ℕ → ℕ → List SiteServer → List Server → Type 0
@@ -62,7 +46,7 @@ module _ (rows : List CapacityEntry) (hosts : List Host) where
       → (added : List Server) × (servers ≡ earlier ++ added) × AreOwn n name place owns added
   own_made n name place earlier [] servers e = let same : earlier ≡ servers = cc (e) in ([], sym same ∙ sym (append-nil earlier), refl)
   own_made n name place earlier (own ∷ more) servers e =
-      let first = both_gave (server_at rows hosts n name place own) (λ server. servers_at rows hosts n name (place + 1) (earlier ++ server ∷ []) more) servers e in
+      let first = first_step (server_at rows hosts n name place own) (λ server. servers_at rows hosts n name (place + 1) (earlier ++ server ∷ []) more) servers e in
       let rest = own_made n name (place + 1) (earlier ++ first.0 ∷ []) more servers first.2 in
       (first.0 ∷ rest.0, rest.1 ∙ append_snoc earlier first.0 rest.0, (made n name place own first.0 first.1, rest.2))
 
@@ -70,7 +54,7 @@ module _ (rows : List CapacityEntry) (hosts : List Host) where
       → (added : List Server) × (servers ≡ earlier ++ added) × AreFrom n sites added
   from_made n earlier [] servers e = let same : earlier ≡ servers = cc (e) in ([], sym same ∙ sym (append-nil earlier), refl)
   from_made n earlier (site ∷ more) servers e =
-      let first = both_gave (servers_at rows hosts n site.name 0 earlier site.servers) (λ servers. servers_from rows hosts (n + 1) servers more) servers e in
+      let first = first_step (servers_at rows hosts n site.name 0 earlier site.servers) (λ servers. servers_from rows hosts (n + 1) servers more) servers e in
       let own = own_made n site.name 0 earlier site.servers first.0 first.1 in
       let rest = from_made (n + 1) first.0 more servers first.2 in
       (own.0 ++ rest.0, rest.1 ∙ ap (λ front. front ++ rest.0) own.1 ∙ append_assoc earlier own.0 rest.0, (own.0, rest.0, refl, own.2, rest.2))

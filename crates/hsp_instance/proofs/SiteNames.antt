@@ -1,5 +1,5 @@
 -- Sites have the names of the settings' sites: names, and no two alike.
-use Rattle.std.proofs.Common.{◌≡◌, ℕ, true, false, List, [], ◌∷◌, ◌++◌, zero, suc, Option, Some, None, length, option_map, sym}
+use Rattle.std.proofs.Common.{◌≡◌, ℕ, true, false, List, [], ◌∷◌, ◌++◌, zero, suc, Option, Some, None, length, option_map, sym, arith}
 use Rattle.std.specs.List.{AllByRecursion, IsDistinct, slice_get}
 use Rattle.std.specs.Str.{bytes_eq}
 use Rattle.hsp_text.specs.Name.{is_name}
@@ -21,8 +21,8 @@ named_push (entry ∷ entries) (first ∷ sites) site are next = (are.0, named_p
 
 -- the next name is a name
 pub next_is_name : (entries : List SiteEntry) (i : ℕ) (name : List ℕ) → AllByRecursion IsSiteEntry entries → option_map (λ (e : SiteEntry). e.name) (slice_get entries i) ≡ Some name → is_name name ≡ true
-next_is_name [] i name each next = let none : ◌≡◌ {A = Option (List ℕ)} None (Some name) = next in cc
-next_is_name (entry ∷ entries) zero name each next = let same : entry.name ≡ name = cc (next) in rw same at each.0.name
+next_is_name [] i name each next = grind arith
+next_is_name (entry ∷ entries) zero name each next = grind (arith, each.0.name)
 next_is_name (entry ∷ entries) (suc i) name each next = next_is_name entries i name each.1 next
 
 -- a name that no entry has, no site of theirs has

@@ -1,5 +1,5 @@
 -- Sites and the number of their servers.
-use Rattle.std.proofs.Common.{◌≡◌, ◌≤◌, ◌<◌, ◌+◌, ℕ, zero, suc, List, [], ◌∷◌, ◌++◌, Option, Some, None, length, option_map, take, refl, ap, add-one, arith, length-append}
+use Rattle.std.proofs.Common.{◌≡◌, ◌≤◌, ◌<◌, ◌+◌, ℕ, zero, suc, List, [], ◌∷◌, ◌++◌, Option, Some, length, option_map, take, add-one, arith, length-append}
 use Rattle.std.specs.List.{IsDistinct, slice_get}
 use Rattle.hsp_text.specs.declared.limits.TheConstants.{MOST_SERVERS, MOST_SITES}
 use Rattle.hsp_instance.specs.Instance.{AreSites, HasServer, IsSite, Site, same_name, servers_of}
@@ -11,12 +11,9 @@ servers_of-push (first ∷ sites) site = let e = servers_of-push sites site in o
 
 -- a site has no more servers than all
 pub servers_within : (sites : List Site) (i : ℕ) (site : Site) → slice_get sites i ≡ Some site → length site.servers ≤ servers_of sites
-servers_within [] i site e = let none : ◌≡◌ {A = Option Site} None (Some site) = e in cc
-servers_within (first ∷ sites) zero site e =
-    let same : first ≡ site = cc (e) in
-    let long : length first.servers ≡ length site.servers = ap (λ (s : Site). length s.servers) same in
-    omega arith
-servers_within (first ∷ sites) (suc i) site e = let less = servers_within sites i site e in omega arith
+servers_within [] i site e = grind arith
+servers_within (first ∷ sites) zero site e = grind arith
+servers_within (first ∷ sites) (suc i) site e = grind (arith, servers_within sites i site e)
 
 -- no site is within the limits
 pub no_sites : AreSites []
@@ -35,12 +32,9 @@ sites_push sites site are room is has few apart = record {
 }
 
 taken_suc : (sites : List Site) (i : ℕ) (site : Site) → slice_get sites i ≡ Some site → servers_of (take (suc i) sites) ≡ servers_of (take i sites) + length site.servers
-taken_suc [] i site e = let none : ◌≡◌ {A = Option Site} None (Some site) = e in cc
-taken_suc (first ∷ sites) zero site e =
-    let same : first ≡ site = cc (e) in
-    let long : length first.servers ≡ length site.servers = ap (λ (s : Site). length s.servers) same in
-    omega arith
-taken_suc (first ∷ sites) (suc i) site e = let more = taken_suc sites i site e in omega arith
+taken_suc [] i site e = grind arith
+taken_suc (first ∷ sites) zero site e = grind arith
+taken_suc (first ∷ sites) (suc i) site e = grind (arith, taken_suc sites i site e)
 
 -- the servers of one more of the first sites
 pub servers_of-taken : (sites : List Site) (i : ℕ) (site : Site) → slice_get sites i ≡ Some site → servers_of (take (i + 1) sites) ≡ servers_of (take i sites) + length site.servers
@@ -55,8 +49,7 @@ servers_of-first (first ∷ sites) (suc i) = let less = servers_of-first sites i
 
 -- a site by the number of its servers
 pub site_with : (o : Option Site) (count : ℕ) → option_map (λ (s : Site). length s.servers) o ≡ Some count → (site : Site) × (o ≡ Some site) × (length site.servers ≡ count)
-site_with None count e = cc (e)
-site_with (Some site) count e = (site, refl, cc (e))
+site_with o count e = grind arith
 
 -- the servers of one more of the first sites, by the number of its own
 pub next_first : (sites : List Site) (i count : ℕ) → AreSites sites → option_map (λ (s : Site). length s.servers) (slice_get sites i) ≡ Some count

@@ -1,6 +1,7 @@
 -- Sites in turn: the next one, and the first fault.
-use Rattle.std.proofs.Common.{◌≡◌, inl, inr, ◌≤◌, ◌<◌, ◌+◌, ℕ, Bool, true, false, cond, List, [], ◌∷◌, ◌++◌, Option, Some, None, option_map, Result, Ok, Err, drop, length, map, nat_lt, nat_eq, refl, subst, sym, arith, ◌==◌}
-use Rattle.std.proofs.lemmas.Bool.{eqb-false, ltb-false}
+use Rattle.std.proofs.Common.{◌≡◌, inl, inr, ◌≤◌, ◌<◌, ◌+◌, ℕ, false, List, [], ◌∷◌, ◌++◌, Option, Some, None, option_map, Result, Ok, Err, drop, length, map, refl, subst, sym, arith, ◌==◌}
+use Rattle.std.proofs.lemmas.Bool.{or_parts}
+use Rattle.std.proofs.lemmas.Bool.Decides.{nat_tests}
 use Rattle.std.specs.List.{AllByRecursion, IsDistinct, slice_get}
 use Rattle.hsp_record.specs.Values.{HandleValue}
 use Rattle.hsp_record.specs.Site as records
@@ -14,19 +15,12 @@ use Rattle.hsp_instance.specs.Building.{AreSitesAfter, IsReading, IsSiteOf, chec
 use Rattle.hsp_instance.specs.Instance.{IsSiteServer, Site, SiteServer, same_id, servers_of}
 use Rattle.hsp_instance.specs.declared.fault.BuildFault.{BuildFault}
 use Rattle.hsp_instance.specs.declared.fault.BuildFault.TheVariants.{BadHashOption, OutOfMemory}
-use Rattle.hsp_instance.proofs.Lists.{all_map, drop_at, neither}
+use Rattle.hsp_instance.proofs.Lists.{all_map, drop_at}
 
 -- an entry by its name and its source
 entry_at : (entries : List SiteEntry) (i : ℕ) (name : List ℕ) (source : SiteSource) → option_map (λ (s : SiteEntry). s.name) (slice_get entries i) ≡ Some name → option_map (λ (s : SiteEntry). s.source) (slice_get entries i) ≡ Some source
     → slice_get entries i ≡ Some (record { name = name; source = source })
-entry_at entries i name source named sourced = of (slice_get entries i) named sourced
-  where
-    of : (o : Option SiteEntry) → option_map (λ (s : SiteEntry). s.name) o ≡ Some name → option_map (λ (s : SiteEntry). s.source) o ≡ Some source → o ≡ Some (record { name = name; source = source })
-    of None named sourced = cc (named)
-    of (Some entry) named sourced =
-        let n : entry.name ≡ name = cc (named) in
-        let s : entry.source ≡ source = cc (sourced) in
-        rw (← n, ← s) refl
+entry_at entries i name source named sourced = grind arith
 
 -- the sites of all entries are those of what is left after the sites so far
 abbrev pub GoesOn : Option (List HandleValue) → List SiteEntry → ℕ → List Site → Type 0
@@ -51,19 +45,15 @@ module _ (values : Option (List HandleValue)) (entries : List SiteEntry) (i befo
   fault_is_first fault (inl memory) = inl memory
   fault_is_first fault (inr is) = inr (so_far (Err fault) (rw left (Err fault, moved (Err fault) is, refl)))
 
-passed : {A : Type 0} (test : Bool) (fault : BuildFault) (r : Result A BuildFault) (y : A) → cond test (Err fault) r ≡ Ok y → (test ≡ false) × (r ≡ Ok y)
-passed true fault r y e = cc e
-passed false fault r y e = (refl, e)
-
 -- no identifier is told twice, so the servers have distinct ones
 others : (id : ℕ) (servers : List SiteServer) → has_id id servers ≡ false → AllByRecursion (λ (server : SiteServer). (server.id == id) ≡ false) servers
 others id [] e = tt
-others id (server ∷ servers) e = let split = neither (server.id == id) (has_id id servers) e in (split.0, others id servers split.1)
+others id (server ∷ servers) e = let split = or_parts (server.id == id) (has_id id servers) e in (split.0, others id servers split.1)
 
 once_each : (servers : List SiteServer) → has_id_twice servers ≡ false → IsDistinct same_id servers
 unfolding IsDistinct
 once_each [] e = tt
-once_each (server ∷ servers) e = let split = neither (has_id server.id servers) (has_id_twice servers) e in (others server.id servers split.0, once_each servers split.1)
+once_each (server ∷ servers) e = let split = or_parts (has_id server.id servers) (has_id_twice servers) e in (others server.id servers split.0, once_each servers split.1)
 
 -- a site that passed the checks: its name, its servers, and that they are not too many
 pub record IsChecked (before : ℕ) (name : List ℕ) (site : Site) : Type 0 where
@@ -75,14 +65,9 @@ pub record IsChecked (before : ℕ) (name : List ℕ) (site : Site) : Type 0 whe
 
 checked_is : (n before : ℕ) (given site : Site) → AllByRecursion IsSiteServer given.servers → checked_site n before given ≡ Ok site → IsChecked before given.name site
 checked_is n before given site servers e =
-    let some = passed (nat_eq (length given.servers) 0) _ _ site e in
-    let once = passed (has_id_twice given.servers) _ _ site some.1 in
-    let few = passed (nat_lt MOST_SERVERS (before + length given.servers)) _ _ site once.1 in
-    let is : given ≡ site = cc (few.1) in
-    let apart = eqb-false (length given.servers) 0 some.0 in
-    let within = ltb-false MOST_SERVERS (before + length given.servers) few.0 in
-    let checked : IsChecked before given.name given = record { named = refl; some = omega arith; few = within; servers = servers; apart = once_each given.servers once.0 } in
-    subst (λ (s : Site). IsChecked before given.name s) is checked
+    let tests : (given ≡ site) × (0 < length given.servers) × (has_id_twice given.servers ≡ false) × (before + length given.servers ≤ MOST_SERVERS) = grind (arith, nat_tests) in
+    let checked : IsChecked before given.name given = record { named = refl; some = tests.1; few = tests.3; servers = servers; apart = once_each given.servers tests.2 } in
+    subst (λ (s : Site). IsChecked before given.name s) tests.0 checked
 
 -- the same of the site that octets are
 pub site_is_checked : (n before : ℕ) (name : List ℕ) (from : Result (List ℕ) BuildFault) (site : Site) → IsSiteOf n before name from (Ok site) → IsChecked before name site

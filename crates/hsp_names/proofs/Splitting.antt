@@ -6,53 +6,32 @@ use Rattle.std.proofs.lemmas.List.{take_rest, take-append-drop}
 use Rattle.std.proofs.Math.Seq.{drop-cons}
 use Rattle.std.proofs.lemmas.List.Sums.{prefix_len_stops}
 use Rattle.std.proofs.lemmas.List.Splits.{slice_split_first, slice_split_at, length-slice_split, join_with_byte-slice_split}
-use Rattle.std.proofs.lemmas.Bool.{cases_Bool, cases_lt, eqb-true, lt-ltb, le-ltb, not_from_false, or_parts, or_from, and_parts, and_from, eq-eqb, ne_eqb, cases_eq, both_ways, not-true, not-false}
+use Rattle.std.proofs.lemmas.Bool.Decides.{nat_tests}
+use Rattle.std.proofs.lemmas.Bool.{cases_Bool, eqb-true, or_from, and_parts, not-false}
 use Rattle.std.proofs.lemmas.List.Folds.{list_any-append, list_any_at}
 use Rattle.std.specs.List as by_index
 use Rattle.hsp_names.specs.Handle.{is_slash, is_dot, has_slash, has_dot, IsSegment, IsNamingAuthority, has_segments, naming_authority, local_name}
 
 -- a place that `position` gives
 pub place_of : (p : ℕ → Bool) (xs : List ℕ) (i : ℕ) → Some i ≡ position p xs → (i < length xs) × (i ≡ position_or_len p xs)
-place_of p xs i e = elim (cases_lt (position_or_len p xs) (length xs)) [
-  | inl below ↦
-      let found : ◌≡◌ {A = Option ℕ} (Some i) (Some (position_or_len p xs)) = rw (lt-ltb (position_or_len p xs) (length xs) below) at e in
-      let same : i ≡ position_or_len p xs = cc in
-      (rw same below, same)
-  | inr above ↦
-      let none : ◌≡◌ {A = Option ℕ} (Some i) None = rw (le-ltb (position_or_len p xs) (length xs) above) at e in
-      absurd cc
-]
+place_of p xs i e = grind (arith, nat_tests)
 
 -- the first octet that passes is there where some octet passes
 first_within : (p : ℕ → Bool) (xs : List ℕ) → list_any p xs ≡ true → position_or_len p xs < length xs
 first_within p [] a = absurd cc
-first_within p (x ∷ xs) a = elim (cases_Bool (p x)) [
-  | inl passes ↦ rw passes (omega arith)
-  | inr fails ↦ rw fails (omega (arith, first_within p xs (rw fails at a)))
-]
-
-above_zero : (n : ℕ) → (n == 0) ≡ false → 0 < n
-above_zero n e = elim (cases_eq n 0) [ inl zero ↦ absurd (both_ways (n == 0) e (eq-eqb n 0 zero)) | inr above ↦ omega arith ]
+first_within p (x ∷ xs) a = grind (arith, first_within p xs)
 
 All-fails : (p : ℕ → Bool) (xs : List ℕ) → list_any p xs ≡ false → by_index.All (λ x. p x ≡ false) xs
-All-fails p xs e = λ k d l. elim (cases_Bool (p (get_or xs k d))) [
-  | inl passes ↦ absurd (both_ways (list_any p xs) e (list_any_at p xs k d l passes))
-  | inr fails ↦ fails
-]
+All-fails p xs e = λ k d l. grind (arith, list_any_at p xs k d l)
 
 -- where `position` gives none, none passes
 pub no_place : (p : ℕ → Bool) (xs : List ℕ) → ◌≡◌ {A = Option ℕ} None (position p xs) → list_any p xs ≡ false
-no_place p xs e = elim (cases_Bool (list_any p xs)) [
-  | inl some ↦
-      let found : ◌≡◌ {A = Option ℕ} None (Some (position_or_len p xs)) = rw (lt-ltb (position_or_len p xs) (length xs) (first_within p xs some)) at e in
-      absurd cc
-  | inr none ↦ none
-]
+no_place p xs e = grind (arith, nat_tests, first_within p xs)
 
 -- a text without a dot is one piece
 pub one_piece : (p : ℕ → Bool) (xs : List ℕ) → list_any p xs ≡ false → slice_split p xs ≡ xs ∷ []
 one_piece p [] a = refl
-one_piece p (x ∷ xs) a = let parts = or_parts (p x) (list_any p xs) a in rw (parts.0, one_piece p xs parts.1) refl
+one_piece p (x ∷ xs) a = grind (arith, one_piece p xs)
 
 -- the first piece ends at the first dot
 pub first_piece : (text : List ℕ) (i : ℕ) → Some i ≡ position is_dot text →
@@ -70,7 +49,7 @@ before_clean p (x ∷ xs) = elim (cases_Bool (p x)) [
   | inl passes ↦ rw passes refl
   | inr fails ↦
       let at : position_or_len p (x ∷ xs) ≡ suc (position_or_len p xs) = rw fails (omega arith) in
-      rw at (or_from (p x) (list_any p (before_first p xs)) fails (before_clean p xs))
+      rw at (grind (arith, before_clean p xs))
 ]
 
 -- the octet at the place of the first that passes
@@ -91,36 +70,21 @@ slash_parts h some =
 
 -- a slash that was found
 slash_found : (h : List ℕ) (i : ℕ) → Some i ≡ position is_slash h → (has_slash h ≡ true) × (take i h ≡ naming_authority h) × (i < length h) × (i ≡ position_or_len is_slash h)
-slash_found h i e =
-    let place = place_of is_slash h i e in
-    let within : position_or_len is_slash h < length h = rw (← place.1) place.0 in (
-      list_any_at is_slash h (position_or_len is_slash h) 0 within (passes_there is_slash h within),
-      ap (λ k. take k h) place.1,
-      place.0,
-      place.1,
-    )
+slash_found h i e = let place = place_of is_slash h i e in grind (arith, passes_there is_slash h, list_any_at is_slash h (position_or_len is_slash h) 0)
 
 onto_each : (q : ℕ → Bool) (x : ℕ) (ss : List (List ℕ)) → q x ≡ false → AllByRecursion (λ s. list_any q s ≡ false) ss → AllByRecursion (λ s. list_any q s ≡ false) (onto_first x ss)
 onto_each q x [] e h = (or_from (q x) false e refl, tt)
-onto_each q x (s ∷ ss) e h = (or_from (q x) (list_any q s) e h.0, h.1)
+onto_each q x (s ∷ ss) e h = (grind (arith, h.0), h.1)
 
 -- the pieces between dots have none
 piece_dotless : (p : ℕ → Bool) (xs : List ℕ) → AllByRecursion (λ s. list_any p s ≡ false) (slice_split p xs)
 piece_dotless p [] = (refl, tt)
-piece_dotless p (x ∷ xs) = elim (cases_Bool (p x)) [
-  | inl passes ↦ rw passes (refl, piece_dotless p xs)
-  | inr fails ↦ rw fails (onto_each p x (slice_split p xs) fails (piece_dotless p xs))
-]
+piece_dotless p (x ∷ xs) = grind (arith, onto_each p x (slice_split p xs), piece_dotless p xs)
 
 -- the pieces have only what the text has
 piece_of : (p q : ℕ → Bool) (xs : List ℕ) → list_any q xs ≡ false → AllByRecursion (λ s. list_any q s ≡ false) (slice_split p xs)
 piece_of p q [] a = (refl, tt)
-piece_of p q (x ∷ xs) a =
-    let parts = or_parts (q x) (list_any q xs) a in
-    elim (cases_Bool (p x)) [
-      | inl passes ↦ rw passes (refl, piece_of p q xs parts.1)
-      | inr fails ↦ rw fails (onto_each q x (slice_split p xs) parts.0 (piece_of p q xs parts.1))
-    ]
+piece_of p q (x ∷ xs) a = grind (arith, onto_each q x (slice_split p xs), piece_of p q xs)
 
 -- segments joined by dots are cut at the dots again
 segments_again : (s : List ℕ) (ss : List (List ℕ)) → AllByRecursion IsSegment (s ∷ ss) → slice_split is_dot (join_with_byte 46 (s ∷ ss)) ≡ s ∷ ss
@@ -132,18 +96,17 @@ segments_again s (t ∷ ss) h =
 slashless : (ss : List (List ℕ)) → AllByRecursion IsSegment ss → has_slash (join_with_byte 46 ss) ≡ false
 slashless [] h = refl
 slashless (s ∷ []) h = h.0.2
-slashless (s ∷ t ∷ ss) h = rw (list_any-append is_slash s (46 ∷ join_with_byte 46 (t ∷ ss))) (or_from (has_slash s) (has_slash (join_with_byte 46 (t ∷ ss))) h.0.2 (slashless (t ∷ ss) h.1))
+slashless (s ∷ t ∷ ss) h = rw (list_any-append is_slash s (46 ∷ join_with_byte 46 (t ∷ ss))) (grind (arith, h.0.2, slashless (t ∷ ss) h.1))
 
 nonempty : (ss : List (List ℕ)) → AllByRecursion IsSegment ss → list_all (λ s. not (length s == 0)) ss ≡ true
 nonempty [] h = refl
-nonempty (s ∷ ss) h = and_from (not (length s == 0)) (list_all (λ t. not (length t == 0)) ss) (not_from_false (length s == 0) (ne_eqb (length s) 0 (λ z. absurd (omega (arith, h.0.0, z))))) (nonempty ss h.1)
+nonempty (s ∷ ss) h = grind (arith, nat_tests, h.0.0, nonempty ss h.1)
 
 segments_from : (ss : List (List ℕ)) → list_all (λ s. not (length s == 0)) ss ≡ true → AllByRecursion (λ s. has_dot s ≡ false) ss → AllByRecursion (λ s. has_slash s ≡ false) ss → AllByRecursion IsSegment ss
 segments_from [] a d l = tt
 segments_from (s ∷ ss) a d l =
     let parts = and_parts (not (length s == 0)) (list_all (λ t. not (length t == 0)) ss) a in
-    let some : 0 < length s = above_zero (length s) (not-true (length s == 0) parts.0) in
-    ((some, d.0, l.0), segments_from ss parts.1 d.1 l.1)
+    ((grind (arith, nat_tests, parts.0), d.0, l.0), segments_from ss parts.1 d.1 l.1)
 
 pub authority_is_cut : (n : List ℕ) → IsNamingAuthority n → (has_segments n ≡ true) × (has_slash n ≡ false)
 authority_is_cut n ([], some, are, joined) = absurd (omega (arith, some))

@@ -1,9 +1,7 @@
 -- TOML documents and the keys of their tables.
-use Rattle.std.proofs.Common.{◌≡◌, ℕ, List, [], ◌∷◌, map, String, Global, None, Some, Ok, Err, IsUtf8, string_bytes, inl, inr, refl, ap}
-use Rattle.std.proofs.lemmas.Bool.{cases_Bool}
+use Rattle.std.proofs.Common.{◌≡◌, ℕ, List, [], ◌∷◌, map, String, Global, None, Some, Ok, Err, IsUtf8, string_bytes, refl, ap, arith}
 use Rattle.std.proofs.lemmas.Str.{IsUtf8-from_is_utf8, is_utf8-from_IsUtf8}
 use Rattle.std.specs.Map.{keys_of}
-use Rattle.std.specs.Str.{is_utf8}
 use Rattle.toml.specs.Data.{Members}
 use Rattle.toml.specs.Parse.{parse_document}
 use Rattle.toml.specs.View.{members_view}
@@ -24,8 +22,4 @@ document_is octets document text e = rw (is_utf8-from_IsUtf8 octets text, e) ref
 -- octets that are not UTF-8, or that the crate does not read, are none
 pub document_is_none : (octets : List ℕ) → (IsUtf8 octets → parse_document octets ≡ None) → document_in octets ≡ Err NotToml
 unfolding document_in
-document_is_none octets h =
-    elim (cases_Bool (is_utf8 octets)) [
-      | inl text ↦ rw (text, h (IsUtf8-from_is_utf8 octets text)) refl
-      | inr other ↦ rw other refl
-    ]
+document_is_none octets h = grind (arith, IsUtf8-from_is_utf8 octets)

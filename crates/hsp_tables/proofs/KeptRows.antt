@@ -1,6 +1,5 @@
 -- Rows of a table that are kept in a map by their keys, in the order of insertion.
-use Rattle.std.proofs.Common.{◌≡◌, ◌∙◌, ◌<◌, ◌≤◌, ℕ, Bool, true, false, List, [], ◌∷◌, ◌++◌, is_some, Option, None, Some, Ok, Err, length, map, nat_le, nat_lt, refl, sym, ap, arith}
-use Rattle.std.proofs.lemmas.Bool.{false≢true}
+use Rattle.std.proofs.Common.{◌≡◌, ◌∙◌, ◌<◌, ◌≤◌, ℕ, Bool, true, false, List, [], ◌∷◌, ◌++◌, is_some, Option, None, Ok, Err, length, map, nat_le, nat_lt, refl, sym, ap, arith}
 use Rattle.std.proofs.lemmas.Bool.Decides.{nat_tests}
 use Rattle.std.proofs.lemmas.List.{length-map, map-append}
 use Rattle.std.proofs.lemmas.Map.Made.{is_some-lookup}
@@ -13,14 +12,11 @@ use Rattle.hsp_text.specs.declared.limits.TheConstants.{MOST_REGIONS}
 use Rattle.hsp_tables.specs.declared.fault.TableFault.TheVariants.{RowTwice, TooManyRegions}
 use Rattle.hsp_tables.specs.InTurn.{with_row}
 use Rattle.hsp_tables.specs.Table.{Table, regions_of, row_after, seen_with}
+use Rattle.hsp_tables.proofs.KeyedReading.{nat_le-over}
 use Rattle.hsp_tables.proofs.TableLaws.{nat_lt-upto, regions_of-append}
 
 none_is : {A : Type 0} (o : Option A) → is_some o ≡ false → o ≡ None
-none_is None e = refl
-none_is (Some x) e = absurd (false≢true (sym e))
-
-nat_le-over : (m n : ℕ) → n < m → nat_le m n ≡ false
-nat_le-over m n below = grind (arith, nat_tests)
+none_is o e = grind arith
 
 nat_lt-below : (m n : ℕ) → m < n → nat_lt m n ≡ true
 nat_lt-below m n below = grind (arith, nat_tests)

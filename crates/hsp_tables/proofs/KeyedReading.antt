@@ -1,13 +1,12 @@
 -- Rows that are read in turn by their numbers and keys are just those that the items spell.
 use Rattle.std.proofs.Common.{◌≡◌, ◌∙◌, ◌≤◌, ◌<◌, ◌+◌, ℕ, Bool, false, List, [], ◌∷◌, ◌++◌, length, nat_le, Result, Ok, append_assoc, refl, sym, ap, arith}
-use Rattle.std.proofs.lemmas.Bool.{leb-false}
 use Rattle.std.proofs.lemmas.Bool.Decides.{nat_tests}
 use Rattle.std.proofs.lemmas.List.{append-nil, length-append}
 use Rattle.std.specs.Cmp.{IsEquivalence}
 use Rattle.std.specs.List.{AllByRecursion, IsDistinct, list_any}
 use Rattle.hsp_tables.specs.declared.fault.TableFault.{TableFault}
 use Rattle.hsp_tables.specs.InTurn.{AreKeyed, Reading, ReadsAsSpelled, SpellInTurn, keyed_after, rows_after, with_row}
-use Rattle.hsp_tables.proofs.TurnLaws.{first_step, keyed_and_one, none_keyed, row_joins, rows_keep, test_passed}
+use Rattle.hsp_tables.proofs.TurnLaws.{first_step, keyed_and_one, none_keyed, row_joins, rows_keep}
 
 -- a row in the middle, of rows of which something holds
 middle : {Row : Type 0} (P : Row → Type 0) (a : List Row) (row : Row) (b : List Row) → AllByRecursion P (a ++ row ∷ b) → P row
@@ -19,10 +18,9 @@ new_among : {Row : Type 0} (same : Row → Row → Bool) → IsEquivalence same 
 unfolding IsDistinct
 new_among same laws [] row rest apart = refl
 new_among same laws (x ∷ earlier) row rest apart =
-    let other : same row x ≡ false = laws.symm row x ∙ middle (λ y. same x y ≡ false) earlier row rest apart.0 in
-    rw (other, new_among same laws earlier row rest apart.1) refl
+    rw (laws.symm row x ∙ middle (λ y. same x y ≡ false) earlier row rest apart.0, new_among same laws earlier row rest apart.1) refl
 
-nat_le-over : (m n : ℕ) → n < m → nat_le m n ≡ false
+pub nat_le-over : (m n : ℕ) → n < m → nat_le m n ≡ false
 nat_le-over m n below = grind (arith, nat_tests)
 
 module _ (Item Row : Type 0) (most : ℕ) (many : TableFault) (row_in : ℕ → Item → Result Row TableFault) (same : Row → Row → Bool) (twice : ℕ → TableFault) where
@@ -31,12 +29,7 @@ module _ (Item Row : Type 0) (most : ℕ) (many : TableFault) (row_in : ℕ → 
 
   -- a row that is read is spelled, is not one too many, and has a new key
   pub keyed_row : (earlier : List Row) (item : Item) (row : Row) → keyed_after most many row_in same twice earlier item ≡ Ok row → (length earlier < most) × (row_in (length earlier) item ≡ Ok row) × (list_any (same row) earlier ≡ false)
-  keyed_row earlier item row e =
-      let room = test_passed (nat_le most (length earlier)) _ _ row e in
-      let spelled = first_step (row_in (length earlier) item) _ row room.1 in
-      let new = test_passed (list_any (same spelled.0) earlier) _ _ row spelled.2 in
-      let is : spelled.0 ≡ row = cc (new.1) in
-      (leb-false most (length earlier) room.0, rw is at spelled.1, rw is at new.0)
+  keyed_row earlier item row e = grind (arith, nat_tests)
 
   module _ (laws : IsEquivalence same) where
     -- rows that are spelled, within the limit, no two with one key, are all read

@@ -1,117 +1,133 @@
--- The sites and the hosts of settings that are read: within their limits, each as it should be, and distinct.
-use Rattle.std.proofs.Common.{◌≡◌, ◌∙◌, ◌≤◌, ℕ, ℤ, pos, negsuc, Bool, true, false, cond, List, [], ◌∷◌, ◌++◌, length, Option, Some, None, Result, Ok, Err, nat_le, codes, refl, sym, arith, rules}
-use Rattle.std.proofs.lemmas.Bool.{leb-true}
+-- The sites and the hosts of settings that are read: what the tables of a document tell, within their limits, and distinct.
+use Rattle.std.proofs.Common.{◌≡◌, ◌∙◌, ◌≤◌, ◌⊎◌, inl, inr, ℕ, pos, Bool, true, List, [], Option, Some, None, Result, Ok, codes, refl, ap, sym, arith, rules}
+use Rattle.std.proofs.lemmas.Bool.{le-leb}
+use Rattle.std.proofs.lemmas.Bool.Decides.{nat_tests}
 use Rattle.std.specs.Cmp.{IsEquivalence}
 use Rattle.std.specs.Cmp.Rules.{comparing}
 use Rattle.std.specs.List.{list_all}
-use Rattle.hex.specs.Hex.{decode_sized}
-use Rattle.hex.specs.declared.error.FromHexError.{FromHexError}
+use Rattle.std.specs.Str.{is_utf8}
+use Rattle.hex.specs.Hex.{decode_of, decode_sized}
 use Rattle.hex.proofs.HexLemmas.{decode_of-ok, decode_sized-ok, decode_sized-twice}
-use Rattle.toml.specs.Data.{Data, Members, as_array, as_table, get_member}
+use Rattle.toml.specs.Data as toml
+use Rattle.toml.specs.Data.{Data, Items, Members, get_member}
+use Rattle.toml.specs.Parse.{parse_document}
 use Rattle.hsp_text.specs.Name.{is_name}
 use Rattle.hsp_text.specs.declared.limits.TheConstants.{GREATEST_LIMIT, MOST_HOSTS, MOST_SITES}
 use Rattle.hsp_tables.specs.declared.fault.TableFault.{TableFault}
 use Rattle.hsp_tables.specs.declared.fault.TableFault.TheVariants as fault
-use Rattle.hsp_text.specs.Answers.{◌>>=◌, or_fault}
 use Rattle.hsp_tables.specs.Fields.{greatest_of_32_bits}
-use Rattle.hsp_tables.specs.InTurn.{AreKeyed, ReadsAsSpelled}
-use Rattle.hsp_tables.specs.Settings.{HostEntry, IsHostEntry, IsSiteEntry, IsSource, SiteEntry, SiteSource, decoded, elements_in, host_address, host_after, host_at, host_in, host_limit, index, index_source, integer_of, is_host_key, is_site_key, keys_in, listed, number_up_to, octets, record_source, same_address, same_name, site_after, site_at, site_in, site_name, site_source, text_of}
-use Rattle.hsp_tables.proofs.KeyedReading.{keyed_row, reads_as_spelled}
-use Rattle.hsp_tables.proofs.TurnLaws.{first_step, keyed_and_one, none_keyed, rows_keep, test_held}
+use Rattle.hsp_tables.specs.InTurn.{AreKeyed, Reading, ReadsAsSpelled, SpellKeyed, rows_after}
+use Rattle.hsp_tables.specs.Settings.{AreSettings, HostEntry, IsHostEntry, IsSiteEntry, IsSource, SettingsEntries, SiteEntry, SiteSource, document_in, elements_in, host_after, host_at, index, is_host_key, is_root_key, is_site_key, keys_in, listed, octets, same_address, same_name, settings_of, site_after, site_at, site_in, site_name, site_source}
+use Rattle.hsp_tables.proofs.KeyedReading.{reads_as_spelled}
+use Rattle.hsp_tables.proofs.TurnLaws.{all_spelled, two_steps}
 
--- an integer that is taken is within its limit
-number_within : (fault : TableFault) (most : ℕ) (i : ℤ) (n : ℕ) → number_up_to fault most i ≡ Ok n → n ≤ most
-number_within fault most (pos i) n e =
-    let held = test_held (nat_le i most) fault i n e in
-    rw (← held.1) (leb-true i most held.0)
-number_within fault most (negsuc i) n e = cc e
+-- ---- sites
 
-site_name_is : (n : ℕ) (value : Option Data) (name : List ℕ) → site_name n value ≡ Ok name → is_name name ≡ true
-site_name_is n value name e =
-    let text = first_step (text_of (fault.BadSite n) value) _ name e in
-    let held = test_held (is_name text.0) (fault.BadSite n) text.0 name text.2 in
-    rw (← held.1) held.0
+-- what a table tells of a site's octets
+abbrev pub IsToldBy : Option Data → Option Data → SiteSource → Type 0
+IsToldBy hexadecimal number (octets bytes) = (digits : List ℕ) × (hexadecimal ≡ Some (toml.string digits)) × (number ≡ None) × (decode_of digits ≡ Ok bytes)
+IsToldBy hexadecimal number (index i) = (hexadecimal ≡ None) × (number ≡ Some (toml.integer (pos i))) × (i ≤ greatest_of_32_bits)
 
-record_source_is : (n : ℕ) (value : Data) (source : SiteSource) → record_source n value ≡ Ok source → IsSource source
-record_source_is n value source e =
-    let text = first_step (text_of (fault.BadSite n) (Some value)) _ source e in
-    let bytes = first_step (decoded (fault.BadSite n) _) (λ b. Ok (octets b)) source text.2 in
-    let same : octets bytes.0 ≡ source = cc (bytes.2) in
-    rw (← same) tt
+pub record TellsSite (members : Members) (site : SiteEntry) : Type 0 where
+  pub keys : list_all is_site_key (keys_in members) ≡ true
+  pub name : get_member (codes "name") members ≡ Some (toml.string site.name)
+  pub is_name : is_name site.name ≡ true
+  pub source : IsToldBy (get_member (codes "record") members) (get_member (codes "index") members) site.source
 
-index_source_is : (n : ℕ) (value : Data) (source : SiteSource) → index_source n value ≡ Ok source → IsSource source
-index_source_is n value source e =
-    let number = first_step (integer_of (fault.BadSite n) (Some value)) _ source e in
-    let i = first_step (number_up_to (fault.BadSite n) greatest_of_32_bits number.0) (λ i. Ok (index i)) source number.2 in
-    let same : index i.0 ≡ source = cc (i.2) in
-    rw (← same) (number_within (fault.BadSite n) greatest_of_32_bits number.0 i.0 i.1)
+name_is : (n : ℕ) (value : Option Data) (name : List ℕ) → site_name n value ≡ Ok name → (value ≡ Some (toml.string name)) × (is_name name ≡ true)
+name_is n value name e = grind arith
 
-site_source_is : (n : ℕ) (a b : Option Data) (source : SiteSource) → site_source n a b ≡ Ok source → IsSource source
-site_source_is n (Some value) None source e = record_source_is n value source e
-site_source_is n None (Some value) source e = index_source_is n value source e
-site_source_is n None None source e = cc e
-site_source_is n (Some value) (Some other) source e = cc e
+source_is : (n : ℕ) (a b : Option Data) (source : SiteSource) → site_source n a b ≡ Ok source → IsToldBy a b source
+source_is n a b (octets bytes) e = grind (arith, nat_tests)
+source_is n a b (index i) e = grind (arith, nat_tests)
 
--- a test that must hold for a result, and the result
-under_test : {A : Type 0} (test : Bool) (fault : TableFault) (r : Result A TableFault) (y : A) → cond test r (Err fault) ≡ Ok y → r ≡ Ok y
-under_test true fault r y e = e
-under_test false fault r y e = cc e
+source_is_read : (n : ℕ) (a b : Option Data) (source : SiteSource) → IsToldBy a b source → site_source n a b ≡ Ok source
+source_is_read n a b (octets bytes) told = rw (told.1, told.2, told.3) refl
+source_is_read n a b (index i) told = rw (told.0, told.1, le-leb i greatest_of_32_bits told.2) refl
 
--- two steps that ended well, each with its value
-two_steps : {A B C : Type 0} (a : Result A TableFault) (b : Result B TableFault) (made : A → B → C) (c : C) → (a >>= λ x. b >>= λ y. Ok (made x y)) ≡ Ok c → (x : A) × (y : B) × (a ≡ Ok x) × (b ≡ Ok y) × (made x y ≡ c)
-two_steps (Ok x) (Ok y) made c e = (x, y, refl, refl, cc (e))
-two_steps (Err fault) b made c e = cc e
-two_steps (Ok x) (Err fault) made c e = cc e
+source_within : (a b : Option Data) (source : SiteSource) → IsToldBy a b source → IsSource source
+source_within a b (octets bytes) told = tt
+source_within a b (index i) told = told.2
 
-site_is : (n : ℕ) (members : Members) (site : SiteEntry) → site_in n members ≡ Ok site → IsSiteEntry site
-site_is n ms site e =
+pub site_is : (n : ℕ) (value : Data) (site : SiteEntry) → site_at n value ≡ Ok site → (members : Members) × (value ≡ toml.table members) × TellsSite members site
+site_is n value site e =
+    let table : (members : Members) × (value ≡ toml.table members) × (site_in n members ≡ Ok site) = grind arith in
+    let ms = table.0 in
     let made = λ (name : List ℕ) (source : SiteSource). let s : SiteEntry = record { name = name; source = source } in s in
     let name_of = site_name n (get_member (codes "name") ms) in
     let source_of = site_source n (get_member (codes "record") ms) (get_member (codes "index") ms) in
-    let steps = two_steps name_of source_of made site (under_test (list_all is_site_key (keys_in ms)) fault.UnknownKey _ site e) in
-    rw (← steps.4) (record { name = site_name_is n (get_member (codes "name") ms) steps.0 steps.2; source = site_source_is n (get_member (codes "record") ms) (get_member (codes "index") ms) steps.1 steps.3 })
+    let (tests, name, source, named, sourced, same) = two_steps (list_all is_site_key (keys_in ms)) _ name_of source_of made site table.2 in
+    let is = name_is n (get_member (codes "name") ms) name named in
+    let of = source_is n (get_member (codes "record") ms) (get_member (codes "index") ms) source sourced in
+    (ms, table.1, rw (← same) (record { keys = tests; name = is.0; is_name = is.1; source = of }))
+
+pub site_is_read : (n : ℕ) (members : Members) (site : SiteEntry) → TellsSite members site → site_at n (toml.table members) ≡ Ok site
+site_is_read n ms site tells =
+    let source = source_is_read n (get_member (codes "record") ms) (get_member (codes "index") ms) site.source tells.source in
+    rw (tells.keys, tells.name, tells.is_name, source) refl
+
+site_entry : (n : ℕ) (value : Data) (site : SiteEntry) → site_at n value ≡ Ok site → IsSiteEntry site
+site_entry n value site e =
+    let tells = (site_is n value site e).2 in
+    record { name = tells.is_name; source = source_within _ _ site.source tells.source }
+
+-- ---- hosts
+
+pub record TellsHost (members : Members) (host : HostEntry) : Type 0 where
+  pub keys : list_all is_host_key (keys_in members) ≡ true
+  pub digits : List ℕ
+  pub address : get_member (codes "address") members ≡ Some (toml.string digits)
+  pub decoded : decode_sized digits 16 ≡ Ok host.address
+  pub limit : get_member (codes "limit") members ≡ Some (toml.integer (pos host.limit))
+  pub limited : host.limit ≤ GREATEST_LIMIT
+
+pub host_is : (n : ℕ) (value : Data) (host : HostEntry) → host_at n value ≡ Ok host → (members : Members) × (value ≡ toml.table members) × TellsHost members host
+host_is n value host e =
+    let read : (ms : Members) × (value ≡ toml.table ms) × (list_all is_host_key (keys_in ms) ≡ true)
+    × (digits : List ℕ) × (get_member (codes "address") ms ≡ Some (toml.string digits)) × (decode_sized digits 16 ≡ Ok host.address)
+    × (get_member (codes "limit") ms ≡ Some (toml.integer (pos host.limit))) × (host.limit ≤ GREATEST_LIMIT) = grind (arith, nat_tests) in
+    (read.0, read.1, record { keys = read.2; digits = read.3; address = read.4; decoded = read.5; limit = read.6; limited = read.7 })
+
+pub host_is_read : (n : ℕ) (members : Members) (host : HostEntry) → TellsHost members host → host_at n (toml.table members) ≡ Ok host
+host_is_read n ms host tells = rw (tells.keys, tells.address, tells.decoded, tells.limit, le-leb host.limit GREATEST_LIMIT tells.limited) refl
 
 -- sixteen octets are decoded where there is room for sixteen
-decoded_length : (fault : TableFault) (text bytes : List ℕ) → decoded fault (decode_sized text 16) ≡ Ok bytes → length bytes ≡ 16
-decoded_length fault text bytes e = by_decoding (decode_sized text 16) refl e
-  where
-    by_decoding : (r : Result (List ℕ) FromHexError) → decode_sized text 16 ≡ r → decoded fault r ≡ Ok bytes → length bytes ≡ 16
-    by_decoding (Ok found) is e =
-        let same : found ≡ bytes = cc (e) in
-        let digits = decode_sized-ok text 16 found is in
-        let halves = (decode_of-ok text found (sym (decode_sized-twice text 16 digits) ∙ is)).2 in
-        rw (← same) (omega (arith, digits, halves))
-    by_decoding (Err why) is e = cc e
+host_entry : (n : ℕ) (value : Data) (host : HostEntry) → host_at n value ≡ Ok host → IsHostEntry host
+host_entry n value host e =
+    let tells = (host_is n value host e).2 in
+    let digits = decode_sized-ok tells.digits 16 host.address tells.decoded in
+    let halves = (decode_of-ok tells.digits host.address (sym (decode_sized-twice tells.digits 16 digits) ∙ tells.decoded)).2 in
+    record { address = omega (arith, digits, halves); limit = tells.limited }
 
-host_is : (n : ℕ) (members : Members) (host : HostEntry) → host_in n members ≡ Ok host → IsHostEntry host
-host_is n ms host e =
-    let made = λ (address : List ℕ) (limit : ℕ). let h : HostEntry = record { address = address; limit = limit } in h in
-    let address_of = host_address n (get_member (codes "address") ms) in
-    let limit_of = host_limit n (get_member (codes "limit") ms) in
-    let steps = two_steps address_of limit_of made host (under_test (list_all is_host_key (keys_in ms)) fault.UnknownKey _ host e) in
-    let text = first_step (text_of (fault.BadHost n) (get_member (codes "address") ms)) _ steps.0 steps.2 in
-    let number = first_step (integer_of (fault.BadHost n) (get_member (codes "limit") ms)) _ steps.1 steps.3 in
-    rw (← steps.4) (record { address = decoded_length (fault.BadHost n) text.0 steps.0 text.2; limit = number_within (fault.BadHost n) GREATEST_LIMIT number.0 steps.1 number.2 })
+-- ---- arrays
+
+-- the items of an array at a key, none where there is no such key
+abbrev pub AreAt : Option Data → Items → Type 0
+AreAt value items = (value ≡ Some (toml.array items)) ⊎ ((value ≡ None) × (items ≡ toml.no_items))
+
+module _ {Row : Type 0} (bad : TableFault) (most : ℕ) (row_in : ℕ → Data → Result Row TableFault) (same : Row → Row → Bool) (read : Reading Data Row)
+    (law : ReadsAsSpelled most row_in same read) where
+  pub listed_is : (value : Option Data) (rows : List Row) → listed bad read value ≡ Ok rows → (items : Items) × AreAt value items × SpellKeyed most row_in same (elements_in items) rows
+  listed_is None rows e = (toml.no_items, inr (refl, refl), (law [] rows).0 e)
+  listed_is (Some value) rows e =
+      let array : (items : Items) × (value ≡ toml.array items) × (rows_after read [] (elements_in items) ≡ Ok rows) = grind arith in
+      (array.0, inl (ap (λ (v : Data). Some v) array.1), (law (elements_in array.0) rows).0 array.2)
+
+  pub lists : (value : Option Data) (items : Items) (rows : List Row) → AreAt value items → SpellKeyed most row_in same (elements_in items) rows → listed bad read value ≡ Ok rows
+  lists value items rows (inl is) spelled = rw is ((law (elements_in items) rows).1 spelled)
+  lists value items rows (inr (none, no_items)) spelled = rw none ((law [] rows).1 (rw no_items at spelled))
+
+  are_keyed : (Is : Row → Type 0) → ((n : ℕ) (value : Data) (row : Row) → row_in n value ≡ Ok row → Is row)
+      → (value : Option Data) (rows : List Row) → listed bad read value ≡ Ok rows → AreKeyed most Is same rows
+  are_keyed Is each value rows e =
+      let is = listed_is value rows e in
+      record { few = is.2.few; each = all_spelled Is row_in each 0 (elements_in is.0) rows is.2.spelled; apart = is.2.apart }
 
 site_keys : IsEquivalence same_name
 site_keys = search (rules, comparing)
 
 host_keys : IsEquivalence same_address
 host_keys = search (rules, comparing)
-
--- one more site
-site_keeps : (earlier : List SiteEntry) (value : Data) (site : SiteEntry) → AreKeyed MOST_SITES IsSiteEntry same_name earlier → site_after earlier value ≡ Ok site → AreKeyed MOST_SITES IsSiteEntry same_name (earlier ++ site ∷ [])
-site_keeps earlier value site are e =
-    let row = keyed_row Data SiteEntry MOST_SITES fault.TooManySites site_at same_name fault.SiteTwice earlier value site e in
-    let table = first_step (or_fault (fault.BadSite (length earlier)) (as_table value)) (site_in (length earlier)) site row.1 in
-    keyed_and_one MOST_SITES IsSiteEntry same_name site_keys earlier site are row.0 (site_is (length earlier) table.0 site table.2) row.2
-
--- one more host
-host_keeps : (earlier : List HostEntry) (value : Data) (host : HostEntry) → AreKeyed MOST_HOSTS IsHostEntry same_address earlier → host_after earlier value ≡ Ok host → AreKeyed MOST_HOSTS IsHostEntry same_address (earlier ++ host ∷ [])
-host_keeps earlier value host are e =
-    let row = keyed_row Data HostEntry MOST_HOSTS fault.TooManyHosts host_at same_address fault.HostTwice earlier value host e in
-    let table = first_step (or_fault (fault.BadHost (length earlier)) (as_table value)) (host_in (length earlier)) host row.1 in
-    keyed_and_one MOST_HOSTS IsHostEntry same_address host_keys earlier host are row.0 (host_is (length earlier) table.0 host table.2) row.2
 
 pub sites_read_as_spelled : ReadsAsSpelled MOST_SITES site_at same_name site_after
 sites_read_as_spelled = reads_as_spelled Data SiteEntry MOST_SITES fault.TooManySites site_at same_name fault.SiteTwice site_keys
@@ -121,14 +137,23 @@ hosts_read_as_spelled = reads_as_spelled Data HostEntry MOST_HOSTS fault.TooMany
 
 -- the sites that are listed
 pub sites_are : (value : Option Data) (rows : List SiteEntry) → listed (fault.BadSite 0) site_after value ≡ Ok rows → AreKeyed MOST_SITES IsSiteEntry same_name rows
-sites_are None rows e = let same : [] ≡ rows = cc (e) in rw (← same) (none_keyed MOST_SITES IsSiteEntry same_name)
-sites_are (Some value) rows e =
-    let items = first_step (or_fault (fault.BadSite 0) (as_array value)) _ rows e in
-    rows_keep (λ (t : List SiteEntry). AreKeyed MOST_SITES IsSiteEntry same_name t) site_after site_keeps (elements_in items.0) [] rows (none_keyed MOST_SITES IsSiteEntry same_name) items.2
+sites_are = are_keyed (fault.BadSite 0) MOST_SITES site_at same_name site_after sites_read_as_spelled IsSiteEntry site_entry
 
 -- the hosts that are listed
 pub hosts_are : (value : Option Data) (rows : List HostEntry) → listed (fault.BadHost 0) host_after value ≡ Ok rows → AreKeyed MOST_HOSTS IsHostEntry same_address rows
-hosts_are None rows e = let same : [] ≡ rows = cc (e) in rw (← same) (none_keyed MOST_HOSTS IsHostEntry same_address)
-hosts_are (Some value) rows e =
-    let items = first_step (or_fault (fault.BadHost 0) (as_array value)) _ rows e in
-    rows_keep (λ (t : List HostEntry). AreKeyed MOST_HOSTS IsHostEntry same_address t) host_after host_keeps (elements_in items.0) [] rows (none_keyed MOST_HOSTS IsHostEntry same_address) items.2
+hosts_are = are_keyed (fault.BadHost 0) MOST_HOSTS host_at same_address host_after hosts_read_as_spelled IsHostEntry host_entry
+
+-- ---- the document
+
+pub settings_parts : (text : List ℕ) (settings : SettingsEntries) → settings_of text ≡ Ok settings
+    → (document : Members) × (is_utf8 text ≡ true) × (parse_document text ≡ Some document) × (list_all is_root_key (keys_in document) ≡ true)
+    × (listed (fault.BadSite 0) site_after (get_member (codes "site") document) ≡ Ok settings.sites)
+    × (listed (fault.BadHost 0) host_after (get_member (codes "host") document) ≡ Ok settings.hosts)
+unfolding document_in
+settings_parts text settings e = grind arith
+
+-- settings that are read are within their limits
+pub settings_are_within : (text : List ℕ) (settings : SettingsEntries) → settings_of text ≡ Ok settings → AreSettings settings
+settings_are_within text settings e =
+    let (document, text_is, read, keys, sites, hosts) = settings_parts text settings e in
+    record { sites = sites_are (get_member (codes "site") document) settings.sites sites; hosts = hosts_are (get_member (codes "host") document) settings.hosts hosts }

@@ -1,59 +1,44 @@
 -- Tables: what their records read as, and what their rows are.
-use Rattle.std.proofs.Common.{◌≡◌, ◌≤◌, ◌↔◌, ℕ, Bool, true, false, cond, List, [], ◌∷◌, ◌++◌, length, map, fold, Ok, Err, nat_lt, refl, arith}
+use Rattle.std.proofs.Common.{◌≡◌, ◌≤◌, ◌↔◌, ℕ, Bool, false, List, [], ◌∷◌, ◌++◌, length, map, fold, Ok, Err, nat_lt, refl, arith}
 use Rattle.std.proofs.lemmas.Bool.{ltb-false}
 use Rattle.std.proofs.lemmas.Bool.Decides.{nat_tests}
 use Rattle.std.proofs.lemmas.List.{length-append, map-append}
 use Rattle.std.proofs.lemmas.List.Sums.{fold-append}
 use Rattle.std.specs.Cmp.{IsEquivalence}
-use Rattle.std.specs.List.{list_any}
 use Rattle.std.specs.Str.{bytes_eq}
 use Rattle.indexmap.specs.IndexSet.{insert_key}
-use Rattle.hsp_csv.specs.Header.{IsHeaded, IsHeadless, same_fields}
+use Rattle.hsp_csv.specs.Header.{IsHeaded, IsHeadless}
 use Rattle.hsp_csv.specs.Records.{Fields}
 use Rattle.hsp_text.specs.declared.limits.TheConstants.{MOST_REGIONS}
 use Rattle.hsp_tables.specs.declared.fault.TableFault.TheVariants.{Header, RowTwice, TooManyRegions, TooManyRows}
 use Rattle.hsp_tables.specs.InTurn.{Reading, SpellKeyed, keyed_after, rows_after}
-use Rattle.hsp_tables.specs.Table.{AreRows, Table, first_seen, regions_of, row_after, seen_with, table_of}
+use Rattle.hsp_tables.specs.Table.{Table, first_seen, regions_of, row_after, seen_with, table_of}
 use Rattle.hsp_tables.proofs.KeyedReading.{reads_as_spelled}
 use Rattle.hsp_tables.proofs.SeenNames.{first_seen-append}
-use Rattle.hsp_tables.proofs.TurnLaws.{all_spelled, good_are_passed, passed_are_good, passed_are_read}
+use Rattle.hsp_tables.proofs.TurnLaws.{good_are_passed, passed_are_good, passed_are_read}
 
 -- ---- regions
 
 -- a further name takes none away
 names_grow : (names more : List (List ℕ)) → length names ≤ length (fold (insert_key bytes_eq) names more)
 names_grow names [] = omega arith
-names_grow names (name ∷ more) = omega (arith, one_more (list_any (bytes_eq name) names), names_grow (insert_key bytes_eq names name) more)
-  where
-    one_more : (b : Bool) → length names ≤ length (cond b names (names ++ name ∷ []))
-    one_more true = omega arith
-    one_more false = simp length-append (omega arith)
+names_grow names (name ∷ more) = grind (arith, length-append {A = List ℕ}, names_grow (insert_key bytes_eq names name) more)
 
 module _ {Row : Type 0} (table : Table Row) where
   -- more rows are of no fewer regions
   regions_of-grow : (a b : List Row) → length (regions_of table a) ≤ length (regions_of table (a ++ b))
-  regions_of-grow a b = by_kind table.has_regions
-    where
-      by_kind : (has : Bool) → length (cond has (first_seen (map table.region_of a)) []) ≤ length (cond has (first_seen (map table.region_of (a ++ b))) [])
-      by_kind true = rw (map-append, fold-append) (names_grow (first_seen (map table.region_of a)) (map table.region_of b))
-      by_kind false = omega arith
+  regions_of-grow a b =
+      rw (map-append table.region_of a b, fold-append (insert_key bytes_eq) [] (map table.region_of a) (map table.region_of b))
+      (grind (arith, names_grow (first_seen (map table.region_of a)) (map table.region_of b)))
 
   -- the regions of rows and of a further one
   pub regions_of-append : (rows : List Row) (row : Row) → regions_of table (rows ++ row ∷ []) ≡ seen_with table (regions_of table rows) row
-  regions_of-append rows row = by_kind table.has_regions
-    where
-      by_kind : (has : Bool) → cond has (first_seen (map table.region_of (rows ++ row ∷ []))) []
-          ≡ cond has (insert_key bytes_eq (cond has (first_seen (map table.region_of rows)) []) (table.region_of row)) (cond has (first_seen (map table.region_of rows)) [])
-      by_kind true = rw map-append (first_seen-append (map table.region_of rows) (table.region_of row))
-      by_kind false = refl
+  regions_of-append rows row =
+      rw (map-append table.region_of rows (row ∷ [])) (grind (arith, first_seen-append (map table.region_of rows) (table.region_of row)))
 
   -- no rows are of no regions
   pub regions_of-none : regions_of table [] ≡ []
-  regions_of-none = by_kind table.has_regions
-    where
-      by_kind : (has : Bool) → cond has (first_seen []) [] ≡ []
-      by_kind true = refl
-      by_kind false = refl
+  regions_of-none = grind arith
 
 -- ---- rows
 
@@ -79,18 +64,6 @@ module _ {Row : Type 0} (table : Table Row) (keys : IsEquivalence table.same_key
         λ e. (spelled.0 (passed_are_read keyed (too_many table) TooManyRegions body [] rows e), ltb-false MOST_REGIONS (length (regions_of table rows)) (passed_are_good keyed (too_many table) TooManyRegions body rows none e)),
         λ is. good_are_passed keyed (too_many table) TooManyRegions fewer body [] rows (spelled.1 is.0) (nat_lt-upto MOST_REGIONS (length (regions_of table rows)) is.1),
       )
-
-  -- the rows of a table that is read are within its limits, each as it should be, and no two have one key
-  pub rows_are : (Is : Row → Type 0) → ((n : ℕ) (fields : Fields) (row : Row) → table.row_in n fields ≡ Ok row → Is row)
-      → (records : List Fields) (rows : List Row) → table_of table records ≡ Ok rows → AreRows table Is rows
-  rows_are Is each [] rows e = cc e
-  rows_are Is each (first ∷ body) rows e = by_header (same_fields first table.header) e
-    where
-      by_header : (b : Bool) → cond b (rows_after (row_after table) [] body) (Err Header) ≡ Ok rows → AreRows table Is rows
-      by_header true e =
-          let is = (body_reads body rows).0 e in
-          record { keyed = record { few = is.0.few; each = all_spelled Is table.row_in each 0 body rows is.0.spelled; apart = is.0.apart }; regions = is.1 }
-      by_header false e = cc e
 
 -- ---- headers
 

@@ -1,14 +1,15 @@
 -- The reading of a table and its relation: the records are those of the header and the rows, or have a first fault.
-use Rattle.std.proofs.Common.{◌≡◌, ◌∙◌, ◌⊎◌, inl, inr, Bool, true, false, cond, List, [], ◌∷◌, ◌++◌, Ok, Err, refl, sym, ap}
+use Rattle.std.proofs.Common.{◌≡◌, ◌∙◌, ◌⊎◌, ◌↔◌, ◌+◌, inl, inr, ℕ, List, map, [], ◌∷◌, ◌++◌, Ok, Err, refl, sym, ap, arith}
 use Rattle.std.proofs.lemmas.Bool.{cases_Bool}
 use Rattle.std.specs.Cmp.{IsEquivalence}
+use Rattle.std.specs.List.{AllByRecursion}
 use Rattle.hsp_csv.specs.Header.{same_fields}
 use Rattle.hsp_csv.specs.Records.{Fields}
 use Rattle.hsp_csv.proofs.SameFields.{are_same_fields, is_other, same_fields_are}
 use Rattle.hsp_tables.specs.declared.fault.TableFault.{TableFault}
 use Rattle.hsp_tables.specs.declared.fault.TableFault.TheVariants.{Header}
 use Rattle.hsp_tables.specs.InTurn.{rows_after}
-use Rattle.hsp_tables.specs.Table.{IsRowFault, IsTable, IsTableFault, KeepsFirstFault, LacksHeader, ReadsAsItsRelation, Table, row_after, table_of}
+use Rattle.hsp_tables.specs.Table.{AreRows, IsRowFault, IsTable, IsTableFault, KeepsFirstFault, LacksHeader, ReadsAsItsRelation, SpellRows, Table, row_after, table_of}
 use Rattle.hsp_tables.proofs.TableLaws.{body_reads}
 use Rattle.hsp_tables.proofs.TurnLaws.{fault_place, rows_in_parts}
 
@@ -81,10 +82,33 @@ module _ {Row : Type 0} (table : Table Row) (keys : IsEquivalence table.same_key
     fault = λ records fault. (read_fault_is_first records fault, fault_is_read records fault);
   }
 
+  -- rows by their fields, where the record of a row is its fields
+  module _ (fields : Row → Fields) (Is : Row → Type 0)
+      (reads : (n : ℕ) (one : Fields) (row : Row) → (table.row_in n one ≡ Ok row) ↔ ((one ≡ fields row) × Is row)) where
+    are_spelled : (n : ℕ) (body : List Fields) (rows : List Row) → SpellRows table n body rows → (body ≡ map fields rows) × AllByRecursion Is rows
+    are_spelled n [] [] spells = (refl, tt)
+    are_spelled n [] (row ∷ rows) spells = absurd spells
+    are_spelled n (one ∷ body) [] spells = absurd spells
+    are_spelled n (one ∷ body) (row ∷ rows) spells =
+        let first = (reads n one row).0 spells.0 in
+        let later = are_spelled (n + 1) body rows spells.1 in
+        (cc (first.0, later.0), (first.1, later.1))
+
+    spell : (n : ℕ) (rows : List Row) → AllByRecursion Is rows → SpellRows table n (map fields rows) rows
+    spell n [] all = tt
+    spell n (row ∷ rows) all = ((reads n (fields row) row).1 (refl, all.0), spell (n + 1) rows all.1)
+
+    -- the records of a table are the header and the fields of its rows
+    pub reads_rows : (records : List Fields) (rows : List Row) → (table_of table records ≡ Ok rows) ↔ ((records ≡ table.header ∷ map fields rows) × AreRows table Is rows)
+    reads_rows records rows = (
+      λ e.
+          let is = read_is_table records rows e in
+          let are = are_spelled 0 is.body rows is.spelled in
+          (is.headed ∙ ap (λ t. table.header ∷ t) are.0, record { keyed = record { few = is.few; each = are.1; apart = is.apart }; regions = is.regions }),
+      λ (is, are). headed table records (map fields rows) is
+          ∙ (body_reads table keys (map fields rows) rows).1 (record { spelled = spell 0 rows are.keyed.each; few = are.keyed.few; apart = are.keyed.apart }, are.regions),
+    )
+
 -- a first fault stays, whatever records follow
 pub keeps_first_fault : {Row : Type 0} (table : Table Row) → KeepsFirstFault table
-keeps_first_fault {Row = Row} table first body more fault e = by_first (same_fields first table.header) e
-  where
-    by_first : (b : Bool) → cond b (rows_after (row_after table) [] body) (Err Header) ≡ Err fault → cond b (rows_after (row_after table) [] (body ++ more)) (Err Header) ≡ Err fault
-    by_first true h = rows_in_parts (row_after table) [] body more ∙ rw h refl
-    by_first false h = h
+keeps_first_fault table first body more fault e = grind (arith, rows_in_parts (row_after table) [] body more)

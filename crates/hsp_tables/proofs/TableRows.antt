@@ -1,113 +1,100 @@
--- The rows of the three tables, by what their fields spell.
-use Rattle.std.proofs.Common.{◌≡◌, ◌∙◌, ◌≤◌, inl, inr, ℕ, Bool, true, false, cond, List, [], ◌∷◌, length, zero, suc, Option, None, Some, not, Result, Ok, Err, nat_le, nat_lt, refl, ap, rules}
-use Rattle.std.proofs.lemmas.Bool.{cases_Bool, leb-true}
+-- The rows of the three tables, and the fields that spell them.
+use Rattle.std.proofs.Common.{◌≡◌, ◌≤◌, ◌<◌, ◌^◌, ◌↔◌, ℕ, true, List, [], ◌∷◌, map, Some, Result, Ok, decimal, refl, arith, rules}
+use Rattle.std.proofs.lemmas.Bool.{le-leb}
+use Rattle.std.proofs.lemmas.Bool.Decides.{nat_tests}
+use Rattle.std.proofs.lemmas.List.Elements.{All-from_recursion}
+use Rattle.std.proofs.lemmas.Option.{get_or_from_slice_get, slice_get_within}
 use Rattle.std.specs.Cmp.{IsEquivalence}
 use Rattle.std.specs.Cmp.Rules.{comparing}
-use Rattle.std.specs.List.{AllByRecursion, list_any, slice_get}
-use Rattle.std.specs.Str.{is_utf8}
+use Rattle.std.specs.List.{slice_get}
 use Rattle.std.specs.Str.Parse.{digits_value}
 use Rattle.hsp_csv.specs.Records.{Fields}
 use Rattle.hsp_names.specs.Handle as names
-use Rattle.hsp_names.specs.declared.fault.HandleFault.{HandleFault}
-use Rattle.hsp_text.specs.Name.{is_name}
-use Rattle.hsp_text.specs.Whole.{is_whole, up_to, whole_within}
-use Rattle.hsp_text.specs.declared.limits.TheConstants.{GREATEST_CAPACITY, GREATEST_COST, GREATEST_COUNT}
-use Rattle.hsp_text.specs.declared.whole.WholeFault.{WholeFault}
-use Rattle.hsp_text.specs.declared.whole.WholeFault.TheVariants.{NotWhole, TooLarge}
-use Rattle.hsp_tables.specs.declared.fault.TableFault.{TableFault}
 use Rattle.hsp_text.specs.Answers.{◌>>=◌}
+use Rattle.hsp_text.specs.Name.{is_name}
+use Rattle.hsp_text.specs.Whole.{is_whole, whole_within}
+use Rattle.hsp_text.specs.declared.limits.TheConstants.{GREATEST_CAPACITY, GREATEST_COST, GREATEST_COUNT}
+use Rattle.hsp_text.proofs.Numerals.{digits_spell_their_number}
+use Rattle.hsp_tables.specs.declared.fault.TableFault.{TableFault}
 use Rattle.hsp_tables.specs.Capacities.{AreCapacities, CapacityEntry, IsCapacityEntry, capacity_in, capacity_of, capacity_table, same_capacity}
 use Rattle.hsp_tables.specs.Costs.{AreCosts, CostEntry, IsCostEntry, cost_in, cost_of, cost_table, same_cost}
 use Rattle.hsp_tables.specs.Demand.{AreDemand, DemandEntry, IsDemandEntry, demand_in, demand_of, demand_table, same_demand}
-use Rattle.hsp_tables.specs.Fields.{greatest_of_32_bits, handle_in, handle_or, name_in, number_in, number_or, of_three}
+use Rattle.hsp_tables.specs.Fields.{greatest_of_32_bits, name_in, number_in, of_three}
 use Rattle.hsp_tables.specs.Table.{table_of}
-use Rattle.hsp_tables.proofs.TableLaws.{rows_are}
-use Rattle.hsp_tables.proofs.TurnLaws.{test_held}
+use Rattle.hsp_tables.proofs.TableReading.{reads_rows}
 
-name_is : (row : ℕ) (octets name : List ℕ) → name_in row octets ≡ Ok name → is_name name ≡ true
-name_is row octets name e =
-    let held = test_held (is_name octets) _ octets name e in
-    rw (← held.1) held.0
+-- a text that is read as a number is the number's digits, within the limit
+pub whole_is : (most : ℕ) (text : List ℕ) (n : ℕ) → most < 2 ^ 64 → whole_within most text ≡ Ok n → (text ≡ decimal n) × (n ≤ most)
+whole_is most text n small e =
+    let read : (is_whole text ≡ true) × (digits_value 10 text ≡ n) × (n ≤ most) = grind (arith, nat_tests) in
+    ((digits_spell_their_number n text (omega arith)).0 (read.0, read.1), read.2)
 
-up_to_most : (most n v : ℕ) → up_to most n ≡ Ok v → v ≤ most
-up_to_most most n v e =
-    elim (cases_Bool (nat_le n most)) [
-      | inl within ↦ let same : ◌≡◌ {A = Result ℕ WholeFault} (Ok n) (Ok v) = rw within at e in let is : n ≡ v = cc in rw (← is) (leb-true n most within)
-      | inr past ↦ let none : ◌≡◌ {A = Result ℕ WholeFault} (Err TooLarge) (Ok v) = rw past at e in cc
-    ]
-
-pub whole_within_most : (most : ℕ) (octets : List ℕ) (v : ℕ) → whole_within most octets ≡ Ok v → v ≤ most
-whole_within_most most octets v e = by_form (is_whole octets) e
-  where
-    by_form : (b : Bool) → cond b (up_to most (digits_value 10 octets)) (Err NotWhole) ≡ Ok v → v ≤ most
-    by_form true e = up_to_most most (digits_value 10 octets) v e
-    by_form false e = cc e
-
-number_within : (row most : ℕ) (octets : List ℕ) (v : ℕ) → number_in row most octets ≡ Ok v → v ≤ most
-number_within row most octets v e = by_reading (whole_within most octets) refl e
-  where
-    by_reading : (r : Result ℕ WholeFault) → whole_within most octets ≡ r → number_or row r ≡ Ok v → v ≤ most
-    by_reading (Ok n) is e = let same : n ≡ v = cc (e) in rw (← same) (whole_within_most most octets n is)
-    by_reading (Err fault) is e = cc e
-
--- three steps that ended well, each with its value
-three_steps : {A B C D : Type 0} (a : Result A TableFault) (b : Result B TableFault) (c : Result C TableFault) (made : A → B → C → D) (d : D) → (a >>= λ x. b >>= λ y. c >>= λ z. Ok (made x y z)) ≡ Ok d
-    → (x : A) × (y : B) × (z : C) × (a ≡ Ok x) × (b ≡ Ok y) × (c ≡ Ok z) × (made x y z ≡ d)
-three_steps (Ok x) (Ok y) (Ok z) made d e = (x, y, z, refl, refl, refl, cc (e))
-three_steps (Err fault) b c made d e = cc e
-three_steps (Ok x) (Err fault) c made d e = cc e
-three_steps (Ok x) (Ok y) (Err fault) made d e = cc e
-
-handle_is_its_octets : (octets handle : List ℕ) → names.handle_in octets ≡ Ok handle → octets ≡ handle
-handle_is_its_octets octets handle e =
-    let short = name_passed (nat_lt 4096 (length octets)) _ _ handle e in
-    let text = name_passed (not (is_utf8 octets)) _ _ handle short in
-    let slash = name_passed (not (list_any names.is_slash octets)) _ _ handle text in
-    let segments = name_passed (not (names.has_segments (names.naming_authority octets))) _ _ handle slash in
-    let same : octets ≡ handle = cc (segments) in same
-  where
-    name_passed : (test : Bool) (fault : HandleFault) (r : Result (List ℕ) HandleFault) (y : List ℕ) → cond test (Err fault) r ≡ Ok y → r ≡ Ok y
-    name_passed true fault r y e = cc e
-    name_passed false fault r y e = e
-
-handle_is : (row : ℕ) (octets handle : List ℕ) → handle_in row octets ≡ Ok handle → names.handle_in handle ≡ Ok handle
-handle_is row octets handle e = by_reading (names.handle_in octets) refl e
-  where
-    by_reading : (r : Result (List ℕ) HandleFault) → names.handle_in octets ≡ r → handle_or row r ≡ Ok handle → names.handle_in handle ≡ Ok handle
-    by_reading (Ok h) is e =
-        let same : h ≡ handle = cc (e) in
-        let read : names.handle_in octets ≡ Ok handle = is ∙ ap (λ (t : List ℕ). Ok t) same in
-        rw (handle_is_its_octets octets handle read) at read
-    by_reading (Err fault) is e = cc e
+-- and the digits of a number within the limit are read
+pub whole_is_read : (most n : ℕ) → most < 2 ^ 64 → n ≤ most → whole_within most (decimal n) ≡ Ok n
+whole_is_read most n small within =
+    let spelled = (digits_spell_their_number n (decimal n) (omega arith)).1 refl in
+    rw (spelled.0, spelled.1, le-leb n most within) refl
 
 -- a record that spells a row has three fields, which spell it
-three_were : {Row : Type 0} (read : ℕ → List ℕ → List ℕ → List ℕ → Result Row TableFault) (n : ℕ) (fields : Fields) (row : Row) → of_three read n fields ≡ Ok row → (a : List ℕ) × (b : List ℕ) × (c : List ℕ) × (read n a b c ≡ Ok row)
+three_were : {Row : Type 0} (read : ℕ → List ℕ → List ℕ → List ℕ → Result Row TableFault) (n : ℕ) (fields : Fields) (row : Row) → of_three read n fields ≡ Ok row
+    → (a : List ℕ) × (b : List ℕ) × (c : List ℕ) × (fields ≡ a ∷ b ∷ c ∷ []) × (read n a b c ≡ Ok row)
 three_were read n [] row e = cc e
 three_were read n (a ∷ []) row e = cc e
 three_were read n (a ∷ b ∷ []) row e = cc e
-three_were read n (a ∷ b ∷ c ∷ []) row e = (a, b, c, e)
+three_were read n (a ∷ b ∷ c ∷ []) row e = (a, b, c, refl, e)
 three_were read n (a ∷ b ∷ c ∷ d ∷ more) row e = cc e
 
-demand_is : (n : ℕ) (fields : Fields) (row : DemandEntry) → demand_in n fields ≡ Ok row → IsDemandEntry row
-demand_is n fields row e =
-    let f = three_were demand_of n fields row e in
-    let made = λ (r : List ℕ) (h : List ℕ) (c : ℕ). let d : DemandEntry = record { region = r; handle = h; count = c } in d in
-    let t = three_steps (name_in n f.0) (handle_in n f.1) (number_in n GREATEST_COUNT f.2) made row f.3 in
-    rw (← t.6) (record { region = name_is n f.0 t.0 t.3; handle = handle_is n f.1 t.1 t.4; count = number_within n GREATEST_COUNT f.2 t.2 t.5 })
+abbrev pub demand_fields : DemandEntry → Fields
+demand_fields row = row.region ∷ row.handle ∷ decimal row.count ∷ []
 
-cost_is : (n : ℕ) (fields : Fields) (row : CostEntry) → cost_in n fields ≡ Ok row → IsCostEntry row
-cost_is n fields row e =
-    let f = three_were cost_of n fields row e in
-    let made = λ (r : List ℕ) (s : List ℕ) (c : ℕ). let d : CostEntry = record { region = r; site = s; cost = c } in d in
-    let t = three_steps (name_in n f.0) (name_in n f.1) (number_in n GREATEST_COST f.2) made row f.3 in
-    rw (← t.6) (record { region = name_is n f.0 t.0 t.3; site = name_is n f.1 t.1 t.4; cost = number_within n GREATEST_COST f.2 t.2 t.5 })
+abbrev pub cost_fields : CostEntry → Fields
+cost_fields row = row.region ∷ row.site ∷ decimal row.cost ∷ []
 
-capacity_is : (n : ℕ) (fields : Fields) (row : CapacityEntry) → capacity_in n fields ≡ Ok row → IsCapacityEntry row
-capacity_is n fields row e =
-    let f = three_were capacity_of n fields row e in
-    let made = λ (s : List ℕ) (i : ℕ) (c : ℕ). let d : CapacityEntry = record { site = s; server_id = i; capacity = c } in d in
-    let t = three_steps (name_in n f.0) (number_in n greatest_of_32_bits f.1) (number_in n GREATEST_CAPACITY f.2) made row f.3 in
-    rw (← t.6) (record { site = name_is n f.0 t.0 t.3; server_id = number_within n greatest_of_32_bits f.1 t.1 t.4; capacity = number_within n GREATEST_CAPACITY f.2 t.2 t.5 })
+abbrev pub capacity_fields : CapacityEntry → Fields
+capacity_fields row = row.site ∷ decimal row.server_id ∷ decimal row.capacity ∷ []
+
+demand_is : (n : ℕ) (fields : Fields) (row : DemandEntry) → (demand_in n fields ≡ Ok row) ↔ ((fields ≡ demand_fields row) × IsDemandEntry row)
+demand_is n fields row = (
+  λ e.
+      let (r, h, c, are, read) = three_were demand_of n fields row e in
+      let parts : (r ≡ row.region) × (is_name r ≡ true) × (h ≡ row.handle) × (names.handle_in h ≡ Ok h) × (whole_within GREATEST_COUNT c ≡ Ok row.count) = grind (arith, nat_tests) in
+      let count = whole_is GREATEST_COUNT c row.count (omega arith) parts.4 in
+      (rw are (cc (parts.0, parts.2, count.0)), record { region = rw parts.0 at parts.1; handle = rw parts.2 at parts.3; count = count.1 }),
+  λ (same, is). rw (same, is.region, is.handle, whole_is_read GREATEST_COUNT row.count (omega arith) is.count) refl,
+)
+
+cost_is : (n : ℕ) (fields : Fields) (row : CostEntry) → (cost_in n fields ≡ Ok row) ↔ ((fields ≡ cost_fields row) × IsCostEntry row)
+cost_is n fields row = (
+  λ e.
+      let (r, s, c, are, read) = three_were cost_of n fields row e in
+      let parts : (r ≡ row.region) × (is_name r ≡ true) × (s ≡ row.site) × (is_name s ≡ true) × (whole_within GREATEST_COST c ≡ Ok row.cost) = grind (arith, nat_tests) in
+      let cost = whole_is GREATEST_COST c row.cost (omega arith) parts.4 in
+      (rw are (cc (parts.0, parts.2, cost.0)), record { region = rw parts.0 at parts.1; site = rw parts.2 at parts.3; cost = cost.1 }),
+  λ (same, is). rw (same, is.region, is.site, whole_is_read GREATEST_COST row.cost (omega arith) is.cost) refl,
+)
+
+name_is : (n : ℕ) (text name : List ℕ) → name_in n text ≡ Ok name → (text ≡ name) × (is_name text ≡ true)
+name_is n text name e = grind arith
+
+whole_was : (n most : ℕ) (text : List ℕ) (number : ℕ) → number_in n most text ≡ Ok number → whole_within most text ≡ Ok number
+whole_was n most text number e = grind arith
+
+three_steps : (a : Result (List ℕ) TableFault) (b c : Result ℕ TableFault) (row : CapacityEntry)
+    → (a >>= λ s. b >>= λ i. c >>= λ k. Ok (record { site = s; server_id = i; capacity = k })) ≡ Ok row → (a ≡ Ok row.site) × (b ≡ Ok row.server_id) × (c ≡ Ok row.capacity)
+three_steps a b c row e = grind arith
+
+capacity_is : (n : ℕ) (fields : Fields) (row : CapacityEntry) → (capacity_in n fields ≡ Ok row) ↔ ((fields ≡ capacity_fields row) × IsCapacityEntry row)
+capacity_is n fields row = (
+  λ e.
+      let (s, i, c, are, read) = three_were capacity_of n fields row e in
+      let parts = three_steps (name_in n s) (number_in n greatest_of_32_bits i) (number_in n GREATEST_CAPACITY c) row read in
+      let site : (s ≡ row.site) × (is_name s ≡ true) = name_is n s row.site parts.0 in
+      let id = whole_is greatest_of_32_bits i row.server_id (omega arith) (whole_was n greatest_of_32_bits i row.server_id parts.1) in
+      let capacity = whole_is GREATEST_CAPACITY c row.capacity (omega arith) (whole_was n GREATEST_CAPACITY c row.capacity parts.2) in
+      (rw are (cc (site.0, id.0, capacity.0)), record { site = rw site.0 at site.1; server_id = id.1; capacity = capacity.1 }),
+  λ (same, is).
+      rw (same, is.site, whole_is_read greatest_of_32_bits row.server_id (omega arith) is.server_id, whole_is_read GREATEST_CAPACITY row.capacity (omega arith) is.capacity) refl,
+)
 
 pub demand_keys : IsEquivalence same_demand
 demand_keys = search (rules, comparing)
@@ -118,23 +105,20 @@ cost_keys = search (rules, comparing)
 pub capacity_keys : IsEquivalence same_capacity
 capacity_keys = search (rules, comparing)
 
--- what the rows of a table that is read are
-pub demand_is_read : (records : List Fields) (rows : List DemandEntry) → table_of demand_table records ≡ Ok rows → AreDemand rows
-demand_is_read = rows_are demand_table demand_keys IsDemandEntry demand_is
+-- what the records and the rows of a table that is read are
+pub demand_is_read : (records : List Fields) (rows : List DemandEntry) → (table_of demand_table records ≡ Ok rows) ↔ ((records ≡ demand_table.header ∷ map demand_fields rows) × AreDemand rows)
+demand_is_read = reads_rows demand_table demand_keys demand_fields IsDemandEntry demand_is
 
-pub costs_are : (records : List Fields) (rows : List CostEntry) → table_of cost_table records ≡ Ok rows → AreCosts rows
-costs_are = rows_are cost_table cost_keys IsCostEntry cost_is
+pub costs_are : (records : List Fields) (rows : List CostEntry) → (table_of cost_table records ≡ Ok rows) ↔ ((records ≡ cost_table.header ∷ map cost_fields rows) × AreCosts rows)
+costs_are = reads_rows cost_table cost_keys cost_fields IsCostEntry cost_is
 
-pub capacities_are : (records : List Fields) (rows : List CapacityEntry) → table_of capacity_table records ≡ Ok rows → AreCapacities rows
-capacities_are = rows_are capacity_table capacity_keys IsCapacityEntry capacity_is
-
--- what holds of all rows holds of the row at a place
-at_place : {Row : Type 0} (Is : Row → Type 0) (rows : List Row) (place : ℕ) (row : Row) → AllByRecursion Is rows → slice_get rows place ≡ Some row → Is row
-at_place {Row} Is [] place row all e = let none : ◌≡◌ {A = Option Row} None (Some row) = e in cc
-at_place Is (r ∷ rows) zero row all e = let same : r ≡ row = cc (e) in rw same at all.0
-at_place Is (r ∷ rows) (suc place) row all e = at_place Is rows place row all.1 e
+pub capacities_are : (records : List Fields) (rows : List CapacityEntry)
+    → (table_of capacity_table records ≡ Ok rows) ↔ ((records ≡ capacity_table.header ∷ map capacity_fields rows) × AreCapacities rows)
+capacities_are = reads_rows capacity_table capacity_keys capacity_fields IsCapacityEntry capacity_is
 
 -- the handle of a row was read
 pub handle_was_read : (rows : List DemandEntry) (place : ℕ) (region handle : List ℕ) (count : ℕ) → AreDemand rows → slice_get rows place ≡ Some (record { region = region; handle = handle; count = count })
     → names.handle_in handle ≡ Ok handle
-handle_was_read rows place region handle count are e = (at_place IsDemandEntry rows place _ are.keyed.each e).handle
+handle_was_read rows place region handle count are e =
+    let row : DemandEntry = record { region = region; handle = handle; count = count } in
+    (rw (get_or_from_slice_get rows place row row e) at (All-from_recursion IsDemandEntry rows are.keyed.each place row (slice_get_within rows place row e))).handle

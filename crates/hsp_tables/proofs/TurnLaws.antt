@@ -1,5 +1,5 @@
 -- Rows that are read in turn: what the rows and the first fault are, and what holds of the rows.
-use Rattle.std.proofs.Common.{◌≡◌, ◌∙◌, ◌<◌, ◌+◌, ℕ, Bool, true, false, cond, List, [], ◌∷◌, ◌++◌, length, Result, Ok, Err, append_assoc, refl, sym, ap, subst, arith}
+use Rattle.std.proofs.Common.{◌≡◌, ◌∙◌, ◌⊎◌, inl, inr, ◌<◌, ◌+◌, ℕ, Bool, true, false, cond, List, [], ◌∷◌, ◌++◌, length, Result, Ok, Err, append_assoc, refl, sym, ap, subst, arith}
 use Rattle.std.proofs.lemmas.List.{append-nil, length-append}
 use Rattle.std.proofs.lemmas.Map.Keys.{IsDistinct-push}
 use Rattle.std.specs.Cmp.{IsEquivalence}
@@ -9,34 +9,23 @@ use Rattle.hsp_text.specs.Answers.{◌>>=◌}
 use Rattle.hsp_tables.specs.InTurn.{AreKeyed, FaultStays, Reading, SpellInTurn, rows_after, with_row}
 
 -- a second step that ended well came after a first one that did
-pub first_step : {A B : Type 0} (r : Result A TableFault) (f : A → Result B TableFault) (y : B) → (r >>= f) ≡ Ok y → (x : A) × (r ≡ Ok x) × (f x ≡ Ok y)
+pub first_step : {A B E : Type 0} (r : Result A E) (f : A → Result B E) (y : B) → (r >>= f) ≡ Ok y → (x : A) × (r ≡ Ok x) × (f x ≡ Ok y)
 first_step (Ok x) f y e = (x, refl, e)
 first_step (Err fault) f y e = cc e
 
--- a step that ended well has passed its test
-pub test_passed : {A : Type 0} (test : Bool) (fault : TableFault) (r : Result A TableFault) (y : A) → cond test (Err fault) r ≡ Ok y → (test ≡ false) × (r ≡ Ok y)
-test_passed true fault r y e = cc e
-test_passed false fault r y e = (refl, e)
-
-pub test_held : {A : Type 0} (test : Bool) (fault : TableFault) (x y : A) → cond test (Ok x) (Err fault) ≡ Ok y → (test ≡ true) × (x ≡ y)
-test_held true fault x y e = (refl, cc)
-test_held false fault x y e = cc e
+-- under a test two steps that ended well gave what both made
+pub two_steps : {A B C : Type 0} (test : Bool) (bad : TableFault) (a : Result A TableFault) (b : Result B TableFault) (made : A → B → C) (c : C)
+    → cond test (a >>= λ x. b >>= λ y. Ok (made x y)) (Err bad) ≡ Ok c → (test ≡ true) × (x : A) × (y : B) × (a ≡ Ok x) × (b ≡ Ok y) × (made x y ≡ c)
+two_steps test bad a b made c e = grind arith
 
 -- the row of a further item stands after the others
 pub row_joins : {Item Row : Type 0} (read : Reading Item Row) (earlier : List Row) (item : Item) (rows : List Row) → with_row read earlier item ≡ Ok rows → (row : Row) × (read earlier item ≡ Ok row) × (rows ≡ earlier ++ row ∷ [])
-row_joins read earlier item rows e =
-    let s = first_step (read earlier item) (λ row. Ok (earlier ++ row ∷ [])) rows e in
-    (s.0, s.1, let same : earlier ++ s.0 ∷ [] ≡ rows = cc (s.2) in sym same)
+row_joins read earlier item rows e = grind arith
 
 -- the items in two parts
 pub rows_in_parts : {Item Row : Type 0} (read : Reading Item Row) (earlier : List Row) (a b : List Item) → rows_after read earlier (a ++ b) ≡ (rows_after read earlier a >>= λ rows. rows_after read rows b)
 rows_in_parts read earlier [] b = refl
-rows_in_parts {Row = Row} read earlier (item ∷ a) b = by_step (with_row read earlier item) (λ rows. rows_in_parts read rows a b)
-  where
-    by_step : (r : Result (List Row) TableFault) → ((rows : List Row) → rows_after read rows (a ++ b) ≡ (rows_after read rows a >>= λ t. rows_after read t b))
-        → (r >>= λ rows. rows_after read rows (a ++ b)) ≡ ((r >>= λ rows. rows_after read rows a) >>= λ t. rows_after read t b)
-    by_step (Ok rows) later = later rows
-    by_step (Err fault) later = refl
+rows_in_parts {Row = Row} read earlier (item ∷ a) b = let later = λ (rows : List Row). rows_in_parts read rows a b in grind (arith, later)
 
 -- a fault stays, whatever items follow
 pub fault_stays : {Item Row : Type 0} (read : Reading Item Row) → FaultStays read
@@ -52,28 +41,28 @@ pub record FaultPlace {Item Row : Type 0} (read : Reading Item Row) (earlier : L
   pub good : rows_after read earlier before ≡ Ok rows
   pub refused : read rows bad ≡ Err fault
 
+result_cases : {A E : Type 0} (r : Result A E) → ((x : A) × (r ≡ Ok x)) ⊎ ((fault : E) × (r ≡ Err fault))
+result_cases (Ok x) = inl (x, refl)
+result_cases (Err fault) = inr (fault, refl)
+
 -- every fault has a place
 pub fault_place : {Item Row : Type 0} (read : Reading Item Row) (earlier : List Row) (items : List Item) (fault : TableFault) → rows_after read earlier items ≡ Err fault → FaultPlace read earlier items fault
 fault_place read earlier [] fault e = cc e
-fault_place {Item = Item} {Row = Row} read earlier (item ∷ items) fault e = by_item (read earlier item) refl e (λ rows. fault_place read rows items fault)
-  where
-    further : (row : Row) → read earlier item ≡ Ok row → FaultPlace read (earlier ++ row ∷ []) items fault → FaultPlace read earlier (item ∷ items) fault
-    further row is p = record {
-      before = item ∷ p.before;
-      bad = p.bad;
-      after = p.after;
-      rows = p.rows;
-      place = ap (λ (t : List Item). item ∷ t) p.place;
-      good = rw is p.good;
-      refused = p.refused;
-    }
-
-    by_item : (r : Result Row TableFault) → read earlier item ≡ r → (r >>= (λ row. Ok (earlier ++ row ∷ [])) >>= λ rows. rows_after read rows items) ≡ Err fault
-        → ((rows : List Row) → rows_after read rows items ≡ Err fault → FaultPlace read rows items fault) → FaultPlace read earlier (item ∷ items) fault
-    by_item (Ok row) is e later = further row is (later (earlier ++ row ∷ []) e)
-    by_item (Err other) is e later =
-        let same : other ≡ fault = cc (e) in
-        record { before = []; bad = item; after = items; rows = earlier; place = refl; good = refl; refused = rw (← same) is }
+fault_place {Item = Item} read earlier (item ∷ items) fault e =
+    elim (result_cases (read earlier item)) [
+      | inl (row, is) ↦
+          let p = fault_place read (earlier ++ row ∷ []) items fault (rw is at e) in
+          record {
+            before = item ∷ p.before;
+            bad = p.bad;
+            after = p.after;
+            rows = p.rows;
+            place = ap (λ (t : List Item). item ∷ t) p.place;
+            good = rw is p.good;
+            refused = p.refused;
+          }
+      | inr (other, is) ↦ record { before = []; bad = item; after = items; rows = earlier; place = refl; good = refl; refused = grind (arith, is) }
+    ]
 
 -- what holds of no rows, and still holds with each further one, holds of all
 pub rows_keep : {Item Row : Type 0} (P : List Row → Type 0) (read : Reading Item Row) → ((earlier : List Row) (item : Item) (row : Row) → P earlier → read earlier item ≡ Ok row → P (earlier ++ row ∷ []))
@@ -125,19 +114,12 @@ module _ {Item Row : Type 0} (read : Reading Item Row) (bad : List Row → Bool)
 
   -- a row that passes the test was read
   row_passed : (earlier : List Row) (item : Item) (row : Row) → tested earlier item ≡ Ok row → (read earlier item ≡ Ok row) × (bad (earlier ++ row ∷ []) ≡ false)
-  row_passed earlier item row e =
-      let first = first_step (read earlier item) _ row e in
-      let held = test_passed (bad (earlier ++ first.0 ∷ [])) fault (Ok first.0) row first.2 in
-      let same : first.0 ≡ row = cc (held.1) in
-      (rw same at first.1, rw same at held.0)
+  row_passed earlier item row e = grind arith
 
   -- the rows that pass it are those that are read
   pub passed_are_read : (items : List Item) (earlier rows : List Row) → rows_after tested earlier items ≡ Ok rows → rows_after read earlier items ≡ Ok rows
   passed_are_read [] earlier rows e = e
-  passed_are_read (item ∷ items) earlier rows e =
-      let step = first_step (with_row tested earlier item) (λ t. rows_after tested t items) rows e in
-      let joins = row_joins tested earlier item step.0 step.1 in
-      rw ((row_passed earlier item joins.0 joins.1).0, ← joins.2) (passed_are_read items step.0 rows step.2)
+  passed_are_read (item ∷ items) earlier rows e = let later = λ (t : List Row). passed_are_read items t rows in grind (arith, later)
 
   pub passed_are_good : (items : List Item) (rows : List Row) → bad [] ≡ false → rows_after tested [] items ≡ Ok rows → bad rows ≡ false
   passed_are_good items rows none e = rows_keep (λ (t : List Row). bad t ≡ false) tested (λ earlier item row good is. (row_passed earlier item row is).1) items [] rows none e

@@ -1,5 +1,6 @@
 -- Two names by which a row is kept, and the rows that are kept by them.
 use Rattle.std.specs.Prelude.{ℕ, List, drop, take}
+use Rattle.hsp_pair_map.specs.Pairs.{Pair}
 use Rattle.hsp_tables.specs.Costs.{CostEntry}
 use Rattle.hsp_tables.specs.Demand.{DemandEntry}
 
@@ -17,3 +18,7 @@ demand_entry e = record { region = e.0.first; handle = e.0.second; count = e.1 }
 
 abbrev pub cost_entry : PairName × ℕ → CostEntry
 cost_entry e = record { region = e.0.first; site = e.0.second; cost = e.1 }
+
+-- the names of a row
+abbrev pub pair_of : PairName × ℕ → Pair
+pair_of e = record { first = e.0.first; second = e.0.second }

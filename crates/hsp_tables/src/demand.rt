@@ -1,19 +1,21 @@
 // The table of demand: how many queries for a handle come from a region.
 
-ghost use Rattle.std.specs.Prelude.{◌≡◌, ◌<◌, Ok, Some, length, position, refl, slice_get};
+ghost use Rattle.std.specs.Prelude.{◌≡◌, ◌≤◌, ◌<◌, IfOk, Ok, Some, length, map, position, refl, slice_get};
 ghost use Rattle.hsp_csv.specs.Records.{records_of};
 ghost use Rattle.hsp_names.specs.Handle.{handle_in};
 ghost use Rattle.hsp_tables.specs.declared.fault.TableFault.TheVariants.{OutOfMemory};
 ghost use Rattle.hsp_text.specs.Answers.{GivesUnless};
 ghost use Rattle.hsp_tables.specs.Table.{table_of};
 ghost use Rattle.hsp_tables.specs.Demand.{AreDemand, demand_table, is_demand};
+ghost use Rattle.hsp_tables.specs.Keyed.{pair_of};
 ghost use Rattle.hsp_tables.specs.Rows.{demand_shown};
 
 use crate::fault::TableFault;
 use crate::fields::{handle_in, name_in, number_in};
-use crate::keyed::{LentPair, PairKey};
+use crate::keyed::PairKey;
 use crate::table::{Kind, Three, read_table};
 use hsp_names::HandleRef;
+use hsp_pair_map::PairMap;
 use hsp_text::limits::{GREATEST_COUNT, MOST_DEMAND_ROWS};
 use indexmap::IndexMap;
 use std::alloc::{AllocError, Global};
@@ -26,18 +28,20 @@ use std::rc::Rc;
 #[derive(Drop)]
 pub struct Demand {
     rows: Rc<IndexMap<PairKey, u64>>,
+    numbers: Rc<PairMap>,
 }
 
 impl Model for Demand {
-    ghost use Rattle.std.specs.Prelude.{List, map};
+    ghost use Rattle.std.specs.Prelude.{◌≡◌, List, map};
     ghost use Rattle.hsp_tables.specs.Demand.{AreDemand, DemandEntry};
-    ghost use Rattle.hsp_tables.specs.Keyed.{demand_entry};
+    ghost use Rattle.hsp_tables.specs.Keyed.{demand_entry, pair_of};
 
     ghost Value = { List DemandEntry };
 
     ghost view = { λ t. map demand_entry t.rows.value.entries };
 
-    ghost invariant = { λ t. AreDemand (map demand_entry t.rows.value.entries) };
+    ghost invariant = { λ t. AreDemand (map demand_entry t.rows.value.entries)
+        × (t.numbers.value ≡ map pair_of t.rows.value.entries) };
 }
 
 impl Clone for Demand {
@@ -45,7 +49,8 @@ impl Clone for Demand {
 
     fn clone(&self) -> Result<Demand, AllocError> {
         let rows = self.rows.clone()?;
-        Ok(Demand { rows })
+        let numbers = self.numbers.clone()?;
+        Ok(Demand { rows, numbers })
     }
 }
 
@@ -98,9 +103,7 @@ impl Demand {
     pub fn find(&self, region: &[u8], handle: &[u8]) -> Option<u32>
         ensures { result ≡ position (is_demand region.now handle.now) self.now }
     {
-        let (first, second) = (region, handle);
-        let number = self.rows.get_index_of(LentPair { first, second })?;
-        Some(number as u32)
+        self.numbers.find(region, handle)
     }
 }
 
@@ -140,6 +143,19 @@ impl Kind for Demand {
     ghost same = { λ _ _. refl };
 }
 
+// The numbers of rows by their names. There are four buckets for each row.
+fn numbers_of(alloc: Global, rows: &IndexMap<PairKey, u64>) -> Result<PairMap, AllocError>
+    requires { length rows.now.entries ≤ MOST_DEMAND_ROWS }
+    ensures { IfOk result (λ numbers. numbers ≡ map pair_of rows.now.entries) }
+{
+    let mut numbers = PairMap::new(alloc, 4 * rows.len() as u32 + 1)?;
+    for number in 0..rows.len() {
+        let (key, _) = rows.get_index(number).unwrap();
+        numbers.push(key.first(), key.second())?;
+    }
+    Ok(numbers)
+}
+
 /// The demand that a text of comma-separated values spells, or its first fault.
 ///
 /// The header is `region,handle,count`. The order of faults is: Header; then record by record TooManyRows (this record
@@ -149,6 +165,7 @@ pub fn read_demand(alloc: Global, text: &[u8]) -> Result<Demand, TableFault>
         table_of demand_table (records_of text.now)) }
 {
     let rows = read_table::<Demand>(alloc, text, &[b"region", b"handle", b"count"])?;
+    let numbers = Rc::new(alloc, numbers_of(alloc, &rows)?)?;
     let rows = Rc::new(alloc, rows)?;
-    Ok(Demand { rows })
+    Ok(Demand { rows, numbers })
 }

@@ -1,0 +1,7 @@
+-- Chains of places by the bucket that each belongs to.
+use Rattle.std.specs.Prelude.{ℕ, zero, suc, ◌==◌, if◌then◌else◌}
+
+-- the number behind the last of the first n places that belong to a bucket, or 0 where none does
+unfoldable pub last_of : (ℕ → ℕ) → ℕ → ℕ → ℕ
+last_of bucket at zero = 0
+last_of bucket at (suc n) = if bucket n == at then suc n else last_of bucket at n

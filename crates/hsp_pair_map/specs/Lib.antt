@@ -1,0 +1,4 @@
+pub mod Pairs
+pub mod Hashing
+pub mod Chains
+pub mod Held

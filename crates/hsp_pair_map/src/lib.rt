@@ -1,0 +1,7 @@
+// A map from pairs of names to their numbers, in the order in which they were added.
+#![tactic(auto)]
+
+mod hashing;
+mod pair_map;
+
+pub use pair_map::PairMap;
