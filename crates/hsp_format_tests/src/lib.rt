@@ -11,6 +11,8 @@ mod hash_tests;
 #[cfg(test)]
 mod names_tests;
 #[cfg(test)]
+mod pair_map_tests;
+#[cfg(test)]
 mod record_tests;
 #[cfg(test)]
 mod same;

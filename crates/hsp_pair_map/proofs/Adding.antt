@@ -16,7 +16,7 @@ use Rattle.hsp_pair_map.proofs.Chaining.{last_alike}
 within_more : (a b : ℕ) (xs ys : List ℕ) → a ≤ b → b ≤ length xs → take (b - a) (drop a (xs ++ ys)) ≡ take (b - a) (drop a xs)
 within_more a b xs ys l m =
     rw (drop-append-le a xs ys (omega (arith, l, m)))
-      (take-append-le (b - a) (drop a xs) ys (omega (arith, length-drop a xs, l, m)))
+    (take-append-le (b - a) (drop a xs) ys (omega (arith, length-drop a xs, l, m)))
 
 -- the pair of an entry stays where more octets follow
 pair_kept : (xs ys : List ℕ) (e : Entry) → IsSpan xs e → pair_in (xs ++ ys) e ≡ pair_in xs e
@@ -36,10 +36,10 @@ module _ (xs ys : List ℕ) (entries : List Entry) (lasts : List ℕ) (held : Ar
 
   pub held_still : AreHeld (xs ++ ys) entries lasts
   held_still = record {
-      some = held.some;
-      buckets = held.buckets;
-      few = held.few;
-      each = λ k l.
+    some = held.some;
+    buckets = held.buckets;
+    few = held.few;
+    each = λ k l.
         let one = held.each k l in
         let same = pair_kept xs ys (entry_at entries k) one.span in
         record {
@@ -50,10 +50,10 @@ module _ (xs ys : List ℕ) (entries : List Entry) (lasts : List ℕ) (held : Ar
           };
           mark = rw same one.mark;
           before = rw (bucket_kept k l)
-            (one.before ∙ sym (last_alike _ _ (bucket_at (length lasts) xs entries k) k (λ j m. bucket_kept j (omega (arith, l, m)))));
+              (one.before ∙ sym (last_alike _ _ (bucket_at (length lasts) xs entries k) k (λ j m. bucket_kept j (omega (arith, l, m)))));
         };
-      last = λ b l. held.last b l ∙ sym (last_alike _ _ b (length entries) bucket_kept);
-    }
+    last = λ b l. held.last b l ∙ sym (last_alike _ _ b (length entries) bucket_kept);
+  }
 
   pub pairs_still : map (pair_in (xs ++ ys)) entries ≡ map (pair_in xs) entries
   pairs_still = pairs_kept xs ys entries (λ k l. (held.each k l).span)
@@ -93,11 +93,11 @@ module _ (octets : List ℕ) (entries : List Entry) (lasts : List ℕ) (held : A
   each : (k : ℕ) → k < length more → IsHeld octets more (length lasts) k
   each k l = elim (cases_eq k (length entries)) [
     | inl new ↦ rw new (record {
-        span = rw new_entry span;
-        mark = rw new_entry mark;
-        before = rw (new_entry, ← own)
+      span = rw new_entry span;
+      mark = rw new_entry mark;
+      before = rw (new_entry, ← own)
           (before ∙ held.last b inside ∙ sym (last_alike new_bucket old_bucket b (length entries) same_buckets));
-      })
+    })
     | inr other ↦
         let old : k < length entries = omega (arith, l, length_push entries e, other) in
         let one = held.each k old in
@@ -105,7 +105,7 @@ module _ (octets : List ℕ) (entries : List Entry) (lasts : List ℕ) (held : A
           span = rw (old_entry k old) one.span;
           mark = rw (old_entry k old) one.mark;
           before = rw (old_entry k old)
-            (one.before ∙ sym (last_alike new_bucket old_bucket (old_bucket k) k (λ j m. same_buckets j (omega (arith, m, old)))));
+              (one.before ∙ sym (last_alike new_bucket old_bucket (old_bucket k) k (λ j m. same_buckets j (omega (arith, m, old)))));
         }
   ]
 
@@ -116,20 +116,20 @@ module _ (octets : List ℕ) (entries : List Entry) (lasts : List ℕ) (held : A
         rw (same, its_bucket, eq-eqb b b refl) (get_or-set_same lasts b (length entries + 1) 0 inside ∙ omega arith)
     | inr other ↦
         rw (its_bucket, ne_eqb b a (λ s. other (sym s)))
-          (get_or-set_other lasts b a (length entries + 1) 0 other ∙ held.last a l
-          ∙ sym (last_alike new_bucket old_bucket a (length entries) same_buckets))
+        (get_or-set_other lasts b a (length entries + 1) 0 other ∙ held.last a l
+        ∙ sym (last_alike new_bucket old_bucket a (length entries) same_buckets))
   ]
 
   pub held_more : AreHeld octets more now
   held_more = record {
-      some = rw many held.some;
-      buckets = rw many held.buckets;
-      few = omega (arith, few, length_push entries e);
-      each = λ k l. rw many (each k l);
-      last = λ a l.
+    some = rw many held.some;
+    buckets = rw many held.buckets;
+    few = omega (arith, few, length_push entries e);
+    each = λ k l. rw many (each k l);
+    last = λ a l.
         let long : length more ≡ suc (length entries) = omega (arith, length_push entries e) in
         rw (many, long) (last a (rw many at l));
-    }
+  }
 
 -- a pair whose octets lie behind those of the others
 module _ (xs first second : List ℕ) (entries : List Entry) (lasts : List ℕ) (held : AreHeld xs entries lasts)
@@ -146,10 +146,10 @@ module _ (xs first second : List ℕ) (entries : List Entry) (lasts : List ℕ) 
 
   pub span_added : IsSpan octets e
   span_added = record {
-      first = omega (arith, start, cut);
-      second = omega (arith, cut, end);
-      within = omega (arith, end, length_added);
-    }
+    first = omega (arith, start, cut);
+    second = omega (arith, cut, end);
+    within = omega (arith, end, length_added);
+  }
 
   its_first : take (length first) (drop (length xs) octets) ≡ first
   its_first =
@@ -177,4 +177,4 @@ module _ (xs first second : List ℕ) (entries : List Entry) (lasts : List ℕ) 
   held_added hash is mark b own inside before few =
       let still = held_still (xs ++ first) second entries lasts (held_still xs first entries lasts held) in
       held_more octets entries lasts still e span_added (rw pair_added (rw is at mark)) b (rw pair_added (rw is at own)) inside
-        (before ∙ get_or_default lasts b e.before 0 inside) few
+      (before ∙ get_or_default lasts b e.before 0 inside) few

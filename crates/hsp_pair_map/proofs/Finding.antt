@@ -59,7 +59,7 @@ module _ (octets : List ℕ) (entries : List Entry) (lasts : List ℕ) (held : A
       let at = bucket_of buckets (hash_of p) in
       let inside : r < length entries = omega (arith, searched.within, n) in
       let before : (entry_at entries r).before ≡ last_of h at r =
-          (held.each r inside).before ∙ ap (λ b. last_of h b r) (searched.own r n) in
+      (held.each r inside).before ∙ ap (λ b. last_of h b r) (searched.own r n) in
       record {
         within = rw before (omega (arith, last_within h at r, inside));
         own = λ s m. last_own h at r s (sym before ∙ m);
@@ -81,10 +81,10 @@ module _ (octets : List ℕ) (entries : List Entry) (lasts : List ℕ) (held : A
   found_nowhere searched n e = elim (cases_lt n (length entries)) [
     | inl inside ↦
         let there : Some (pair_in octets (entry_at entries n)) ≡ Some p =
-            sym (slice_get-map (pair_in octets) entries n ∙ rw (slice_get-get_or entries n no_entry inside) refl) ∙ e in
+        sym (slice_get-map (pair_in octets) entries n ∙ rw (slice_get-get_or entries n no_entry inside) refl) ∙ e in
         searched.others n (omega arith) inside cc
     | inr past ↦
         let none : slice_get (map (pair_in octets) entries) n ≡ None =
-            slice_get-map (pair_in octets) entries n ∙ rw (slice_get_past entries n past) refl in
+        slice_get-map (pair_in octets) entries n ∙ rw (slice_get_past entries n past) refl in
         absurd cc
   ]

@@ -8,9 +8,9 @@ use Rattle.hsp_pair_map.specs.declared.pair_map.Entry.{Entry}
 -- the pair of an entry
 abbrev pub pair_in : List ℕ → Entry → Pair
 pair_in octets e = record {
-    first = take (e.cut - e.start) (drop e.start octets);
-    second = take (e.end - e.cut) (drop e.cut octets);
-  }
+  first = take (e.cut - e.start) (drop e.start octets);
+  second = take (e.end - e.cut) (drop e.cut octets);
+}
 
 abbrev pub no_entry : Entry
 no_entry = record { mark = 0; before = 0; start = 0; cut = 0; end = 0 }

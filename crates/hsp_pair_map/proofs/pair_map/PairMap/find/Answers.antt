@@ -6,8 +6,8 @@ pub chain-init : goal.chain-init
 chain-init c =
     let m = c.self.inside in
     searched_first m.octets.items m.entries.items m.lasts.items c.self.invariant _ c.bucket_of.result c.index-number.result.now
-      (rw (c.len.ensures, c.hash_of-hash.ensures, m.lasts.ok.0) at c.bucket_of.ensures.bucket) (rw (c.len.ensures, m.lasts.ok.0) at c.bucket_of.ensures.within)
-      c.index-number.ensures
+    (rw (c.len.ensures, c.hash_of-hash.ensures, m.lasts.ok.0) at c.bucket_of.ensures.bucket) (rw (c.len.ensures, m.lasts.ok.0) at c.bucket_of.ensures.within)
+    c.index-number.ensures
 
 pub index-entry-requires : goal.index-entry-requires
 index-entry-requires c = omega (arith, c.chain.invariant.within, c.chain-test.true)
@@ -29,7 +29,7 @@ returns-then-is_pair-clause-found c =
     let m = c.self.inside in
     let entry = entry_read m.entries.items c.chain.number c.index-entry.result.now c.chain.invariant.within c.chain-test.true c.index-entry.ensures in
     rw (← c.self.view_is) (found_there m.octets.items m.entries.items m.lasts.items c.self.invariant _ (c.chain.number - 1) entry.1
-      (rw (c.deref.ensures.value, entry.2) at c.is_pair.ensures.0 c.if-is_pair.true))
+    (rw (c.deref.ensures.value, entry.2) at c.is_pair.ensures.0 c.if-is_pair.true))
 
 pub chain-smaller : goal.chain-smaller
 chain-smaller c =
@@ -43,7 +43,7 @@ chain-preserved c =
     let m = c.self.inside in
     let entry = entry_read m.entries.items c.chain.number c.index-entry.result.now c.chain.invariant.within c.chain-test.true c.index-entry.ensures in
     rw entry.2 (searched_next m.octets.items m.entries.items m.lasts.items c.self.invariant _ c.chain.number (c.chain.number - 1) entry.0 c.chain.invariant
-      (λ same. let is = rw (c.deref.ensures.value, entry.2) at c.is_pair.ensures.1 same in absurd cc))
+    (λ same. let is = rw (c.deref.ensures.value, entry.2) at c.is_pair.ensures.1 same in absurd cc))
 
 pub returns-clause-none : goal.returns-clause-none
 returns-clause-none c =
