@@ -10,6 +10,7 @@ and zsh as well, where these are installed.
 It fails where
 
 - the README or docs/understand/ARCHITECTURE.md does not name a crate of crates.txt;
+- a table of modules of docs/understand/ARCHITECTURE.md names one that is not there, or lacks one;
 - docs/maintain/GATE.md states another number of edits, tests, wrong bodies, crates or cases of the program than there
   is;
 - a document names a link, a `make` target or a script that is not there;
@@ -64,6 +65,25 @@ def missing_crates():
     crates = crates_of()
     faults = [f"{path} does not name the crate {it}" for path in ("README.md", "docs/understand/ARCHITECTURE.md") for it in crates if f"`{it}`" not in text_of(path)]
     return faults, len(crates)
+
+
+# Modules that every crate may have, and that no table names.
+EVERYWHERE = {"lib", "main", "laws", "fault"}
+
+
+def wrong_modules():
+    """The modules that a table of docs/understand/ARCHITECTURE.md names and that are not there, or that it lacks; and how
+    many it names."""
+    faults, count = [], 0
+    head = r"(?:^The modules of `(\w+)`:|^\*\*`(\w+)`\*\*[^\n]*)\n\n(\| Modules \|.*?)(?:\n\n|\Z)"
+    for plain, bold, table in re.findall(head, text_of("docs/understand/ARCHITECTURE.md"), re.M | re.S):
+        crate = plain or bold
+        told = {it for row in rows(table) for it in named(row[0])}
+        there = {os.path.basename(it)[:-3] for it in glob.glob(f"{TOP}/crates/{crate}/src/*.rt")}
+        count += len(told)
+        faults += [f"docs/understand/ARCHITECTURE.md names a module that {crate} does not have: {it}" for it in sorted(told - there)]
+        faults += [f"docs/understand/ARCHITECTURE.md lacks a module of {crate}: {it}" for it in sorted(there - told - EVERYWHERE)]
+    return faults, count
 
 
 def tests_of(crate):
@@ -218,6 +238,7 @@ def wrong_in(shell, found, program):
 
 KINDS = {
     "crates": missing_crates,
+    "modules of crates": wrong_modules,
     "crates counted": wrong_counts,
     "links": missing_links,
     "targets and scripts": missing_targets,

@@ -14,7 +14,7 @@ LinesStand ls = (claim : Claim) × IsCertificate claim × (more : List (List ℕ
 abbrev pub HasNoEnd : List (List ℕ) → Type 0
 HasNoEnd ls = AllByRecursion (λ l. l ≡ codes "END" → ⊥) ls
 
--- line n, at or before END, is the first with LF that can't stand
+-- line n, counted from 1, at or before END, is the first with LF that can't stand
 abbrev pub IsBadLine : List ℕ → ℕ → Type 0
 IsBadLine text n =
     (before : List (List ℕ)) × (line : List ℕ) × (rest : List ℕ) × (text ≡ unlines before ++ (line ++ 10 ∷ rest))

@@ -1,4 +1,4 @@
--- Reading a certificate item after item.
+-- How a reader takes a certificate, item after item. What a certificate is stands in Text.antt.
 use Rattle.std.specs.Prelude.{◌==◌, ◌||◌, ℕ, Bool, true, false, List, [], nat_le, Option, Some, None, option_map}
 use Rattle.hsp_text.specs.declared.limits.TheConstants.{GREATEST_SUM}
 use Rattle.hsp_cert.specs.declared.stage.Stage.{Stage}

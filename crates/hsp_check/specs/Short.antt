@@ -16,7 +16,7 @@ reached n rows = filter (reaches n rows) (range_with_len 0 (length n.capacities)
 abbrev pub demand_of : Network → (ℕ → Bool) → ℕ
 demand_of n rows = cuts.demand_of (transport n) rows
 
--- what the servers that the rows of the set may use can take, each once
+-- what the servers that the rows of the set may use can take, each once, and those of a host no more than its limit
 abbrev pub capacity_of : Network → (ℕ → Bool) → ℕ
 capacity_of n rows = cuts.capacity_of (transport n) rows
 

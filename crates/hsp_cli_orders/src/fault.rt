@@ -1,3 +1,5 @@
+// Why words give no order.
+
 ghost use Rattle.std.specs.Prelude.{◌≡◌};
 ghost use Rattle.hsp_cli_orders.specs.declared.fault.CommandFault.TheVariants.{OutOfMemory};
 

@@ -67,7 +67,8 @@ abbrev pub answer_at : Instance → ℕ → Option ℕ → Answer
 answer_at it row None = Spent
 answer_at it row (Some site) = assigned_to site (server_to it row site)
 
--- An entry is answered by the element of its row's spread whose number is the number of earlier entries for the row.
+-- An entry is answered by the element of its row's spread whose number is the number of earlier entries for the row. It
+-- is unknown where no row has its region and its handle.
 abbrev pub answer_in : Instance → Plan → List Entry → Option ℕ → Answer
 answer_in it x earlier None = Unknown
 answer_in it x earlier (Some row) = answer_at it row (slice_get (spread it x row) (count_for it row earlier))

@@ -1,4 +1,4 @@
--- Portions of a plan: the share of one front, each query of which stands for so many answers.
+-- Portions of a plan: the share of one front (Fronts.antt), each query of which stands for so many answers.
 use Rattle.std.specs.Prelude.{◌≡◌, ◌*◌, ◌==◌, ℕ, List, [], ◌∷◌, length, if◌then◌else◌}
 use Rattle.hsp_cert.specs.declared.use_line.UseLine.{UseLine}
 use Rattle.hsp_check.specs.Plan.{Plan}

@@ -1,4 +1,5 @@
--- What a dispatcher holds: for each row, how many of its queries are left for which site.
+-- What a dispatcher holds: for each row, how many of its queries are left for which site. The shares of fronts are
+-- defined in Fronts.antt.
 use Rattle.std.specs.Prelude.{◌≡◌, ◌-◌, ◌<◌, ◌==◌, ⊤, true, ℕ, List, [], ◌∷◌, length, slice_index_or, All, Option, None}
 use Rattle.std.specs.Prelude.{Some, if◌then◌else◌}
 use Rattle.std.specs.List.{AllByRecursion, list_all, slice_get}

@@ -1,3 +1,5 @@
+// Why a command is refused.
+
 ghost use Rattle.std.specs.Prelude.{◌≡◌};
 ghost use Rattle.hsp_faults.specs.FaultText.{log_told};
 ghost use Rattle.hsp_faults.specs.declared.fault.Fault.TheVariants.{OutOfMemory};

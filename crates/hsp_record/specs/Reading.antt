@@ -1,4 +1,5 @@
--- Reading from left to right: what a reader takes from the front of the octets, and where it stops.
+-- Reading from left to right: what a reader takes from the front of the octets, and where it stops. The formats
+-- themselves are in Site.antt and Values.antt.
 use Rattle.std.specs.Prelude.{◌≡◌, ℕ, zero, suc, ◌-◌, ◌≤◌, List, [], ◌∷◌, ◌++◌, length, take, drop, Result, Ok, Err}
 use Rattle.std.specs.Prelude.{nat_lt, nat_eq, Bool, if◌then◌else◌}
 use Rattle.std.specs.List.{list_any, slice_index}

@@ -34,6 +34,7 @@ pub record Site : Type 0 where
   pub attributes : List AttributePair
   pub servers : List Server
 
+-- two texts, each after its length in four octets
 abbrev pub attribute_fields : AttributePair → List (List ℕ)
 attribute_fields a = run_fields a.name ++ run_fields a.value
 

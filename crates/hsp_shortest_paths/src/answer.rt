@@ -1,3 +1,5 @@
+// The outcome of the solver: an optimum with its prices, or a short set.
+
 ghost use Rattle.std.specs.Prelude.{◌≡◌, ℕ, ◌+◌, ◌-◌, ◌<◌, ◌≤◌, IfOk, length, slice_index};
 ghost use Rattle.hsp_network.specs.Answer.{IsMet, IsShortSet};
 ghost use Rattle.hsp_shortest_paths.specs.Layout.{IsSmall};

@@ -1,3 +1,5 @@
+// What the solver works on: arcs in chains, the flow on them, and the tree of a search.
+
 ghost use Rattle.std.specs.Prelude.{length};
 ghost use Rattle.hsp_shortest_paths.specs.Index.{AreChains};
 ghost use Rattle.hsp_shortest_paths.specs.Graph.{Graph, Scale};

@@ -1,3 +1,5 @@
+// The augmentation of the flow along a path of the tree.
+
 ghost use Rattle.std.specs.Prelude.{◌≡◌, ◌≢◌, ℕ, ◌+◌, ◌<◌, ◌≤◌, length, slice_index};
 ghost use Rattle.hsp_network.specs.Sums.{only};
 ghost use Rattle.hsp_shortest_paths.specs.Residual.{IsTree, Sound, nodes, raised};

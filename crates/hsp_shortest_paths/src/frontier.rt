@@ -1,3 +1,5 @@
+// What a frontier is: the nodes that a search has reached and not settled.
+
 ghost use Rattle.std.specs.Prelude.{◌≡◌, ℕ, ◌+◌, ◌<◌, ◌≤◌, ◌↔◌, IfOk, IsOk, IsTrue, OnOk, IfSome, IsSomeAnd, IfNone};
 ghost use Rattle.std.specs.Prelude.{OnErr, Option};
 ghost use Rattle.hsp_shortest_paths.specs.Frontier.{Changes, HoldsNone, IsLeast};

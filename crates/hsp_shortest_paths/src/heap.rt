@@ -1,3 +1,5 @@
+// A frontier over a binary heap.
+
 ghost use Rattle.std.specs.Prelude.{◌≡◌, ℕ, ◌<◌, ◌≤◌, ◌-◌, ◌↔◌, IsTrue, ⊤, true, Option, Some, None, slice_index_or};
 ghost use Rattle.std.specs.Prelude.{length, vec_len};
 ghost use Rattle.std.specs.List.{list_any};

@@ -1,3 +1,5 @@
+// The arcs of each node in chains, by their tails and by their heads.
+
 ghost use Rattle.std.specs.Prelude.{◌≡◌, ℕ, ◌<◌, IfOk, length, slice_index};
 ghost use Rattle.hsp_shortest_paths.specs.Index.{AreChains};
 

@@ -1,3 +1,5 @@
+// A push of flow over one residual arc.
+
 ghost use Rattle.std.specs.Prelude.{◌≡◌, ◌<◌, ◌≤◌, length};
 ghost use Rattle.hsp_shortest_paths.specs.Residual.{IsBalanced, Pushes, width};
 

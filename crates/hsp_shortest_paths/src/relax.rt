@@ -1,3 +1,5 @@
+// The relaxation of a node: a way that is shorter than the one that it has is taken.
+
 ghost use Rattle.std.specs.Prelude.{◌≡◌, ℕ, ◌≤◌, length, OnOk};
 ghost use Rattle.hsp_shortest_paths.specs.Search.{MayBeOffered, Offered};
 

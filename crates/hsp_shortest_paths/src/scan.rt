@@ -1,3 +1,5 @@
+// A frontier that is scanned for its least key.
+
 ghost use Rattle.std.specs.Prelude.{◌≡◌, ℕ, ◌<◌, ◌≤◌, ⊤, Option, None, slice_index_or, vec_len};
 
 use crate::frontier::Frontier;

@@ -1,3 +1,5 @@
+// The search for shortest paths by reduced costs, up to the sink (Dijkstra; Network Flows, section 4.5).
+
 ghost use Rattle.std.specs.Prelude.{◌≡◌, ◌≢◌, ℕ, ◌+◌, ◌*◌, ◌<◌, ◌≤◌, ◌^◌, Bool, true, false, length, slice_index, OnOk};
 ghost use Rattle.std.specs.Prelude.{IfOk, IsTrue};
 ghost use Rattle.hsp_shortest_paths.specs.Residual.{nodes};

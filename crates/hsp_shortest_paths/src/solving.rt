@@ -1,3 +1,5 @@
+// The solver: from no flow, source after source, to its outcome.
+
 ghost use Rattle.std.specs.Prelude.{◌≡◌, ℕ, ◌+◌, ◌<◌, IfOk, length, slice_index};
 ghost use Rattle.hsp_network.specs.Answer.{Answers};
 ghost use Rattle.hsp_shortest_paths.specs.Layout.{IsSmall};

@@ -1,3 +1,5 @@
+// Successive shortest paths from one source, until nothing is left to send (Network Flows, section 9.7).
+
 ghost use Rattle.std.specs.Prelude.{◌≡◌, ◌≢◌, ℕ, ◌+◌, ◌*◌, ◌<◌, ◌≤◌, ◌^◌, length, slice_index, OnOk, IfOk, IfNone};
 ghost use Rattle.std.specs.Prelude.{IfSome, IsTrue, false};
 ghost use Rattle.hsp_shortest_paths.specs.Residual.{nodes};

@@ -1,3 +1,5 @@
+// The lists of the arcs: hosts, servers and the sink are nodes behind those of the sources.
+
 ghost use Rattle.std.specs.Prelude.{◌≡◌, ℕ, ◌+◌, ◌-◌, ◌<◌, ◌≤◌, [], IfOk, None, OnOk, length, replicate, slice_index};
 ghost use Rattle.std.specs.Prelude.{slice_index_or};
 ghost use Rattle.hsp_shortest_paths.specs.Layout.{Appends, CapacitiesOf, CostsOf, HeadsOf, IsSmall, SuppliesOf};

@@ -1,3 +1,5 @@
+// The update of the potentials after a search.
+
 ghost use Rattle.std.specs.Prelude.{◌≡◌, ℕ, ◌+◌, ◌-◌, ◌<◌, ◌^◌, length, slice_index};
 ghost use Rattle.hsp_shortest_paths.specs.Search.{top};
 
