@@ -1,7 +1,8 @@
 #!/usr/bin/env python3
-"""Measures how many rows of a log the built program answers in a second, over an instance at the limits.
+"""Measures how many rows of a log the built program answers in a second, over an instance at the limits, and peers by
+turns with it.
 
-    tools/measure_dispatch.py [--rows N] [--turns N] [--times N] [--program FILE]
+    tools/measure_dispatch.py [--rows N] [--turns N] [--times N] [--program FILE] [--stream FILE]
 
 It measures without fronts and with 64 fronts, by turns. By default the log has 10,000,000 rows, and there are 7
 turns.
@@ -10,12 +11,20 @@ The instance has 8,192 rows, 64 regions, 32 sites of 32 servers, 2,048 costs, an
 many (`--times N`). A log draws its rows at random by their counts, and with fronts also a front for each row. So most
 of it is assigned.
 
+The peers are tools/dispatch_peer, in Rust over the crates csv and indexmap, where cargo and these crates of Debian are
+there (librust-csv-dev, librust-indexmap-dev). They are given the answers of each row, which hsplan-stream gives. Their
+answers to the log have to be those of hsplan, octet for octet.
+
 Seconds are processor seconds, and memory is its peak. A run on a log of only a header measures what is spent before
 the first row. All runs are on one processor, where the machine lets one be chosen.
 """
 import argparse
+import glob
+import hashlib
+import itertools
 import os
 import random
+import shutil
 import statistics
 import subprocess
 import sys
@@ -107,18 +116,63 @@ def timed(words):
         return seconds, memory, told.read()
 
 
+def peer_in(folder):
+    """The peer, compiled in a folder, or None where that cannot be done."""
+    registry = "/usr/share/cargo/registry"
+    if not shutil.which("cargo") or not glob.glob(f"{registry}/csv-1.*") or not glob.glob(f"{registry}/indexmap-1.*"):
+        print("note: cargo or its crates csv and indexmap are not there, so that no peer is measured")
+        return None
+    source = shutil.copytree(os.path.join(TOP, "tools", "dispatch_peer"), os.path.join(folder, "peer"))
+    os.makedirs(os.path.join(source, ".cargo"))
+    write(os.path.join(source, ".cargo"), "config.toml", ["[source.crates-io]", 'replace-with = "debian"', "[source.debian]", f'directory = "{registry}"'])
+    built = subprocess.run(["cargo", "build", "--release", "--offline", "--quiet"], cwd=source, check=False)
+    return os.path.join(source, "target", "release", "dispatch_peer") if built.returncode == 0 else None
+
+
+def table_for(folder, stream, rows, counts, files, plan):
+    """The answers of each row in their order, as hsplan-stream gives them: each as a number and a line."""
+    asked = os.path.join(folder, "all.csv")
+    with open(asked, "w") as file:
+        file.write("region,handle\n")
+        file.writelines((row + "\n") * count for row, count in zip(rows, counts))
+    words = [stream, "answer"] + files + ["--plan", plan, "--log", asked]
+    with subprocess.Popen(words, stdout=subprocess.PIPE, stderr=subprocess.DEVNULL, text=True) as run:
+        lines = []
+        for row, count in zip(rows, counts):
+            answers = itertools.groupby(run.stdout.readline().rstrip("\n") for _ in range(count))
+            lines.append(",".join([row] + [f"{len(list(same))},{line}" for line, same in answers]))
+    os.remove(asked)
+    return write(folder, "table.csv", lines)
+
+
+def answers_of(words):
+    """The digest of what a run prints."""
+    with subprocess.Popen(words, stdout=subprocess.PIPE, stderr=subprocess.DEVNULL) as run:
+        return hashlib.file_digest(run.stdout, "sha256").hexdigest()
+
+
 def measure(kinds, many, turns):
-    """Runs the kinds by turns. A kind is a name, words, an empty log and a log."""
-    before = {name: min(timed(words + ["--log", empty])[0] for _ in range(3)) for name, words, empty, _ in kinds}
+    """Runs the kinds by turns, and returns the seconds of each run behind its first row. A kind is a name, the words
+    for an empty log, and the words for a log."""
+    before = {name: min(timed(empty)[0] for _ in range(3)) for name, empty, _ in kinds}
     spent = {name: [] for name, *_ in kinds}
     for _ in range(turns):
-        for name, words, _, path in kinds:
-            seconds, memory, told = timed(words + ["--log", path])
+        for name, _, words in kinds:
+            seconds, memory, told = timed(words)
             spent[name].append(seconds - before[name])
             print(f"{name}: {seconds:.3f} s, {before[name]:.3f} of them before the first row, {many / spent[name][-1] / 1e6:.2f} million rows a second, {memory:.1f} MB: {told.strip()}", flush=True)
-    none, fronts = spent.values()
-    pairs = [a / b for a, b in zip(none, fronts)]
-    print(f"of the rows a second without fronts: {min(none) / min(fronts):.3f} by the fastest runs, {statistics.median(pairs):.3f} by the median of {turns} turns")
+    return spent
+
+
+def compare(spent, turns):
+    """Prints each kind against the fastest peer, and fronts against none."""
+    least = {name: min(seconds) for name, seconds in spent.items()}
+    peers = [seconds for name, seconds in least.items() if name.startswith("peer")]
+    for name, seconds in least.items():
+        beside = f", {seconds / min(peers):.2f} times the fastest peer" if peers else ""
+        print(f"{name}: {seconds:.3f} s behind the first row at best{beside}")
+    pairs = [a / b for a, b in zip(spent["none"], spent[f"{FRONTS} fronts"])]
+    print(f"of the rows a second without fronts: {least['none'] / least[f'{FRONTS} fronts']:.3f} by the fastest runs, {statistics.median(pairs):.3f} by the median of {turns} turns")
 
 
 def main():
@@ -127,34 +181,37 @@ def main():
     arguments.add_argument("--turns", type=int, default=7)
     arguments.add_argument("--times", type=int, default=1)
     arguments.add_argument("--program", default=os.path.join(TOP, "crates", "hsplan", "out", "hsplan"))
+    arguments.add_argument("--stream", default=os.path.join(TOP, "crates", "hsplan_stream", "out", "hsplan_stream"))
     chosen = arguments.parse_args()
-    program, many, times = chosen.program, chosen.rows, chosen.times
+    program, many = chosen.program, chosen.rows
     if not os.access(program, os.X_OK):
         print(f"no program {program}: run rt ci or make prove first")
         return 1
-    if hasattr(os, "sched_setaffinity"):
-        os.sched_setaffinity(0, {max(os.sched_getaffinity(0))})
     draw = random.Random(1)
     with tempfile.TemporaryDirectory() as folder:
-        rows, counts, files = inputs(folder, draw, times=times)
+        peer = peer_in(folder) if os.access(chosen.stream, os.X_OK) else None
+        if hasattr(os, "sched_setaffinity"):
+            os.sched_setaffinity(0, {max(os.sched_getaffinity(0))})
+        rows, counts, files = inputs(folder, draw, times=chosen.times)
         plan = os.path.join(folder, "plan.txt")
         with open(plan, "w") as file:
             subprocess.run([program, "plan"] + files, stdout=file, check=True)
-        words = [program, "dispatch"] + files + ["--plan", plan]
-        entries = "region,handle"
-        events = "front," + entries
+        words = [program, "dispatch"] + files + ["--plan", plan, "--log"]
+        events = [program, "dispatch"] + files + ["--plan", plan, "--fronts", str(FRONTS), "--log"]
+        empty = log(folder, "no_log.csv", "region,handle", rows, counts, 0, draw)
+        full = log(folder, "log.csv", "region,handle", rows, counts, many, draw)
         at_fronts = [f"{front},{row}" for row in rows for front in range(FRONTS)]
         weights = [count for count in counts for _ in range(FRONTS)]
-        kinds = [
-            ("none", words, log(folder, "no_log.csv", entries, rows, counts, 0, draw), log(folder, "log.csv", entries, rows, counts, many, draw)),
-            (
-                f"{FRONTS} fronts",
-                words + ["--fronts", str(FRONTS)],
-                log(folder, "no_events.csv", events, rows, counts, 0, draw),
-                log(folder, "events.csv", events, at_fronts, weights, many, draw),
-            ),
-        ]
-        measure(kinds, many, chosen.turns)
+        no_events = log(folder, "no_events.csv", "front,region,handle", rows, counts, 0, draw)
+        all_events = log(folder, "events.csv", "front,region,handle", at_fronts, weights, many, draw)
+        kinds = [("none", words + [empty], words + [full]), (f"{FRONTS} fronts", events + [no_events], events + [all_events])]
+        if peer:
+            table = table_for(folder, chosen.stream, rows, counts, files, plan)
+            kinds += [(f"peer, {kind}", [peer, kind, table, empty], [peer, kind, table, full]) for kind in ("plain", "fast")]
+            told = {name: answers_of(words) for name, _, words in kinds if name != f"{FRONTS} fronts"}
+            if len(set(told.values())) > 1:
+                sys.exit(f"answers differ: {told}")
+        compare(measure(kinds, many, chosen.turns), chosen.turns)
     return 0
 
 
