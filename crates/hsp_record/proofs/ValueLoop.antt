@@ -13,11 +13,9 @@ use Rattle.hsp_record.specs.declared.fault.Stop.TheVariants.{Twice}
 use Rattle.hsp_record.specs.Fields.{IsOctets, joined, all_fields}
 use Rattle.hsp_record.specs.Values.{ValueReference, HandleValue, reference_fields, indices}
 use Rattle.hsp_record.specs.Reading.{Read, number_at, times_at, list_at, reference_at, read_references, references_in, AreReferences, body_at, is_one_of, index_at, values_at}
-use Rattle.hsp_record.proofs.Codec.{gave, IsOctets-rest}
-use Rattle.hsp_record.proofs.Readers.{times_codec}
-use Rattle.hsp_record.proofs.SiteCodec.{u32_codec}
-use Rattle.hsp_record.proofs.ValueCodec.{reference_codec}
-use Rattle.hsp_record.proofs.ValueLimit.{body_index}
+use Rattle.hsp_record.proofs.Codec.{gave, never, IsOctets-rest}
+use Rattle.hsp_record.proofs.Readers.{u32_codec, times_codec}
+use Rattle.hsp_record.proofs.ValueCodec.{reference_codec, body_index}
 use Rattle.hsp_record.proofs.Loop.{with_front, regroup}
 
 -- ---- the octets of references
@@ -31,14 +29,14 @@ record FindsReferences (count : ℕ) (octets : List ℕ) (references : List Valu
 
 references_found : (count : ℕ) (octets : List ℕ) (references : List ValueReference) (rest : List ℕ) → IsOctets octets → times_at reference_at count octets ≡ Ok (references, rest) → FindsReferences count octets references rest
 references_found count octets references rest fits e =
-    let t = (times_codec reference_codec count).takes octets references rest fits e in
+    let t = (times_codec {L = never} reference_codec count).takes octets references rest fits e in
     let spelled = joined (all_fields reference_fields references) in
     let len : length spelled ≡ length octets - length rest = omega (arith, ap length t.1, length-append spelled rest) in
     let n = length octets - length rest in
     let front : take n octets ≡ spelled = ap (take n) t.1 ∙ take_at spelled rest n len in
     record {
       within = omega (arith, ap length t.1, length-append spelled rest);
-      read = ap (times_at reference_at count) (front ∙ sym (append-nil spelled)) ∙ (times_codec reference_codec count).again references [] t.0;
+      read = ap (times_at reference_at count) (front ∙ sym (append-nil spelled)) ∙ (times_codec {L = never} reference_codec count).again references [] t.0;
       after = ap (drop n) t.1 ∙ drop_at spelled rest n len;
       counted = t.0.0;
       spelled = sym front;
@@ -53,7 +51,7 @@ pub references_split : (bytes : List ℕ) (count : ℕ) (octets : List ℕ) (ref
     → front ≡ take (length octets - length rest) octets → back ≡ drop (length octets - length rest) octets → SplitsReferences bytes count front back
 unfolding list_at
 references_split bytes count octets references rest front back fits e h f b =
-    let t = u32_codec.takes bytes count octets fits e in
+    let t = (u32_codec {L = never}).takes bytes count octets fits e in
     let found = references_found count octets references rest (IsOctets-rest bytes (joined (to_be_bytes w32 count ∷ [])) octets fits t.1) h in
     let same : references_in count front ≡ references = ap read_references (ap (times_at reference_at count) f ∙ found.read) in
     let list : list_at reference_at bytes ≡ Ok (references, rest) = rw (e, h) refl in
@@ -64,7 +62,7 @@ references_split bytes count octets references rest front back fits e h f b =
 
 pub references_within : (bytes : List ℕ) (count : ℕ) (octets : List ℕ) (references : List ValueReference) (rest : List ℕ) → IsOctets bytes → number_at w32 bytes ≡ Ok (count, octets) → times_at reference_at count octets ≡ Ok (references, rest) → length rest ≤ length octets
 references_within bytes count octets references rest fits e h =
-    let t = u32_codec.takes bytes count octets fits e in
+    let t = (u32_codec {L = never}).takes bytes count octets fits e in
     (references_found count octets references rest (IsOctets-rest bytes (joined (to_be_bytes w32 count ∷ [])) octets fits t.1) h).within
 
 -- ---- the set of indices
