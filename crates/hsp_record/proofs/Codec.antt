@@ -1,5 +1,5 @@
 -- A reader and the fields that it reads, and how readers go together.
-use Rattle.std.proofs.Common.{◌≡◌, ℕ, zero, suc, Bool, true, false, cond, List, [], ◌∷◌, ◌++◌, length, take, Result, Ok, Err, refl, sym, ap, subst, ◌∙◌, arith, inl, inr, ◌⊎◌}
+use Rattle.std.proofs.Common.{◌≡◌, ℕ, zero, suc, Bool, true, false, cond, List, [], ◌∷◌, ◌++◌, take, replicate, Result, Ok, Err, refl, sym, ap, subst, ◌∙◌, arith, inl, inr, ◌⊎◌}
 use Rattle.std.proofs.lemmas.Bool.{cases_lt, cases_Bool}
 use Rattle.std.proofs.lemmas.List.{length-take, get_or-take, get_or_past}
 use Rattle.hsp_record.specs.declared.fault.Stop.{Stop}
@@ -37,17 +37,7 @@ IsOctets-take n bytes h i =
       | inr le ↦ rw (get_or_past (take n bytes) i 0 (omega (arith, length-take n bytes))) (omega arith)
     ]
 
-unfoldable pub zeros : ℕ → List ℕ
-zeros zero = []
-zeros (suc n) = 0 ∷ zeros n
-
-pub length-zeros : (n : ℕ) → length (zeros n) ≡ n
-unfolding zeros
-length-zeros zero = refl
-length-zeros (suc n) = ap suc (length-zeros n)
-
-pub IsOctets-zeros : (n : ℕ) → IsOctets (zeros n)
-unfolding zeros
+pub IsOctets-zeros : (n : ℕ) → IsOctets (replicate n 0)
 IsOctets-zeros zero i = omega arith
 IsOctets-zeros (suc n) zero = omega arith
 IsOctets-zeros (suc n) (suc i) = IsOctets-zeros n i

@@ -1,17 +1,17 @@
 -- Numbers, runs of octets and lists, each with what is read of it.
-use Rattle.std.proofs.Common.{◌≡◌, ℕ, zero, suc, ◌-◌, ◌/◌, ◌%◌, ◌^◌, ◌<◌, ◌≤◌, Bool, true, false, cond, ltb, List, [], ◌∷◌, ◌++◌, length, take, drop, Result, Ok, Err, refl, sym, ap, subst, ◌∙◌, arith, inl, inr}
+use Rattle.std.proofs.Common.{◌≡◌, ℕ, zero, suc, ◌-◌, ◌/◌, ◌%◌, ◌^◌, ◌<◌, ◌≤◌, Bool, true, false, cond, ltb, List, [], ◌∷◌, ◌++◌, length, take, drop, replicate, Result, Ok, Err, refl, sym, ap, subst, ◌∙◌, arith, inl, inr}
 use Rattle.std.specs.List.{AllByRecursion}
 use Rattle.std.specs.Int.{Width, w8, w16, w32, w64, byte_at, byte_len, bytes_high_first, from_be_bytes, to_be_bytes}
 use Rattle.std.proofs.lemmas.Bool.{ltb-false, ltb-true, le-ltb, lt-ltb}
-use Rattle.std.proofs.lemmas.List.{append-nil, take_at, drop_at, take-append-drop, length-append, length-take}
+use Rattle.std.proofs.lemmas.List.{append-nil, take_at, drop_at, take-append-drop, length-append, length-take, length-replicate}
 use Rattle.std.proofs.lemmas.Nat.{be_bytes_2, be_bytes_4, be_bytes_8, from_be_bytes-to_be_bytes_2, from_be_bytes-to_be_bytes_4, from_be_bytes-to_be_bytes_8}
 use Rattle.hsp_record.specs.declared.fault.Stop.{Stop}
 use Rattle.hsp_record.specs.declared.fault.Stop.TheVariants.{Short}
 use Rattle.hsp_record.specs.Fields.{IsOctets, joined, run_fields, IsRun, all_fields, list_fields, IsCounted}
 use Rattle.hsp_text.specs.Answers.{◌>>=◌}
 use Rattle.hsp_record.specs.Reading.{Read, Reader, number_at, octets_at, run_at, times_at, list_at}
-use Rattle.hsp_record.proofs.Cuts.{Cuts, InField}
-use Rattle.hsp_record.proofs.Codec.{IsOctets-append, IsOctets-field, IsOctets-take, zeros, length-zeros, IsOctets-zeros, IsOctets-rest, bind_err, second_stops, guard_ok, guard_err, done, gave, ok_is, not_both, Codec, never, never_stops, then_codec, as_codec, guard_codec}
+use Rattle.hsp_record.proofs.Cuts.{Cuts}
+use Rattle.hsp_record.proofs.Codec.{IsOctets-append, IsOctets-field, IsOctets-take, IsOctets-zeros, IsOctets-rest, bind_err, second_stops, guard_ok, guard_err, done, gave, ok_is, not_both, Codec, never, never_stops, then_codec, as_codec, guard_codec}
 
 -- ---- a run whose length is known
 
@@ -28,32 +28,6 @@ taken_again n x rest len =
     let long : ltb (length (x ++ rest)) n ≡ false = le-ltb _ _ (omega (arith, length-append x rest)) in
     rw (long, take_at x rest n len, drop_at x rest n len) refl
 
--- what is there of a run, and zeros
-padded : (n : ℕ) → List ℕ → List ℕ
-padded n bytes = bytes ++ zeros (n - length bytes)
-
-stopped : (n : ℕ) (bytes : List ℕ) (e : Stop) → octets_at n bytes ≡ Err e → (e ≡ Short (length bytes)) × (length bytes < n)
-stopped n bytes e h =
-    let g = guard_err (ltb (length bytes) n) (Short (length bytes)) e (take n bytes, drop n bytes) h in
-    (sym g.1, ltb-true _ _ g.0)
-
-length-padded : (n : ℕ) (bytes : List ℕ) → length bytes < n → length (padded n bytes) ≡ n
-unfolding padded
-length-padded n bytes lt = omega (arith, length-append bytes (zeros (n - length bytes)), length-zeros (n - length bytes))
-
-in_padded : (n : ℕ) (bytes : List ℕ) → length bytes < n → InField (padded n bytes) bytes (length bytes)
-unfolding padded
-in_padded n bytes lt = record { more = zeros (n - length bytes); parts = refl; some = omega (arith, length-zeros (n - length bytes)); left-is = refl }
-
-IsOctets-padded : (n : ℕ) (bytes : List ℕ) → IsOctets bytes → IsOctets (padded n bytes)
-unfolding padded
-IsOctets-padded n bytes h = IsOctets-append bytes (zeros (n - length bytes)) h (IsOctets-zeros (n - length bytes))
-
-cut_run : (n : ℕ) (x bytes : List ℕ) (left : ℕ) → length x ≡ n → InField x bytes left → octets_at n bytes ≡ Err (Short left)
-cut_run n x bytes left len here =
-    let lt : ltb (length bytes) n ≡ true = lt-ltb _ _ (omega (arith, ap length here.parts, length-append bytes here.more, here.some)) in
-    rw (lt, here.left-is) refl
-
 pub octets_codec : {L : Stop → Type 0} (n : ℕ) → Codec L (List ℕ) (octets_at n) (λ _ x. (length x ≡ n) × IsOctets x) (λ x. x ∷ [])
 octets_codec n = record {
   any = λ x h. h;
@@ -61,71 +35,41 @@ octets_codec n = record {
       let t = taken n bytes x rest e in
       ((t.0, subst IsOctets (sym t.2) (IsOctets-take n bytes fits)), t.1 ∙ ap (λ (l : List ℕ). l ++ rest) (sym (append-nil x)));
   again = λ x rest h. ap (λ (l : List ℕ). octets_at n (l ++ rest)) (append-nil x) ∙ taken_again n x rest h.0;
+  -- the octets that are there, and zeros
   fails = λ bytes e fits h.
-      let s = stopped n bytes e h in
-      inr (length bytes, s.0, padded n bytes, (length-padded n bytes s.1, IsOctets-padded n bytes fits), inl (in_padded n bytes s.1));
-  cut = λ x bytes left h c. elim c [ inl here ↦ (Short left, inl refl, cut_run n x bytes left h.0 here) | inr later ↦ absurd later.2 ];
+      let s = guard_err (ltb (length bytes) n) (Short (length bytes)) e (take n bytes, drop n bytes) h in
+      let short = ltb-true (length bytes) n s.0 in
+      let zeros : List ℕ = replicate (n - length bytes) 0 in
+      let many : length zeros ≡ n - length bytes = length-replicate {A = ℕ} (n - length bytes) 0 in
+      inr (
+        length bytes,
+        sym s.1,
+        bytes ++ zeros,
+        (omega (arith, length-append bytes zeros), IsOctets-append bytes zeros fits (IsOctets-zeros (n - length bytes))),
+        inl (record { more = zeros; parts = refl; some = omega arith; left-is = refl }),
+      );
+  cut = λ x bytes left h c.
+      elim c [
+        | inl here ↦
+            let short : ltb (length bytes) n ≡ true = lt-ltb _ _ (omega (arith, h.0, ap length here.parts, length-append bytes here.more, here.some)) in
+            (Short left, inl refl, rw (short, here.left-is) refl)
+        | inr later ↦ absurd later.2
+      ];
   kept = λ x rest h. inl h;
-  some = (zeros n, (length-zeros n, IsOctets-zeros n));
+  some = (replicate n 0, (length-replicate {A = ℕ} n 0, IsOctets-zeros n));
   octets = λ x h. IsOctets-field x h.1;
 }
 
 -- ---- a number
-
-pub record IsWidth (w : Width) (limit : ℕ) : Type 0 where
-  pub len : (n : ℕ) → length (to_be_bytes w n) ≡ byte_len w
-  pub back : (bytes : List ℕ) → length bytes ≡ byte_len w → IsOctets bytes → to_be_bytes w (from_be_bytes w bytes) ≡ bytes
-  pub again : (n : ℕ) → n < limit → from_be_bytes w (to_be_bytes w n) ≡ n
-  pub below : (bytes : List ℕ) → IsOctets bytes → from_be_bytes w bytes < limit
-  pub some : 0 < limit
 
 octet_back : (bytes : List ℕ) → length bytes ≡ 1 → IsOctets bytes → to_be_bytes w8 (from_be_bytes w8 bytes) ≡ bytes
 octet_back [] len fits = absurd (omega arith)
 octet_back (x ∷ []) len fits = let small : x % 256 ≡ x = omega (arith, fits 0) in ap (λ (n : ℕ). n ∷ []) small
 octet_back (x ∷ y ∷ bytes) len fits = absurd (omega arith)
 
-pub width8 : IsWidth w8 (2 ^ 8)
-width8 = record {
-  len = λ n. refl;
-  back = octet_back;
-  again = λ n lt. let small : n % 256 ≡ n = omega arith in small;
-  below = λ bytes fits. omega (arith, fits 0);
-  some = omega arith;
-}
-
-pub width16 : IsWidth w16 (2 ^ 16)
-width16 = record {
-  len = λ n. refl;
-  back = λ bytes len fits. be_bytes_2 bytes _ len fits refl;
-  again = λ n lt. from_be_bytes-to_be_bytes_2 n lt;
-  below = λ bytes fits. omega (arith, fits 0, fits 1);
-  some = omega arith;
-}
-
-pub width32 : IsWidth w32 (2 ^ 32)
-width32 = record {
-  len = λ n. refl;
-  back = λ bytes len fits. be_bytes_4 bytes _ len fits refl;
-  again = λ n lt. from_be_bytes-to_be_bytes_4 n lt;
-  below = λ bytes fits. omega (arith, fits 0, fits 1, fits 2, fits 3);
-  some = omega arith;
-}
-
-pub width64 : IsWidth w64 (2 ^ 64)
-width64 = record {
-  len = λ n. refl;
-  back = λ bytes len fits. be_bytes_8 bytes _ len fits refl;
-  again = λ n lt. from_be_bytes-to_be_bytes_8 n lt;
-  below = λ bytes fits. omega (arith, fits 0, fits 1, fits 2, fits 3, fits 4, fits 5, fits 6, fits 7);
-  some = omega arith;
-}
-
-below_256 : (n : ℕ) → n % 256 < 256
-below_256 n = omega arith
-
 byte_octet : (i n : ℕ) → byte_at i n < 256
-byte_octet zero n = below_256 n
-byte_octet (suc i) n = below_256 (n / 256 ^ suc i)
+byte_octet zero n = omega arith
+byte_octet (suc i) n = let octet : n / 256 ^ suc i % 256 < 256 = omega arith in octet
 
 high_octets : (k n : ℕ) → IsOctets (bytes_high_first k n)
 high_octets zero n i = omega arith
@@ -140,16 +84,31 @@ number_is w bytes =
       | false ↦ refl
     ]
 
-pub number_codec : {L : Stop → Type 0} (w : Width) (limit : ℕ) → IsWidth w limit → Codec L ℕ (number_at w) (λ _ n. n < limit) (λ n. to_be_bytes w n ∷ [])
-number_codec w limit wide =
+number_codec : {L : Stop → Type 0} (w : Width) (limit : ℕ) → ((n : ℕ) → length (to_be_bytes w n) ≡ byte_len w) → ((bytes : List ℕ) → IsOctets bytes → from_be_bytes w bytes < limit)
+    → ((bytes : List ℕ) → length bytes ≡ byte_len w → IsOctets bytes → to_be_bytes w (from_be_bytes w bytes) ≡ bytes) → ((n : ℕ) → n < limit → from_be_bytes w (to_be_bytes w n) ≡ n)
+    → Codec L ℕ (number_at w) (λ _ n. n < limit) (λ n. to_be_bytes w n ∷ [])
+number_codec w limit len below back again =
     as_codec (number_at w) (λ _ n. n < limit) (λ n. to_be_bytes w n ∷ []) (from_be_bytes w) (octets_codec (byte_len w))
     (number_is w)
-    (λ _ x h. wide.below x h.1)
-    (λ x h. ap (λ l. l ∷ []) (wide.back x h.0 h.1))
-    (λ _ n h. (to_be_bytes w n, wide.again n h, (wide.len n, high_octets (byte_len w) n)))
+    (λ _ x h. below x h.1)
+    (λ x h. ap (λ l. l ∷ []) (back x h.0 h.1))
+    (λ _ n h. (to_be_bytes w n, again n h, (len n, high_octets (byte_len w) n)))
+
+-- integers of 1, 2, 4 and 8 octets
+pub octet_codec : {L : Stop → Type 0} → Codec L ℕ (number_at w8) (λ _ n. n < 2 ^ 8) (λ n. to_be_bytes w8 n ∷ [])
+octet_codec = number_codec w8 (2 ^ 8) (λ n. refl) (λ bytes fits. omega (arith, fits 0)) octet_back (λ n lt. let small : n % 256 ≡ n = omega arith in small)
+
+pub u16_codec : {L : Stop → Type 0} → Codec L ℕ (number_at w16) (λ _ n. n < 2 ^ 16) (λ n. to_be_bytes w16 n ∷ [])
+u16_codec = number_codec w16 (2 ^ 16) (λ n. refl) (λ bytes fits. omega (arith, fits 0, fits 1)) (λ bytes len fits. be_bytes_2 bytes _ len fits refl) from_be_bytes-to_be_bytes_2
 
 pub u32_codec : {L : Stop → Type 0} → Codec L ℕ (number_at w32) (λ _ n. n < 2 ^ 32) (λ n. to_be_bytes w32 n ∷ [])
-u32_codec = number_codec w32 (2 ^ 32) width32
+u32_codec =
+    number_codec w32 (2 ^ 32) (λ n. refl) (λ bytes fits. omega (arith, fits 0, fits 1, fits 2, fits 3)) (λ bytes len fits. be_bytes_4 bytes _ len fits refl) from_be_bytes-to_be_bytes_4
+
+pub u64_codec : {L : Stop → Type 0} → Codec L ℕ (number_at w64) (λ _ n. n < 2 ^ 64) (λ n. to_be_bytes w64 n ∷ [])
+u64_codec =
+    number_codec w64 (2 ^ 64) (λ n. refl) (λ bytes fits. omega (arith, fits 0, fits 1, fits 2, fits 3, fits 4, fits 5, fits 6, fits 7))
+    (λ bytes len fits. be_bytes_8 bytes _ len fits refl) from_be_bytes-to_be_bytes_8
 
 -- ---- a number, and what it decides
 

@@ -1,20 +1,12 @@
 -- Readers of HS_SITE data and of request bodies, each with the fields that it reads.
 use Rattle.std.proofs.Common.{◌≡◌, ℕ, suc, ◌^◌, ◌<◌, List, [], ◌∷◌, length, refl, sym, ap, arith, zero}
-use Rattle.std.specs.Int.{w8, w16, to_be_bytes}
 use Rattle.hsp_record.specs.Fields.{IsOctets}
 use Rattle.hsp_record.specs.Site.{AttributePair, Interface, Server, Site, attribute_fields, interface_fields, server_fields, head_fields, IsAttribute, IsInterface, IsServer, IsHead}
 use Rattle.hsp_record.specs.Request.{RequestBody, IsRequest, request_fields}
-use Rattle.hsp_record.specs.Reading.{number_at, pair_of, pair_at, attribute_at, interface_at, server_at, head_of, head_at, with_servers, request_at}
+use Rattle.hsp_record.specs.Reading.{pair_of, pair_at, attribute_at, interface_at, server_at, head_of, head_at, with_servers, request_at}
 use Rattle.hsp_record.specs.declared.fault.Stop.{Stop}
 use Rattle.hsp_record.proofs.Codec.{Codec, both_codec, as_codec}
-use Rattle.hsp_record.proofs.Readers.{width8, width16, octets_codec, number_codec, u32_codec, run_codec, list_codec}
-
--- a single octet, and an integer of 2 octets
-pub octet_codec : {L : Stop → Type 0} → Codec L ℕ (number_at w8) (λ _ n. n < 2 ^ 8) (λ n. to_be_bytes w8 n ∷ [])
-octet_codec = number_codec w8 (2 ^ 8) width8
-
-u16_codec : {L : Stop → Type 0} → Codec L ℕ (number_at w16) (λ _ n. n < 2 ^ 16) (λ n. to_be_bytes w16 n ∷ [])
-u16_codec = number_codec w16 (2 ^ 16) width16
+use Rattle.hsp_record.proofs.Readers.{octets_codec, octet_codec, u16_codec, u32_codec, run_codec, list_codec}
 
 -- two octets are those of their pair
 pair_back : (octets : List ℕ) → length octets ≡ 2 → (pair_of octets).0 ∷ (pair_of octets).1 ∷ [] ≡ octets

@@ -2,7 +2,7 @@
 use Rattle.std.proofs.Common.{◌≡◌, ℕ, zero, suc, ◌^◌, ◌<◌, Bool, true, false, List, [], ◌∷◌, ◌++◌, length, Ok, Err, refl, sym, ap, ◌∙◌}
 use Rattle.std.specs.Prelude.{nat_eq}
 use Rattle.std.specs.List.{AllByRecursion, IsDistinct}
-use Rattle.std.specs.Int.{w32, w64, to_be_bytes}
+use Rattle.std.specs.Int.{w32, to_be_bytes}
 use Rattle.std.proofs.lemmas.Bool.{or_parts, or_from, eqb-false, ne_eqb}
 use Rattle.std.proofs.lemmas.List.Folds.{list_any-append}
 use Rattle.hsp_record.specs.declared.fault.Stop.{Stop}
@@ -12,8 +12,7 @@ use Rattle.hsp_record.specs.Fields.{all_fields}
 use Rattle.hsp_record.specs.Values.{ValueReference, HandleValue, reference_fields, body_fields, value_fields, IsReference, IsValue, indices, HaveOwnIndices}
 use Rattle.hsp_record.specs.Reading.{Read, Reader, reference_at, body_of, body_at, is_one_of, index_at, values_at}
 use Rattle.hsp_record.proofs.Codec.{Codec, bind_ok, gave, ok_is, both_codec, as_codec, guard_codec, Kept}
-use Rattle.hsp_record.proofs.Readers.{width64, number_codec, u32_codec, run_codec, list_codec, none_codec, more_codec, behind_codec}
-use Rattle.hsp_record.proofs.SiteCodec.{octet_codec}
+use Rattle.hsp_record.proofs.Readers.{octet_codec, u32_codec, u64_codec, run_codec, list_codec, none_codec, more_codec, behind_codec}
 
 pub reference_codec : {L : Stop → Type 0} → Codec L ValueReference reference_at (λ _. IsReference) reference_fields
 unfolding reference_at
@@ -29,7 +28,7 @@ pub body_codec : {L : Stop → Type 0} (index : ℕ) → index < 2 ^ 32 → Code
 unfolding body_at
 body_codec index lt =
     as_codec (body_at index) (λ _ v. (v.index ≡ index) × IsValue v) body_fields (body_of index)
-    (both_codec run_codec (both_codec run_codec (both_codec octet_codec (both_codec octet_codec (both_codec u32_codec (both_codec (number_codec w64 (2 ^ 64) width64) (list_codec reference_codec)))))))
+    (both_codec run_codec (both_codec run_codec (both_codec octet_codec (both_codec octet_codec (both_codec u32_codec (both_codec u64_codec (list_codec reference_codec)))))))
     (λ bytes. refl)
     (λ _ p h. (refl, record { index = lt; type_octets = h.0; octets = h.1.0; permission = h.1.1.0; ttl_kind = h.1.1.1.0; ttl = h.1.1.1.1.0; timestamp = h.1.1.1.1.1.0; references = h.1.1.1.1.1.1 }))
     (λ p h. refl)
