@@ -6,7 +6,7 @@ use Rattle.hsp_record.specs.declared.fault.Stop.{Stop}
 use Rattle.hsp_record.specs.declared.fault.Stop.TheVariants.{Short}
 use Rattle.hsp_record.specs.Fields.{IsOctets, joined}
 use Rattle.hsp_text.specs.Answers.{◌>>=◌}
-use Rattle.hsp_record.specs.Reading.{Reader, then_at, both_at}
+use Rattle.hsp_record.specs.Reading.{Reader, then_at, both_at, seen}
 use Rattle.hsp_record.proofs.Cuts.{Cuts, joined-append, joined_then, cuts_left, cuts_right, cuts_split}
 
 IsOctets-end : (f rest : List ℕ) → IsOctets (f ++ rest) → IsOctets rest
@@ -217,6 +217,11 @@ as_codec {L} {A} {B} {a} {FA} {fa} b FB fb f ca same to fields from =
       some = let x = ca.some in (f x.0, to false x.0 x.1);
       octets = λ y h. let x = from false y h in subst (λ z. IsOctets (joined (fb z))) x.1 (rw (fields x.0 x.2) (ca.octets x.0 x.2));
     }
+
+-- the same by the fields of the value that it is seen as
+pub seen_codec : {L : Stop → Type 0} {A B : Type 0} {a : Reader A} {FA : Bool → A → Type 0} {FB : Bool → B → Type 0} {fb : B → List (List ℕ)} (f : A → B) → Codec L A a FA (λ x. fb (f x))
+    → ((k : Bool) (x : A) → FA k x → FB k (f x)) → ((k : Bool) (y : B) → FB k y → (x : A) × (f x ≡ y) × FA k x) → Codec L B (seen f a) FB fb
+seen_codec {L} {A} {B} {a} {FA} {FB} {fb} f ca to from = as_codec (seen f a) FB fb f ca (λ bytes. refl) to (λ x h. refl) from
 
 -- ---- a test of what was read
 

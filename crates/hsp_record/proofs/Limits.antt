@@ -4,7 +4,7 @@ use Rattle.std.proofs.lemmas.List.{append-nil}
 use Rattle.hsp_record.specs.declared.fault.Stop.{Stop}
 use Rattle.hsp_record.specs.declared.fault.Stop.TheVariants.{Short, TooMany, Twice}
 use Rattle.hsp_record.specs.declared.fault.ReadError.{ReadError}
-use Rattle.hsp_record.specs.declared.fault.ReadError.TheVariants.{Memory, Stopped}
+use Rattle.hsp_record.specs.declared.fault.ReadError.TheVariants.{Stopped}
 use Rattle.hsp_record.specs.declared.fault.RecordFault.{RecordFault}
 use Rattle.hsp_record.specs.declared.fault.RecordFault.TheVariants.{Truncated, Trailing, TooManyServers, IndexTwice, OutOfMemory}
 use Rattle.hsp_record.specs.Fields.{IsOctets, Format, spelling, Means, Agrees, HasOneAnswer, HasOneSpelling, HasNothingAfter}
@@ -53,10 +53,8 @@ agreed r other had has h = h
 -- reading takes no memory
 not_memory : {A : Type 0} (octets : List ℕ) (r : Read A) → answer_of octets r ≢ Err OutOfMemory
 not_memory octets (Ok (x, [])) e = cc (e)
-not_memory octets (Ok (x, y ∷ rest)) e = cc (e)
 not_memory octets (Err (Short left)) e = cc (e)
-not_memory octets (Err TooMany) e = cc (e)
-not_memory octets (Err (Twice index)) e = cc (e)
+not_memory octets r e = cc (e)
 
 module _ {L : Stop → Type 0} {A : Type 0} {read : Reader A} {format : Format A} (limited : Limited L A read format) where
   pub takes : (octets : List ℕ) (x : A) (rest : List ℕ) → IsOctets octets → read octets ≡ Ok (x, rest) → format.Fits x × (octets ≡ spelling format x ++ rest)
@@ -90,10 +88,8 @@ module _ {L : Stop → Type 0} {A : Type 0} {read : Reader A} {format : Format A
       cuts_within (format.fields t.0) octets left t.2
 
   pub error_within : (octets : List ℕ) (e : ReadError) → IsOctets octets → FailsAs e (read octets) → LeavesWithin (length octets) e
-  error_within octets Memory fits f = tt
   error_within octets (Stopped (Short left)) fits f = left_within octets left fits f
-  error_within octets (Stopped TooMany) fits f = tt
-  error_within octets (Stopped (Twice index)) fits f = tt
+  error_within octets e fits f = tt
 
   -- ---- the answer
 

@@ -1,7 +1,7 @@
 -- A request body has no limit.
 use Rattle.std.proofs.Common.{◌≡◌, ℕ, List, Err}
 use Rattle.hsp_record.specs.declared.fault.Stop.{Stop}
-use Rattle.hsp_record.specs.declared.fault.Stop.TheVariants.{Short, TooMany, Twice}
+use Rattle.hsp_record.specs.declared.fault.Stop.TheVariants.{Short}
 use Rattle.hsp_record.specs.Request.{RequestBody, request_format}
 use Rattle.hsp_record.specs.Reading.{request_at}
 use Rattle.hsp_record.proofs.Codec.{never}
@@ -10,8 +10,7 @@ use Rattle.hsp_record.proofs.Limits.{Passes, Limited}
 
 none_stops : (octets : List ℕ) (stop : Stop) → Passes request_format octets stop → request_at octets ≡ Err stop
 none_stops octets (Short left) p = absurd p
-none_stops octets TooMany p = absurd p
-none_stops octets (Twice index) p = absurd p
+none_stops octets stop p = absurd p
 
 pub request_limited : Limited never RequestBody request_at request_format
 request_limited =

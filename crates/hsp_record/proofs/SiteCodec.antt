@@ -5,7 +5,7 @@ use Rattle.hsp_record.specs.Site.{AttributePair, Interface, Server, Site, attrib
 use Rattle.hsp_record.specs.Request.{RequestBody, IsRequest, request_fields}
 use Rattle.hsp_record.specs.Reading.{pair_of, pair_at, attribute_at, interface_at, server_at, head_of, head_at, with_servers, request_at}
 use Rattle.hsp_record.specs.declared.fault.Stop.{Stop}
-use Rattle.hsp_record.proofs.Codec.{Codec, both_codec, as_codec}
+use Rattle.hsp_record.proofs.Codec.{Codec, both_codec, as_codec, seen_codec}
 use Rattle.hsp_record.proofs.Readers.{octets_codec, octet_codec, u16_codec, u32_codec, run_codec, list_codec}
 
 -- two octets are those of their pair
@@ -32,30 +32,24 @@ pair_codec =
 attribute_codec : {L : Stop → Type 0} → Codec L AttributePair attribute_at (λ _. IsAttribute) attribute_fields
 unfolding attribute_at
 attribute_codec =
-    as_codec attribute_at (λ _. IsAttribute) attribute_fields (λ p. record { name = p.0; value = p.1 }) (both_codec run_codec run_codec)
-    (λ bytes. refl)
+    seen_codec (λ p. record { name = p.0; value = p.1 }) (both_codec run_codec run_codec)
     (λ _ p h. record { name = h.0; value = h.1 })
-    (λ p h. refl)
     (λ _ a h. ((a.name, a.value), refl, (h.name, h.value)))
 
 interface_codec : {L : Stop → Type 0} → Codec L Interface interface_at (λ _. IsInterface) interface_fields
 unfolding interface_at
 interface_codec =
-    as_codec interface_at (λ _. IsInterface) interface_fields (λ p. record { service_type = p.0; protocol = p.1.0; port = p.1.1 })
+    seen_codec (λ p. record { service_type = p.0; protocol = p.1.0; port = p.1.1 })
     (both_codec octet_codec (both_codec octet_codec u32_codec))
-    (λ bytes. refl)
     (λ _ p h. record { service_type = h.0; protocol = h.1.0; port = h.1.1 })
-    (λ p h. refl)
     (λ _ i h. ((i.service_type, (i.protocol, i.port)), refl, (h.service_type, (h.protocol, h.port))))
 
 pub server_codec : {L : Stop → Type 0} → Codec L Server server_at (λ _. IsServer) server_fields
 unfolding server_at
 server_codec =
-    as_codec server_at (λ _. IsServer) server_fields (λ p. record { id = p.0; address = p.1.0; key = p.1.1.0; interfaces = p.1.1.1 })
+    seen_codec (λ p. record { id = p.0; address = p.1.0; key = p.1.1.0; interfaces = p.1.1.1 })
     (both_codec u32_codec (both_codec (octets_codec 16) (both_codec run_codec (list_codec interface_codec))))
-    (λ bytes. refl)
     (λ _ p h. record { id = h.0; address = h.1.0; key = h.1.1.0; interfaces = h.1.1.1 })
-    (λ p h. refl)
     (λ _ s h. ((s.id, (s.address, (s.key, s.interfaces))), refl, (h.id, (h.address, (h.key, h.interfaces)))))
 
 -- a record of no server, of which the head is read
@@ -66,14 +60,12 @@ pub record IsBareHead (s : Site) : Type 0 where
 pub head_codec : {L : Stop → Type 0} → Codec L Site head_at (λ _. IsBareHead) head_fields
 unfolding head_at
 head_codec =
-    as_codec head_at (λ _. IsBareHead) head_fields head_of
+    seen_codec head_of
     (both_codec u16_codec (both_codec pair_codec (both_codec u16_codec (both_codec octet_codec (both_codec octet_codec (both_codec run_codec (list_codec attribute_codec)))))))
-    (λ bytes. refl)
     (λ _ p h. record {
       fits = record { version = h.0; major = h.1.0.0; minor = h.1.0.1; serial = h.1.1.0; mask = h.1.1.1.0; option = h.1.1.1.1.0; filter = h.1.1.1.1.1.0; attributes = h.1.1.1.1.1.1 };
       bare = refl;
     })
-    (λ p h. refl)
     (λ _ s h. (
       (s.version, ((s.major, s.minor), (s.serial, (s.mask, (s.option, (s.filter, s.attributes)))))),
       ap (with_servers s) (sym h.bare),
@@ -90,9 +82,7 @@ IsHead-servers s servers h = record { version = h.version; major = h.major; mino
 pub request_codec : {L : Stop → Type 0} → Codec L RequestBody request_at (λ _. IsRequest) request_fields
 unfolding request_at
 request_codec =
-    as_codec request_at (λ _. IsRequest) request_fields (λ p. record { handle = p.0; indices = p.1.0; types = p.1.1 })
+    seen_codec (λ p. record { handle = p.0; indices = p.1.0; types = p.1.1 })
     (both_codec run_codec (both_codec (list_codec u32_codec) (list_codec run_codec)))
-    (λ bytes. refl)
     (λ _ p h. record { handle = h.0; indices = h.1.0; types = h.1.1 })
-    (λ p h. refl)
     (λ _ r h. ((r.handle, (r.indices, r.types)), refl, (h.handle, (h.indices, h.types))))

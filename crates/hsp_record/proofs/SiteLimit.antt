@@ -4,11 +4,11 @@ use Rattle.std.specs.List.{AllByRecursion}
 use Rattle.std.specs.Int.{w32, to_be_bytes}
 use Rattle.std.proofs.lemmas.Bool.{ltb-false, ltb-true, le-ltb, lt-ltb}
 use Rattle.hsp_record.specs.declared.fault.Stop.{Stop}
-use Rattle.hsp_record.specs.declared.fault.Stop.TheVariants.{Short, TooMany, Twice}
+use Rattle.hsp_record.specs.declared.fault.Stop.TheVariants.{Short, TooMany}
 use Rattle.hsp_record.specs.Fields.{IsOctets, joined, list_fields}
 use Rattle.hsp_record.specs.Site.{Server, Site, server_fields, head_fields, site_fields, IsServer, IsHead, site_format}
 use Rattle.hsp_record.specs.Reading.{both_at, times_at, server_at, head_at, server_count_at, with_servers, servers_at, site_at}
-use Rattle.hsp_record.proofs.Codec.{Codec, IsOctets-rest, never, never_stops, first_stops, second_stops, both_codec, as_codec, guard_codec, Kept}
+use Rattle.hsp_record.proofs.Codec.{Codec, IsOctets-rest, never, never_stops, first_stops, second_stops, both_codec, seen_codec, guard_codec, Kept}
 use Rattle.hsp_record.proofs.Readers.{u32_codec, times_codec, behind_codec, number_front, guarded_stops}
 use Rattle.hsp_record.proofs.SiteCodec.{server_codec, head_codec, head_only, IsHead-servers}
 use Rattle.hsp_record.proofs.Limits.{held, Passes, Limited}
@@ -36,24 +36,19 @@ site_from false s h = (h.0, ((h.1.0, tt), h.1.1))
 pub site_codec : Codec AtMany Site site_at (held site_format) site_fields
 unfolding site_at
 site_codec =
-    as_codec site_at (held site_format) site_fields (λ p. with_servers p.0 p.1) (both_codec head_codec servers_codec)
-    (λ bytes. refl)
+    seen_codec (λ p. with_servers p.0 p.1) (both_codec head_codec servers_codec)
     (λ k p h. site_to k p.0 p.1 h.0.fits h.1)
-    (λ p h. refl)
     (λ k s h. let p = site_from k s h in ((head_only s, s.servers), refl, (record { fits = IsHead-servers s [] p.0; bare = refl }, p.1)))
 
 site_stops : (octets : List ℕ) (stop : Stop) → Passes site_format octets stop → site_at octets ≡ Err stop
 unfolding site_at servers_at server_count_at
-site_stops octets (Short left) p = absurd p
 site_stops octets TooMany m =
     let head = (head_codec {L = never}).again (head_only m.site) (to_be_bytes w32 m.count ++ m.rest) (record { fits = IsHead-servers m.site [] m.fits; bare = refl }) in
     rw (m.begins, head, number_front m.count m.rest m.counted, lt-ltb 1024 m.count m.above) refl
-site_stops octets (Twice index) p = absurd p
+site_stops octets stop p = absurd p
 
 site_passed : (octets : List ℕ) (stop : Stop) → IsOctets octets → AtMany stop → site_at octets ≡ Err stop → Passes site_format octets stop
 unfolding site_at servers_at server_count_at
-site_passed octets (Short left) fits at e = absurd cc
-site_passed octets (Twice index) fits at e = absurd cc
 site_passed octets TooMany fits at e =
     let long : (left : ℕ) → TooMany ≡ Short left → ⊥ = λ left h. cc in
     let both = first_stops (both_at head_at servers_at octets) _ TooMany e (λ x h. cc) in
@@ -62,6 +57,7 @@ site_passed octets TooMany fits at e =
     let rest_fits = IsOctets-rest octets (joined (head_fields head.0)) head.1 fits h.1 in
     let n = guarded_stops (ltb 1024) (λ _. TooMany) (λ n _. times_codec server_codec n) head.1 TooMany rest_fits long (first_stops (servers_at head.1) _ TooMany after (λ x h. cc)) in
     record { site = head.0; fits = h.0.fits; count = n.0; above = ltb-true 1024 n.0 n.2; counted = n.1; rest = n.4; begins = h.1 ∙ ap (λ l. joined (head_fields head.0) ++ l) {y = to_be_bytes w32 n.0 ++ n.4} n.5 }
+site_passed octets stop fits at e = absurd cc
 
 pub site_limited : Limited AtMany Site site_at site_format
 site_limited = record { codec = site_codec; stops = site_stops; passed = site_passed }

@@ -11,27 +11,23 @@ use Rattle.hsp_text.specs.Answers.{◌>>=◌}
 use Rattle.hsp_record.specs.Fields.{all_fields}
 use Rattle.hsp_record.specs.Values.{ValueReference, HandleValue, reference_fields, body_fields, value_fields, IsReference, IsValue, indices, HaveOwnIndices}
 use Rattle.hsp_record.specs.Reading.{Read, Reader, reference_at, body_of, body_at, is_one_of, index_at, values_at}
-use Rattle.hsp_record.proofs.Codec.{Codec, bind_ok, gave, ok_is, both_codec, as_codec, guard_codec, Kept}
+use Rattle.hsp_record.proofs.Codec.{Codec, bind_ok, gave, ok_is, both_codec, seen_codec, guard_codec, Kept}
 use Rattle.hsp_record.proofs.Readers.{octet_codec, u32_codec, u64_codec, run_codec, list_codec, none_codec, more_codec, behind_codec}
 
 pub reference_codec : {L : Stop → Type 0} → Codec L ValueReference reference_at (λ _. IsReference) reference_fields
 unfolding reference_at
 reference_codec =
-    as_codec reference_at (λ _. IsReference) reference_fields (λ p. record { handle = p.0; index = p.1 }) (both_codec run_codec u32_codec)
-    (λ bytes. refl)
+    seen_codec (λ p. record { handle = p.0; index = p.1 }) (both_codec run_codec u32_codec)
     (λ _ p h. record { handle = h.0; index = h.1 })
-    (λ p h. refl)
     (λ _ r h. ((r.handle, r.index), refl, (h.handle, h.index)))
 
 -- the fields behind an index that is known
 pub body_codec : {L : Stop → Type 0} (index : ℕ) → index < 2 ^ 32 → Codec L HandleValue (body_at index) (λ _ v. (v.index ≡ index) × IsValue v) body_fields
 unfolding body_at
 body_codec index lt =
-    as_codec (body_at index) (λ _ v. (v.index ≡ index) × IsValue v) body_fields (body_of index)
+    seen_codec (body_of index)
     (both_codec run_codec (both_codec run_codec (both_codec octet_codec (both_codec octet_codec (both_codec u32_codec (both_codec u64_codec (list_codec reference_codec)))))))
-    (λ bytes. refl)
     (λ _ p h. (refl, record { index = lt; type_octets = h.0; octets = h.1.0; permission = h.1.1.0; ttl_kind = h.1.1.1.0; ttl = h.1.1.1.1.0; timestamp = h.1.1.1.1.1.0; references = h.1.1.1.1.1.1 }))
-    (λ p h. refl)
     (λ _ v h. (
       (v.type_octets, (v.octets, (v.permission, (v.ttl_kind, (v.ttl, (v.timestamp, v.references)))))),
       ap (λ (i : ℕ). record v { index = i }) (sym h.0),

@@ -5,7 +5,7 @@ use Rattle.std.specs.Int.{w32, to_be_bytes}
 use Rattle.std.proofs.lemmas.List.{append-nil}
 use Rattle.std.proofs.lemmas.Map.Made.{is_member-Decides}
 use Rattle.hsp_record.specs.declared.fault.Stop.{Stop}
-use Rattle.hsp_record.specs.declared.fault.Stop.TheVariants.{Short, TooMany, Twice}
+use Rattle.hsp_record.specs.declared.fault.Stop.TheVariants.{Twice}
 use Rattle.hsp_text.specs.Answers.{◌>>=◌}
 use Rattle.hsp_record.specs.Fields.{IsOctets, joined, all_fields}
 use Rattle.hsp_record.specs.Values.{HandleValue, value_fields, values_fields, indices, values_format}
@@ -57,14 +57,13 @@ stops_behind met (suc m) (suc n) bytes vs between e lt read at =
 
 list_stops : (octets : List ℕ) (stop : Stop) → Passes values_format octets stop → value_list_at octets ≡ Err stop
 unfolding value_list_at index_at
-list_stops octets (Short left) p = absurd p
-list_stops octets TooMany p = absurd p
 list_stops octets (Twice index) t =
     let between = to_be_bytes w32 index ++ t.rest in
     let read = (values_codec [] (length t.earlier)).again t.earlier between (refl, (t.fit, none_met (indices t.earlier), t.distinct)) in
     let met = (is_member-Decides unsigned_Decides (indices t.earlier) index).1 t.again in
     rw (t.begins, number_front t.count (joined (all_fields value_fields t.earlier) ++ between) t.counted)
     (stops_behind [] (length t.earlier) t.count (joined (all_fields value_fields t.earlier) ++ between) t.earlier between (Twice index) t.fewer read (rw (number_front index t.rest t.four, met) refl))
+list_stops octets stop p = absurd p
 
 -- Values of indices that were not met stand before an index that was met.
 record IsDoubled (met : List ℕ) (n : ℕ) (bytes : List ℕ) (index : ℕ) : Type 0 where
@@ -103,8 +102,6 @@ doubled met (suc n) bytes index fits e =
 
 list_passed : (octets : List ℕ) (stop : Stop) → IsOctets octets → AtTwice stop → value_list_at octets ≡ Err stop → Passes values_format octets stop
 unfolding value_list_at
-list_passed octets (Short left) fits at e = absurd cc
-list_passed octets TooMany fits at e = absurd cc
 list_passed octets (Twice index) fits at e =
     let c = second_stops (number_at w32 octets) _ (Twice index) e (never_stops u32_codec octets (Twice index) fits (λ left h. cc)) in
     let n = (u32_codec {L = never}).takes octets c.0.0 c.0.1 fits c.1 in
@@ -121,6 +118,7 @@ list_passed octets (Twice index) fits at e =
       rest = d.rest;
       begins = n.1 ∙ ap (λ l. l ++ c.0.1) (append-nil (to_be_bytes w32 c.0.0)) ∙ ap (λ l. to_be_bytes w32 c.0.0 ++ l) d.begins;
     }
+list_passed octets stop fits at e = absurd cc
 
 pub list_limited : Limited AtTwice (List HandleValue) value_list_at values_format
 list_limited = record { codec = list_codec; stops = list_stops; passed = list_passed }
