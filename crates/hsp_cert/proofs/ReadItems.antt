@@ -111,15 +111,16 @@ printed_push (y ∷ xs) x h le = (h.0, printed_push xs x h.1 le)
 pub decimal_printed : (n : ℕ) → n < 2 ^ 64 → Printed (decimal n)
 decimal_printed n h = decimal_by_steps (λ _ ds. Printed ds) (λ k lt. (omega arith, tt)) (λ k ds le g. printed_push ds (48 + k % 10) g (omega arith)) n h
 
-spaceless : (xs : List ℕ) → Printed xs → NoSpace xs
-spaceless [] h = tt
-spaceless (x ∷ xs) h = let le = h.0 in ((λ e. omega arith), spaceless xs h.1)
+-- no octet is one below them, as a space or an LF
+pub printed_apart : (c : ℕ) → c < 48 → (xs : List ℕ) → Printed xs → AllByRecursion (λ x. x ≡ c → ⊥) xs
+printed_apart c lt [] h = tt
+printed_apart c lt (x ∷ xs) h = let le = h.0 in ((λ e. omega arith), printed_apart c lt xs h.1)
 
 word_spaceless : (w : Word) → NoSpace (spelled w)
-word_spaceless w = spaceless (spelled w) (word_printed w)
+word_spaceless w = printed_apart 32 (omega arith) (spelled w) (word_printed w)
 
 decimal_spaceless : (n : ℕ) → n < 2 ^ 64 → NoSpace (decimal n)
-decimal_spaceless n h = spaceless (decimal n) (decimal_printed n h)
+decimal_spaceless n h = printed_apart 32 (omega arith) (decimal n) (decimal_printed n h)
 
 word_back : (w : Word) → word_in (spelled w) ≡ Some w
 word_back word.Version = refl
