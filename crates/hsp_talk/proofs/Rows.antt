@@ -1,10 +1,11 @@
 -- Lines, rows, and desks that take them.
-use Rattle.std.proofs.Common.{◌≡◌, ℕ, zero, suc, min, ◌+◌, ◌-◌, ◌<◌, ◌≤◌, ◌==◌, Bool, true, false, cond, ltb, not, Some, None, take, drop, length-drop, List, [], ◌∷◌, ◌++◌, length, if◌then◌else◌, refl, ap, sym, ◌∙◌, subst, append_assoc, append-nil, arith, add-one, eq-eqb, eqb-true, true≢false}
+use Rattle.std.proofs.Common.{◌≡◌, ℕ, zero, suc, min, ◌+◌, ◌-◌, ◌<◌, ◌≤◌, ◌==◌, Bool, true, false, cond, ltb, not, Some, None, get_or, take, drop, length-drop, List, [], ◌∷◌, ◌++◌, length, if◌then◌else◌, refl, ap, sym, ◌∙◌, subst, append_assoc, append-nil, arith, add-one, eq-eqb, eqb-true, true≢false}
 use Rattle.std.specs.List.{concat, position, position_or_len}
 use Rattle.std.proofs.Math.Seq.{take-append-add, take-length}
 use Rattle.std.proofs.lemmas.List.{drop-drop, length-take, take_all, take_min}
 use Rattle.std.proofs.lemmas.List.Folds.{concat-append}
-use Rattle.std.proofs.lemmas.Bool.{ltb-false, ltb-true}
+use Rattle.std.proofs.lemmas.List.Quantifiers.{position-Some}
+use Rattle.std.proofs.lemmas.Bool.{ltb-false}
 use Rattle.hsp_talk.specs.Talk.{AreTaken, RefusesRow, TakesRow, cut, is_line_feed, last_line, rows_of, whole_lines}
 use Rattle.hsp_talk.specs.Refusals.{IsRefusal}
 use Rattle.hsp_talk.specs.Turns.{AreCut, AreOwed, IsRefused, rows_ended_by}
@@ -119,24 +120,16 @@ pub record EndsAt (line octets : List ℕ) (place : ℕ) : Type 0 where
   pub lines : whole_lines line octets ≡ (line ++ take place octets) ∷ whole_lines [] (drop (suc place) octets)
   pub last : last_line line octets ≡ last_line [] (drop (suc place) octets)
 
-by_octet : (line octets : List ℕ) (x later : ℕ) (b : Bool) → (x == 10) ≡ b → (later < length octets → EndsAt (line ++ x ∷ []) octets later) → cond (not b) (1 + later) 0 < length (x ∷ octets)
-    → EndsAt line (x ∷ octets) (cond (not b) (1 + later) 0)
-by_octet line octets x later true is rest less = record { lines = rw (is, append-nil line) refl; last = rw is refl }
-by_octet line octets x later false is rest less =
-    let more = rest (omega arith) in
-    let e : 1 + later ≡ suc later = omega arith in
-    rw e (record { lines = rw is (more.lines ∙ ap (λ l. l ∷ whole_lines [] (drop (suc later) octets)) (append_assoc line (x ∷ []) (take later octets))); last = rw is more.last })
-
-ends_there : (line octets : List ℕ) → first_end octets < length octets → EndsAt line octets (first_end octets)
-ends_there line [] less = absurd (omega arith)
-ends_there line (x ∷ octets) less = by_octet line octets x (first_end octets) (x == 10) refl (ends_there (line ++ x ∷ []) octets) less
+ends_there : (line octets : List ℕ) (place : ℕ) → place < length octets → is_line_feed (get_or octets place 0) ≡ true → ((k : ℕ) → k < place → is_line_feed (get_or octets k 0) ≡ false) → EndsAt line octets place
+ends_there line [] place less here before = absurd (omega arith)
+ends_there line (x ∷ octets) zero less here before = record { lines = rw (here, append-nil line) refl; last = rw here refl }
+ends_there line (x ∷ octets) (suc place) less here before =
+    let first = before 0 (omega arith) in
+    let more = ends_there (line ++ x ∷ []) octets place (omega arith) here (λ k lt. before (suc k) (omega arith)) in
+    record { lines = rw first (more.lines ∙ ap (λ l. l ∷ whole_lines [] (drop (suc place) octets)) (append_assoc line (x ∷ []) (take place octets))); last = rw first more.last }
 
 pub ends_at : (line octets : List ℕ) (place : ℕ) → position is_line_feed octets ≡ Some place → EndsAt line octets place
-ends_at line octets place e = by (ltb (first_end octets) (length octets)) refl e
-  where
-    by : (b : Bool) → ltb (first_end octets) (length octets) ≡ b → cond b (Some (first_end octets)) None ≡ Some place → EndsAt line octets place
-    by true is same = let there : first_end octets ≡ place = cc same in rw there at (ends_there line octets (ltb-true _ _ is))
-    by false is same = cc same
+ends_at line octets place e = let p = position-Some is_line_feed octets place 0 e in ends_there line octets place p.0 p.1 p.2
 
 pub record HasNoEnd (line octets : List ℕ) : Type 0 where
   pub lines : whole_lines line octets ≡ []
