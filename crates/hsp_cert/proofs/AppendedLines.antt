@@ -17,38 +17,27 @@ spelling-append [] ys = refl
 spelling-append (x ∷ xs) ys =
     ap (λ (t : List ℕ). line_of x ++ 10 ∷ t) (spelling-append xs ys) ∙ sym (append_assoc (line_of x) (10 ∷ spelling xs) (spelling ys))
 
--- what is appended after some lines stands behind them
-appended : (old new : List ℕ) (xs ys : List Item) → new ≡ old ++ spelling xs → new ++ spelling ys ≡ old ++ spelling (xs ++ ys)
-appended old new xs ys h =
-    ap (λ (t : List ℕ). t ++ spelling ys) h ∙ append_assoc old (spelling xs) (spelling ys) ∙ ap (λ (t : List ℕ). old ++ t) (sym (spelling-append xs ys))
-
 -- the four lists of a plan, one after the other
 pub body_appended : (b : Best) (o p q r s : List ℕ) → p ≡ o ++ spelling (use_items b.uses) → q ≡ p ++ spelling (price_items word.Row 0 b.row_prices) →
     r ≡ q ++ spelling (price_items word.Server 0 b.server_prices) → s ≡ r ++ spelling (price_items word.Host 0 b.host_prices) → s ≡ o ++ spelling (body_items b)
-body_appended b o p q r s hp hq hr hs =
-    let rows = price_items word.Row 0 b.row_prices in
-    let servers = price_items word.Server 0 b.server_prices in
-    let hosts = price_items word.Host 0 b.host_prices in
-    hs ∙ appended q r servers hosts hr ∙ appended p q rows (servers ++ hosts) hq ∙ appended o p (use_items b.uses) (rows ++ (servers ++ hosts)) hp
+body_appended b o p q r s hp hq hr hs = rw (hs, hr, hq, hp) (simp (spelling-append, append_assoc))
+
+appended : (o : List ℕ) (a b c d e : List Item) → ((((o ++ spelling a) ++ spelling b) ++ spelling c) ++ spelling d) ++ spelling e ≡ o ++ spelling (a ++ (b ++ (c ++ (d ++ e))))
+appended o a b c d e = simp (spelling-append, append_assoc)
+
+appended_behind : (o : List ℕ) (a b c d e f : List Item) → (((((o ++ spelling a) ++ spelling b) ++ spelling c) ++ spelling d) ++ spelling e) ++ spelling f ≡ o ++ spelling (a ++ (b ++ (c ++ (d ++ (e ++ f)))))
+appended_behind o a b c d e f = simp (spelling-append, append_assoc)
 
 -- the lines of a plan
 pub plan_appended : (b : Best) (o p q r s t : List ℕ) → p ≡ o ++ spelling (item.One word.Version (version_of b.host_prices) ∷ []) → q ≡ p ++ spelling (item.Alone word.Plan ∷ []) →
     r ≡ q ++ spelling (item.One word.Cost b.cost ∷ []) → s ≡ r ++ spelling (body_items b) → t ≡ s ++ spelling (item.Alone word.End ∷ []) → t ≡ o ++ text_of (best b)
 plan_appended b o p q r s t hp hq hr hs ht =
-    let end = item.Alone word.End ∷ [] in
-    let cost = item.One word.Cost b.cost ∷ [] in
-    let plan = item.Alone word.Plan ∷ [] in
-    ht ∙ appended r s (body_items b) end hs ∙ appended q r cost (body_items b ++ end) hr ∙ appended p q plan (cost ++ (body_items b ++ end)) hq
-    ∙ appended o p (item.One word.Version (version_of b.host_prices) ∷ []) (plan ++ (cost ++ (body_items b ++ end))) hp
+    rw (ht, hs, hr, hq, hp) (appended o (item.One word.Version (version_of b.host_prices) ∷ []) (item.Alone word.Plan ∷ []) (item.One word.Cost b.cost ∷ []) (body_items b) (item.Alone word.End ∷ []))
 
 -- the lines of a shortage
 pub shortage_appended : (s : Short) (o p q r t u v : List ℕ) → p ≡ o ++ spelling (item.One word.Version 1 ∷ []) → q ≡ p ++ spelling (item.Alone word.Shortage ∷ []) →
     r ≡ q ++ spelling (item.One word.Demand s.demand ∷ []) → t ≡ r ++ spelling (item.One word.Capacity s.capacity ∷ []) → u ≡ t ++ spelling (row_items s.rows) →
     v ≡ u ++ spelling (item.Alone word.End ∷ []) → v ≡ o ++ text_of (short s)
 shortage_appended s o p q r t u v hp hq hr ht hu hv =
-    let end = item.Alone word.End ∷ [] in
-    let capacity = item.One word.Capacity s.capacity ∷ [] in
-    let demand = item.One word.Demand s.demand ∷ [] in
-    let shortage = item.Alone word.Shortage ∷ [] in
-    hv ∙ appended t u (row_items s.rows) end hu ∙ appended r t capacity (row_items s.rows ++ end) ht ∙ appended q r demand (capacity ++ (row_items s.rows ++ end)) hr
-    ∙ appended p q shortage (demand ++ (capacity ++ (row_items s.rows ++ end))) hq ∙ appended o p (item.One word.Version 1 ∷ []) (shortage ++ (demand ++ (capacity ++ (row_items s.rows ++ end)))) hp
+    rw (hv, hu, ht, hr, hq, hp)
+    (appended_behind o (item.One word.Version 1 ∷ []) (item.Alone word.Shortage ∷ []) (item.One word.Demand s.demand ∷ []) (item.One word.Capacity s.capacity ∷ []) (row_items s.rows) (item.Alone word.End ∷ []))

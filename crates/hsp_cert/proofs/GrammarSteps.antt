@@ -1,10 +1,13 @@
 -- An item can stand exactly where the step takes it.
-use Rattle.std.proofs.Common.{◌≡◌, ◌<◌, ◌≤◌, ◌+◌, ◌-◌, ℕ, suc, Bool, true, false, List, [], ◌∷◌, ◌++◌, length, Option, Some, None, refl, sym, ap, subst, ◌∙◌, arith, ◌⊎◌, append_assoc, length-append}
+use Rattle.std.proofs.Common.{◌≡◌, ◌<◌, ◌≤◌, ◌+◌, ◌-◌, ℕ, suc, Bool, true, false, List, [], ◌∷◌, ◌++◌, length, Option, Some, None, refl, ap, subst, ◌∙◌, arith, ◌⊎◌, append_assoc, length-append}
 use Rattle.std.specs.Prelude.{◌==◌, ◌&&◌, ◌||◌, nat_le, nat_lt, option_map, slice_get}
 use Rattle.std.specs.List.{list_all}
 use Rattle.std.proofs.lemmas.Bool.{and_parts, and_from, eqb-true}
 use Rattle.std.proofs.lemmas.Bool.Decides.{nat_tests}
-use Rattle.std.proofs.lemmas.List.{append-nil}
+use Rattle.std.proofs.lemmas.List.{append-nil, nil_from_length}
+use Rattle.std.proofs.lemmas.List.Folds.{list_all-append}
+use Rattle.std.proofs.lemmas.Option.{slice_get-get_or}
+use Rattle.std.proofs.Math.Seq.{get_or-append_seam}
 use Rattle.hsp_cert.specs.declared.use_line.UseLine.{UseLine}
 use Rattle.hsp_cert.specs.declared.stage.Stage.{Stage}
 use Rattle.hsp_cert.specs.declared.stage.Stage.TheVariants as stage
@@ -20,46 +23,26 @@ use Rattle.hsp_cert.specs.Steps.{staged, with_plan, with_set, cost_set, is_amoun
 -- ---- lists
 
 none_is : {A : Type 0} (xs : List A) → is_none xs ≡ true → xs ≡ []
-none_is [] h = refl
-none_is (x ∷ xs) h = let e : suc (length xs) ≡ 0 = eqb-true (suc (length xs)) 0 h in absurd (omega arith)
+none_is xs h = nil_from_length xs (eqb-true (length xs) 0 h)
 
 all_push : {A : Type 0} (p : A → Bool) (xs : List A) (x : A) → list_all p xs ≡ true → p x ≡ true → list_all p (xs ++ x ∷ []) ≡ true
-all_push p [] x h k = and_from (p x) true k refl
-all_push p (y ∷ xs) x h k = let b = and_parts (p y) (list_all p xs) h in and_from (p y) (list_all p (xs ++ x ∷ [])) b.0 (all_push p xs x b.1 k)
-
--- the last of a list behind some element
-last_from : {A : Type 0} → Option A → List A → Option A
-last_from o [] = o
-last_from o (x ∷ xs) = last_from (Some x) xs
-
-last_behind : {A : Type 0} (x : A) (xs : List A) → slice_get (x ∷ xs) (length xs) ≡ last_from (Some x) xs
-unfolding last_from
-last_behind x [] = refl
-last_behind x (y ∷ xs) = last_behind y xs
-
-last_is : {A : Type 0} (xs : List A) → last xs ≡ last_from None xs
-unfolding last_from
-last_is [] = refl
-last_is (x ∷ xs) = let e : suc (length xs) - 1 ≡ length xs = omega arith in ap (λ (k : ℕ). slice_get (x ∷ xs) k) e ∙ last_behind x xs
-
-last_from_push : {A : Type 0} (o : Option A) (xs : List A) (x : A) → last_from o (xs ++ x ∷ []) ≡ Some x
-unfolding last_from
-last_from_push o [] x = refl
-last_from_push o (y ∷ xs) x = last_from_push (Some y) xs x
+all_push p xs x h k = list_all-append p xs (x ∷ []) ∙ and_from (list_all p xs) (p x && true) h (and_from (p x) true k refl)
 
 pub last_push : {A : Type 0} (xs : List A) (x : A) → last (xs ++ x ∷ []) ≡ Some x
-last_push xs x = last_is (xs ++ x ∷ []) ∙ last_from_push None xs x
+last_push xs x =
+    let at : length (xs ++ x ∷ []) - 1 ≡ length xs = omega (arith, length-append xs (x ∷ [])) in
+    rw at (slice_get-get_or (xs ++ x ∷ []) (length xs) x (omega (arith, length-append xs (x ∷ []))) ∙ ap (λ y. Some y) (get_or-append_seam xs x [] x))
 
-ascends_from_push : {A : Type 0} (before : A → A → Bool) (o : Option A) (xs : List A) (x : A) → ascends_from before o xs ≡ true → goes_on_from before (last_from o xs) x ≡ true → ascends_from before o (xs ++ x ∷ []) ≡ true
-unfolding last_from
-ascends_from_push before o [] x h k = and_from (goes_on_from before o x) true k refl
-ascends_from_push before o (y ∷ xs) x h k =
-    let b = and_parts (goes_on_from before o y) (ascends_from before (Some y) xs) h in
-    and_from (goes_on_from before o y) (ascends_from before (Some y) (xs ++ x ∷ [])) b.0 (ascends_from_push before (Some y) xs x b.1 k)
+ascends_behind : {A : Type 0} (before : A → A → Bool) (y : A) (xs : List A) (x : A) → ascends_from before (Some y) xs ≡ true → goes_on_from before (slice_get (y ∷ xs) (length xs)) x ≡ true → ascends_from before (Some y) (xs ++ x ∷ []) ≡ true
+ascends_behind before y [] x h k = and_from (before y x) true k refl
+ascends_behind before y (z ∷ xs) x h k =
+    let b = and_parts (before y z) (ascends_from before (Some z) xs) h in
+    and_from (before y z) (ascends_from before (Some z) (xs ++ x ∷ [])) b.0 (ascends_behind before z xs x b.1 k)
 
 -- an ascending list goes on where its last comes before the next
 ascends_push : {A : Type 0} (before : A → A → Bool) (xs : List A) (x : A) → ascends before xs ≡ true → goes_on_from before (last xs) x ≡ true → ascends before (xs ++ x ∷ []) ≡ true
-ascends_push before xs x h k = ascends_from_push before None xs x h (rw (last_is xs) at k)
+ascends_push before [] x h k = refl
+ascends_push before (y ∷ xs) x h k = let at : suc (length xs) - 1 ≡ length xs = omega arith in ascends_behind before y xs x h (rw at at k)
 
 pub when_taken : {A : Type 0} (t : Bool) (x y : A) → when t x ≡ Some y → (t ≡ true) × (x ≡ y)
 when_taken true x y h = (refl, cc)
@@ -79,12 +62,9 @@ row_items-push : (rs : List ℕ) (r : ℕ) → row_items (rs ++ r ∷ []) ≡ ro
 row_items-push [] r = refl
 row_items-push (s ∷ rs) r = ap (λ (x : List Item). item.One word.Row s ∷ x) (row_items-push rs r)
 
-price_items_from-push : (w : Word) (n : ℕ) (ps : List ℕ) (k p : ℕ) → k ≡ n + length ps → price_items w n (ps ++ p ∷ []) ≡ price_items w n ps ++ item.Two w k p ∷ []
-price_items_from-push w n [] k p e = let at : n ≡ k = omega arith in ap (λ (m : ℕ). item.Two w m p ∷ []) at
-price_items_from-push w n (q ∷ ps) k p e = ap (λ (x : List Item). item.Two w n q ∷ x) (price_items_from-push w (n + 1) ps k p (omega arith))
-
-price_items-push : (w : Word) (ps : List ℕ) (k p : ℕ) → k ≡ length ps → price_items w 0 (ps ++ p ∷ []) ≡ price_items w 0 ps ++ item.Two w k p ∷ []
-price_items-push w ps k p e = price_items_from-push w 0 ps k p (omega arith)
+price_items-push : (w : Word) (n : ℕ) (ps : List ℕ) (k p : ℕ) → k ≡ n + length ps → price_items w n (ps ++ p ∷ []) ≡ price_items w n ps ++ item.Two w k p ∷ []
+price_items-push w n [] k p e = let at : n ≡ k = omega arith in ap (λ (m : ℕ). item.Two w m p ∷ []) at
+price_items-push w n (q ∷ ps) k p e = ap (λ (x : List Item). item.Two w n q ∷ x) (price_items-push w (n + 1) ps k p (omega arith))
 
 -- ---- a body with one line more
 
@@ -106,14 +86,10 @@ body_row : (v : ℕ) (b : Best) (n p : ℕ) → IsBest b → (v ≡ 1 → b.host
 body_row v b n p h one t =
     let a = and_parts (is_none b.server_prices && is_none b.host_prices) (is_next 8192 b.row_prices n p) t in
     let none = and_parts (is_none b.server_prices) (is_none b.host_prices) a.0 in
-    let ss = none_is b.server_prices none.0 in
-    let hs = none_is b.host_prices none.1 in
     let f = next_facts 8192 b.row_prices n p a.1 in
-    let uses = use_items b.uses in
-    let rows = price_items word.Row 0 b.row_prices in
-    let new : List Item = item.Two word.Row n p ∷ [] in (
+    let pushed = price_items-push word.Row 0 b.row_prices n p (omega (arith, f.0)) in (
       record { cost = h.cost; uses = h.uses; order = h.order; row_count = omega (arith, length-append b.row_prices (p ∷ []), f.0, f.1); row_prices = all_push is_price b.row_prices p h.row_prices f.2; server_count = h.server_count; server_prices = h.server_prices; host_count = h.host_count; host_prices = h.host_prices },
-      rw (ss, hs) (ap (λ (x : List Item). uses ++ x) (append-nil (price_items word.Row 0 (b.row_prices ++ p ∷ [])) ∙ price_items-push word.Row b.row_prices n p f.0) ∙ sym (append_assoc uses rows new) ∙ ap (λ (x : List Item). (uses ++ x) ++ new) (sym (append-nil rows))),
+      rw (none_is b.server_prices none.0, none_is b.host_prices none.1) (simp (append-nil, pushed, append_assoc)),
       one,
       refl,
     )
@@ -124,13 +100,9 @@ body_use v b u h one t =
     let a = and_parts ((is_none b.row_prices && is_none b.server_prices) && is_none b.host_prices) (is_use u && goes_on_from is_before (last b.uses) u) t in
     let none = and_parts (is_none b.row_prices && is_none b.server_prices) (is_none b.host_prices) a.0 in
     let two = and_parts (is_none b.row_prices) (is_none b.server_prices) none.0 in
-    let may = and_parts (is_use u) (goes_on_from is_before (last b.uses) u) a.1 in
-    let rs = none_is b.row_prices two.0 in
-    let ss = none_is b.server_prices two.1 in
-    let hs = none_is b.host_prices none.1 in
-    let new : List Item = item.Three word.Use u.row u.site u.count ∷ [] in (
+    let may = and_parts (is_use u) (goes_on_from is_before (last b.uses) u) a.1 in (
       record { cost = h.cost; uses = all_push is_use b.uses u h.uses may.0; order = ascends_push is_before b.uses u h.order may.1; row_count = h.row_count; row_prices = h.row_prices; server_count = h.server_count; server_prices = h.server_prices; host_count = h.host_count; host_prices = h.host_prices },
-      rw (rs, ss, hs) (append-nil (use_items (b.uses ++ u ∷ [])) ∙ use_items-push b.uses u ∙ ap (λ (x : List Item). x ++ new) (sym (append-nil (use_items b.uses)))),
+      rw (none_is b.row_prices two.0, none_is b.server_prices two.1, none_is b.host_prices none.1) (simp (append-nil, use_items-push)),
       one,
       refl,
     )
@@ -139,21 +111,13 @@ body_server : (v : ℕ) (b : Best) (n p : ℕ) → IsBest b → (v ≡ 1 → b.h
     Next_body v b (item.Two word.Server n p) (plan_of b.cost b.uses b.row_prices (b.server_prices ++ p ∷ []) b.host_prices)
 body_server v b n p h one t =
     let a = and_parts (is_none b.host_prices) (is_next 1024 b.server_prices n p) t in
-    let hs = none_is b.host_prices a.0 in
     let f = next_facts 1024 b.server_prices n p a.1 in
-    let uses = use_items b.uses in
-    let rows = price_items word.Row 0 b.row_prices in
-    let servers = price_items word.Server 0 b.server_prices in
-    let new : List Item = item.Two word.Server n p ∷ [] in (
+    let pushed = price_items-push word.Server 0 b.server_prices n p (omega (arith, f.0)) in (
       record { cost = h.cost; uses = h.uses; order = h.order; row_count = h.row_count; row_prices = h.row_prices; server_count = omega (arith, length-append b.server_prices (p ∷ []), f.0, f.1); server_prices = all_push is_price b.server_prices p h.server_prices f.2; host_count = h.host_count; host_prices = h.host_prices },
-      rw hs (ap (λ (x : List Item). uses ++ (rows ++ x)) (append-nil (price_items word.Server 0 (b.server_prices ++ p ∷ [])) ∙ price_items-push word.Server b.server_prices n p f.0)
-          ∙ ap (λ (x : List Item). uses ++ x) (sym (append_assoc rows servers new)) ∙ sym (append_assoc uses (rows ++ servers) new) ∙ ap (λ (x : List Item). (uses ++ (rows ++ x)) ++ new) (sym (append-nil servers))),
+      rw (none_is b.host_prices a.0) (simp (append-nil, pushed, append_assoc)),
       one,
       refl,
     )
-
-version_apart : {C : Type 0} (v : ℕ) → v ≡ 2 → v ≡ 1 → C
-version_apart v two one = absurd (omega arith)
 
 pub body_host : (v : ℕ) (b : Best) (n p : ℕ) → IsBest b → may_host_price v b n p ≡ true →
     Next_body v b (item.Two word.Host n p) (plan_of b.cost b.uses b.row_prices b.server_prices (b.host_prices ++ p ∷ []))
@@ -161,15 +125,10 @@ body_host v b n p h t =
     let a = and_parts (v == 2) (is_next 1024 b.host_prices n p) t in
     let f = next_facts 1024 b.host_prices n p a.1 in
     let two : v ≡ 2 = eqb-true v 2 a.0 in
-    let uses = use_items b.uses in
-    let rows = price_items word.Row 0 b.row_prices in
-    let servers = price_items word.Server 0 b.server_prices in
-    let hosts = price_items word.Host 0 b.host_prices in
-    let new : List Item = item.Two word.Host n p ∷ [] in (
+    let pushed = price_items-push word.Host 0 b.host_prices n p (omega (arith, f.0)) in (
       record { cost = h.cost; uses = h.uses; order = h.order; row_count = h.row_count; row_prices = h.row_prices; server_count = h.server_count; server_prices = h.server_prices; host_count = omega (arith, length-append b.host_prices (p ∷ []), f.0, f.1); host_prices = all_push is_price b.host_prices p h.host_prices f.2 },
-      ap (λ (x : List Item). uses ++ (rows ++ (servers ++ x))) (price_items-push word.Host b.host_prices n p f.0) ∙ ap (λ (x : List Item). uses ++ (rows ++ x)) (sym (append_assoc servers hosts new))
-          ∙ ap (λ (x : List Item). uses ++ x) (sym (append_assoc rows (servers ++ hosts) new)) ∙ sym (append_assoc uses (rows ++ (servers ++ hosts)) new),
-      (λ one. version_apart v two one),
+      simp (pushed, append_assoc),
+      λ one. absurd (omega arith),
       refl,
     )
 
@@ -328,13 +287,7 @@ shortage_next d i e h eq = rows_taken d i e h eq
 next_at : (s : Stage) (d : Drafted) (i : Item) (e : Drafted) → Valid_at s d → step_at s d i ≡ Some e → Next s d i e
 next_at stage.Body d i e h eq = plan_next d i e h eq
 next_at stage.Rows d i e h eq = shortage_next d i e h eq
-next_at stage.Version d i e h eq = head_next stage.Version d i e h eq
-next_at stage.Kind d i e h eq = head_next stage.Kind d i e h eq
-next_at stage.Cost d i e h eq = head_next stage.Cost d i e h eq
-next_at stage.Demand d i e h eq = head_next stage.Demand d i e h eq
-next_at stage.Capacity d i e h eq = head_next stage.Capacity d i e h eq
-next_at stage.PlanEnded d i e h eq = head_next stage.PlanEnded d i e h eq
-next_at stage.ShortageEnded d i e h eq = head_next stage.ShortageEnded d i e h eq
+next_at s d i e h eq = head_next s d i e h eq
 
 -- an item that is taken makes a draft of one item more
 pub step_next : (d : Drafted) (i : Item) (e : Drafted) → Valid d → step d i ≡ Some e → Valid e × (so_far e ≡ so_far d ++ i ∷ [])

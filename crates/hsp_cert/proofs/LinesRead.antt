@@ -1,6 +1,6 @@
 -- The text as far as it was read.
 use Rattle.std.proofs.Common.{◌≡◌, ◌<◌, ◌≤◌, ◌^◌, ◌+◌, ℕ, true, List, [], ◌∷◌, ◌++◌, length, map, Option, Some, None, refl, sym, ap, ◌∙◌, arith, append_assoc}
-use Rattle.std.specs.Prelude.{◌&&◌, nat_le, decimal}
+use Rattle.std.specs.Prelude.{nat_le, decimal}
 use Rattle.std.specs.List.{AllByRecursion, list_all}
 use Rattle.std.proofs.lemmas.Bool.{and_parts}
 use Rattle.std.proofs.lemmas.Bool.Decides.{nat_tests}
@@ -18,7 +18,7 @@ use Rattle.hsp_cert.specs.Steps.{step, step_line, start}
 use Rattle.hsp_cert.specs.Reading.{LinesStand}
 use Rattle.hsp_cert.specs.Words.{spelled}
 use Rattle.hsp_cert.proofs.LineCuts.{Unbroken}
-use Rattle.hsp_cert.proofs.ReadItems.{Printed, word_printed, decimal_printed, Fits, reads_back}
+use Rattle.hsp_cert.proofs.ReadItems.{Printed, printed_apart, word_printed, decimal_printed, Fits, reads_back}
 use Rattle.hsp_cert.proofs.WholeRuns.{run, run-append, run_so_far, run_whole, first_step, ended}
 use Rattle.hsp_cert.proofs.Standing.{draft_stands}
 
@@ -40,16 +40,12 @@ all_append P (x ∷ xs) ys h k = (h.0, all_append P xs ys h.1 k)
 le_of : (a b : ℕ) → nat_le a b ≡ true → a ≤ b
 le_of a b h = grind (arith, nat_tests)
 
+use_fits : (u : UseLine) → is_use u ≡ true → (u.row < 2 ^ 64) × (u.site < 2 ^ 64) × (u.count < 2 ^ 64)
+use_fits u h = grind (arith, nat_tests)
+
 uses_fit : (us : List UseLine) → list_all is_use us ≡ true → AllByRecursion Fits (use_items us)
 uses_fit [] h = tt
-uses_fit (u ∷ us) h =
-    let a = and_parts (is_use u) (list_all is_use us) h in
-    let b = and_parts (nat_le u.row 8191 && nat_le u.site 31) (nat_le 1 u.count && nat_le u.count 1000000) a.0 in
-    let one = and_parts (nat_le u.row 8191) (nat_le u.site 31) b.0 in
-    let row = le_of u.row 8191 one.0 in
-    let site = le_of u.site 31 one.1 in
-    let count = le_of u.count 1000000 (and_parts (nat_le 1 u.count) (nat_le u.count 1000000) b.1).1 in
-    ((omega arith, omega arith, omega arith), uses_fit us a.1)
+uses_fit (u ∷ us) h = let a = and_parts (is_use u) (list_all is_use us) h in (use_fits u a.0, uses_fit us a.1)
 
 prices_fit : (w : Word) (n : ℕ) (ps : List ℕ) → n + length ps ≤ 8192 → list_all is_price ps ≡ true → AllByRecursion Fits (price_items w n ps)
 prices_fit w n [] le h = tt
@@ -97,8 +93,7 @@ claim_back claim h = read_back (items_of claim) (claim_fits claim h)
 -- ---- no line of a certificate holds an LF
 
 unbroken : (xs : List ℕ) → Printed xs → Unbroken xs
-unbroken [] h = tt
-unbroken (x ∷ xs) h = let le = h.0 in ((λ e. omega arith), unbroken xs h.1)
+unbroken xs h = printed_apart 10 (omega arith) xs h
 
 spaced : (xs ys : List ℕ) → Printed xs → Unbroken ys → Unbroken (xs ++ 32 ∷ ys)
 spaced xs ys h k = all_append (λ x. x ≡ 10 → ⊥) xs (32 ∷ ys) (unbroken xs h) ((λ e. omega (arith, e)), k)

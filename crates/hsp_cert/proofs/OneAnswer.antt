@@ -1,5 +1,5 @@
 -- No two answers are true of one text.
-use Rattle.std.proofs.Common.{◌≡◌, ◌+◌, ℕ, List, [], ◌∷◌, ◌++◌, length, map, Option, Some, None, refl, sym, ap, subst, ◌∙◌, arith, inl, inr, append_assoc, length-append, Ok, Err}
+use Rattle.std.proofs.Common.{◌≡◌, ◌+◌, ℕ, List, [], ◌∷◌, ◌++◌, length, map, Option, Some, None, refl, sym, ap, subst, ◌∙◌, arith, inl, inr, append_assoc, Ok, Err}
 use Rattle.std.specs.List.{AllByRecursion}
 use Rattle.std.proofs.lemmas.List.{append-nil}
 use Rattle.hsp_cert.specs.declared.item.Word.TheVariants as word
@@ -44,24 +44,24 @@ nothing_taken (best b) i = refl
 nothing_taken (short s) i = refl
 
 -- no certificate goes on to another
-goes_no_further : (c d : Claim) (more : List (List ℕ)) → IsCertificate c → IsCertificate d → lines_of d ≡ lines_of c ++ more → more ≡ []
-goes_no_further c d [] hc hd e = refl
-goes_no_further c d (m ∷ more) hc hd e =
-    let u = up_to (items_of d) (items_of c) m more (claim_back d hd) (claim_back c hc) e in
+goes_no_further : (c : Claim) (more : List (List ℕ)) → IsCertificate c → LinesStand (lines_of c ++ more) → more ≡ []
+goes_no_further c [] h st = refl
+goes_no_further c (m ∷ more) h st =
+    let u = up_to (items_of st.0) (items_of c) m (more ++ st.2) (claim_back st.0 st.1) (claim_back c h) (st.3 ∙ append_assoc (lines_of c) (m ∷ more) st.2) in
     let after : List Item = u.0 ∷ u.1 in
     let gone : run (Some (ended c)) after ≡ None = ap (λ (o : Option Drafted). run o u.1) (nothing_taken c u.0) ∙ run-none u.1 in
-    let goes : run (Some start) (items_of d) ≡ run (Some (ended c)) after = ap (run (Some start)) u.2 ∙ run-append (Some start) (items_of c) after ∙ ap (λ (o : Option Drafted). run o after) (run_whole c hc) in
-    let none : Some (ended d) ≡ None = sym (run_whole d hd) ∙ goes ∙ gone in
+    let goes : run (Some start) (items_of st.0) ≡ run (Some (ended c)) after = ap (run (Some start)) u.2 ∙ run-append (Some start) (items_of c) after ∙ ap (λ (o : Option Drafted). run o after) (run_whole c h) in
+    let none : Some (ended st.0) ≡ None = sym (run_whole st.0 st.1) ∙ goes ∙ gone in
     absurd cc
 
 -- a certificate holds the line END
-end_in : (is : List Item) (more : List (List ℕ)) → HasNoEnd (map line_of (is ++ item.Alone word.End ∷ []) ++ more) → ⊥
-end_in [] more h = h.0 refl
-end_in (i ∷ is) more h = end_in is more h.1
+end_in : (is : List Item) → HasNoEnd (map line_of (is ++ item.Alone word.End ∷ [])) → ⊥
+end_in [] h = h.0 refl
+end_in (i ∷ is) h = end_in is h.1
 
-claim_end : (c : Claim) (more : List (List ℕ)) → HasNoEnd (lines_of c ++ more) → ⊥
-claim_end (best b) more h = end_in (item.One word.Version (version_of b.host_prices) ∷ item.Alone word.Plan ∷ item.One word.Cost b.cost ∷ body_items b) more h
-claim_end (short s) more h = end_in (item.One word.Version 1 ∷ item.Alone word.Shortage ∷ item.One word.Demand s.demand ∷ item.One word.Capacity s.capacity ∷ row_items s.rows) more h
+claim_end : (c : Claim) → HasNoEnd (lines_of c) → ⊥
+claim_end (best b) h = end_in (item.One word.Version (version_of b.host_prices) ∷ item.Alone word.Plan ∷ item.One word.Cost b.cost ∷ body_items b) h
+claim_end (short s) h = end_in (item.One word.Version 1 ∷ item.Alone word.Shortage ∷ item.One word.Demand s.demand ∷ item.One word.Capacity s.capacity ∷ row_items s.rows) h
 
 -- ---- lines that stand
 
@@ -76,108 +76,92 @@ all_back P (x ∷ xs) ys h = all_back P xs ys h.1
 stand_unbroken : (ls : List (List ℕ)) → LinesStand ls → AllByRecursion Unbroken ls
 stand_unbroken ls st = all_front Unbroken ls st.2 (subst (AllByRecursion Unbroken) st.3 (claim_unbroken st.0 st.1))
 
-claim_stands : (c : Claim) → IsCertificate c → LinesStand (lines_of c)
-claim_stands c h = (c, h, [], sym (append-nil (lines_of c)))
-
 stands_shorter : (before : List (List ℕ)) (line : List ℕ) (more : List (List ℕ)) → LinesStand (before ++ line ∷ more) → LinesStand (before ++ line ∷ [])
 stands_shorter before line more st =
     (st.0, st.1, more ++ st.2, st.3 ∙ append_assoc before (line ∷ more) st.2 ∙ sym (append_assoc before (line ∷ []) (more ++ st.2)))
 
--- a line that can't stand, behind lines that do
-record Stops (before : List (List ℕ)) (line : List ℕ) : Type 0 where
-  stand : LinesStand before
-  unbroken : Unbroken line
-  bad : LinesStand (before ++ line ∷ []) → ⊥
+-- The first lines of a text stand, and no more lines of it do.
+record StandsTo (text : List ℕ) (lines : List (List ℕ)) (rest : List ℕ) : Type 0 where
+  cut : text ≡ unlines lines ++ rest
+  stand : LinesStand lines
+  no_more : (more : List (List ℕ)) (x : List ℕ) → LinesStand (lines ++ more) → rest ≡ unlines more ++ x → more ≡ []
 
--- no lines that stand go on from there
-stops_there : (before more : List (List ℕ)) (line rest x : List ℕ) → Stops before line → LinesStand (before ++ more) → line ++ 10 ∷ rest ≡ unlines more ++ x → more ≡ []
-stops_there before [] line rest x stop st e = refl
-stops_there before (m ∷ more) line rest x stop st e =
-    let whole = all_back Unbroken before (m ∷ more) (stand_unbroken (before ++ m ∷ more) st) in
-    let same = same_line line m rest (unlines more ++ x) stop.unbroken whole.0 (e ∙ first_line m more x) in
-    absurd (stop.bad (stands_shorter before line more (subst (λ (l : List ℕ). LinesStand (before ++ l ∷ more)) (sym same.0) st)))
+goes_on_same : (text x y : List ℕ) (ls ms : List (List ℕ)) → StandsTo text ls x → LinesStand ms → GoesOn ls ms x y → (ls ≡ ms) × (x ≡ y)
+goes_on_same text x y ls ms p st (more, on, rest) =
+    let over = p.no_more more y (subst LinesStand on st) rest in
+    (sym (on ∙ ap (λ l. ls ++ l) over ∙ append-nil ls), rest ∙ ap (λ l. unlines l ++ y) over)
 
-stop_of : (text : List ℕ) (n : ℕ) (b : IsBadLine text n) → Stops b.0 b.1
-stop_of text n b = record { stand = b.5; unbroken = by_recursion b.1 b.4; bad = b.7 }
+-- a text is cut so in one way
+cut_once : (text x y : List ℕ) (ls ms : List (List ℕ)) → StandsTo text ls x → StandsTo text ms y → (ls ≡ ms) × (x ≡ y)
+cut_once text x y ls ms p q = elim (fronts ls ms x y (stand_unbroken ls p.stand) (stand_unbroken ms q.stand) (sym p.cut ∙ q.cut)) [
+  | inl g ↦ goes_on_same text x y ls ms p q.stand g
+  | inr g ↦ let s = goes_on_same text y x ms ls q p.stand g in (sym s.0, sym s.1)
+]
+
+whole_to : (text : List ℕ) (c : Claim) (x : List ℕ) → IsCertificate c → text ≡ text_of c ++ x → StandsTo text (lines_of c) x
+whole_to text c x h e = record { cut = e; stand = (c, h, [], sym (append-nil (lines_of c))); no_more = λ more y st over. goes_no_further c more h st }
+
+stops_there : (text : List ℕ) (n : ℕ) (b : IsBadLine text n) (more : List (List ℕ)) (x : List ℕ) → LinesStand (b.0 ++ more) → b.1 ++ 10 ∷ b.2 ≡ unlines more ++ x → more ≡ []
+stops_there text n b [] x st e = refl
+stops_there text n b (m ∷ more) x st e =
+    let whole = all_back Unbroken b.0 (m ∷ more) (stand_unbroken (b.0 ++ m ∷ more) st) in
+    let same = same_line b.1 m b.2 (unlines more ++ x) (by_recursion b.1 b.4) whole.0 (e ∙ first_line m more x) in
+    absurd (b.7 (stands_shorter b.0 b.1 more (subst (λ l. LinesStand (b.0 ++ l ∷ more)) (sym same.0) st)))
+
+bad_to : (text : List ℕ) (n : ℕ) (b : IsBadLine text n) → StandsTo text b.0 (b.1 ++ 10 ∷ b.2)
+bad_to text n b = record { cut = b.3; stand = b.5; no_more = stops_there text n b }
+
+lines_over : (tail : List ℕ) → Unbroken tail → (more : List (List ℕ)) (x : List ℕ) → tail ≡ unlines more ++ x → more ≡ []
+lines_over tail h [] x e = refl
+lines_over tail h (m ∷ more) x e = absurd (no_line m (unlines more ++ x) tail h (sym (e ∙ first_line m more x)))
+
+ended_to : (text : List ℕ) (q : IsEnded text) → StandsTo text q.0 q.1
+ended_to text q = record { cut = q.2; stand = q.4; no_more = λ more x st e. lines_over q.1 (by_recursion q.1 q.3) more x e }
 
 -- ---- no two answers
 
-lines_over : (more : List (List ℕ)) (x t : List ℕ) → Unbroken t → t ≡ unlines more ++ x → more ≡ []
-lines_over [] x t h e = refl
-lines_over (m ∷ more) x t h e = absurd (no_line m (unlines more ++ x) t h (sym (e ∙ first_line m more x)))
+-- what follows a certificate changes nothing of what is read
+whole_and_whole : (text : List ℕ) (c d : Claim) (x y : List ℕ) → IsCertificate c → IsCertificate d → text ≡ text_of c ++ x → text ≡ text_of d ++ y → (c ≡ d) × (x ≡ y)
+whole_and_whole text c d x y hc hd e f =
+    let same = cut_once text x y (lines_of c) (lines_of d) (whole_to text c x hc e) (whole_to text d y hd f) in
+    (claim_same c d hc hd same.0, same.1)
 
--- no certificate's lines are among lines without END
-ends_late : (c : Claim) (before more : List (List ℕ)) → HasNoEnd before → lines_of c ≡ before ++ more → more ≡ [] → ⊥
-ends_late c before more none e over =
-    claim_end c [] (subst HasNoEnd (sym (append-nil (lines_of c) ∙ e ∙ ap (λ (l : List (List ℕ)). before ++ l) over ∙ append-nil before)) none)
+whole_and_open : (text : List ℕ) (c : Claim) (x y : List ℕ) (ls : List (List ℕ)) → IsCertificate c → text ≡ text_of c ++ x → StandsTo text ls y → HasNoEnd ls → ⊥
+whole_and_open text c x y ls h e p none = claim_end c (subst HasNoEnd (sym (cut_once text x y (lines_of c) ls (whole_to text c x h e) p).0) none)
 
 bad_and_bad : (text : List ℕ) (n m : ℕ) → IsBadLine text n → IsBadLine text m → n ≡ m
-bad_and_bad text n m p q = elim (fronts p.0 q.0 (p.1 ++ 10 ∷ p.2) (q.1 ++ 10 ∷ q.2) (stand_unbroken p.0 p.5) (stand_unbroken q.0 q.5) (sym p.3 ∙ q.3)) [
-  | inl (more, on, rest) ↦
-      let over = stops_there p.0 more p.1 p.2 (q.1 ++ 10 ∷ q.2) (stop_of text n p) (subst LinesStand on q.5) rest in
-      omega (arith, p.8, q.8, ap length on, length-append p.0 more, ap length over)
-  | inr (more, on, rest) ↦
-      let over = stops_there q.0 more q.1 q.2 (p.1 ++ 10 ∷ p.2) (stop_of text m q) (subst LinesStand on p.5) rest in
-      omega (arith, p.8, q.8, ap length on, length-append q.0 more, ap length over)
-]
+bad_and_bad text n m p q =
+    let same = cut_once text (p.1 ++ 10 ∷ p.2) (q.1 ++ 10 ∷ q.2) p.0 q.0 (bad_to text n p) (bad_to text m q) in
+    omega (arith, p.8, q.8, ap length same.0)
 
 bad_and_ended : (text : List ℕ) (n : ℕ) → IsBadLine text n → IsEnded text → ⊥
 bad_and_ended text n p q =
-    let tail = by_recursion q.1 q.3 in
-    elim (fronts p.0 q.0 (p.1 ++ 10 ∷ p.2) q.1 (stand_unbroken p.0 p.5) (stand_unbroken q.0 q.4) (sym p.3 ∙ q.2)) [
-      | inl (more, on, rest) ↦
-          let over = stops_there p.0 more p.1 p.2 q.1 (stop_of text n p) (subst LinesStand on q.4) rest in
-          no_line p.1 p.2 q.1 tail (rest ∙ ap (λ (l : List (List ℕ)). unlines l ++ q.1) over)
-      | inr (more, on, rest) ↦
-          let over = lines_over more (p.1 ++ 10 ∷ p.2) q.1 tail rest in
-          no_line p.1 p.2 q.1 tail (sym (rest ∙ ap (λ (l : List (List ℕ)). unlines l ++ (p.1 ++ 10 ∷ p.2)) over))
-    ]
-
-whole_and_bad : (text : List ℕ) (c : Claim) (x : List ℕ) (n : ℕ) → IsCertificate c → text ≡ text_of c ++ x → IsBadLine text n → ⊥
-whole_and_bad text c x n h e p = elim (fronts (lines_of c) p.0 x (p.1 ++ 10 ∷ p.2) (claim_unbroken c h) (stand_unbroken p.0 p.5) (sym e ∙ p.3)) [
-  | inl (more, on, rest) ↦ claim_end c more (subst HasNoEnd on p.6)
-  | inr (more, on, rest) ↦ ends_late c p.0 more p.6 on (stops_there p.0 more p.1 p.2 x (stop_of text n p) (subst LinesStand on (claim_stands c h)) rest)
-]
-
-whole_and_ended : (text : List ℕ) (c : Claim) (x : List ℕ) → IsCertificate c → text ≡ text_of c ++ x → IsEnded text → ⊥
-whole_and_ended text c x h e p = elim (fronts (lines_of c) p.0 x p.1 (claim_unbroken c h) (stand_unbroken p.0 p.4) (sym e ∙ p.2)) [
-  | inl (more, on, rest) ↦ claim_end c more (subst HasNoEnd on p.5)
-  | inr (more, on, rest) ↦ ends_late c p.0 more p.5 on (lines_over more x p.1 (by_recursion p.1 p.3) rest)
-]
-
-goes_on_same : (c d : Claim) (x y : List ℕ) → IsCertificate c → IsCertificate d → GoesOn (lines_of c) (lines_of d) x y → (c ≡ d) × (x ≡ y)
-goes_on_same c d x y hc hd g =
-    let over = goes_no_further c d g.0 hc hd g.1 in
-    (claim_same c d hc hd (sym (g.1 ∙ ap (λ (l : List (List ℕ)). lines_of c ++ l) over ∙ append-nil (lines_of c))), g.2 ∙ ap (λ (l : List (List ℕ)). unlines l ++ y) over)
-
--- what follows a certificate changes nothing of what is read
-whole_and_whole : (c d : Claim) (x y : List ℕ) → IsCertificate c → IsCertificate d → text_of c ++ x ≡ text_of d ++ y → (c ≡ d) × (x ≡ y)
-whole_and_whole c d x y hc hd e = elim (fronts (lines_of c) (lines_of d) x y (claim_unbroken c hc) (claim_unbroken d hd) e) [
-  | inl g ↦ goes_on_same c d x y hc hd g
-  | inr g ↦ let s = goes_on_same d c y x hd hc g in (sym s.0, sym s.1)
-]
+    no_line p.1 p.2 q.1 (by_recursion q.1 q.3) (cut_once text (p.1 ++ 10 ∷ p.2) q.1 p.0 q.0 (bad_to text n p) (ended_to text q)).1
 
 pub one_spelling : HasOneSpelling
-one_spelling c d hc hd e = (whole_and_whole c d [] [] hc hd (ap (λ (x : List ℕ). x ++ []) e)).0
+one_spelling c d hc hd e = (whole_and_whole (text_of c ++ []) c d [] [] hc hd refl (ap (λ (x : List ℕ). x ++ []) e)).0
 
 -- a whole text is one that nothing follows
 alone : (text : List ℕ) (c : Claim) → text ≡ text_of c → text ≡ text_of c ++ []
 alone text c e = e ∙ sym (append-nil (text_of c))
 
 ok_and_after : (text : List ℕ) (c : Claim) (n : ℕ) → IsCertificate c → text ≡ text_of c → IsAfterEnd text n → ⊥
-ok_and_after text c n h e p = let w = whole_and_whole c p.0 [] p.2 h p.1 (sym (alone text c e) ∙ p.4) in omega (arith, p.3, ap length w.1)
+ok_and_after text c n h e p = let w = whole_and_whole text c p.0 [] p.2 h p.1 (alone text c e) p.4 in omega (arith, p.3, ap length w.1)
 
 after_and_after : (text : List ℕ) (n m : ℕ) → IsAfterEnd text n → IsAfterEnd text m → n ≡ m
 after_and_after text n m p q =
-    let w = whole_and_whole p.0 q.0 p.2 q.2 p.1 q.1 (sym p.4 ∙ q.4) in
-    p.5 ∙ ap (λ (c : Claim). length (lines_of c) + 1) w.0 ∙ sym q.5
+    p.5 ∙ ap (λ (c : Claim). length (lines_of c) + 1) (whole_and_whole text p.0 q.0 p.2 q.2 p.1 q.1 p.4 q.4).0 ∙ sym q.5
+
+-- a certificate, whatever follows it, and a text in which no line is END
+whole_and_bad : (text : List ℕ) (c : Claim) (x : List ℕ) (n : ℕ) → IsCertificate c → text ≡ text_of c ++ x → IsBadLine text n → ⊥
+whole_and_bad text c x n h e p = whole_and_open text c x (p.1 ++ 10 ∷ p.2) p.0 h e (bad_to text n p) p.6
+
+whole_and_ended : (text : List ℕ) (c : Claim) (x : List ℕ) → IsCertificate c → text ≡ text_of c ++ x → IsEnded text → ⊥
+whole_and_ended text c x h e p = whole_and_open text c x p.1 p.0 h e (ended_to text p) p.5
 
 pub one_answer : HasOneAnswer
 one_answer text (Err fault.OutOfMemory) other m k = tt
-one_answer text (Ok c) (Err fault.OutOfMemory) m k = tt
-one_answer text (Err (fault.BadLine n)) (Err fault.OutOfMemory) m k = tt
-one_answer text (Err fault.Ended) (Err fault.OutOfMemory) m k = tt
-one_answer text (Err (fault.AfterEnd n)) (Err fault.OutOfMemory) m k = tt
+one_answer text other (Err fault.OutOfMemory) m k = tt
 one_answer text (Ok c) (Ok d) m k = ap (λ (x : Claim). Ok x) (one_spelling c d m.0 k.0 (sym m.1 ∙ k.1))
 one_answer text (Ok c) (Err (fault.BadLine n)) m k = absurd (whole_and_bad text c [] n m.0 (alone text c m.1) k)
 one_answer text (Ok c) (Err fault.Ended) m k = absurd (whole_and_ended text c [] m.0 (alone text c m.1) k)

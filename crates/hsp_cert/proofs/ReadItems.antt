@@ -102,16 +102,7 @@ printed (x ∷ xs) h =
 
 pub word_printed : (w : Word) → Printed (spelled w)
 word_printed word.Version = printed (spelled word.Version) refl
-word_printed word.Plan = printed (spelled word.Plan) refl
-word_printed word.Shortage = printed (spelled word.Shortage) refl
-word_printed word.Cost = printed (spelled word.Cost) refl
-word_printed word.Use = printed (spelled word.Use) refl
-word_printed word.Row = printed (spelled word.Row) refl
-word_printed word.Server = printed (spelled word.Server) refl
-word_printed word.Host = printed (spelled word.Host) refl
-word_printed word.Demand = printed (spelled word.Demand) refl
-word_printed word.Capacity = printed (spelled word.Capacity) refl
-word_printed word.End = printed (spelled word.End) refl
+word_printed w = printed (spelled w) refl
 
 printed_push : (xs : List ℕ) (x : ℕ) → Printed xs → 48 ≤ x → Printed (xs ++ x ∷ [])
 printed_push [] x h le = (le, tt)
@@ -120,28 +111,20 @@ printed_push (y ∷ xs) x h le = (h.0, printed_push xs x h.1 le)
 pub decimal_printed : (n : ℕ) → n < 2 ^ 64 → Printed (decimal n)
 decimal_printed n h = decimal_by_steps (λ _ ds. Printed ds) (λ k lt. (omega arith, tt)) (λ k ds le g. printed_push ds (48 + k % 10) g (omega arith)) n h
 
-spaceless : (xs : List ℕ) → Printed xs → NoSpace xs
-spaceless [] h = tt
-spaceless (x ∷ xs) h = let le = h.0 in ((λ e. omega arith), spaceless xs h.1)
+-- no octet is one below them, as a space or an LF
+pub printed_apart : (c : ℕ) → c < 48 → (xs : List ℕ) → Printed xs → AllByRecursion (λ x. x ≡ c → ⊥) xs
+printed_apart c lt [] h = tt
+printed_apart c lt (x ∷ xs) h = let le = h.0 in ((λ e. omega arith), printed_apart c lt xs h.1)
 
 word_spaceless : (w : Word) → NoSpace (spelled w)
-word_spaceless w = spaceless (spelled w) (word_printed w)
+word_spaceless w = printed_apart 32 (omega arith) (spelled w) (word_printed w)
 
 decimal_spaceless : (n : ℕ) → n < 2 ^ 64 → NoSpace (decimal n)
-decimal_spaceless n h = spaceless (decimal n) (decimal_printed n h)
+decimal_spaceless n h = printed_apart 32 (omega arith) (decimal n) (decimal_printed n h)
 
 word_back : (w : Word) → word_in (spelled w) ≡ Some w
 word_back word.Version = refl
-word_back word.Plan = refl
-word_back word.Shortage = refl
-word_back word.Cost = refl
-word_back word.Use = refl
-word_back word.Row = refl
-word_back word.Server = refl
-word_back word.Host = refl
-word_back word.Demand = refl
-word_back word.Capacity = refl
-word_back word.End = refl
+word_back w = refl
 
 number_back : (n : ℕ) → n < 2 ^ 64 → number_in (decimal n) ≡ Some n
 number_back n h = let s = (digits_spell_their_number n (decimal n) h).1 refl in rw (s.0, s.1, fits_64 n h) refl

@@ -1,5 +1,5 @@
 -- What is known of a text as far as it was read.
-use Rattle.std.proofs.Common.{◌≡◌, ◌<◌, ◌≤◌, ◌+◌, ℕ, Bool, true, false, List, [], ◌∷◌, ◌++◌, length, map, Option, Some, None, refl, sym, ap, subst, ◌∙◌, arith, append_assoc, length-append}
+use Rattle.std.proofs.Common.{◌≡◌, ◌<◌, ◌≤◌, ◌+◌, ℕ, true, false, List, [], ◌∷◌, ◌++◌, length, map, Option, Some, None, refl, sym, ap, subst, ◌∙◌, arith, append_assoc, length-append}
 use Rattle.std.proofs.lemmas.List.{append-nil, length-map, nil_from_length}
 use Rattle.std.proofs.lemmas.Bool.{eqb-true}
 use Rattle.std.specs.Prelude.{◌==◌, codes}
@@ -57,15 +57,12 @@ end_ends_at stage.Body d e h = let t = when_taken _ (staged stage.PlanEnded d) e
 end_ends_at stage.Rows d e h = let same : staged stage.ShortageEnded d ≡ e = cc in subst (λ (x : Drafted). has_ended x.stage ≡ true) same refl
 end_ends_at s d e h = absurd cc
 
-not_both : (b : Bool) → b ≡ true → b ≡ false → ⊥
-not_both true h k = cc
-not_both false h k = cc
-
 no_end_yet : (d e : Drafted) (i : Item) → ReadsBack i → step d i ≡ Some e → has_ended e.stage ≡ false → line_of i ≡ codes "END" → ⊥
 no_end_yet d e i back taken still named =
     let said : item_in (codes "END") ≡ Some (item.Alone word.End) = refl in
     let same = item_is i (item.Alone word.End) (sym back ∙ ap item_in named ∙ said) in
-    not_both (has_ended e.stage) (end_ends_at d.stage d e (subst (λ (j : Item). step d j ≡ Some e) same taken)) still
+    let ends = end_ends_at d.stage d e (subst (λ (j : Item). step d j ≡ Some e) same taken) in
+    cc (ends, still)
 
 -- a line more
 pub adds : (text rest line after : List ℕ) (lines : ℕ) (d e : Drafted) → Progress text rest lines d → has_ended d.stage ≡ false → rest ≡ line ++ 10 ∷ after →

@@ -17,6 +17,10 @@ pub joined-append : (fs gs : List (List ℕ)) → joined (fs ++ gs) ≡ joined f
 joined-append [] gs = refl
 joined-append (f ∷ fs) gs = ap (λ (x : List ℕ). f ++ x) (joined-append fs gs) ∙ sym (append_assoc f (joined fs) (joined gs))
 
+-- fields behind fields
+pub joined_then : (fs gs : List (List ℕ)) (octets rest more : List ℕ) → octets ≡ joined fs ++ rest → rest ≡ joined gs ++ more → octets ≡ joined (fs ++ gs) ++ more
+joined_then fs gs octets rest more e h = e ∙ ap (λ l. joined fs ++ l) h ∙ sym (append_assoc (joined fs) (joined gs) more) ∙ ap (λ l. l ++ more) (sym (joined-append fs gs))
+
 pub cuts_left : (fs gs : List (List ℕ)) (octets : List ℕ) (left : ℕ) → Cuts fs octets left → Cuts (fs ++ gs) octets left
 cuts_left [] gs octets left cut = absurd cut
 cuts_left (f ∷ fs) gs octets left cut =

@@ -1,17 +1,17 @@
 -- A reader that keeps to a limit, beside one that reads any value: what it answers is the one thing that is true of the octets.
-use Rattle.std.proofs.Common.{◌≡◌, ◌≢◌, ℕ, ◌-◌, ◌<◌, ◌≤◌, List, [], ◌∷◌, ◌++◌, length, Result, Ok, Err, refl, sym, ap, subst, ◌∙◌, arith, inl, inr, ◌⊎◌, length-append}
+use Rattle.std.proofs.Common.{◌≡◌, ◌≢◌, ℕ, ◌-◌, ◌<◌, ◌≤◌, Bool, true, false, List, [], ◌∷◌, ◌++◌, length, Result, Ok, Err, refl, sym, ap, subst, ◌∙◌, arith, inl, inr, ◌⊎◌, length-append}
 use Rattle.std.proofs.lemmas.List.{append-nil}
 use Rattle.hsp_record.specs.declared.fault.Stop.{Stop}
 use Rattle.hsp_record.specs.declared.fault.Stop.TheVariants.{Short, TooMany, Twice}
 use Rattle.hsp_record.specs.declared.fault.ReadError.{ReadError}
-use Rattle.hsp_record.specs.declared.fault.ReadError.TheVariants.{Memory, Stopped}
+use Rattle.hsp_record.specs.declared.fault.ReadError.TheVariants.{Stopped}
 use Rattle.hsp_record.specs.declared.fault.RecordFault.{RecordFault}
 use Rattle.hsp_record.specs.declared.fault.RecordFault.TheVariants.{Truncated, Trailing, TooManyServers, IndexTwice, OutOfMemory}
 use Rattle.hsp_record.specs.Fields.{IsOctets, Format, spelling, Means, Agrees, HasOneAnswer, HasOneSpelling, HasNothingAfter}
 use Rattle.hsp_record.specs.Reading.{Read, Reader, FailsAs, LeavesWithin, answer_of}
 use Rattle.hsp_text.specs.Answers.{GivesUnless}
 use Rattle.hsp_record.proofs.Cuts.{Cuts, cuts_within, ends_from_cuts, cuts_from_ends}
-use Rattle.hsp_record.proofs.Codec.{Codec, IsOctets-front, ok_is, not_both}
+use Rattle.hsp_record.proofs.Codec.{Codec, IsOctets-front, ok_is}
 
 -- the limit that a stop tells of is passed in the octets
 abbrev pub Passes : {A : Type 0} → Format A → List ℕ → Stop → Type 0
@@ -19,21 +19,22 @@ Passes format octets (Short left) = ⊥
 Passes format octets TooMany = format.HasTooManyServers octets
 Passes format octets (Twice index) = format.HasIndexTwice octets index
 
-pub record Limited (A : Type 0) (read wide : Reader A) (format : Format A) : Type 0 where
-  pub codec : Codec A wide format.Wide format.fields
-  pub again : (x : A) (rest : List ℕ) → format.Fits x → read (spelling format x ++ rest) ≡ Ok (x, rest)
-  -- A limit is passed, or it makes no difference.
-  pub splits : (octets : List ℕ) → IsOctets octets → ((stop : Stop) × (read octets ≡ Err stop) × Passes format octets stop) ⊎ ((read octets ≡ wide octets) × ((x : A) (rest : List ℕ) → wide octets ≡ Ok (x, rest) → format.Fits x))
+-- what a format's values are within its limits, and without them
+abbrev pub held : {A : Type 0} → Format A → Bool → A → Type 0
+held format true = format.Fits
+held format false = format.Wide
+
+-- a reader of a format, which stops at those limits that are passed in the octets
+pub record Limited (Limit : Stop → Type 0) (A : Type 0) (read : Reader A) (format : Format A) : Type 0 where
+  pub codec : Codec Limit A read (held format) format.fields
   pub stops : (octets : List ℕ) (stop : Stop) → Passes format octets stop → read octets ≡ Err stop
+  pub passed : (octets : List ℕ) (stop : Stop) → IsOctets octets → Limit stop → read octets ≡ Err stop → Passes format octets stop
 
 abbrev err_of : {A : Type 0} → Stop → Result A Stop
 err_of stop = Err stop
 
 err_is : {A : Type 0} (a b : Stop) → err_of {A = A} a ≡ Err b → a ≡ b
 err_is a b e = cc
-
-short_is : (a b : ℕ) → Short b ≡ Short a → a ≡ b
-short_is a b e = cc
 
 not_short : (stop : Stop) (left : ℕ) → stop ≡ Short left → (stop ≡ TooMany → ⊥) × ((index : ℕ) → stop ≡ Twice index → ⊥)
 not_short stop left e = (λ h. cc, λ index h. cc)
@@ -52,46 +53,30 @@ agreed r other had has h = h
 -- reading takes no memory
 not_memory : {A : Type 0} (octets : List ℕ) (r : Read A) → answer_of octets r ≢ Err OutOfMemory
 not_memory octets (Ok (x, [])) e = cc (e)
-not_memory octets (Ok (x, y ∷ rest)) e = cc (e)
 not_memory octets (Err (Short left)) e = cc (e)
-not_memory octets (Err TooMany) e = cc (e)
-not_memory octets (Err (Twice index)) e = cc (e)
+not_memory octets r e = cc (e)
 
-module _ {A : Type 0} {read wide : Reader A} {format : Format A} (limited : Limited A read wide format) where
+module _ {L : Stop → Type 0} {A : Type 0} {read : Reader A} {format : Format A} (limited : Limited L A read format) where
   pub takes : (octets : List ℕ) (x : A) (rest : List ℕ) → IsOctets octets → read octets ≡ Ok (x, rest) → format.Fits x × (octets ≡ spelling format x ++ rest)
-  takes octets x rest fits e =
-      elim (limited.splits octets fits) [
-        | inl passed ↦ not_both (x, rest) passed.0 (sym e ∙ passed.1)
-        | inr kept ↦
-            let read_wide = sym kept.0 ∙ e in
-            (kept.1 x rest read_wide, (limited.codec.takes octets x rest fits read_wide).1)
-      ]
+  takes octets x rest fits e = limited.codec.takes octets x rest fits e
+
+  stopped : (octets : List ℕ) (stop : Stop) → IsOctets octets → read octets ≡ Err stop → Passes format octets stop ⊎ ((left : ℕ) × (stop ≡ Short left) × (x : A) × format.Wide x × Cuts (format.fields x) octets left)
+  stopped octets stop fits e = elim (limited.codec.fails octets stop fits e) [ inl l ↦ inl (limited.passed octets stop fits l e) | inr f ↦ inr f ]
 
   short : (octets : List ℕ) (left : ℕ) → IsOctets octets → read octets ≡ Err (Short left) → (x : A) × format.Wide x × Cuts (format.fields x) octets left
   short octets left fits e =
-      elim (limited.splits octets fits) [
-        | inl passed ↦ absurd (subst (Passes format octets) (err_is passed.0 (Short left) (sym passed.1 ∙ e)) passed.2)
-        | inr kept ↦
-            let f = limited.codec.fails octets (Short left) fits (sym kept.0 ∙ e) in
-            let same : f.0 ≡ left = short_is f.0 left f.1 in
-            (f.2, f.3, subst (λ (k : ℕ). Cuts (format.fields f.2) octets k) same f.4)
+      elim (stopped octets (Short left) fits e) [
+        | inl p ↦ absurd p
+        | inr f ↦ let same : f.0 ≡ left = cc in (f.2, f.3, subst (λ k. Cuts (format.fields f.2) octets k) same f.4)
       ]
 
   passes : (octets : List ℕ) (stop : Stop) → IsOctets octets → ((left : ℕ) → stop ≡ Short left → ⊥) → read octets ≡ Err stop → Passes format octets stop
-  passes octets stop fits other e =
-      elim (limited.splits octets fits) [
-        | inl passed ↦ subst (Passes format octets) (err_is passed.0 stop (sym passed.1 ∙ e)) passed.2
-        | inr kept ↦
-            let f = limited.codec.fails octets stop fits (sym kept.0 ∙ e) in
-            absurd (other f.0 f.1)
-      ]
+  passes octets stop fits other e = elim (stopped octets stop fits e) [ inl p ↦ p | inr f ↦ absurd (other f.0 f.1) ]
 
   short_again : (octets : List ℕ) (left : ℕ) (x : A) → IsOctets octets → format.Wide x → Cuts (format.fields x) octets left → ((stop : Stop) → Passes format octets stop → ⊥) → read octets ≡ Err (Short left)
   short_again octets left x fits is_wide cut none =
-      elim (limited.splits octets fits) [
-        | inl passed ↦ absurd (none passed.0 passed.2)
-        | inr kept ↦ kept.0 ∙ limited.codec.cut x octets left is_wide cut
-      ]
+      let s = limited.codec.cut x octets left is_wide cut in
+      elim s.1 [ inl is ↦ s.2 ∙ ap (λ e. Err e) is | inr l ↦ absurd (none s.0 (limited.passed octets s.0 fits l s.2)) ]
 
   -- no more is left than there was
   pub rest_within : (octets : List ℕ) (x : A) (rest : List ℕ) → IsOctets octets → read octets ≡ Ok (x, rest) → length rest ≤ length octets
@@ -103,10 +88,8 @@ module _ {A : Type 0} {read wide : Reader A} {format : Format A} (limited : Limi
       cuts_within (format.fields t.0) octets left t.2
 
   pub error_within : (octets : List ℕ) (e : ReadError) → IsOctets octets → FailsAs e (read octets) → LeavesWithin (length octets) e
-  error_within octets Memory fits f = tt
   error_within octets (Stopped (Short left)) fits f = left_within octets left fits f
-  error_within octets (Stopped TooMany) fits f = tt
-  error_within octets (Stopped (Twice index)) fits f = tt
+  error_within octets e fits f = tt
 
   -- ---- the answer
 
@@ -139,7 +122,7 @@ module _ {A : Type 0} {read wide : Reader A} {format : Format A} (limited : Limi
   -- what is true of the octets is the answer
   pub means_answer : (octets : List ℕ) (other : Result A RecordFault) → Means format octets other → Agrees (answer_of octets (read octets)) other
   means_answer octets (Ok x) m =
-      let e : answer_of octets (read octets) ≡ Ok x = ap (answer_of octets) (ap read (m.1 ∙ sym (append-nil (spelling format x))) ∙ limited.again x [] m.0) in
+      let e : answer_of octets (read octets) ≡ Ok x = ap (answer_of octets) (ap read (m.1 ∙ sym (append-nil (spelling format x))) ∙ limited.codec.again x [] m.0) in
       rw e refl
   means_answer octets (Err (Truncated at)) m =
       let x = m.2 in
@@ -149,7 +132,7 @@ module _ {A : Type 0} {read wide : Reader A} {format : Format A} (limited : Limi
       rw e refl
   means_answer octets (Err (Trailing at)) m =
       let back : length octets - length m.2 ≡ at = omega (arith, ap length m.4, length-append (spelling format m.0) m.2, m.5) in
-      let e : answer_of octets (read octets) ≡ Err (Trailing at) = ap (answer_of octets) (ap read m.4 ∙ limited.again m.0 m.2 m.1) ∙ trailing_answer octets m.0 m.2 m.3 ∙ ap (λ (k : ℕ). Err (Trailing k)) back in
+      let e : answer_of octets (read octets) ≡ Err (Trailing at) = ap (answer_of octets) (ap read m.4 ∙ limited.codec.again m.0 m.2 m.1) ∙ trailing_answer octets m.0 m.2 m.3 ∙ ap (λ (k : ℕ). Err (Trailing k)) back in
       rw e refl
   means_answer octets (Err TooManyServers) m =
       let e : answer_of octets (read octets) ≡ Err TooManyServers = ap (answer_of octets) (limited.stops octets TooMany m) in
@@ -180,7 +163,7 @@ module _ {A : Type 0} {read wide : Reader A} {format : Format A} (limited : Limi
   nothing_after x y after other hx hy e =
       let p : A × List ℕ = (x, after) in
       let q : A × List ℕ = (y, other) in
-      let same : p ≡ q = ok_is p q (sym (limited.again x after hx) ∙ ap read e ∙ limited.again y other hy) in
+      let same : p ≡ q = ok_is p q (sym (limited.codec.again x after hx) ∙ ap read e ∙ limited.codec.again y other hy) in
       (ap (λ (k : A × List ℕ). k.0) same, ap (λ (k : A × List ℕ). k.1) same)
 
   pub one_spelling : HasOneSpelling format

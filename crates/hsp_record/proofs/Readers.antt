@@ -1,17 +1,17 @@
 -- Numbers, runs of octets and lists, each with what is read of it.
-use Rattle.std.proofs.Common.{◌≡◌, ℕ, zero, suc, ◌-◌, ◌/◌, ◌%◌, ◌^◌, ◌<◌, ◌≤◌, true, false, cond, ltb, List, [], ◌∷◌, ◌++◌, length, take, drop, Result, Ok, Err, refl, sym, ap, subst, ◌∙◌, arith, inl, inr}
+use Rattle.std.proofs.Common.{◌≡◌, ℕ, zero, suc, ◌-◌, ◌/◌, ◌%◌, ◌^◌, ◌<◌, ◌≤◌, Bool, true, false, cond, ltb, List, [], ◌∷◌, ◌++◌, length, take, drop, replicate, Result, Ok, Err, refl, sym, ap, subst, ◌∙◌, arith, inl, inr}
 use Rattle.std.specs.List.{AllByRecursion}
 use Rattle.std.specs.Int.{Width, w8, w16, w32, w64, byte_at, byte_len, bytes_high_first, from_be_bytes, to_be_bytes}
 use Rattle.std.proofs.lemmas.Bool.{ltb-false, ltb-true, le-ltb, lt-ltb}
-use Rattle.std.proofs.lemmas.List.{append-nil, take_at, drop_at, take-append-drop, length-append, length-take}
+use Rattle.std.proofs.lemmas.List.{append-nil, take_at, drop_at, take-append-drop, length-append, length-take, length-replicate}
 use Rattle.std.proofs.lemmas.Nat.{be_bytes_2, be_bytes_4, be_bytes_8, from_be_bytes-to_be_bytes_2, from_be_bytes-to_be_bytes_4, from_be_bytes-to_be_bytes_8}
 use Rattle.hsp_record.specs.declared.fault.Stop.{Stop}
 use Rattle.hsp_record.specs.declared.fault.Stop.TheVariants.{Short}
 use Rattle.hsp_record.specs.Fields.{IsOctets, joined, run_fields, IsRun, all_fields, list_fields, IsCounted}
 use Rattle.hsp_text.specs.Answers.{◌>>=◌}
-use Rattle.hsp_record.specs.Reading.{Reader, number_at, octets_at, run_at, times_at, list_at}
-use Rattle.hsp_record.proofs.Cuts.{Cuts, InField}
-use Rattle.hsp_record.proofs.Codec.{IsOctets-append, IsOctets-field, IsOctets-take, zeros, length-zeros, IsOctets-zeros, bind_ok, bind_err, guard_ok, guard_err, done, gave, ok_is, not_both, Codec, then_codec, both_codec, as_codec}
+use Rattle.hsp_record.specs.Reading.{Read, Reader, number_at, octets_at, run_at, times_at, list_at}
+use Rattle.hsp_record.proofs.Cuts.{Cuts}
+use Rattle.hsp_record.proofs.Codec.{IsOctets-append, IsOctets-field, IsOctets-take, IsOctets-zeros, IsOctets-rest, bind_err, second_stops, guard_ok, guard_err, done, gave, ok_is, not_both, Codec, never, never_stops, then_codec, as_codec, guard_codec}
 
 -- ---- a run whose length is known
 
@@ -28,102 +28,48 @@ taken_again n x rest len =
     let long : ltb (length (x ++ rest)) n ≡ false = le-ltb _ _ (omega (arith, length-append x rest)) in
     rw (long, take_at x rest n len, drop_at x rest n len) refl
 
--- what is there of a run, and zeros
-padded : (n : ℕ) → List ℕ → List ℕ
-padded n bytes = bytes ++ zeros (n - length bytes)
-
-stopped : (n : ℕ) (bytes : List ℕ) (e : Stop) → octets_at n bytes ≡ Err e → (e ≡ Short (length bytes)) × (length bytes < n)
-stopped n bytes e h =
-    let g = guard_err (ltb (length bytes) n) (Short (length bytes)) e (take n bytes, drop n bytes) h in
-    (sym g.1, ltb-true _ _ g.0)
-
-length-padded : (n : ℕ) (bytes : List ℕ) → length bytes < n → length (padded n bytes) ≡ n
-unfolding padded
-length-padded n bytes lt = omega (arith, length-append bytes (zeros (n - length bytes)), length-zeros (n - length bytes))
-
-in_padded : (n : ℕ) (bytes : List ℕ) → length bytes < n → InField (padded n bytes) bytes (length bytes)
-unfolding padded
-in_padded n bytes lt = record { more = zeros (n - length bytes); parts = refl; some = omega (arith, length-zeros (n - length bytes)); left-is = refl }
-
-IsOctets-padded : (n : ℕ) (bytes : List ℕ) → IsOctets bytes → IsOctets (padded n bytes)
-unfolding padded
-IsOctets-padded n bytes h = IsOctets-append bytes (zeros (n - length bytes)) h (IsOctets-zeros (n - length bytes))
-
-cut_run : (n : ℕ) (x bytes : List ℕ) (left : ℕ) → length x ≡ n → InField x bytes left → octets_at n bytes ≡ Err (Short left)
-cut_run n x bytes left len here =
-    let lt : ltb (length bytes) n ≡ true = lt-ltb _ _ (omega (arith, ap length here.parts, length-append bytes here.more, here.some)) in
-    rw (lt, here.left-is) refl
-
-pub octets_codec : (n : ℕ) → Codec (List ℕ) (octets_at n) (λ x. (length x ≡ n) × IsOctets x) (λ x. x ∷ [])
+pub octets_codec : {L : Stop → Type 0} (n : ℕ) → Codec L (List ℕ) (octets_at n) (λ _ x. (length x ≡ n) × IsOctets x) (λ x. x ∷ [])
 octets_codec n = record {
+  any = λ x h. h;
   takes = λ bytes x rest fits e.
       let t = taken n bytes x rest e in
       ((t.0, subst IsOctets (sym t.2) (IsOctets-take n bytes fits)), t.1 ∙ ap (λ (l : List ℕ). l ++ rest) (sym (append-nil x)));
   again = λ x rest h. ap (λ (l : List ℕ). octets_at n (l ++ rest)) (append-nil x) ∙ taken_again n x rest h.0;
+  -- the octets that are there, and zeros
   fails = λ bytes e fits h.
-      let s = stopped n bytes e h in
-      (length bytes, s.0, padded n bytes, (length-padded n bytes s.1, IsOctets-padded n bytes fits), inl (in_padded n bytes s.1));
-  cut = λ x bytes left h c. elim c [ inl here ↦ cut_run n x bytes left h.0 here | inr later ↦ absurd later.2 ];
-  some = (zeros n, (length-zeros n, IsOctets-zeros n));
+      let s = guard_err (ltb (length bytes) n) (Short (length bytes)) e (take n bytes, drop n bytes) h in
+      let short = ltb-true (length bytes) n s.0 in
+      let zeros : List ℕ = replicate (n - length bytes) 0 in
+      let many : length zeros ≡ n - length bytes = length-replicate {A = ℕ} (n - length bytes) 0 in
+      inr (
+        length bytes,
+        sym s.1,
+        bytes ++ zeros,
+        (omega (arith, length-append bytes zeros), IsOctets-append bytes zeros fits (IsOctets-zeros (n - length bytes))),
+        inl (record { more = zeros; parts = refl; some = omega arith; left-is = refl }),
+      );
+  cut = λ x bytes left h c.
+      elim c [
+        | inl here ↦
+            let short : ltb (length bytes) n ≡ true = lt-ltb _ _ (omega (arith, h.0, ap length here.parts, length-append bytes here.more, here.some)) in
+            (Short left, inl refl, rw (short, here.left-is) refl)
+        | inr later ↦ absurd later.2
+      ];
+  kept = λ x rest h. inl h;
+  some = (replicate n 0, (length-replicate {A = ℕ} n 0, IsOctets-zeros n));
   octets = λ x h. IsOctets-field x h.1;
 }
 
 -- ---- a number
-
-pub record IsWidth (w : Width) (limit : ℕ) : Type 0 where
-  pub len : (n : ℕ) → length (to_be_bytes w n) ≡ byte_len w
-  pub back : (bytes : List ℕ) → length bytes ≡ byte_len w → IsOctets bytes → to_be_bytes w (from_be_bytes w bytes) ≡ bytes
-  pub again : (n : ℕ) → n < limit → from_be_bytes w (to_be_bytes w n) ≡ n
-  pub below : (bytes : List ℕ) → IsOctets bytes → from_be_bytes w bytes < limit
-  pub some : 0 < limit
 
 octet_back : (bytes : List ℕ) → length bytes ≡ 1 → IsOctets bytes → to_be_bytes w8 (from_be_bytes w8 bytes) ≡ bytes
 octet_back [] len fits = absurd (omega arith)
 octet_back (x ∷ []) len fits = let small : x % 256 ≡ x = omega (arith, fits 0) in ap (λ (n : ℕ). n ∷ []) small
 octet_back (x ∷ y ∷ bytes) len fits = absurd (omega arith)
 
-pub width8 : IsWidth w8 (2 ^ 8)
-width8 = record {
-  len = λ n. refl;
-  back = octet_back;
-  again = λ n lt. let small : n % 256 ≡ n = omega arith in small;
-  below = λ bytes fits. omega (arith, fits 0);
-  some = omega arith;
-}
-
-pub width16 : IsWidth w16 (2 ^ 16)
-width16 = record {
-  len = λ n. refl;
-  back = λ bytes len fits. be_bytes_2 bytes _ len fits refl;
-  again = λ n lt. from_be_bytes-to_be_bytes_2 n lt;
-  below = λ bytes fits. omega (arith, fits 0, fits 1);
-  some = omega arith;
-}
-
-pub width32 : IsWidth w32 (2 ^ 32)
-width32 = record {
-  len = λ n. refl;
-  back = λ bytes len fits. be_bytes_4 bytes _ len fits refl;
-  again = λ n lt. from_be_bytes-to_be_bytes_4 n lt;
-  below = λ bytes fits. omega (arith, fits 0, fits 1, fits 2, fits 3);
-  some = omega arith;
-}
-
-pub width64 : IsWidth w64 (2 ^ 64)
-width64 = record {
-  len = λ n. refl;
-  back = λ bytes len fits. be_bytes_8 bytes _ len fits refl;
-  again = λ n lt. from_be_bytes-to_be_bytes_8 n lt;
-  below = λ bytes fits. omega (arith, fits 0, fits 1, fits 2, fits 3, fits 4, fits 5, fits 6, fits 7);
-  some = omega arith;
-}
-
-below_256 : (n : ℕ) → n % 256 < 256
-below_256 n = omega arith
-
 byte_octet : (i n : ℕ) → byte_at i n < 256
-byte_octet zero n = below_256 n
-byte_octet (suc i) n = below_256 (n / 256 ^ suc i)
+byte_octet zero n = omega arith
+byte_octet (suc i) n = let octet : n / 256 ^ suc i % 256 < 256 = omega arith in octet
 
 high_octets : (k n : ℕ) → IsOctets (bytes_high_first k n)
 high_octets zero n i = omega arith
@@ -138,40 +84,35 @@ number_is w bytes =
       | false ↦ refl
     ]
 
-pub number_codec : (w : Width) (limit : ℕ) → IsWidth w limit → Codec ℕ (number_at w) (λ n. n < limit) (λ n. to_be_bytes w n ∷ [])
-number_codec w limit wide =
-    let view : List ℕ × List ℕ → Result (ℕ × List ℕ) Stop = λ x. Ok (from_be_bytes w x.0, x.1) in
-    record {
-      takes = λ bytes n rest fits e.
-          let s = bind_ok (octets_at (byte_len w) bytes) view (n, rest) (sym (number_is w bytes) ∙ e) in
-          let t = taken (byte_len w) bytes s.0.0 s.0.1 s.1 in
-          let octets : IsOctets s.0.0 = subst IsOctets (sym t.2) (IsOctets-take (byte_len w) bytes fits) in
-          let spelled : bytes ≡ joined (to_be_bytes w (from_be_bytes w s.0.0) ∷ []) ++ s.0.1 = t.1 ∙ ap (λ (l : List ℕ). l ++ s.0.1) (sym (append-nil (to_be_bytes w (from_be_bytes w s.0.0)) ∙ wide.back s.0.0 t.0 octets)) in
-          let made : ℕ × List ℕ = (from_be_bytes w s.0.0, s.0.1) in
-          subst (λ (q : ℕ × List ℕ). (q.0 < limit) × (bytes ≡ joined (to_be_bytes w q.0 ∷ []) ++ q.1)) (ok_is made (n, rest) s.2) (wide.below s.0.0 octets, spelled);
-      again = λ n rest h.
-          number_is w (joined (to_be_bytes w n ∷ []) ++ rest) ∙ ap (λ (l : List ℕ). octets_at (byte_len w) (l ++ rest) >>= view) (append-nil (to_be_bytes w n)) ∙ ap (λ (r : Result (List ℕ × List ℕ) Stop). r >>= view) (taken_again (byte_len w) (to_be_bytes w n) rest (wide.len n)) ∙ ap (λ (k : ℕ). done (k, rest)) (wide.again n h);
-      fails = λ bytes e fits h.
-          elim (bind_err (octets_at (byte_len w) bytes) view e (sym (number_is w bytes) ∙ h)) [
-            | inl l ↦
-                let s = stopped (byte_len w) bytes e l in
-                let octets : IsOctets (padded (byte_len w) bytes) = IsOctets-padded (byte_len w) bytes fits in
-                let field : padded (byte_len w) bytes ≡ to_be_bytes w (from_be_bytes w (padded (byte_len w) bytes)) = sym (wide.back (padded (byte_len w) bytes) (length-padded (byte_len w) bytes s.1) octets) in
-                (length bytes, s.0, from_be_bytes w (padded (byte_len w) bytes), wide.below (padded (byte_len w) bytes) octets, inl (subst (λ (f : List ℕ). InField f bytes (length bytes)) field (in_padded (byte_len w) bytes s.1)))
-            | inr s ↦ not_both (from_be_bytes w s.0.0, s.0.1) e s.2
-          ];
-      cut = λ n bytes left h c.
-          elim c [
-            | inl here ↦ number_is w bytes ∙ ap (λ (r : Result (List ℕ × List ℕ) Stop). r >>= view) (cut_run (byte_len w) (to_be_bytes w n) bytes left (wide.len n) here)
-            | inr later ↦ absurd later.2
-          ];
-      some = (0, wide.some);
-      octets = λ n h. IsOctets-field (to_be_bytes w n) (high_octets (byte_len w) n);
-    }
+number_codec : {L : Stop → Type 0} (w : Width) (limit : ℕ) → ((n : ℕ) → length (to_be_bytes w n) ≡ byte_len w) → ((bytes : List ℕ) → IsOctets bytes → from_be_bytes w bytes < limit)
+    → ((bytes : List ℕ) → length bytes ≡ byte_len w → IsOctets bytes → to_be_bytes w (from_be_bytes w bytes) ≡ bytes) → ((n : ℕ) → n < limit → from_be_bytes w (to_be_bytes w n) ≡ n)
+    → Codec L ℕ (number_at w) (λ _ n. n < limit) (λ n. to_be_bytes w n ∷ [])
+number_codec w limit len below back again =
+    as_codec (number_at w) (λ _ n. n < limit) (λ n. to_be_bytes w n ∷ []) (from_be_bytes w) (octets_codec (byte_len w))
+    (number_is w)
+    (λ _ x h. below x h.1)
+    (λ x h. ap (λ l. l ∷ []) (back x h.0 h.1))
+    (λ _ n h. (to_be_bytes w n, again n h, (len n, high_octets (byte_len w) n)))
 
--- ---- a length and that many octets
+-- integers of 1, 2, 4 and 8 octets
+pub octet_codec : {L : Stop → Type 0} → Codec L ℕ (number_at w8) (λ _ n. n < 2 ^ 8) (λ n. to_be_bytes w8 n ∷ [])
+octet_codec = number_codec w8 (2 ^ 8) (λ n. refl) (λ bytes fits. omega (arith, fits 0)) octet_back (λ n lt. let small : n % 256 ≡ n = omega arith in small)
 
-bind_end : {A : Type 0} (r : Result (A × List ℕ) Stop) → r ≡ (r >>= λ x. Ok (x.0, x.1))
+pub u16_codec : {L : Stop → Type 0} → Codec L ℕ (number_at w16) (λ _ n. n < 2 ^ 16) (λ n. to_be_bytes w16 n ∷ [])
+u16_codec = number_codec w16 (2 ^ 16) (λ n. refl) (λ bytes fits. omega (arith, fits 0, fits 1)) (λ bytes len fits. be_bytes_2 bytes _ len fits refl) from_be_bytes-to_be_bytes_2
+
+pub u32_codec : {L : Stop → Type 0} → Codec L ℕ (number_at w32) (λ _ n. n < 2 ^ 32) (λ n. to_be_bytes w32 n ∷ [])
+u32_codec =
+    number_codec w32 (2 ^ 32) (λ n. refl) (λ bytes fits. omega (arith, fits 0, fits 1, fits 2, fits 3)) (λ bytes len fits. be_bytes_4 bytes _ len fits refl) from_be_bytes-to_be_bytes_4
+
+pub u64_codec : {L : Stop → Type 0} → Codec L ℕ (number_at w64) (λ _ n. n < 2 ^ 64) (λ n. to_be_bytes w64 n ∷ [])
+u64_codec =
+    number_codec w64 (2 ^ 64) (λ n. refl) (λ bytes fits. omega (arith, fits 0, fits 1, fits 2, fits 3, fits 4, fits 5, fits 6, fits 7))
+    (λ bytes len fits. be_bytes_8 bytes _ len fits refl) from_be_bytes-to_be_bytes_8
+
+-- ---- a number, and what it decides
+
+pub bind_end : {A : Type 0} (r : Result (A × List ℕ) Stop) → r ≡ (r >>= λ x. Ok (x.0, x.1))
 bind_end (Ok x) = refl
 bind_end (Err e) = refl
 
@@ -184,102 +125,100 @@ then_second : {A B : Type 0} (r : Result (A × List ℕ) Stop) (b : A → List �
 then_second {A} {B} (Ok x) b = bind_end (b x.0 x.1) ∙ sym (bind_twice (b x.0 x.1) (λ (y : B × List ℕ). gave {A = A × B} (x.0, y.0) y.1) (λ (p : (A × B) × List ℕ). gave p.0.1 p.1))
 then_second (Err e) b = refl
 
-pub run_codec : Codec (List ℕ) run_at IsRun run_fields
+-- what the number says of what stands behind it can be told of that, as its length
+pub behind_codec : {L : Stop → Type 0} {X : Type 0} {n : Reader ℕ} {N : Bool → ℕ → Type 0} {F : Bool → X → Type 0} {f : X → List (List ℕ)} (size : X → ℕ) (b : ℕ → Reader X)
+    → Codec L ℕ n N (λ m. to_be_bytes w32 m ∷ []) → ((m : ℕ) → N false m → Codec L X (b m) (λ k x. (size x ≡ m) × F k x) f)
+    → Codec L X (λ bytes. n bytes >>= λ m. b m.0 m.1) (λ k x. N k (size x) × F k x) (λ x. to_be_bytes w32 (size x) ∷ f x)
+behind_codec {L} {X} {n} {N} {F} {f} size b cn cb =
+    as_codec (λ bytes. n bytes >>= λ m. b m.0 m.1) (λ k x. N k (size x) × F k x) (λ x. to_be_bytes w32 (size x) ∷ f x) (λ p. p.1)
+    (then_codec {b = b} {FB = λ k m x. (size x ≡ m) × F k x} cn cb)
+    (λ bytes. then_second (n bytes) b)
+    (λ k p h. (subst (N k) (sym h.1.0) h.0, h.1.1))
+    (λ p h. ap (λ m. to_be_bytes w32 m ∷ f p.1) h.1.0)
+    (λ k x h. ((size x, x), refl, (h.0, (refl, h.1))))
+
+pub run_codec : {L : Stop → Type 0} → Codec L (List ℕ) run_at (λ _. IsRun) run_fields
 unfolding run_at
-run_codec =
-    as_codec run_at IsRun run_fields (λ p. p.1) (λ x. (length x, x))
-    (then_codec {b = octets_at} {FB = λ n x. (length x ≡ n) × IsOctets x} (number_codec w32 (2 ^ 32) width32) (λ n h. octets_codec n))
-    (λ bytes. then_second (number_at w32 bytes) octets_at)
-    (λ p h. ap (λ (n : ℕ). (n, p.1)) h.1.0)
-    (λ y h. refl)
-    (λ p h. (omega (arith, h.0, h.1.0), h.1.1))
-    (λ y h. (h.0, (refl, h.1)))
-    (λ y h. refl)
+run_codec = behind_codec {F = λ _. IsOctets} length octets_at u32_codec (λ n h. octets_codec n)
 
 -- ---- so many of one kind
 
-none_again : {A : Type 0} (fields : A → List (List ℕ)) (xs : List A) (rest : List ℕ) → length xs ≡ 0 → gave [] (joined (all_fields fields xs) ++ rest) ≡ Ok (xs, rest)
-none_again fields [] rest h = refl
-none_again fields (x ∷ xs) rest h = absurd (omega arith)
+none_is : {A : Type 0} (xs : List A) → length xs ≡ 0 → [] ≡ xs
+none_is [] h = refl
+none_is (x ∷ xs) h = absurd (omega arith)
 
-none_cut : {A C : Type 0} (fields : A → List (List ℕ)) (xs : List A) (bytes : List ℕ) (left : ℕ) → length xs ≡ 0 → Cuts (all_fields fields xs) bytes left → C
-none_cut fields [] bytes left h c = absurd c
-none_cut fields (x ∷ xs) bytes left h c = absurd (omega arith)
+pub none_codec : {L : Stop → Type 0} {A : Type 0} (Are : Bool → List A → Type 0) (fields : A → List (List ℕ)) → ((k : Bool) → Are k [])
+    → Codec L (List A) (λ bytes. Ok ([], bytes)) (λ k xs. (length xs ≡ 0) × Are k xs) (all_fields fields)
+none_codec {L} {A} Are fields are =
+    let made : List ℕ → List A × List ℕ = λ bytes. ([], bytes) in
+    record {
+      any = λ xs h. (h.0, subst (Are false) (none_is xs h.0) (are false));
+      takes = λ bytes xs rest fits e.
+          subst (λ (q : List A × List ℕ). ((length q.0 ≡ 0) × Are true q.0) × (bytes ≡ joined (all_fields fields q.0) ++ q.1)) (ok_is (made bytes) (xs, rest) e) ((refl, are true), refl);
+      again = λ xs rest h. subst (λ ys. done (made (joined (all_fields fields ys) ++ rest)) ≡ Ok (ys, rest)) (none_is xs h.0) refl;
+      fails = λ bytes e fits h. not_both (made bytes) e h;
+      cut = λ xs bytes left h c. absurd (subst (λ ys. Cuts (all_fields fields ys) bytes left) (sym (none_is xs h.0)) c);
+      kept = λ xs rest h. inl (h.0, subst (Are true) (none_is xs h.0) (are true));
+      some = ([], (refl, are false));
+      octets = λ xs h. subst (λ ys. IsOctets (joined (all_fields fields ys))) (none_is xs h.0) (λ i. omega arith);
+    }
 
-none_octets : {A : Type 0} (fields : A → List (List ℕ)) (xs : List A) → length xs ≡ 0 → IsOctets (joined (all_fields fields xs))
-none_octets fields [] h i = omega arith
-none_octets fields (x ∷ xs) h i = absurd (omega arith)
+more_is : {A : Type 0} (next : A → Reader (List A)) (r : Result (A × List ℕ) Stop)
+    → (r >>= λ first. next first.0 first.1 >>= λ others. gave (first.0 ∷ others.0) others.1) ≡ ((r >>= λ x. next x.0 x.1 >>= λ y. gave {A = A × List A} (x.0, y.0) y.1) >>= λ p. gave (p.0.0 ∷ p.0.1) p.1)
+more_is {A} next (Ok x) = sym (bind_twice (next x.0 x.1) (λ (y : List A × List ℕ). gave {A = A × List A} (x.0, y.0) y.1) (λ (p : (A × List A) × List ℕ). gave (p.0.0 ∷ p.0.1) p.1))
+more_is next (Err e) = refl
 
-none_codec : {A : Type 0} (read : List ℕ → Result (A × List ℕ) Stop) (Fits : A → Type 0) (fields : A → List (List ℕ)) → Codec (List A) (times_at read 0) (λ xs. (length xs ≡ 0) × AllByRecursion Fits xs) (all_fields fields)
+front : {A : Type 0} (F : A → Type 0) (G : A → List A → Type 0) (Are : List A → Type 0) (n : ℕ) → ((x : A) (xs : List A) → Are (x ∷ xs) → F x × G x xs)
+    → (ys : List A) → (length ys ≡ suc n) × Are ys → (p : A × List A) × (p.0 ∷ p.1 ≡ ys) × (F p.0 × ((length p.1 ≡ n) × G p.0 p.1))
+front F G Are n parts [] h = absurd (omega arith)
+front F G Are n parts (x ∷ xs) h = let p = parts x xs h.1 in ((x, xs), refl, (p.0, (omega arith, p.1)))
+
+-- one, and then others
+pub more_codec : {L : Stop → Type 0} {A : Type 0} {read : Reader A} {F : Bool → A → Type 0} {G : Bool → A → List A → Type 0} {fields : A → List (List ℕ)} (n : ℕ) (next : A → Reader (List A)) (Are : Bool → List A → Type 0)
+    → Codec L A read F fields → ((x : A) → F false x → Codec L (List A) (next x) (λ k xs. (length xs ≡ n) × G k x xs) (all_fields fields))
+    → ((k : Bool) (x : A) (xs : List A) → F k x → G k x xs → Are k (x ∷ xs)) → ((k : Bool) (x : A) (xs : List A) → Are k (x ∷ xs) → F k x × G k x xs)
+    → (b : Reader (List A)) → ((bytes : List ℕ) → b bytes ≡ (read bytes >>= λ first. next first.0 first.1 >>= λ others. gave (first.0 ∷ others.0) others.1))
+    → Codec L (List A) b (λ k xs. (length xs ≡ suc n) × Are k xs) (all_fields fields)
+more_codec {L} {A} {read} {F} {G} {fields} n next Are c cs to from b same =
+    as_codec b (λ k xs. (length xs ≡ suc n) × Are k xs) (all_fields fields) (λ p. p.0 ∷ p.1)
+    (then_codec {b = next} {FB = λ k x xs. (length xs ≡ n) × G k x xs} c cs)
+    (λ bytes. same bytes ∙ more_is next (read bytes))
+    (λ k p h. (omega (arith, h.1.0), to k p.0 p.1 h.0 h.1.1))
+    (λ p h. refl)
+    (λ k ys h. front (F k) (G k) (Are k) n (from k) ys h)
+
+pub times_codec : {L : Stop → Type 0} {A : Type 0} {read : Reader A} {Fits : A → Type 0} {fields : A → List (List ℕ)} → Codec L A read (λ _. Fits) fields → (n : ℕ)
+    → Codec L (List A) (times_at read n) (λ _ xs. (length xs ≡ n) × AllByRecursion Fits xs) (all_fields fields)
 unfolding times_at
-none_codec {A} read Fits fields = record {
-  takes = λ bytes xs rest fits e.
-      let made : List A × List ℕ = ([], bytes) in
-      subst (λ (q : List A × List ℕ). ((length q.0 ≡ 0) × AllByRecursion Fits q.0) × (bytes ≡ joined (all_fields fields q.0) ++ q.1)) (ok_is made (xs, rest) e) ((refl, tt), refl);
-  again = λ xs rest h. none_again fields xs rest h.0;
-  fails = λ bytes e fits h. let made : List A × List ℕ = ([], bytes) in not_both made e h;
-  cut = λ xs bytes left h c. none_cut fields xs bytes left h.0 c;
-  some = ([], (refl, tt));
-  octets = λ xs h. none_octets fields xs h.0;
-}
-
-front_of : {A : Type 0} → A → List A → A × List A
-front_of x [] = (x, [])
-front_of x (y ∷ ys) = (y, ys)
-
-front_one : {A : Type 0} (d : A) (p : A × List A) → front_of d (p.0 ∷ p.1) ≡ p
-unfolding front_of
-front_one d p = refl
-
-front_back : {A : Type 0} (d : A) (n : ℕ) (xs : List A) → length xs ≡ suc n → (front_of d xs).0 ∷ (front_of d xs).1 ≡ xs
-unfolding front_of
-front_back d n [] h = absurd (omega arith)
-front_back d n (x ∷ xs) h = refl
-
-front_fits : {A : Type 0} (Fits : A → Type 0) (d : A) (n : ℕ) (xs : List A) → length xs ≡ suc n → AllByRecursion Fits xs → Fits (front_of d xs).0 × ((length (front_of d xs).1 ≡ n) × AllByRecursion Fits (front_of d xs).1)
-unfolding front_of
-front_fits Fits d n [] h all = absurd (omega arith)
-front_fits Fits d n (x ∷ xs) h all = (all.0, (omega arith, all.1))
-
-front_fields : {A : Type 0} (fields : A → List (List ℕ)) (d : A) (n : ℕ) (xs : List A) → length xs ≡ suc n → all_fields fields xs ≡ fields (front_of d xs).0 ++ all_fields fields (front_of d xs).1
-unfolding front_of
-front_fields fields d n [] h = absurd (omega arith)
-front_fields fields d n (x ∷ xs) h = refl
-
-more_is : {A : Type 0} (read : List ℕ → Result (A × List ℕ) Stop) (n : ℕ) (r : Result (A × List ℕ) Stop)
-    → (r >>= λ first. times_at read n first.1 >>= λ others. gave (first.0 ∷ others.0) others.1) ≡ ((r >>= λ x. times_at read n x.1 >>= λ y. gave {A = A × List A} (x.0, y.0) y.1) >>= λ p. gave (p.0.0 ∷ p.0.1) p.1)
-more_is {A} read n (Ok x) = sym (bind_twice (times_at read n x.1) (λ (y : List A × List ℕ). gave {A = A × List A} (x.0, y.0) y.1) (λ (p : (A × List A) × List ℕ). gave (p.0.0 ∷ p.0.1) p.1))
-more_is read n (Err e) = refl
-
-times_more : {A : Type 0} (read : List ℕ → Result (A × List ℕ) Stop) (n : ℕ) (bytes : List ℕ)
-    → times_at read (suc n) bytes ≡ ((read bytes >>= λ x. times_at read n x.1 >>= λ y. gave {A = A × List A} (x.0, y.0) y.1) >>= λ p. gave (p.0.0 ∷ p.0.1) p.1)
-unfolding times_at
-times_more read n bytes = more_is read n (read bytes)
-
-pub times_codec : {A : Type 0} {read : Reader A} {Fits : A → Type 0} {fields : A → List (List ℕ)} → Codec A read Fits fields → (n : ℕ)
-    → Codec (List A) (times_at read n) (λ xs. (length xs ≡ n) × AllByRecursion Fits xs) (all_fields fields)
-times_codec {A} {read} {Fits} {fields} c zero = none_codec read Fits fields
-times_codec {A} {read} {Fits} {fields} c (suc n) =
-    let d = c.some.0 in
-    as_codec (times_at read (suc n)) (λ xs. (length xs ≡ suc n) × AllByRecursion Fits xs) (all_fields fields) (λ p. p.0 ∷ p.1) (front_of d)
-    (both_codec c (times_codec c n))
-    (times_more read n)
-    (λ p h. front_one d p)
-    (λ y h. front_back d n y h.0)
-    (λ p h. (omega (arith, h.1.0), (h.0, h.1.1)))
-    (λ y h. front_fits Fits d n y h.0 h.1)
-    (λ y h. front_fields fields d n y h.0)
+times_codec {L} {A} {read} {Fits} {fields} c zero = none_codec (λ _. AllByRecursion Fits) fields (λ _. tt)
+times_codec {L} {A} {read} {Fits} {fields} c (suc n) = more_codec n (λ _. times_at read n) (λ _. AllByRecursion Fits) c (λ _ _. times_codec c n) (λ _ x xs h hs. (h, hs)) (λ _ x xs h. h) (times_at read (suc n)) (λ bytes. refl)
 
 -- ---- a count and that many of one kind
 
-pub list_codec : {A : Type 0} {read : Reader A} {Fits : A → Type 0} {fields : A → List (List ℕ)} → Codec A read Fits fields → Codec (List A) (list_at read) (IsCounted Fits) (list_fields fields)
+pub list_codec : {L : Stop → Type 0} {A : Type 0} {read : Reader A} {Fits : A → Type 0} {fields : A → List (List ℕ)} → Codec L A read (λ _. Fits) fields
+    → Codec L (List A) (list_at read) (λ _. IsCounted Fits) (list_fields fields)
 unfolding list_at
-list_codec {A} {read} {Fits} {fields} c =
-    as_codec (list_at read) (IsCounted Fits) (list_fields fields) (λ p. p.1) (λ xs. (length xs, xs))
-    (then_codec {b = λ n. times_at read n} {FB = λ n xs. (length xs ≡ n) × AllByRecursion Fits xs} (number_codec w32 (2 ^ 32) width32) (λ n _. times_codec c n))
-    (λ bytes. then_second (number_at w32 bytes) (times_at read))
-    (λ p h. ap (λ (n : ℕ). (n, p.1)) h.1.0)
-    (λ xs h. refl)
-    (λ p h. (omega (arith, h.0, h.1.0), h.1.1))
-    (λ xs h. (h.0, (refl, h.1)))
-    (λ xs h. refl)
+list_codec {L} {A} {read} {Fits} {fields} c = behind_codec {F = λ _. AllByRecursion Fits} length (times_at read) u32_codec (λ n h. times_codec c n)
+
+-- ---- a number that is tested, and what it decides
+
+-- a number stands in front
+pub number_front : (n : ℕ) (rest : List ℕ) → n < 2 ^ 32 → number_at w32 (to_be_bytes w32 n ++ rest) ≡ Ok (n, rest)
+number_front n rest lt = ap (λ (l : List ℕ). number_at w32 (l ++ rest)) (sym (append-nil (to_be_bytes w32 n))) ∙ (u32_codec {L = never}).again n rest lt
+
+-- where reading stops at a limit, the number that is above it stands in front
+pub guarded_stops : {X : Type 0} {Is : ℕ → Bool → X → Type 0} {f : X → List (List ℕ)} {b : ℕ → Reader X} (test : ℕ → Bool) (stop : ℕ → Stop) → ((m : ℕ) → m < 2 ^ 32 → Codec never X (b m) (Is m) f)
+    → (bytes : List ℕ) (e : Stop) → IsOctets bytes → ((left : ℕ) → e ≡ Short left → ⊥) → ((number_at w32 bytes >>= λ n. cond (test n.0) (Err (stop n.0)) (Ok n)) >>= λ n. b n.0 n.1) ≡ Err e
+    → (n : ℕ) × (n < 2 ^ 32) × (test n ≡ true) × (stop n ≡ e) × (rest : List ℕ) × (bytes ≡ to_be_bytes w32 n ++ rest)
+guarded_stops {X} {Is} {f} {b} test stop cb bytes e fits long h =
+    let guard : ℕ × List ℕ → Read ℕ = λ n. cond (test n.0) (Err (stop n.0)) (Ok n) in
+    elim (bind_err (number_at w32 bytes >>= guard) (λ n. b n.0 n.1) e h) [
+      | inl l ↦
+          let n = second_stops (number_at w32 bytes) guard e l (never_stops u32_codec bytes e fits long) in
+          let g = guard_err (test n.0.0) (stop n.0.0) e n.0 n.2 in
+          let t = (u32_codec {L = never}).takes bytes n.0.0 n.0.1 fits n.1 in
+          (n.0.0, t.0, g.0, g.1, n.0.1, t.1 ∙ ap (λ l. l ++ n.0.1) (append-nil (to_be_bytes w32 n.0.0)))
+      | inr s ↦
+          let t = (guard_codec {L = λ _. Unit {0}} test stop (λ _. tt) u32_codec).takes bytes s.0.0 s.0.1 fits s.1 in
+          absurd (never_stops (cb s.0.0 t.0.0) s.0.1 e (IsOctets-rest bytes (joined (to_be_bytes w32 s.0.0 ∷ [])) s.0.1 fits t.1) long s.2)
+    ]

@@ -1,27 +1,12 @@
 -- Readers of HS_SITE data and of request bodies, each with the fields that it reads.
-use Rattle.std.proofs.Common.{◌≡◌, ℕ, suc, ◌^◌, ◌<◌, List, [], ◌∷◌, ◌++◌, length, Ok, refl, sym, ap, ◌∙◌, arith, zero}
-use Rattle.std.proofs.lemmas.List.{append-nil}
-use Rattle.std.specs.Int.{w8, w16, w32, to_be_bytes}
+use Rattle.std.proofs.Common.{◌≡◌, ℕ, suc, ◌^◌, ◌<◌, List, [], ◌∷◌, length, refl, sym, ap, arith, zero}
 use Rattle.hsp_record.specs.Fields.{IsOctets}
-use Rattle.hsp_record.specs.Site.{AttributePair, Interface, Server, Site, attribute_fields, interface_fields, server_fields, head_fields, site_fields, IsAttribute, IsInterface, IsServer, IsHead, IsWideSite}
+use Rattle.hsp_record.specs.Site.{AttributePair, Interface, Server, Site, attribute_fields, interface_fields, server_fields, head_fields, IsAttribute, IsInterface, IsServer, IsHead}
 use Rattle.hsp_record.specs.Request.{RequestBody, IsRequest, request_fields}
-use Rattle.hsp_record.specs.Reading.{Reader, number_at, both_at, seen, list_at, pair_of, pair_at, attribute_at, interface_at, server_at, head_of, head_at, with_servers, request_at}
-use Rattle.hsp_record.proofs.Codec.{Codec, both_codec, as_codec}
-use Rattle.hsp_record.proofs.Readers.{width8, width16, width32, octets_codec, number_codec, run_codec, list_codec}
-
--- a single octet, and integers of 2 and 4 octets
-pub octet_codec : Codec ℕ (number_at w8) (λ n. n < 2 ^ 8) (λ n. to_be_bytes w8 n ∷ [])
-octet_codec = number_codec w8 (2 ^ 8) width8
-
-u16_codec : Codec ℕ (number_at w16) (λ n. n < 2 ^ 16) (λ n. to_be_bytes w16 n ∷ [])
-u16_codec = number_codec w16 (2 ^ 16) width16
-
-pub u32_codec : Codec ℕ (number_at w32) (λ n. n < 2 ^ 32) (λ n. to_be_bytes w32 n ∷ [])
-u32_codec = number_codec w32 (2 ^ 32) width32
-
--- a number stands in front
-pub number_front : (n : ℕ) (rest : List ℕ) → n < 2 ^ 32 → number_at w32 (to_be_bytes w32 n ++ rest) ≡ Ok (n, rest)
-number_front n rest lt = ap (λ (l : List ℕ). number_at w32 (l ++ rest)) (sym (append-nil (to_be_bytes w32 n))) ∙ u32_codec.again n rest lt
+use Rattle.hsp_record.specs.Reading.{pair_of, pair_at, attribute_at, interface_at, server_at, head_of, head_at, with_servers, request_at}
+use Rattle.hsp_record.specs.declared.fault.Stop.{Stop}
+use Rattle.hsp_record.proofs.Codec.{Codec, both_codec, as_codec, seen_codec}
+use Rattle.hsp_record.proofs.Readers.{octets_codec, octet_codec, u16_codec, u32_codec, run_codec, list_codec}
 
 -- two octets are those of their pair
 pair_back : (octets : List ℕ) → length octets ≡ 2 → (pair_of octets).0 ∷ (pair_of octets).1 ∷ [] ≡ octets
@@ -35,71 +20,57 @@ IsOctets-pair a b ha hb zero = ha
 IsOctets-pair a b ha hb (suc zero) = hb
 IsOctets-pair a b ha hb (suc (suc i)) = omega arith
 
-pair_codec : Codec (ℕ × ℕ) pair_at (λ p. (p.0 < 2 ^ 8) × (p.1 < 2 ^ 8)) (λ p. (p.0 ∷ p.1 ∷ []) ∷ [])
+pair_codec : {L : Stop → Type 0} → Codec L (ℕ × ℕ) pair_at (λ _ p. (p.0 < 2 ^ 8) × (p.1 < 2 ^ 8)) (λ p. (p.0 ∷ p.1 ∷ []) ∷ [])
 unfolding pair_at
 pair_codec =
-    as_codec pair_at (λ p. (p.0 < 2 ^ 8) × (p.1 < 2 ^ 8)) (λ p. (p.0 ∷ p.1 ∷ []) ∷ []) pair_of (λ p. p.0 ∷ p.1 ∷ []) (octets_codec 2)
+    as_codec pair_at (λ _ p. (p.0 < 2 ^ 8) × (p.1 < 2 ^ 8)) (λ p. (p.0 ∷ p.1 ∷ []) ∷ []) pair_of (octets_codec 2)
     (λ bytes. refl)
-    (λ x h. pair_back x h.0)
-    (λ p h. refl)
-    (λ x h. (h.1 0, h.1 1))
-    (λ p h. (refl, IsOctets-pair p.0 p.1 h.0 h.1))
-    (λ p h. refl)
+    (λ _ x h. (h.1 0, h.1 1))
+    (λ x h. ap (λ l. l ∷ []) (pair_back x h.0))
+    (λ _ p h. (p.0 ∷ p.1 ∷ [], refl, (refl, IsOctets-pair p.0 p.1 h.0 h.1)))
 
-attribute_codec : Codec AttributePair attribute_at IsAttribute attribute_fields
+attribute_codec : {L : Stop → Type 0} → Codec L AttributePair attribute_at (λ _. IsAttribute) attribute_fields
 unfolding attribute_at
 attribute_codec =
-    as_codec attribute_at IsAttribute attribute_fields (λ p. record { name = p.0; value = p.1 }) (λ a. (a.name, a.value)) (both_codec run_codec run_codec)
-    (λ bytes. refl)
-    (λ p h. refl)
-    (λ a h. refl)
-    (λ p h. record { name = h.0; value = h.1 })
-    (λ a h. (h.name, h.value))
-    (λ a h. refl)
+    seen_codec (λ p. record { name = p.0; value = p.1 }) (both_codec run_codec run_codec)
+    (λ _ p h. record { name = h.0; value = h.1 })
+    (λ _ a h. ((a.name, a.value), refl, (h.name, h.value)))
 
-interface_codec : Codec Interface interface_at IsInterface interface_fields
+interface_codec : {L : Stop → Type 0} → Codec L Interface interface_at (λ _. IsInterface) interface_fields
 unfolding interface_at
 interface_codec =
-    as_codec interface_at IsInterface interface_fields (λ p. record { service_type = p.0; protocol = p.1.0; port = p.1.1 }) (λ i. (i.service_type, (i.protocol, i.port)))
+    seen_codec (λ p. record { service_type = p.0; protocol = p.1.0; port = p.1.1 })
     (both_codec octet_codec (both_codec octet_codec u32_codec))
-    (λ bytes. refl)
-    (λ p h. refl)
-    (λ i h. refl)
-    (λ p h. record { service_type = h.0; protocol = h.1.0; port = h.1.1 })
-    (λ i h. (h.service_type, (h.protocol, h.port)))
-    (λ i h. refl)
+    (λ _ p h. record { service_type = h.0; protocol = h.1.0; port = h.1.1 })
+    (λ _ i h. ((i.service_type, (i.protocol, i.port)), refl, (h.service_type, (h.protocol, h.port))))
 
-pub server_codec : Codec Server server_at IsServer server_fields
+pub server_codec : {L : Stop → Type 0} → Codec L Server server_at (λ _. IsServer) server_fields
 unfolding server_at
 server_codec =
-    as_codec server_at IsServer server_fields (λ p. record { id = p.0; address = p.1.0; key = p.1.1.0; interfaces = p.1.1.1 }) (λ s. (s.id, (s.address, (s.key, s.interfaces))))
+    seen_codec (λ p. record { id = p.0; address = p.1.0; key = p.1.1.0; interfaces = p.1.1.1 })
     (both_codec u32_codec (both_codec (octets_codec 16) (both_codec run_codec (list_codec interface_codec))))
-    (λ bytes. refl)
-    (λ p h. refl)
-    (λ s h. refl)
-    (λ p h. record { id = h.0; address = h.1.0; key = h.1.1.0; interfaces = h.1.1.1 })
-    (λ s h. (h.id, (h.address, (h.key, h.interfaces))))
-    (λ s h. refl)
+    (λ _ p h. record { id = h.0; address = h.1.0; key = h.1.1.0; interfaces = h.1.1.1 })
+    (λ _ s h. ((s.id, (s.address, (s.key, s.interfaces))), refl, (h.id, (h.address, (h.key, h.interfaces)))))
 
 -- a record of no server, of which the head is read
 pub record IsBareHead (s : Site) : Type 0 where
   pub fits : IsHead s
   pub bare : s.servers ≡ []
 
-pub head_codec : Codec Site head_at IsBareHead head_fields
+pub head_codec : {L : Stop → Type 0} → Codec L Site head_at (λ _. IsBareHead) head_fields
 unfolding head_at
 head_codec =
-    as_codec head_at IsBareHead head_fields head_of (λ s. (s.version, ((s.major, s.minor), (s.serial, (s.mask, (s.option, (s.filter, s.attributes)))))))
+    seen_codec head_of
     (both_codec u16_codec (both_codec pair_codec (both_codec u16_codec (both_codec octet_codec (both_codec octet_codec (both_codec run_codec (list_codec attribute_codec)))))))
-    (λ bytes. refl)
-    (λ p h. refl)
-    (λ s h. ap (with_servers s) (sym h.bare))
-    (λ p h. record {
+    (λ _ p h. record {
       fits = record { version = h.0; major = h.1.0.0; minor = h.1.0.1; serial = h.1.1.0; mask = h.1.1.1.0; option = h.1.1.1.1.0; filter = h.1.1.1.1.1.0; attributes = h.1.1.1.1.1.1 };
       bare = refl;
     })
-    (λ s h. (h.fits.version, ((h.fits.major, h.fits.minor), (h.fits.serial, (h.fits.mask, (h.fits.option, (h.fits.filter, h.fits.attributes)))))))
-    (λ s h. refl)
+    (λ _ s h. (
+      (s.version, ((s.major, s.minor), (s.serial, (s.mask, (s.option, (s.filter, s.attributes)))))),
+      ap (with_servers s) (sym h.bare),
+      (h.fits.version, ((h.fits.major, h.fits.minor), (h.fits.serial, (h.fits.mask, (h.fits.option, (h.fits.filter, h.fits.attributes)))))),
+    ))
 
 -- without the servers
 abbrev pub head_only : Site → Site
@@ -108,29 +79,10 @@ head_only s = with_servers s []
 pub IsHead-servers : (s : Site) (servers : List Server) → IsHead s → IsHead (with_servers s servers)
 IsHead-servers s servers h = record { version = h.version; major = h.major; minor = h.minor; serial = h.serial; mask = h.mask; option = h.option; filter = h.filter; attributes = h.attributes }
 
--- a record of any number of servers
-unfoldable pub wide_site_at : Reader Site
-wide_site_at = seen (λ p. with_servers p.0 p.1) (both_at head_at (list_at server_at))
-
-pub wide_site_codec : Codec Site wide_site_at IsWideSite site_fields
-unfolding wide_site_at
-wide_site_codec =
-    as_codec wide_site_at IsWideSite site_fields (λ p. with_servers p.0 p.1) (λ s. (head_only s, s.servers)) (both_codec head_codec (list_codec server_codec))
-    (λ bytes. refl)
-    (λ p h. ap (λ (servers : List Server). (with_servers p.0 servers, p.1)) (sym h.0.bare))
-    (λ s h. refl)
-    (λ p h. (IsHead-servers p.0 p.1 h.0.fits, h.1))
-    (λ s h. (record { fits = IsHead-servers s [] h.0; bare = refl }, h.1))
-    (λ s h. refl)
-
-pub request_codec : Codec RequestBody request_at IsRequest request_fields
+pub request_codec : {L : Stop → Type 0} → Codec L RequestBody request_at (λ _. IsRequest) request_fields
 unfolding request_at
 request_codec =
-    as_codec request_at IsRequest request_fields (λ p. record { handle = p.0; indices = p.1.0; types = p.1.1 }) (λ r. (r.handle, (r.indices, r.types)))
+    seen_codec (λ p. record { handle = p.0; indices = p.1.0; types = p.1.1 })
     (both_codec run_codec (both_codec (list_codec u32_codec) (list_codec run_codec)))
-    (λ bytes. refl)
-    (λ p h. refl)
-    (λ r h. refl)
-    (λ p h. record { handle = h.0; indices = h.1.0; types = h.1.1 })
-    (λ r h. (h.handle, (h.indices, h.types)))
-    (λ r h. refl)
+    (λ _ p h. record { handle = h.0; indices = h.1.0; types = h.1.1 })
+    (λ _ r h. ((r.handle, (r.indices, r.types)), refl, (h.handle, (h.indices, h.types))))

@@ -1,7 +1,8 @@
 -- Where the first comma of a line stands.
-use Rattle.std.proofs.Common.{◌≡◌, ℕ, suc, ◌+◌, ◌-◌, ◌<◌, Bool, true, false, cond, ltb, not, List, [], ◌∷◌, ◌++◌, Some, None, length, drop, take, eqb-true, refl, ap, arith, add-one, length-drop}
+use Rattle.std.proofs.Common.{◌≡◌, ℕ, zero, suc, ◌+◌, ◌-◌, ◌<◌, Bool, true, false, cond, ltb, List, [], ◌∷◌, ◌++◌, Some, None, length, get_or, drop, take, eqb-true, refl, ap, arith, add-one, length-drop}
 use Rattle.std.proofs.Math.Seq.{take-length}
-use Rattle.std.proofs.lemmas.Bool.{ltb-false, ltb-true}
+use Rattle.std.proofs.lemmas.Bool.{ltb-false}
+use Rattle.std.proofs.lemmas.List.Quantifiers.{position-Some}
 use Rattle.std.specs.List.{list_any, position, position_or_len}
 use Rattle.hsp_row.specs.Plain.{is_comma}
 
@@ -9,24 +10,16 @@ use Rattle.hsp_row.specs.Plain.{is_comma}
 abbrev IsPartedAt : List ℕ → ℕ → Type 0
 IsPartedAt x place = (x ≡ take place x ++ 44 ∷ drop (suc place) x) × (list_any is_comma (take place x) ≡ false)
 
-by_octet : (c : ℕ) (x : List ℕ) (later : ℕ) (b : Bool) → is_comma c ≡ b → (later < length x → IsPartedAt x later) → cond (not b) (1 + later) 0 < length (c ∷ x) → IsPartedAt (c ∷ x) (cond (not b) (1 + later) 0)
-by_octet c x later true is rest less = let here : c ≡ 44 = eqb-true c 44 is in (ap (λ o. o ∷ x) here, refl)
-by_octet c x later false is rest less =
-    let more = rest (omega arith) in
-    let e : 1 + later ≡ suc later = omega arith in
-    rw e (ap (λ o. c ∷ o) more.0, rw is more.1)
-
-parted : (x : List ℕ) → position_or_len is_comma x < length x → IsPartedAt x (position_or_len is_comma x)
-parted [] less = absurd (omega arith)
-parted (c ∷ x) less = by_octet c x (position_or_len is_comma x) (is_comma c) refl (parted x) less
+parted : (x : List ℕ) (place : ℕ) → place < length x → is_comma (get_or x place 0) ≡ true → ((k : ℕ) → k < place → is_comma (get_or x k 0) ≡ false) → IsPartedAt x place
+parted [] place less here before = absurd (omega arith)
+parted (c ∷ x) zero less here before = (ap (λ o. o ∷ x) (eqb-true c 44 here), refl)
+parted (c ∷ x) (suc place) less here before =
+    let more = parted x place (omega arith) here (λ k lt. before (suc k) (omega arith)) in
+    (ap (λ o. c ∷ o) more.0, rw (before 0 (omega arith)) more.1)
 
 -- the first comma parts a line
-pub parted_at : (x : List ℕ) (place : ℕ) → position is_comma x ≡ Some place → (x ≡ take place x ++ 44 ∷ drop (suc place) x) × (list_any is_comma (take place x) ≡ false)
-parted_at x place e = by (ltb (position_or_len is_comma x) (length x)) refl e
-  where
-    by : (b : Bool) → ltb (position_or_len is_comma x) (length x) ≡ b → cond b (Some (position_or_len is_comma x)) None ≡ Some place → IsPartedAt x place
-    by true is same = let there : position_or_len is_comma x ≡ place = cc same in rw there at (parted x (ltb-true _ _ is))
-    by false is same = cc same
+pub parted_at : (x : List ℕ) (place : ℕ) → position is_comma x ≡ Some place → IsPartedAt x place
+parted_at x place e = let p = position-Some is_comma x place 0 e in parted x place p.0 p.1 p.2
 
 -- the octets after a place
 pub all_after : (x : List ℕ) (place : ℕ) → take (length x - (place + 1)) (drop (place + 1) x) ≡ drop (suc place) x

@@ -1,6 +1,8 @@
 -- A line without marks is read as one record: its parts between commas.
 use Rattle.std.proofs.Common.{◌≡◌, ◌∙◌, ℕ, zero, suc, ◌==◌, ◌||◌, Bool, true, false, List, [], ◌∷◌, ◌++◌, Option, Some, length, eqb-true, refl, ap, sym, append-nil, append_assoc, add-one, arith}
 use Rattle.std.specs.List.{list_any}
+use Rattle.std.proofs.lemmas.Bool.{or_parts}
+use Rattle.std.proofs.lemmas.List.Folds.{list_any-append}
 use Rattle.csv.specs.Machine.{Read, next_record}
 use Rattle.csv.specs.Reading.{default_config, records, records_from}
 use Rattle.csv.specs.declared.parser.State.TheVariants as st
@@ -9,28 +11,15 @@ use Rattle.hsp_row.specs.Plain.{is_comma, is_mark}
 use Rattle.hsp_row.specs.Row.{row_of, shape_of}
 use Rattle.hsp_row.specs.Row.Shape.{blank, one, two, other}
 
-left_false : (a b : Bool) → (a || b) ≡ false → a ≡ false
-left_false true b e = e
-left_false false b e = refl
-
-right_false : (a b : Bool) → (a || b) ≡ false → b ≡ false
-right_false true b e = absurd (let no : true ≡ false = e in cc)
-right_false false b e = e
-
 -- a list has none of some octets where its first is none and its rest has none
 first_of : (p : ℕ → Bool) (c : ℕ) (rest : List ℕ) → list_any p (c ∷ rest) ≡ false → p c ≡ false
-first_of p c rest e = left_false (p c) (list_any p rest) e
+first_of p c rest e = (or_parts (p c) (list_any p rest) e).0
 
 rest_of : (p : ℕ → Bool) (c : ℕ) (rest : List ℕ) → list_any p (c ∷ rest) ≡ false → list_any p rest ≡ false
-rest_of p c rest e = right_false (p c) (list_any p rest) e
+rest_of p c rest e = (or_parts (p c) (list_any p rest) e).1
 
-front_of : (p : ℕ → Bool) (a b : List ℕ) → list_any p (a ++ b) ≡ false → list_any p a ≡ false
-front_of p [] b e = refl
-front_of p (c ∷ a) b e = rw (first_of p c (a ++ b) e) (front_of p a b (rest_of p c (a ++ b) e))
-
-back_of : (p : ℕ → Bool) (a b : List ℕ) → list_any p (a ++ b) ≡ false → list_any p b ≡ false
-back_of p [] b e = e
-back_of p (c ∷ a) b e = back_of p a b (rest_of p c (a ++ b) e)
+halves : (p : ℕ → Bool) (a b : List ℕ) → list_any p (a ++ b) ≡ false → (list_any p a ≡ false) × (list_any p b ≡ false)
+halves p a b e = or_parts (list_any p a) (list_any p b) (sym (list_any-append p a b) ∙ e)
 
 -- an octet is no quote, no carriage return and no line feed
 record IsPlain (c : ℕ) : Type 0 where
@@ -40,8 +29,9 @@ record IsPlain (c : ℕ) : Type 0 where
 
 plain : (c : ℕ) → is_mark c ≡ false → IsPlain c
 plain c e =
-    let most = left_false ((c == 34) || (c == 13)) (c == 10) e in
-    record { quote = left_false (c == 34) (c == 13) most; back = right_false (c == 34) (c == 13) most; feed = right_false ((c == 34) || (c == 13)) (c == 10) e }
+    let a = or_parts ((c == 34) || (c == 13)) (c == 10) e in
+    let b = or_parts (c == 34) (c == 13) a.0 in
+    record { quote = b.0; back = b.1; feed = a.1 }
 
 -- ---- one octet
 
@@ -158,8 +148,8 @@ not_empty (c ∷ x) rest e = omega arith
 pub row_of_two : (line first second : List ℕ) → list_any is_mark line ≡ false → line ≡ first ++ 44 ∷ second → list_any is_comma first ≡ false → list_any is_comma second ≡ false → row_of line ≡ two first second
 row_of_two line first second m e e_first e_second =
     let m' : list_any is_mark (first ++ 44 ∷ second) ≡ false = rw (← e) m in
-    let later = rest_of is_mark 44 second (back_of is_mark first (44 ∷ second) m') in
-    let read = is_begun (first ++ 44 ∷ second) m' (not_empty first second) ∙ before_comma [] first second (front_of is_mark first (44 ∷ second) m') e_first
+    let later = rest_of is_mark 44 second (halves is_mark first (44 ∷ second) m').1 in
+    let read = is_begun (first ++ 44 ∷ second) m' (not_empty first second) ∙ before_comma [] first second (halves is_mark first (44 ∷ second) m').0 e_first
     ∙ last_field (first ∷ []) second later e_second in
     ap row_of e ∙ ap shape_of (one_record (first ++ 44 ∷ second) (first ∷ second ∷ []) read)
 
@@ -167,9 +157,9 @@ pub row_of_more : (line first rest second third : List ℕ) → list_any is_mark
 row_of_more line first rest second third m e e_first e' e_second =
     let all : line ≡ first ++ 44 ∷ (second ++ 44 ∷ third) = e ∙ ap (λ r. first ++ 44 ∷ r) e' in
     let m' : list_any is_mark (first ++ 44 ∷ (second ++ 44 ∷ third)) ≡ false = rw (← all) m in
-    let later = rest_of is_mark 44 (second ++ 44 ∷ third) (back_of is_mark first (44 ∷ (second ++ 44 ∷ third)) m') in
-    let more = some_more (first ∷ second ∷ []) third (rest_of is_mark 44 third (back_of is_mark second (44 ∷ third) later)) in
+    let later = rest_of is_mark 44 (second ++ 44 ∷ third) (halves is_mark first (44 ∷ (second ++ 44 ∷ third)) m').1 in
+    let more = some_more (first ∷ second ∷ []) third (rest_of is_mark 44 third (halves is_mark second (44 ∷ third) later).1) in
     let read = is_begun (first ++ 44 ∷ (second ++ 44 ∷ third)) m' (not_empty first (second ++ 44 ∷ third))
-    ∙ before_comma [] first (second ++ 44 ∷ third) (front_of is_mark first (44 ∷ (second ++ 44 ∷ third)) m') e_first
-    ∙ before_comma (first ∷ []) second third (front_of is_mark second (44 ∷ third) later) e_second ∙ more.2 in
+    ∙ before_comma [] first (second ++ 44 ∷ third) (halves is_mark first (44 ∷ (second ++ 44 ∷ third)) m').0 e_first
+    ∙ before_comma (first ∷ []) second third (halves is_mark second (44 ∷ third) later).0 e_second ∙ more.2 in
     ap row_of all ∙ ap shape_of (one_record (first ++ 44 ∷ (second ++ 44 ∷ third)) (first ∷ second ∷ more.0 ∷ more.1) read)

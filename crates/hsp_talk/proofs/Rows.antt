@@ -1,10 +1,11 @@
 -- Lines, rows, and desks that take them.
-use Rattle.std.proofs.Common.{◌≡◌, ℕ, inl, inr, zero, suc, min, ◌+◌, ◌-◌, ◌<◌, ◌≤◌, ◌==◌, Bool, true, false, cond, ltb, not, Some, None, take, drop, length-drop, List, [], ◌∷◌, ◌++◌, length, if◌then◌else◌, refl, ap, sym, ◌∙◌, subst, append_assoc, append-nil, arith, eq-eqb, eqb-true, true≢false}
+use Rattle.std.proofs.Common.{◌≡◌, ℕ, zero, suc, min, ◌+◌, ◌-◌, ◌<◌, ◌≤◌, ◌==◌, Bool, true, false, cond, ltb, not, Some, None, get_or, take, drop, length-drop, List, [], ◌∷◌, ◌++◌, length, if◌then◌else◌, refl, ap, sym, ◌∙◌, subst, append_assoc, append-nil, arith, add-one, eq-eqb, eqb-true, true≢false}
 use Rattle.std.specs.List.{concat, position, position_or_len}
-use Rattle.std.proofs.Math.Seq.{take-length}
-use Rattle.std.proofs.lemmas.List.{take_all}
+use Rattle.std.proofs.Math.Seq.{take-append-add, take-length}
+use Rattle.std.proofs.lemmas.List.{drop-drop, length-take, take_all, take_min}
 use Rattle.std.proofs.lemmas.List.Folds.{concat-append}
-use Rattle.std.proofs.lemmas.Bool.{cases_lt, ltb-false, ltb-true}
+use Rattle.std.proofs.lemmas.List.Quantifiers.{position-Some}
+use Rattle.std.proofs.lemmas.Bool.{ltb-false}
 use Rattle.hsp_talk.specs.Talk.{AreTaken, RefusesRow, TakesRow, cut, is_line_feed, last_line, rows_of, whole_lines}
 use Rattle.hsp_talk.specs.Refusals.{IsRefusal}
 use Rattle.hsp_talk.specs.Turns.{AreCut, AreOwed, IsRefused, rows_ended_by}
@@ -56,39 +57,24 @@ pub cut_short : (a : List ℕ) → length a ≤ LONGEST_ROW + 1 → cut a ≡ a
 unfolding cut
 cut_short a few = take_all (LONGEST_ROW + 1) a few
 
-taken_within : (n : ℕ) (a : List ℕ) → length (take n a) ≤ n
-taken_within zero a = omega arith
-taken_within (suc n) [] = omega arith
-taken_within (suc n) (x ∷ a) = let less = taken_within n a in omega arith
-
 pub within_cut : (a : List ℕ) → length (cut a) ≤ LONGEST_ROW + 1
 unfolding cut
-within_cut a = taken_within (LONGEST_ROW + 1) a
+within_cut a = omega (arith, length-take (LONGEST_ROW + 1) a)
 
 -- of octets after a line as many are left as there is room
 taken_after : (n : ℕ) (a b : List ℕ) → length a ≤ n → take n (a ++ b) ≡ a ++ take (n - length a) b
-taken_after n [] b few = let e : n - 0 ≡ n = omega arith in rw e refl
-taken_after zero (x ∷ a) b few = absurd (omega arith)
-taken_after (suc n) (x ∷ a) b few = let e : suc n - suc (length a) ≡ n - length a = omega arith in rw e (ap (λ t. x ∷ t) (taken_after n a b (omega arith)))
+taken_after n a b few = let e : n ≡ length a + (n - length a) = omega arith in ap (λ k. take k (a ++ b)) e ∙ take-append-add a b (n - length a)
 
 taken_least : (n count : ℕ) (b : List ℕ) → count ≡ min (length b) n → take count b ≡ take n b
-taken_least n count b e = elim (cases_lt (length b) n) [
-  | inl less ↦ let all : count ≡ length b = omega arith in rw all (take_all (length b) b (omega arith) ∙ sym (take_all n b (omega arith)))
-  | inr more ↦ let all : count ≡ n = omega arith in rw all refl
-]
+taken_least n count b e = let least : count ≡ min n (length b) = omega arith in rw least (take_min n b)
 
 pub cut_within : (a b : List ℕ) (count : ℕ) → length a ≤ LONGEST_ROW + 1 → count ≡ min (length b) (LONGEST_ROW + 1 - length a) → a ++ take count b ≡ cut (a ++ b)
 unfolding cut
 cut_within a b count few is = ap (λ t. a ++ t) (taken_least (LONGEST_ROW + 1 - length a) count b is) ∙ sym (taken_after (LONGEST_ROW + 1) a b few)
 
-dropped_one : (place : ℕ) (octets : List ℕ) → drop 1 (drop place octets) ≡ drop (suc place) octets
-dropped_one zero octets = refl
-dropped_one (suc place) [] = refl
-dropped_one (suc place) (x ∷ octets) = dropped_one place octets
-
 -- the octets after a place
 pub all_after : (octets more : List ℕ) (place : ℕ) → more ≡ drop place octets → take (length more - 1) (drop 1 more) ≡ drop (suc place) octets
-all_after octets more place is = rw (← length-drop 1 more) (take-length (drop 1 more)) ∙ ap (drop 1) is ∙ dropped_one place octets
+all_after octets more place is = rw (← length-drop 1 more) (take-length (drop 1 more)) ∙ ap (drop 1) is ∙ drop-drop 1 place octets ∙ ap (λ k. drop k octets) (add-one place)
 
 -- lines that are cut to the same, and go on
 goes_on_so : (a b more : List ℕ) → cut a ≡ cut b → cut (a ++ more) ≡ cut (b ++ more)
@@ -134,24 +120,16 @@ pub record EndsAt (line octets : List ℕ) (place : ℕ) : Type 0 where
   pub lines : whole_lines line octets ≡ (line ++ take place octets) ∷ whole_lines [] (drop (suc place) octets)
   pub last : last_line line octets ≡ last_line [] (drop (suc place) octets)
 
-by_octet : (line octets : List ℕ) (x later : ℕ) (b : Bool) → (x == 10) ≡ b → (later < length octets → EndsAt (line ++ x ∷ []) octets later) → cond (not b) (1 + later) 0 < length (x ∷ octets)
-    → EndsAt line (x ∷ octets) (cond (not b) (1 + later) 0)
-by_octet line octets x later true is rest less = record { lines = rw (is, append-nil line) refl; last = rw is refl }
-by_octet line octets x later false is rest less =
-    let more = rest (omega arith) in
-    let e : 1 + later ≡ suc later = omega arith in
-    rw e (record { lines = rw is (more.lines ∙ ap (λ l. l ∷ whole_lines [] (drop (suc later) octets)) (append_assoc line (x ∷ []) (take later octets))); last = rw is more.last })
-
-ends_there : (line octets : List ℕ) → first_end octets < length octets → EndsAt line octets (first_end octets)
-ends_there line [] less = absurd (omega arith)
-ends_there line (x ∷ octets) less = by_octet line octets x (first_end octets) (x == 10) refl (ends_there (line ++ x ∷ []) octets) less
+ends_there : (line octets : List ℕ) (place : ℕ) → place < length octets → is_line_feed (get_or octets place 0) ≡ true → ((k : ℕ) → k < place → is_line_feed (get_or octets k 0) ≡ false) → EndsAt line octets place
+ends_there line [] place less here before = absurd (omega arith)
+ends_there line (x ∷ octets) zero less here before = record { lines = rw (here, append-nil line) refl; last = rw here refl }
+ends_there line (x ∷ octets) (suc place) less here before =
+    let first = before 0 (omega arith) in
+    let more = ends_there (line ++ x ∷ []) octets place (omega arith) here (λ k lt. before (suc k) (omega arith)) in
+    record { lines = rw first (more.lines ∙ ap (λ l. l ∷ whole_lines [] (drop (suc place) octets)) (append_assoc line (x ∷ []) (take place octets))); last = rw first more.last }
 
 pub ends_at : (line octets : List ℕ) (place : ℕ) → position is_line_feed octets ≡ Some place → EndsAt line octets place
-ends_at line octets place e = by (ltb (first_end octets) (length octets)) refl e
-  where
-    by : (b : Bool) → ltb (first_end octets) (length octets) ≡ b → cond b (Some (first_end octets)) None ≡ Some place → EndsAt line octets place
-    by true is same = let there : first_end octets ≡ place = cc same in rw there at (ends_there line octets (ltb-true _ _ is))
-    by false is same = cc same
+ends_at line octets place e = let p = position-Some is_line_feed octets place 0 e in ends_there line octets place p.0 p.1 p.2
 
 pub record HasNoEnd (line octets : List ℕ) : Type 0 where
   pub lines : whole_lines line octets ≡ []
@@ -256,19 +234,14 @@ module _ {D : Type 0} (Takes : TakesRow D) where
         ∙ ap (λ r. so.rows ++ r) (rows_of-append (ended ∷ []) (whole_lines [] (drop (suc place) rest)))
         ∙ sym (append_assoc so.rows (rows_of (ended ∷ [])) (rows_of (whole_lines [] (drop (suc place) rest))))
 
-    -- a line ends
-    ends : (after : D) (owing : List ℕ) → AreOwed Takes at after (rows_of (ended ∷ [])) now owing → SoFar first after all begins [] (drop (suc place) rest) owed owing
-    ends after owing more = record {
+    -- a line ends, and `left` is left of the octets
+    pub line_ends : (after : D) (owing begun left : List ℕ) → AreOwed Takes at after (rows_of (ended ∷ [])) now owing → begun ≡ [] → left ≡ drop (suc place) rest → SoFar first after all begins begun left owed owing
+    line_ends after owing begun left more none from = rw (none, from) (record {
       rows = so.rows ++ rows_of (ended ∷ []);
       left = rows_from;
       taken = owed_then first at after so.rows (rows_of (ended ∷ [])) owed now owing so.taken more;
       begun = so.begun ∙ ap cut (ends_at line rest place next).last;
-    }
-
-    -- the same of the line and the octets that are left then
-    pub line_ends : (after : D) (owing begun left : List ℕ) → AreOwed Takes at after (rows_of (ended ∷ [])) now owing → begun ≡ [] → left ≡ drop (suc place) rest → SoFar first after all begins begun left owed owing
-    line_ends after owing begun left more none from =
-        subst (λ l. SoFar first after all begins l left owed owing) (sym none) (subst (λ r. SoFar first after all begins [] r owed owing) (sym from) (ends after owing more))
+    })
 
   -- no line ends any more
   pub all_taken : (first at : D) (all : List (List ℕ)) (begins line rest owed now : List ℕ) → SoFar first at all begins line rest owed now → position is_line_feed rest ≡ None
@@ -322,10 +295,6 @@ not_none n f e = true≢false (sym (eq-eqb n 0 e) ∙ f)
 
 pub is_none : (n : ℕ) → (n == 0) ≡ true → n ≡ 0
 is_none n t = eqb-true n 0 t
-
-pub empty : (xs : List ℕ) → length xs ≡ 0 → xs ≡ []
-empty [] e = refl
-empty (x ∷ xs) e = absurd (omega arith)
 
 -- why a desk refuses a row
 pub refused_by : {D F : Type 0} (Refuses : RefusesRow D F) (at last : D) (line : List ℕ) (by : Refusal F) → (length line ≡ 0 → ⊥) → length line ≤ LONGEST_ROW + 1 → IsRefusal (Refuses at line last) by →

@@ -1,5 +1,5 @@
 -- A talk that goes on, turn by turn.
-use Rattle.std.proofs.Common.{◌≡◌, ℕ, Bool, true, false, true≢false, List, [], ◌∷◌, ◌++◌, length, take, Option, Some, None, Result, Ok, Err, OnOk, IfErr, refl, ap, sym, ◌∙◌, subst, append_assoc, append-nil, arith, take-append-drop, drop}
+use Rattle.std.proofs.Common.{◌≡◌, ℕ, Bool, true, false, true≢false, List, [], ◌∷◌, ◌++◌, length, take, Option, Some, None, Result, Ok, Err, OnOk, IfErr, refl, ap, sym, ◌∙◌, subst, append_assoc, append-nil, take-append-drop, drop}
 use Rattle.std.proofs.Math.Seq.{take-append_seam}
 use Rattle.std.specs.List.{concat}
 use Rattle.std.proofs.lemmas.List.Folds.{concat-append}
@@ -16,25 +16,9 @@ use Rattle.hsp_talk.proofs.Rows.{as_many, cut_none, cut_twice, ended_so, last_so
 
 -- ---- events
 
-head_or : {X : Type 0} → X → List X → X
-head_or d [] = d
-head_or d (x ∷ xs) = x
-
-rest_of : {X : Type 0} → List X → List X
-rest_of [] = []
-rest_of (x ∷ xs) = xs
-
-same_head : {X : Type 0} (x y : X) (xs ys : List X) → x ∷ xs ≡ y ∷ ys → x ≡ y
-unfolding head_or
-same_head x y xs ys e = ap (head_or x) e
-
-same_rest : {X : Type 0} (x y : X) (xs ys : List X) → x ∷ xs ≡ y ∷ ys → xs ≡ ys
-unfolding rest_of
-same_rest x y xs ys e = ap rest_of e
-
 not_within : {X : Type 0} (x : X) (xs ys : List X) → [] ≡ xs ++ x ∷ ys → ⊥
-not_within x [] ys e = let many : 0 ≡ length (x ∷ ys) = ap length e in absurd (omega arith)
-not_within x (y ∷ xs) ys e = let many : 0 ≡ length (y ∷ (xs ++ x ∷ ys)) = ap length e in absurd (omega arith)
+not_within x [] ys e = cc
+not_within x (y ∷ xs) ys e = cc
 
 abbrev is_sent : Event → Bool
 is_sent (received octets) = false
@@ -66,16 +50,12 @@ ended_as (sent more ∷ events) octets = ended_as events octets
 -- ---- what is known of a peer
 
 more_then : (a b c : Option (List Event)) (xs ys : List Event) → AreMore a b xs → AreMore b c ys → AreMore a c (xs ++ ys)
-more_then None b c xs ys f g = tt
-more_then (Some a) None c xs ys f g = absurd f
-more_then (Some a) (Some b) None xs ys f g = absurd g
 more_then (Some a) (Some b) (Some c) xs ys f g = g ∙ ap (λ e. e ++ ys) f ∙ append_assoc a xs ys
+more_then a b c xs ys f g = search
 
 comes_then : (a b c : Option (List ℕ)) (xs ys : List ℕ) → Consumes a b xs → Consumes b c ys → Consumes a c (xs ++ ys)
-comes_then None b c xs ys f g = tt
-comes_then (Some a) None c xs ys f g = absurd f
-comes_then (Some a) (Some b) None xs ys f g = absurd g
 comes_then (Some a) (Some b) (Some c) xs ys f g = f ∙ ap (λ o. xs ++ o) g ∙ sym (append_assoc xs ys c)
+comes_then a b c xs ys f g = search
 
 none_received : (octets : List ℕ) → has_ended (received octets ∷ []) ≡ true → octets ≡ []
 none_received [] e = refl
@@ -107,31 +87,24 @@ none_went (Some a) = sym (append-nil a)
 
 none_left : (xs ys : List ℕ) → [] ≡ xs ++ ys → ys ≡ []
 none_left [] ys e = sym e
-none_left (x ∷ xs) ys e = let many : 0 ≡ length (x ∷ (xs ++ ys)) = ap length e in absurd (omega arith)
+none_left (x ∷ xs) ys e = absurd cc
 
 -- octets that do not come behind an end do not come later
 none_later : (a b c : Option (List ℕ)) (xs ys : List ℕ) → Consumes a b xs → Consumes b c ys → HasNoMore a b → HasNoMore a c
-none_later None b c xs ys f g end = tt
-none_later (Some a) None c xs ys f g end = absurd f
-none_later (Some a) (Some b) None xs ys f g end = tt
 none_later (Some a) (Some b) (Some c) xs ys f g end = none_left ys c (sym end ∙ g)
+none_later a b c xs ys f g end = search
 
 none_then : (a b c : Option (List ℕ)) (xs : List ℕ) → Consumes a b xs → HasNoMore b c → HasNoMore a c
-none_then None b c xs f end = tt
-none_then (Some a) None c xs f end = absurd f
 none_then (Some a) (Some b) c xs f end = end
+none_then a b c xs f end = search
 
 pub goes_out_then : (a b c : Option (List ℕ)) (xs ys : List ℕ) → Appends a b xs → Appends b c ys → Appends a c (xs ++ ys)
-goes_out_then None b c xs ys f g = tt
-goes_out_then (Some a) None c xs ys f g = absurd f
-goes_out_then (Some a) (Some b) None xs ys f g = absurd g
 goes_out_then (Some a) (Some b) (Some c) xs ys f g = g ∙ ap (λ o. o ++ ys) f ∙ append_assoc a xs ys
+goes_out_then a b c xs ys f g = search
 
 pub kept_so : (a b c : Option (List ℕ)) (xs : List ℕ) → Appends a b xs → Keeps b c → Appends a c xs
-kept_so None b c xs f g = tt
-kept_so (Some a) None c xs f g = absurd f
-kept_so (Some a) (Some b) None xs f g = absurd g
 kept_so (Some a) (Some b) (Some c) xs f g = g ∙ f
+kept_so a b c xs f g = search
 
 -- a peer of which only the octets are known
 pub octets_come : (old new : Known) (octets : List ℕ) → old.events ≡ None → Consumes old.coming new.coming octets → (octets ≡ [] → HasNoMore old.coming new.coming) →
@@ -227,14 +200,13 @@ sent_by_read events octets = sent_then events (received octets ∷ []) ∙ appen
 reads_more : (P : List Event → Type 0) (events : List Event) (event : Event) →
     ((before after : List Event) (octets : List ℕ) → events ≡ before ++ received octets ∷ after → P before) → ((octets : List ℕ) → event ≡ received octets → P events) →
     (before after : List Event) (octets : List ℕ) → events ++ event ∷ [] ≡ before ++ received octets ∷ after → P before
-reads_more P [] event each last [] after octets e = last octets (same_head event (received octets) [] after e)
-reads_more P [] event each last (b ∷ before) after octets e = absurd (not_within (received octets) before after (same_rest event b [] (before ++ received octets ∷ after) e))
-reads_more P (x ∷ events) event each last [] after octets e =
-    each [] events octets (ap (λ y. y ∷ events) (same_head x (received octets) (events ++ event ∷ []) after e))
+reads_more P [] event each last [] after octets e = last octets cc
+reads_more P [] event each last (b ∷ before) after octets e = let rest : [] ≡ before ++ received octets ∷ after = cc in absurd (not_within (received octets) before after rest)
+reads_more P (x ∷ events) event each last [] after octets e = let same : x ≡ received octets = cc in each [] events octets (ap (λ y. y ∷ events) same)
 reads_more P (x ∷ events) event each last (b ∷ before) after octets e =
-    subst (λ y. P (y ∷ before)) (same_head x b (events ++ event ∷ []) (before ++ received octets ∷ after) e)
-    (reads_more (λ l. P (x ∷ l)) events event (λ before after octets so. each (x ∷ before) after octets (ap (λ l. x ∷ l) so)) last
-    before after octets (same_rest x b (events ++ event ∷ []) (before ++ received octets ∷ after) e))
+    let same : x ≡ b = cc in
+    let rest : events ++ event ∷ [] ≡ before ++ received octets ∷ after = cc in
+    subst (λ y. P (y ∷ before)) same (reads_more (λ l. P (x ∷ l)) events event (λ before after octets so. each (x ∷ before) after octets (ap (λ l. x ∷ l) so)) last before after octets rest)
 
 pub prompt_read : (answers : List (List ℕ)) (events : List Event) (piece : List ℕ) → IsPrompt answers events →
     (sent_in events ≡ concat (take (length (rows_in events)) answers)) × (has_ended events ≡ false) → IsPrompt answers (events ++ received piece ∷ [])
@@ -324,10 +296,10 @@ module _ {D : Type 0} (Takes : TakesRow D) (first : D) where
 
   -- ---- talks, from what is known before them
 
-  -- no more octets come
-  pub talk_ends : (desk at : D) (line owed : List ℕ) (start old now new : Known) → IsAt Takes first desk line start old → GoesOn old now (received [] ∷ []) →
-      AreOwed Takes desk at (rows_ended_by line []) [] owed → GoesOn now new (sending owed) → Went start new (HeldToTheEnd Takes first at)
-  talk_ends desk at line owed start old now new (events, goes, so) read more sends =
+  -- no more octets come, and nothing was owed
+  pub talk_ends : (desk at : D) (line piece before owed : List ℕ) (start old now new : Known) → piece ≡ [] → before ≡ [] → IsAt Takes first desk line start old →
+      GoesOn old now (received piece ∷ []) → AreOwed Takes desk at (rows_ended_by line piece) before owed → GoesOn now new (sending owed) → Went start new (HeldToTheEnd Takes first at)
+  talk_ends desk at line [] [] owed start old now new is_end none (events, goes, so) read more sends =
       let piece = received [] ∷ [] in
       let owing = after_all at (events ++ piece) owed [] (after_read desk at line [] events owed (rows_ended_by line []) [] so (sym (append-nil (rows_ended_by line []))) more) in (
         events ++ piece ++ sending owed,
@@ -339,13 +311,7 @@ module _ {D : Type 0} (Takes : TakesRow D) (first : D) where
           ended_by_all (events ++ piece) owed ∙ ended_then events piece so.not_ended,
         ),
       )
-
-  -- the same of a piece that is empty, where nothing was owed
-  pub talk_ends_by : (desk at : D) (line piece before owed : List ℕ) (start old now new : Known) → piece ≡ [] → before ≡ [] → IsAt Takes first desk line start old →
-      GoesOn old now (received piece ∷ []) → AreOwed Takes desk at (rows_ended_by line piece) before owed → GoesOn now new (sending owed) → Went start new (HeldToTheEnd Takes first at)
-  talk_ends_by desk at line piece before owed start old now new is_end none so read more sends =
-      talk_ends desk at line owed start old now new so (subst (λ p. GoesOn old now (received p ∷ [])) is_end read)
-      (subst (λ o. AreOwed Takes desk at (rows_ended_by line []) o owed) none (subst (λ p. AreOwed Takes desk at (rows_ended_by line p) before owed) is_end more)) sends
+  talk_ends desk at line piece before owed start old now new is_end none so read more sends = absurd cc
 
   -- a turn ends, and the next read may come
   pub talk_goes_on : (desk at : D) (line piece next owed : List ℕ) (start old now new : Known) → (length piece ≡ 0 → ⊥) → IsAt Takes first desk line start old →
@@ -445,22 +411,14 @@ module _ {D : Type 0} (Takes : TakesRow D) (first : D) where
         (at, took at events [] later owing, refused.0, refused.1, refused.2, refused.3, none_owing at events later owing)
     stopped at last events later refusal.OutOfMemory refused owing = (at, took at events [] later owing, none_owing at events later owing)
 
-    row_refused : (desk last : D) (line piece owed : List ℕ) (by : Refusal F) (start old now new : Known) → IsAt Takes first desk line start old →
-        GoesOn old now (received piece ∷ []) → AreCut Takes Refuses desk last (rows_ended_by line piece) [] owed by → GoesOn now new (sending owed) →
+    pub row_refused : (desk last : D) (line piece before owed : List ℕ) (by : Refusal F) (start old now new : Known) → before ≡ [] → IsAt Takes first desk line start old →
+        GoesOn old now (received piece ∷ []) → AreCut Takes Refuses desk last (rows_ended_by line piece) before owed by → GoesOn now new (sending owed) →
         Went start new (λ events. StoppedBy Takes Refuses first last events (stop_by by))
-    row_refused desk last line piece owed by start old now new (events, goes, so) read cut sends =
+    row_refused desk last line piece [] owed by start old now new none (events, goes, so) read cut sends =
         let came = events ++ received piece ∷ [] in (
           came ++ sending owed,
           goes_then start now new came (sending owed) (goes_then start old now events (received piece ∷ []) goes read) sends,
           stopped cut.at last (came ++ sending owed) cut.later by cut.refused
               (after_all cut.at came owed cut.later (after_read desk cut.at line piece events owed cut.rows cut.later so cut.parted cut.taken)),
         )
-
-    -- the same, where nothing was owed
-    pub row_refused_by : (desk last : D) (line piece before owed : List ℕ) (found by : Refusal F) (start old now new : Known) → found ≡ by → before ≡ [] →
-        IsAt Takes first desk line start old → GoesOn old now (received piece ∷ []) → AreCut Takes Refuses desk last (rows_ended_by line piece) before owed found →
-        GoesOn now new (sending owed) → Went start new (λ events. StoppedBy Takes Refuses first last events (stop_by by))
-    row_refused_by desk last line piece before owed found by start old now new is none so read cut sends =
-        let rows = rows_ended_by line piece in
-        row_refused desk last line piece owed by start old now new so read
-        (subst (λ b. AreCut Takes Refuses desk last rows [] owed b) is (subst (λ o. AreCut Takes Refuses desk last rows o owed found) none cut)) sends
+    row_refused desk last line piece (c ∷ before) owed by start old now new none so read cut sends = absurd cc

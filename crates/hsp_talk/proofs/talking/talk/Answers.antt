@@ -1,7 +1,7 @@
-use Rattle.std.proofs.Common.{arith, take, refl, ap, subst, sym, ◌∙◌, length-take-le}
+use Rattle.std.proofs.Common.{arith, take, ap, subst, sym, ◌∙◌, length-take-le}
 use Rattle.hsp_talk.specs.Turns.{AreOwed, rows_ended_by}
 use Rattle.hsp_talk.proofs.Rows.{within_cut}
-use Rattle.hsp_talk.proofs.Talks.{no_more_turns, read_fails, row_refused_by, talk_begins, talk_ends_by, talk_goes_on, write_fails_after}
+use Rattle.hsp_talk.proofs.Talks.{no_more_turns, read_fails, row_refused, talk_begins, talk_ends, talk_goes_on, write_fails_after}
 use Rattle.hsp_talk.proofs.talking.talk.Goals as goal
 
 pub returns-in_default-clause-stops : goal.returns-in_default-clause-stops
@@ -16,13 +16,13 @@ returns-in_default-send_owed-clause-stops g c =
 
 pub returns-in-Err-clause-stops : goal.returns-in-Err-clause-stops
 returns-in-Err-clause-stops g c =
-    rw c.stop_for.ensures (row_refused_by g.D.Desk.Takes c.args.desk.now g.D.Desk.Refuses c.turns.desk c.take_piece-taken.new.desk c.turns.line.items
-    (take c.in-Ok.count c.receive.new.piece) c.turns.owed.items c.take_piece-taken.new.owed.items c.in-Err.refusal c.in-Err.refusal _ _ _ _ refl c.turns.invariant.0
+    rw c.stop_for.ensures (row_refused g.D.Desk.Takes c.args.desk.now g.D.Desk.Refuses c.turns.desk c.take_piece-taken.new.desk c.turns.line.items
+    (take c.in-Ok.count c.receive.new.piece) c.turns.owed.items c.take_piece-taken.new.owed.items c.in-Err.refusal _ _ _ _ c.turns.invariant.0
     c.turns.invariant.1 c.in-Ok.ensures.receives c.in-Err.ensures.cut c.in-Ok-send_owed.ensures.sends)
 
 pub returns-then-count-eq0-clause-whole : goal.returns-then-count-eq0-clause-whole
 returns-then-count-eq0-clause-whole g c =
-    talk_ends_by g.D.Desk.Takes c.args.desk.now c.turns.desk c.take_piece-taken.new.desk c.turns.line.items (take c.in-Ok.count c.receive.new.piece) c.turns.owed.items
+    talk_ends g.D.Desk.Takes c.args.desk.now c.turns.desk c.take_piece-taken.new.desk c.turns.line.items (take c.in-Ok.count c.receive.new.piece) c.turns.owed.items
     c.take_piece-taken.new.owed.items _ _ _ _ (ap (λ n. take n c.receive.new.piece) c.if-count-eq0.true) c.turns.invariant.0 c.turns.invariant.1 c.in-Ok.ensures.receives
     c.in_default-taken.ensures.taken c.in-Ok-send_owed.ensures.sends
 
