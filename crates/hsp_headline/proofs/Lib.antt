@@ -5,7 +5,6 @@ pub mod Page
 pub mod PageArcs
 pub mod PageBuilt
 pub mod PageRead
-pub mod PageRows
 pub mod PageServers
 pub mod PageSettings
 pub mod PageSites

@@ -1,39 +1,43 @@
 -- The page is what is read and built: in both directions.
-use Rattle.std.proofs.Common.{◌≡◌, ◌∙◌, ◌≤◌, ℕ, List, [], ◌∷◌, Option, Some, None, Ok, decimal, length, map, option_map, refl, ap, sym, subst, arith}
-use Rattle.std.proofs.lemmas.List.{length-map}
+use Rattle.std.proofs.Common.{◌≡◌, ◌∙◌, ◌≤◌, ℕ, List, [], ◌∷◌, Option, Some, None, Ok, codes, decimal, length, map, option_map, refl, ap, sym, subst, arith}
+use Rattle.std.proofs.lemmas.List.{length-map, map-id}
+use Rattle.std.proofs.lemmas.Str.{IsUtf8-from_is_utf8}
 use Rattle.std.specs.List.{AllByRecursion, IsDistinct}
 use Rattle.std.specs.Str.{bytes_eq}
 use Rattle.hsp_csv.specs.Records.{records_of}
 use Rattle.hsp_names.specs.Handle.{ReadingsAreHandles, local_name, naming_authority}
 use Rattle.hsp_record.specs.Values.{HandleValue}
-use Rattle.hsp_text.specs.declared.limits.TheConstants.{MOST_SITES}
+use Rattle.hsp_text.specs.declared.limits.TheConstants.{MOST_HOSTS, MOST_SITES}
 use Rattle.hsp_tables.specs.Capacities.{CapacityEntry, capacity_table, same_capacity}
 use Rattle.hsp_tables.specs.Costs.{CostEntry, cost_table}
 use Rattle.hsp_tables.specs.Demand.{DemandEntry, IsDemandEntry, demand_table, same_demand}
 use Rattle.hsp_tables.specs.Settings as settings
-use Rattle.hsp_tables.specs.Settings.{HostEntry, SettingsEntries, SiteEntry, settings_of}
+use Rattle.hsp_tables.specs.Settings.{HostEntry, SettingsEntries, SiteEntry, host_after, host_at, settings_of, site_after, site_at}
 use Rattle.hsp_tables.specs.Table.{table_of}
-use Rattle.hsp_tables.proofs.TableKinds.{capacities_are_their_relation, costs_are_their_relation, demand_is_its_relation}
+use Rattle.hsp_tables.specs.InTurn.{AreKeyed}
+use Rattle.hsp_tables.specs.declared.fault.TableFault.TheVariants as fault
+use Rattle.hsp_tables.proofs.Documents.{document_is}
+use Rattle.hsp_tables.proofs.SettingsLists as lists
 use Rattle.hsp_tables.proofs.TableRows as table_rows
 use Rattle.hsp_instance.specs.Building as building
 use Rattle.hsp_instance.specs.Building.{IsBuilt, arcs_from, host_of_entry, row_of}
 use Rattle.hsp_instance.specs.Instance.{AreSites, HasServer, Host, Instance, IsInstance, IsSite, Row, Server, Site, same_address, same_keys, same_name}
 use Rattle.hsp_instance.specs.declared.arc.Arc.{Arc}
-use Rattle.hsp_instance.proofs.BuiltParts.{built_has_its_parts}
+use Rattle.hsp_instance.proofs.BuiltParts.{BuiltOf, built_has_its_parts, built_of}
 use Rattle.hsp_instance.proofs.Lists.{all_from, all_map, distinct_map, map_twice}
 use Rattle.hsp_headline.proofs.FewRegions.{few_names, few_seen}
 use Rattle.hsp_headline.specs.Headline.{AreCapacities, AreCosts, AreDemand, AreServers, AreSettings, Defines, IsDemand}
 use Rattle.hsp_headline.specs.Told.{AreValues}
 use Rattle.hsp_headline.specs.declared.inputs.Inputs.{Inputs}
 use Rattle.hsp_headline.proofs.PageArcs.{arcs_alone, arcs_are, servers_alone}
-use Rattle.hsp_headline.proofs.PageBuilt.{BuiltOf, HasCapacity, built_of, capacities_have_no_fault, capacities_known, capacity_entries, cost_entries, costs_have_no_fault, costs_known, is_built, servers_built, sites_of_instance}
-use Rattle.hsp_headline.proofs.PageRows.{body_is, body_spells, capacity_fields, capacity_is_read, capacity_spelled, cost_fields, cost_is_read, cost_spelled, demand_fields, demand_is_read, demand_spelled}
-use Rattle.hsp_headline.proofs.PageServers.{capacity_is_found, servers_are}
+use Rattle.hsp_headline.proofs.PageBuilt.{HasCapacity, capacities_have_no_fault, capacities_known, capacity_entries, cost_entries, costs_have_no_fault, costs_known, is_built, servers_built, sites_of_instance}
+use Rattle.hsp_headline.proofs.Finding.{number_is_found}
+use Rattle.hsp_headline.proofs.PageServers.{capacity_rows, servers_are}
 use Rattle.hsp_instance.proofs.Limits.{are_instance}
 use Rattle.toml.specs.Data as toml
-use Rattle.toml.specs.Data.{Items}
-use Rattle.hsp_headline.specs.Told.{EachTells, TellsSite}
-use Rattle.hsp_headline.proofs.PageSettings.{settings_are_within, AreTold, map_itself, settings_are, settings_are_read}
+use Rattle.toml.specs.Data.{Items, get_member}
+use Rattle.hsp_headline.specs.Told.{EachTells, TellsHost, TellsSite}
+use Rattle.hsp_headline.proofs.PageSettings.{host_is, host_is_read, root_keys, spelled, told}
 use Rattle.hsp_headline.proofs.PageSites.{AreListed, distinct_before, sites_are, sites_are_read}
 
 -- what the five inputs hold
@@ -69,67 +73,52 @@ module _ (handles : ReadingsAreHandles) where
 
   demand_are : (text : List ℕ) (rows : List DemandEntry) → table_of demand_table (records_of text) ≡ Ok rows → AreDemand text (map row_of rows)
   demand_are text rows e =
-      let table = (demand_is_its_relation.rows (records_of text) rows).0 e in
-      let body = body_is demand_table demand_fields demand_spelled 0 table.body rows table.spelled in
-      let are = table_rows.demand_is_read (records_of text) rows e in (
+      let (is, are) = (table_rows.demand_is_read (records_of text) rows).0 e in (
         record {
-          records = table.headed ∙ ap (λ t. demand_table.header ∷ t) (body ∙ sym (map_twice row_of (λ (row : Row). row.region ∷ row.handle ∷ decimal row.count ∷ []) rows));
-          few = rw length-map table.few;
+          records = is ∙ ap (λ t. demand_table.header ∷ t) (sym (map_twice row_of (λ (row : Row). row.region ∷ row.handle ∷ decimal row.count ∷ []) rows));
+          few = rw length-map are.keyed.few;
           each = all_map IsDemandEntry IsDemand row_of rows demand_row are.keyed.each;
-          apart = distinct_map same_demand same_keys row_of rows (λ x y. refl) table.apart;
+          apart = distinct_map same_demand same_keys row_of rows (λ x y. refl) are.keyed.apart;
         },
-        few_names (map (λ (row : Row). row.region) (map row_of rows)) (rw (map_twice row_of (λ (row : Row). row.region) rows) table.regions),
+        few_names (map (λ (row : Row). row.region) (map row_of rows)) (rw (map_twice row_of (λ (row : Row). row.region) rows) are.regions),
       )
 
 costs_are : (sites : List Site) (text : List ℕ) (rows : List CostEntry) → building.cost_fault sites 0 rows ≡ None → table_of cost_table (records_of text) ≡ Ok rows → AreCosts sites text rows
 costs_are sites text rows none e =
-    let table = (costs_are_their_relation.rows (records_of text) rows).0 e in
-    let body = body_is cost_table cost_fields cost_spelled 0 table.body rows table.spelled in
-    let are = table_rows.costs_are (records_of text) rows e in (
-      record {
-        records = table.headed ∙ ap (λ t. cost_table.header ∷ t) body;
-        few = table.few;
-        each = costs_known sites 0 rows none are.keyed.each;
-        apart = table.apart;
-      },
-      few_names (map (λ (row : CostEntry). row.region) rows) table.regions,
-    )
+    let (is, are) = (table_rows.costs_are (records_of text) rows).0 e in
+    (record { records = is; few = are.keyed.few; each = costs_known sites 0 rows none are.keyed.each; apart = are.keyed.apart }, few_names (map (λ (row : CostEntry). row.region) rows) are.regions)
 
 capacities_are : (sites : List Site) (text : List ℕ) (rows : List CapacityEntry) → building.capacity_fault sites 0 rows ≡ None → table_of capacity_table (records_of text) ≡ Ok rows
     → AreCapacities sites text rows
 capacities_are sites text rows none e =
-    let table = (capacities_are_their_relation.rows (records_of text) rows).0 e in
-    let body = body_is capacity_table capacity_fields capacity_spelled 0 table.body rows table.spelled in
-    let are = table_rows.capacities_are (records_of text) rows e in
-    record {
-      records = table.headed ∙ ap (λ t. capacity_table.header ∷ t) body;
-      few = table.few;
-      each = capacities_known sites 0 rows none are.keyed.each;
-      apart = table.apart;
-    }
+    let (is, are) = (table_rows.capacities_are (records_of text) rows).0 e in
+    record { records = is; few = are.keyed.few; each = capacities_known sites 0 rows none are.keyed.each; apart = are.keyed.apart }
 
 -- ---- what is built is of the page
 
 settings_of_page : (values : Option (List HandleValue)) (text : List ℕ) (read : SettingsEntries) (sites : List Site) → settings_of text ≡ Ok read
     → building.AreSitesOf read values (Ok sites) → AreSettings values text sites (map host_of_entry read.hosts)
 settings_of_page values text read sites e are =
-    let told = settings_are text read e in
-    let next = sites_are values [] told.site_items read.sites sites (omega arith) told.sites are in
+    let (document, is_text, parsed, keys, site_list, host_list) = lists.settings_parts text read e in
+    let listed = lists.listed_is (fault.BadSite 0) MOST_SITES site_at settings.same_name site_after lists.sites_read_as_spelled (get_member (codes "site") document) read.sites site_list in
+    let hosts = lists.listed_is (fault.BadHost 0) MOST_HOSTS host_at settings.same_address host_after lists.hosts_read_as_spelled (get_member (codes "host") document) read.hosts host_list in
+    let tell = told site_at (λ entry. entry) lists.TellsSite lists.site_is 0 listed.0 read.sites listed.2.spelled in
+    let next = sites_are values [] listed.0 read.sites sites (omega arith) (rw map-id at tell) are in
     let whole : next.sites ≡ sites = sym next.whole in
     let many = as_many read.sites next.sites next.named in
-    let few : length next.sites ≤ MOST_SITES = omega (arith, many, told.few_sites) in
+    let few : length next.sites ≤ MOST_SITES = omega (arith, many, listed.2.few) in
     record {
-      utf8 = told.utf8;
-      document = told.document;
-      read = told.read;
-      keys = told.keys;
-      site = (told.site_items, told.site_array, rw whole at next.told);
+      utf8 = IsUtf8-from_is_utf8 text is_text;
+      document = document;
+      read = parsed;
+      keys = root_keys document ∙ keys;
+      site = (listed.0, listed.1, rw whole at next.told);
       few_sites = rw whole at few;
       few_servers = next.few;
-      names = rw whole at (apart_by_names read.sites next.sites next.named told.names);
-      host = (told.host_items, told.host_array, told.hosts);
-      few_hosts = rw length-map told.few_hosts;
-      addresses = distinct_map settings.same_address same_address host_of_entry read.hosts (λ x y. refl) told.addresses;
+      names = rw whole at (apart_by_names read.sites next.sites next.named listed.2.apart);
+      host = (hosts.0, hosts.1, told host_at host_of_entry TellsHost host_is 0 hosts.0 read.hosts hosts.2.spelled);
+      few_hosts = rw length-map hosts.2.few;
+      addresses = distinct_map settings.same_address same_address host_of_entry read.hosts (λ x y. refl) hosts.2.apart;
     }
 
 module _ (handles : ReadingsAreHandles) where
@@ -177,67 +166,47 @@ settings_read : (values : Option (List HandleValue)) (text : List ℕ) (sites : 
     → AreReadAs values text sites hosts
 settings_read values text sites hosts listed are =
     let from = sites_are_read values [] are.site.0 sites listed are.few_servers are.site.2 in
-    let back : map host_of_entry (map host_entry hosts) ≡ hosts = map_twice host_entry host_of_entry hosts ∙ map_itself hosts in
+    let entries : List HostEntry = map host_entry hosts in
+    let back : map host_of_entry entries ≡ hosts = map_twice host_entry host_of_entry hosts ∙ map-id hosts in
     let many = as_many from.entries sites from.named in
-    let few : length from.entries ≤ MOST_SITES = omega (arith, many, are.few_sites) in
-    let told : AreTold text (record { sites = from.entries; hosts = map host_entry hosts }) = record {
-      utf8 = are.utf8;
-      document = are.document;
-      read = are.read;
-      keys = are.keys;
-      site_items = are.site.0;
-      site_array = are.site.1;
-      sites = from.told;
-      few_sites = few;
-      names = entries_apart from.entries sites from.named are.names;
-      host_items = are.host.0;
-      host_array = are.host.1;
-      hosts = rw back are.host.2;
-      few_hosts = rw length-map are.few_hosts;
-      addresses = distinct_map same_address settings.same_address host_entry hosts (λ x y. refl) are.addresses;
-    } in
-    record { read = record { sites = from.entries; hosts = map host_entry hosts }; settings = settings_are_read text _ told; built = from.read; same_hosts = back }
+    let tell : EachTells lists.TellsSite are.site.0 (map (λ entry. entry) from.entries) = rw map-id from.told in
+    let read_sites = lists.lists (fault.BadSite 0) MOST_SITES site_at settings.same_name site_after lists.sites_read_as_spelled _ are.site.0 from.entries are.site.1 (record {
+      spelled = spelled site_at (λ entry. entry) lists.TellsSite lists.site_is_read 0 are.site.0 from.entries tell;
+      few = omega (arith, many, are.few_sites);
+      apart = entries_apart from.entries sites from.named are.names;
+    }) in
+    let read_hosts = lists.lists (fault.BadHost 0) MOST_HOSTS host_at settings.same_address host_after lists.hosts_read_as_spelled _ are.host.0 entries are.host.1 (record {
+      spelled = spelled host_at host_of_entry TellsHost host_is_read 0 are.host.0 entries (rw back are.host.2);
+      few = rw length-map are.few_hosts;
+      apart = distinct_map same_address settings.same_address host_entry hosts (λ x y. refl) are.addresses;
+    }) in
+    let parsed = document_is text are.document are.utf8 are.read in
+    let keys = sym (root_keys are.document) ∙ are.keys in
+    record { read = record { sites = from.entries; hosts = entries }; settings = rw (parsed, keys, read_sites, read_hosts) refl; built = from.read; same_hosts = back }
 
 module _ (handles : ReadingsAreHandles) where
-  demand_entries : (rows : List Row) → AllByRecursion IsDemand rows → AllByRecursion IsDemandEntry (map demand_entry rows)
-  demand_entries rows all = all_map IsDemand IsDemandEntry demand_entry rows (λ row is.
-      record { region = is.0; handle = ((handles row.handle is.1.0 is.1.1).0 is.1.2).0; count = is.2 }) all
-
   demand_is_read_as : (text : List ℕ) (rows : List Row) → AreDemand text rows → table_of demand_table (records_of text) ≡ Ok (map demand_entry rows)
   demand_is_read_as text rows are =
-      let entries = demand_entries rows are.0.each in
-      let spelled = body_spells demand_table demand_fields IsDemandEntry demand_is_read 0 (map demand_entry rows) entries in
-      (demand_is_its_relation.rows (records_of text) (map demand_entry rows)).1 (record {
-        body = map demand_fields (map demand_entry rows);
-        headed = are.0.records ∙ ap (λ t. demand_table.header ∷ t) (sym (map_twice demand_entry demand_fields rows));
-        spelled = spelled;
-        few = rw length-map are.0.few;
-        apart = distinct_map same_keys same_demand demand_entry rows (λ x y. refl) are.0.apart;
-        regions = rw (map_twice demand_entry (λ (row : DemandEntry). row.region) rows) (few_seen (map (λ (row : Row). row.region) rows) are.1);
-      })
+      let entries = all_map IsDemand IsDemandEntry demand_entry rows (λ row is.
+      record { region = is.0; handle = ((handles row.handle is.1.0 is.1.1).0 is.1.2).0; count = is.2 }) are.0.each in
+      (table_rows.demand_is_read (records_of text) (map demand_entry rows)).1 (
+        are.0.records ∙ ap (λ t. demand_table.header ∷ t) (sym (map_twice demand_entry table_rows.demand_fields rows)),
+        record {
+          keyed = record { few = rw length-map are.0.few; each = entries; apart = distinct_map same_keys same_demand demand_entry rows (λ x y. refl) are.0.apart };
+          regions = rw (map_twice demand_entry (λ (row : DemandEntry). row.region) rows) (few_seen (map (λ (row : Row). row.region) rows) are.1);
+        },
+      )
 
 costs_are_read_as : (sites : List Site) (text : List ℕ) (rows : List CostEntry) → AllByRecursion IsSite sites → AreCosts sites text rows → table_of cost_table (records_of text) ≡ Ok rows
 costs_are_read_as sites text rows of are =
-    (costs_are_their_relation.rows (records_of text) rows).1 (record {
-      body = map cost_fields rows;
-      headed = are.0.records;
-      spelled = body_spells cost_table cost_fields _ cost_is_read 0 rows (cost_entries sites rows of are.0.each);
-      few = are.0.few;
-      apart = are.0.apart;
-      regions = few_seen (map (λ (row : CostEntry). row.region) rows) are.1;
-    })
+    let keyed : AreKeyed _ _ _ rows = record { few = are.0.few; each = cost_entries sites rows of are.0.each; apart = are.0.apart } in
+    (table_rows.costs_are (records_of text) rows).1 (are.0.records, record { keyed = keyed; regions = few_seen (map (λ (row : CostEntry). row.region) rows) are.1 })
 
 capacities_are_read_as : (sites : List Site) (text : List ℕ) (rows : List CapacityEntry) → AllByRecursion IsSite sites → AreCapacities sites text rows
     → table_of capacity_table (records_of text) ≡ Ok rows
 capacities_are_read_as sites text rows of are =
-    (capacities_are_their_relation.rows (records_of text) rows).1 (record {
-      body = map capacity_fields rows;
-      headed = are.records;
-      spelled = body_spells capacity_table capacity_fields _ capacity_is_read 0 rows (capacity_entries sites rows of are.each);
-      few = are.few;
-      apart = are.apart;
-      regions = omega arith;
-    })
+    let keyed : AreKeyed _ _ _ rows = record { few = are.few; each = capacity_entries sites rows of are.each; apart = are.apart } in
+    (table_rows.capacities_are (records_of text) rows).1 (are.records, record { keyed = keyed; regions = omega arith })
 
 -- each server of the page has a capacity
 have_capacities : (capacities : List CapacityEntry) (it : Instance) → IsDistinct same_capacity capacities → AreServers capacities it
@@ -246,7 +215,7 @@ have_capacities capacities it apart are =
     all_from (λ (site : Site). AllByRecursion (HasCapacity capacities site.name) site.servers) it.sites (λ n site at.
     all_from (HasCapacity capacities site.name) site.servers (λ place own here.
     let one = are.each n place site own at here in
-    (one.0, capacity_is_found capacities site.name own.id one.0 apart one.3)))
+    (one.0, number_is_found (capacity_rows site.name own.id) capacities one.0 apart one.3)))
 
 module _ (handles : ReadingsAreHandles) where
   pub is_read : (inputs : Inputs) (it : Instance) → Defines inputs it → (read : building.Inputs) × Holds inputs read × IsBuilt read (Ok it)
@@ -261,7 +230,7 @@ module _ (handles : ReadingsAreHandles) where
         sites = own.built;
         costs = costs_have_no_fault it.sites 0 page.costs page.settings.names page.are_costs.0.each;
         capacities = capacities_have_no_fault it.sites 0 page.capacities page.settings.names page.are_capacities.each;
-        rows = sym (map_twice demand_entry row_of it.rows ∙ map_itself it.rows);
+        rows = sym (map_twice demand_entry row_of it.rows ∙ map-id it.rows);
         hosts = sym own.same_hosts;
         servers = servers.1;
         arcs = refl;
@@ -306,8 +275,8 @@ is_within inputs read it holds built page =
       are = sites_of_instance page.values of_page.site.0 it.sites of_page.site.2;
       apart = of_page.names;
     } in
-    let within = are_instance read it.sites it.servers (settings_are_within inputs.settings.items read.settings holds.settings)
-    (table_rows.demand_is_read (records_of inputs.demand.items) read.demand holds.demand) (table_rows.costs_are (records_of inputs.costs.items) read.costs holds.costs)
-    (table_rows.capacities_are (records_of inputs.capacity.items) read.capacities holds.capacities) sites
+    let within = are_instance read it.sites it.servers (lists.settings_are_within inputs.settings.items read.settings holds.settings)
+    ((table_rows.demand_is_read (records_of inputs.demand.items) read.demand).0 holds.demand).1 ((table_rows.costs_are (records_of inputs.costs.items) read.costs).0 holds.costs).1
+    ((table_rows.capacities_are (records_of inputs.capacity.items) read.capacities).0 holds.capacities).1 sites
     (rw of.hosts at of.servers) in
     rw (← of.hosts, ← of.rows, ← of.arcs) at within

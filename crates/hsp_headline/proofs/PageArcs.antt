@@ -11,8 +11,8 @@ use Rattle.hsp_instance.specs.declared.arc.Arc.{Arc}
 use Rattle.hsp_instance.proofs.ArcLists.{arcs_ascending}
 use Rattle.hsp_instance.proofs.Lists.{all_at, there}
 use Rattle.hsp_headline.specs.Headline.{AreArcs, AreServers, IsArc, StandsOn}
-use Rattle.hsp_headline.proofs.Finding.{first_or_later, is_at_place, place_of, same_places}
-use Rattle.hsp_headline.proofs.PageServers.{capacity_is_found, cost_is, cost_is_found, number_of, one_host}
+use Rattle.hsp_headline.proofs.Finding.{all_of, first_or_later, is_at_place, number_is, number_is_found, place_of, same_places}
+use Rattle.hsp_headline.proofs.PageServers.{capacity_rows, cost_rows, number_of, one_host}
 
 -- ---- servers
 
@@ -35,7 +35,7 @@ servers_alone capacities a b rows_apart hosts_apart sites hosts p q =
     let at_site = sym (ap (λ (t : List Site). slice_get t n) sites) ∙ number.2.2 in
     let other = q.each n place site own at_site number.2.3 in
     let capacity : Some one.0 ≡ Some other.0 =
-    sym (capacity_is_found capacities site.name own.id one.0 rows_apart one.3) ∙ capacity_is_found capacities site.name own.id other.0 rows_apart other.3 in
+    sym (number_is_found (capacity_rows site.name own.id) capacities one.0 rows_apart one.3) ∙ number_is_found (capacity_rows site.name own.id) capacities other.0 rows_apart other.3 in
     let amount : one.0 ≡ other.0 = cc (capacity) in
     let on : StandsOn b.hosts own.address one.1 = subst (λ (t : List Host). StandsOn t own.address one.1) hosts one.4 in
     let host : one.1 ≡ other.1 = one_host b.hosts own.address one.1 other.1 hosts_apart on other.4 in
@@ -63,7 +63,7 @@ in_more : (x : Arc) (xs : List Arc) (arc : Arc) → Contains xs arc → Contains
 in_more x xs arc is = let at = place_of xs arc is in is_at_place (x ∷ xs) arc (suc at.0) at.1
 
 after : (x : Arc) (xs : List Arc) (arc : Arc) → IsAscending (x ∷ xs) → Contains xs arc → x.site < arc.site
-after x xs arc ascends is = let at = place_of xs arc is in all_at (λ (later : Arc). x.site < later.site) xs at.0 arc ascends.0 at.1
+after x xs arc ascends is = all_of (λ (later : Arc). x.site < later.site) xs arc ascends.0 is
 
 -- the first of one list is at the first place or later in the other
 first_is : (x : Arc) (xs : List Arc) (y : Arc) (i j : ℕ) (ys : List Arc) → IsAscending (x ∷ xs) → IsAscending (y ∷ ys)
@@ -126,11 +126,10 @@ arcs_are inputs it apart has made count = record {
         rw from (arcs_ascending inputs.costs row 0 0 it.sites),
         λ arc. (
           λ is.
-              let place = place_of arcs arc is in
-              let of_page = all_at (IsArcOf inputs.costs it.sites row) arcs place.0 arc are.each place.1 in
-              record { site = of_page.site; is_site = of_page.is_site; cost = cost_is inputs.costs row.region of_page.site.name arc.cost of_page.cost; server = of_page.server },
+              let of_page = all_of (IsArcOf inputs.costs it.sites row) arcs arc are.each is in
+              record { site = of_page.site; is_site = of_page.is_site; cost = number_is (cost_rows row.region of_page.site.name) inputs.costs arc.cost of_page.cost; server = of_page.server },
           λ is.
-              let cost = cost_is_found inputs.costs row.region is.site.name arc.cost apart is.cost in
+              let cost = number_is_found (cost_rows row.region is.site.name) inputs.costs arc.cost apart is.cost in
               let among = are.all arc.site is.site arc.cost is.is_site cost in
               is_at_place arcs arc among.0 (among.1 ∙ rw (← is.server) refl),
         ),

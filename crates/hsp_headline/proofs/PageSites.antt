@@ -1,7 +1,7 @@
 -- The sites of the page are those that are built.
-use Rattle.std.proofs.Common.{◌≡◌, ◌∙◌, ◌≤◌, ◌+◌, ◌==◌, inl, inr, ℕ, Bool, true, false, cond, List, [], ◌∷◌, ◌++◌, Option, Some, None, Result, Ok, Err, codes, length, map, nat_eq, nat_lt, refl, ap, sym, arith, append_assoc}
+use Rattle.std.proofs.Common.{◌≡◌, ◌∙◌, ◌≤◌, ◌+◌, ◌==◌, inl, inr, ℕ, Bool, true, false, List, [], ◌∷◌, ◌++◌, Option, Some, None, Ok, Err, codes, length, map, nat_eq, refl, ap, sym, arith, append_assoc}
 use Rattle.std.proofs.lemmas.Bool.{le-ltb, ne_eqb}
-use Rattle.std.proofs.lemmas.Bool.Decides.{Decides-eqb}
+use Rattle.std.proofs.lemmas.Bool.Decides.{Decides-eqb, nat_tests}
 use Rattle.std.proofs.lemmas.List.{append-nil}
 use Rattle.std.proofs.lemmas.Slice.Eq.{bytes_eq-Decides}
 use Rattle.std.specs.List.{AllByRecursion, IsDistinct, find}
@@ -9,25 +9,19 @@ use Rattle.std.specs.Str.{bytes_eq}
 use Rattle.toml.specs.Data as toml
 use Rattle.toml.specs.Data.{Data, Items, Members, get_member}
 use Rattle.hsp_hash.specs.Option.{option_of}
-use Rattle.hsp_hash.specs.declared.option.HashOption.{HashOption}
-use Rattle.hsp_record.specs.Fields.{spelling}
-use Rattle.hsp_record.specs.Site as records
 use Rattle.hsp_record.specs.Values.{HandleValue, IsValue, IsValueList}
-use Rattle.hsp_record.specs.declared.fault.RecordFault.{RecordFault}
-use Rattle.hsp_text.specs.Answers.{◌>>=◌, or_fault}
 use Rattle.hsp_text.specs.declared.limits.TheConstants.{MOST_SERVERS}
 use Rattle.hsp_tables.specs.Fields.{greatest_of_32_bits}
 use Rattle.hsp_tables.specs.Settings.{SiteEntry, SiteSource, index, octets}
-use Rattle.hsp_instance.specs.Building.{AreSitesAfter, IsNextSite, IsReading, IsSiteOf, checked_site, has_id, has_id_twice, server_of_record, site_octets, site_of_reading, site_value}
+use Rattle.hsp_tables.proofs.SettingsLists.{IsToldBy, TellsSite as TellsSiteEntry}
+use Rattle.hsp_tables.proofs.TurnLaws.{result_cases}
+use Rattle.hsp_instance.specs.Building.{AreSitesAfter, IsNextSite, IsSiteOf, checked_site, has_id, has_id_twice, server_of_record, site_octets, site_value}
 use Rattle.hsp_instance.specs.Instance.{Site, SiteServer, same_id, servers_of}
-use Rattle.hsp_instance.specs.declared.fault.BuildFault.{BuildFault}
-use Rattle.hsp_instance.specs.declared.fault.BuildFault.TheVariants.{BadHashOption, NotSiteValue}
-use Rattle.hsp_instance.proofs.Lists.{all_at}
 use Rattle.hsp_instance.proofs.SiteSums.{servers_of-push}
-use Rattle.hsp_instance.proofs.SitesInTurn.{IsChecked, site_is_checked}
+use Rattle.hsp_instance.proofs.SitesInTurn.{site_is_checked}
 use Rattle.hsp_headline.specs.Told.{IsData, IsRecordOf, IsSource, EachTells, TellsSite}
-use Rattle.hsp_headline.proofs.Finding.{found, finds, is_at_place, place_of}
-use Rattle.hsp_headline.proofs.PageSettings.{IsToldBy, TellsEntry}
+use Rattle.hsp_headline.proofs.Finding.{all_of, found, finds}
+use Rattle.hsp_headline.proofs.PageSettings.{site_keys}
 
 -- ---- octets
 
@@ -42,17 +36,10 @@ distinct_before {A} {B} same alike f tells (x ∷ xs) apart = (each x xs apart.0
     each x (y ∷ ys) all = (sym (tells x y) ∙ all.0, each x ys all.1)
 
 site_value_is : (n : ℕ) (values : List HandleValue) (i : ℕ) (bytes : List ℕ) → site_value n (find (λ v. v.index == i) values) ≡ Ok bytes → IsData (Some values) i bytes
-site_value_is n values i bytes e = by (find (λ v. v.index == i) values) refl e
-  where
-    by : (o : Option HandleValue) → find (λ v. v.index == i) values ≡ o → site_value n o ≡ Ok bytes → IsData (Some values) i bytes
-    by None is e = cc (e)
-    by (Some value) is e = typed (bytes_eq value.type_octets (codes "HS_SITE")) refl e
-      where
-        typed : (b : Bool) → bytes_eq value.type_octets (codes "HS_SITE") ≡ b → cond b (Ok value.octets) (Err (NotSiteValue n)) ≡ Ok bytes → IsData (Some values) i bytes
-        typed true kind e =
-            let at = found (λ (v : HandleValue). v.index == i) values value is in
-            (value, is_at_place values value at.0.0 at.0.1, (Decides-eqb value.index i).0 at.1, (bytes_eq-Decides value.type_octets (codes "HS_SITE")).0 kind, cc (e))
-        typed false kind e = cc (e)
+site_value_is n values i bytes e =
+    let read : (value : HandleValue) × (find (λ v. v.index == i) values ≡ Some value) × (bytes_eq value.type_octets (codes "HS_SITE") ≡ true) × (value.octets ≡ bytes) = grind arith in
+    let at = found (λ (v : HandleValue). v.index == i) values read.0 read.1 in
+    (read.0, at.0, (Decides-eqb read.0.index i).0 at.1, (bytes_eq-Decides read.0.type_octets (codes "HS_SITE")).0 read.2, read.3)
 
 octets_are : (values : Option (List HandleValue)) (n : ℕ) (hexadecimal number : Option Data) (source : SiteSource) (bytes : List ℕ)
     → IsToldBy hexadecimal number source → site_octets values n source ≡ Ok bytes → IsSource values hexadecimal number bytes
@@ -64,14 +51,13 @@ octets_are (Some values) n a b (index i) bytes told e = inr (i, told.0, told.1, 
 data_is_read : (n : ℕ) (values : List HandleValue) (i : ℕ) (bytes : List ℕ) → IsValueList values → IsData (Some values) i bytes
     → (site_value n (find (λ v. v.index == i) values) ≡ Ok bytes) × (i ≤ greatest_of_32_bits)
 data_is_read n values i bytes are told =
-    let at = place_of values told.0 told.1 in
     let apart = distinct_before (λ (a b : HandleValue). a.index == b.index) nat_eq (λ (v : HandleValue). v.index) (λ x y. refl) values are.1 in
     let test : (told.0.index == i) ≡ true = (Decides-eqb told.0.index i).1 told.2 in
     let alike : (a b : HandleValue) → (a.index == i) ≡ true → (b.index == i) ≡ true → (a.index == b.index) ≡ true = λ a b p q.
     (Decides-eqb a.index b.index).1 ((Decides-eqb a.index i).0 p ∙ sym ((Decides-eqb b.index i).0 q)) in
-    let one = finds (λ (a b : HandleValue). a.index == b.index) (λ (v : HandleValue). v.index == i) alike values at.0 told.0 apart at.1 test in
+    let one = finds (λ (a b : HandleValue). a.index == b.index) (λ (v : HandleValue). v.index == i) alike values told.0 apart told.1 test in
     let kind : bytes_eq told.0.type_octets (codes "HS_SITE") ≡ true = (bytes_eq-Decides told.0.type_octets (codes "HS_SITE")).1 told.3 in
-    let value : IsValue told.0 = all_at IsValue values at.0 told.0 are.0.1 at.1 in
+    let value : IsValue told.0 = all_of IsValue values told.0 are.0.1 told.1 in
     let read : site_value n (find (λ v. v.index == i) values) ≡ Ok told.0.octets = rw (one, kind) refl in
     (read ∙ ap (λ (t : List ℕ). Ok t) told.4, omega (arith, value.index, told.2))
 
@@ -88,46 +74,23 @@ octets_are_told (Some values) n a b bytes are (inr is) = let read = data_is_read
 
 -- ---- records
 
-passed : {A : Type 0} (test : Bool) (fault : BuildFault) (r : Result A BuildFault) (y : A) → cond test (Err fault) r ≡ Ok y → r ≡ Ok y
-passed true fault r y e = cc (e)
-passed false fault r y e = e
-
-checked_is : (n before : ℕ) (given site : Site) → checked_site n before given ≡ Ok site → given ≡ site
-checked_is n before given site e =
-    let some = passed (nat_eq (length given.servers) 0) _ _ site e in
-    let once = passed (has_id_twice given.servers) _ _ site some in
-    let few = passed (nat_lt MOST_SERVERS (before + length given.servers)) _ _ site once in
-    cc (few)
-
 -- a site that is read is that of a record, after sites of so many servers
 record_is : (n before : ℕ) (name bytes : List ℕ) (site : Site) → IsSiteOf n before name (Ok bytes) (Ok site)
     → (site.name ≡ name) × IsRecordOf site bytes × (before + length site.servers ≤ MOST_SERVERS)
-record_is n before name bytes site is = by is.0 is.1 is.2
-  where
-    checked : IsChecked before name site
-    checked = site_is_checked n before name (Ok bytes) site is
-
-    of_option : (r : records.Site) → records.IsSite r → bytes ≡ spelling records.site_format r → (o : Option HashOption) → option_of r.option ≡ o
-        → Ok site ≡ (or_fault (BadHashOption n) o >>= λ option. checked_site n before (record { name = name; option = option; servers = map server_of_record r.servers }))
-        → IsRecordOf site bytes
-    of_option r fits spelled None opted e = cc (e)
-    of_option r fits spelled (Some option) opted e =
-        let made : Site = record { name = name; option = option; servers = map server_of_record r.servers } in
-        let same : made ≡ site = checked_is n before made site (sym e) in
-        record {
-          read = r;
-          is = fits;
-          spelled = spelled;
-          option = opted ∙ ap (λ (s : Site). Some s.option) same;
-          servers = sym (ap (λ (s : Site). s.servers) same);
-          some = checked.some;
-          apart = checked.apart;
-        }
-
-    by : (reading : Result records.Site RecordFault) → IsReading bytes reading → Ok site ≡ site_of_reading n before name reading
-        → (site.name ≡ name) × IsRecordOf site bytes × (before + length site.servers ≤ MOST_SERVERS)
-    by (Err fault) is e = cc (e)
-    by (Ok r) is e = (checked.named, of_option r is.means.0 is.means.1 (option_of r.option) refl e, checked.few)
+record_is n before name bytes site (Err fault, is, e) = cc (e)
+record_is n before name bytes site (Ok r, is, e) =
+    let checked = site_is_checked n before name (Ok bytes) site (Ok r, is, e) in
+    let read : (option_of r.option ≡ Some site.option) × (site.servers ≡ map server_of_record r.servers) = grind (arith, nat_tests) in
+    let of : IsRecordOf site bytes = record {
+      read = r;
+      is = is.means.0;
+      spelled = is.means.1;
+      option = read.0;
+      servers = read.1;
+      some = checked.some;
+      apart = checked.apart;
+    } in
+    (checked.named, of, checked.few)
 
 -- distinct identifiers are not told twice
 no_other : (id : ℕ) (servers : List SiteServer) → AllByRecursion (λ (server : SiteServer). (server.id == id) ≡ false) servers → has_id id servers ≡ false
@@ -161,27 +124,26 @@ pub record AreNext (values : Option (List HandleValue)) (earlier : List Site) (i
   pub named : map (λ (entry : SiteEntry). entry.name) entries ≡ map (λ (site : Site). site.name) sites
   pub few : servers_of all ≤ MOST_SERVERS
 
-one_site : (values : Option (List HandleValue)) (earlier : List Site) (members : Members) (entry : SiteEntry) (site : Site) → TellsEntry members entry
+one_site : (values : Option (List HandleValue)) (earlier : List Site) (members : Members) (entry : SiteEntry) (site : Site) → TellsSiteEntry members entry
     → IsNextSite values earlier entry (Ok site) → (site.name ≡ entry.name) × TellsSite values members site × (servers_of earlier + length site.servers ≤ MOST_SERVERS)
-one_site values earlier ms entry site tells next = by (site_octets values (length earlier) entry.source) refl next
-  where
-    by : (r : Result (List ℕ) BuildFault) → site_octets values (length earlier) entry.source ≡ r → IsSiteOf (length earlier) (servers_of earlier) entry.name r (Ok site)
-        → (site.name ≡ entry.name) × TellsSite values ms site × (servers_of earlier + length site.servers ≤ MOST_SERVERS)
-    by (Err fault) is next = cc (next)
-    by (Ok bytes) is next =
-        let of = record_is (length earlier) (servers_of earlier) entry.name bytes site next in
-        let tells_site : TellsSite values ms site = record {
-          keys = tells.keys;
-          name = tells.name ∙ ap (λ t. Some (toml.string t)) (sym of.0);
-          is_name = rw of.0 tells.is_name;
-          octets = bytes;
-          source = octets_are values (length earlier) (get_member (codes "record") ms) (get_member (codes "index") ms) entry.source bytes tells.source is;
-          spelled = of.1;
-        } in
-        (of.0, tells_site, of.2)
+one_site values earlier ms entry site tells next =
+    elim (result_cases (site_octets values (length earlier) entry.source)) [
+      | inr (fault, is) ↦ cc (rw is at next)
+      | inl (bytes, is) ↦
+          let of = record_is (length earlier) (servers_of earlier) entry.name bytes site (rw is at next) in
+          let tells_site : TellsSite values ms site = record {
+            keys = site_keys ms ∙ tells.keys;
+            name = tells.name ∙ ap (λ t. Some (toml.string t)) (sym of.0);
+            is_name = rw of.0 tells.is_name;
+            octets = bytes;
+            source = octets_are values (length earlier) (get_member (codes "record") ms) (get_member (codes "index") ms) entry.source bytes tells.source is;
+            spelled = of.1;
+          } in
+          (of.0, tells_site, of.2)
+    ]
 
 pub sites_are : (values : Option (List HandleValue)) (earlier : List Site) (items : Items) (entries : List SiteEntry) (all : List Site)
-    → servers_of earlier ≤ MOST_SERVERS → EachTells TellsEntry items entries → AreSitesAfter values earlier entries (Ok all) → AreNext values earlier items entries all
+    → servers_of earlier ≤ MOST_SERVERS → EachTells TellsSiteEntry items entries → AreSitesAfter values earlier entries (Ok all) → AreNext values earlier items entries all
 sites_are values earlier toml.no_items [] all few tell are =
     let same : all ≡ earlier = cc (are) in
     record { sites = []; whole = same ∙ sym (append-nil earlier); told = tt; named = refl; few = rw same few }
@@ -202,7 +164,7 @@ sites_are values earlier (toml.item value items) (entry ∷ entries) all few tel
 -- sites of the page are read, from the entries that their tables tell
 pub record AreReadFrom (values : Option (List HandleValue)) (earlier : List Site) (items : Items) (sites : List Site) : Type 0 where
   pub entries : List SiteEntry
-  pub told : EachTells TellsEntry items entries
+  pub told : EachTells TellsSiteEntry items entries
   pub named : map (λ (entry : SiteEntry). entry.name) entries ≡ map (λ (site : Site). site.name) sites
   pub read : AreSitesAfter values earlier entries (Ok (earlier ++ sites))
 
@@ -223,7 +185,7 @@ sites_are_read values earlier (toml.item value items) (site ∷ sites) are few t
     rw source.2 (record_is_read (length earlier) (servers_of earlier) tells.octets site tells.spelled (rw (servers_of-push earlier site) at room)) in
     record {
       entries = entry ∷ more.entries;
-      told = (tell.0, tell.1, record { keys = tells.keys; name = tells.name; is_name = tells.is_name; source = source.1 }, more.told);
+      told = (tell.0, tell.1, record { keys = sym (site_keys tell.0) ∙ tells.keys; name = tells.name; is_name = tells.is_name; source = source.1 }, more.told);
       named = ap (λ names. site.name ∷ names) more.named;
       read = (Ok site, next, rw parts at more.read);
     }

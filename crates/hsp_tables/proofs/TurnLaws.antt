@@ -41,7 +41,7 @@ pub record FaultPlace {Item Row : Type 0} (read : Reading Item Row) (earlier : L
   pub good : rows_after read earlier before ≡ Ok rows
   pub refused : read rows bad ≡ Err fault
 
-result_cases : {A E : Type 0} (r : Result A E) → ((x : A) × (r ≡ Ok x)) ⊎ ((fault : E) × (r ≡ Err fault))
+pub result_cases : {A E : Type 0} (r : Result A E) → ((x : A) × (r ≡ Ok x)) ⊎ ((fault : E) × (r ≡ Err fault))
 result_cases (Ok x) = inl (x, refl)
 result_cases (Err fault) = inr (fault, refl)
 
