@@ -1,7 +1,7 @@
 -- Texts cut at their dots and at their first slash.
-use Rattle.std.proofs.Common.{◌≡◌, ◌<◌, ◌+◌, ◌-◌, ◌∙◌, ◌++◌, ◌==◌, ℕ, suc, Bool, true, false, not, List, [], ◌∷◌, length, length-append, append_assoc, take, drop, get_or, Option, Some, None, inl, inr, ap, sym, refl, arith, position}
+use Rattle.std.proofs.Common.{◌≡◌, ◌<◌, ◌+◌, ◌-◌, ◌∙◌, ◌++◌, ◌==◌, ℕ, suc, Bool, true, false, not, List, [], ◌∷◌, length, take, drop, get_or, Option, Some, None, inl, inr, ap, sym, refl, arith, position}
 use Rattle.std.specs.Prelude.{IfNone, IfSome, OnSome}
-use Rattle.std.specs.List.{AllByRecursion, list_all, list_any, slice_split, onto_first, position_or_len, before_first, after_first, join_with_byte}
+use Rattle.std.specs.List.{AllByRecursion, list_all, list_any, slice_split, onto_first, position_or_len, before_first, join_with_byte}
 use Rattle.std.proofs.lemmas.List.{take_rest, take-append-drop}
 use Rattle.std.proofs.Math.Seq.{drop-cons}
 use Rattle.std.proofs.lemmas.List.Sums.{prefix_len_stops}

@@ -1,9 +1,9 @@
 -- The search for a pair along the chain of its bucket.
-use Rattle.std.proofs.Common.{◌≡◌, ◌≢◌, ◌≤◌, ◌<◌, ◌+◌, ◌-◌, ◌∙◌, ℕ, suc, List, length, map, Some, None, refl, inl, inr, sym, ap, arith, get_or}
+use Rattle.std.proofs.Common.{◌≡◌, ◌≢◌, ◌≤◌, ◌<◌, ◌-◌, ◌∙◌, ℕ, suc, List, length, map, Some, None, refl, inl, inr, sym, ap, arith, get_or}
 use Rattle.std.specs.Prelude.{slice_get}
 use Rattle.std.proofs.lemmas.Bool.{cases_eq, cases_lt}
 use Rattle.std.proofs.lemmas.List.{get_or_default}
-use Rattle.std.proofs.lemmas.Option.{slice_get-map, slice_get-get_or, slice_get_past, slice_get_within}
+use Rattle.std.proofs.lemmas.Option.{slice_get-map, slice_get-get_or, slice_get_past}
 use Rattle.hsp_pair_map.specs.Chains.{last_of}
 use Rattle.hsp_pair_map.specs.Hashing.{bucket_of, hash_of}
 use Rattle.hsp_pair_map.specs.Held.{AreHeld, bucket_at, entry_at, no_entry, pair_in}

@@ -3,8 +3,8 @@ use Rattle.std.proofs.Common.{◌≡◌, ℕ, ◌+◌, ◌*◌, ◌<◌, ◌≤�
 use Rattle.std.specs.Prelude.{◌&&◌}
 use Rattle.std.specs.List.{range_with_len}
 use Rattle.std.proofs.lemmas.List.Elements.{All-from_get_or}
-use Rattle.hsp_transport.specs.Cut.{capacity_of, demand_of, reached_capacity, reaches}
-use Rattle.hsp_transport.specs.Flow.{IsFeasible, host_load, is_on, load, on_host, sent, total_cost}
+use Rattle.hsp_transport.specs.Cut.{capacity_of, demand_of, reached_capacity}
+use Rattle.hsp_transport.specs.Flow.{IsFeasible, host_load, is_on, load, total_cost}
 use Rattle.hsp_transport.specs.Network.{Network}
 use Rattle.hsp_transport.specs.Prices.{HasPrices, price_at}
 use Rattle.hsp_transport.specs.Sums.{any_below, sum_below}

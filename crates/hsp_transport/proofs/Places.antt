@@ -1,5 +1,5 @@
 -- What holds of a list, by its places; and of the numbers below a bound, as a list.
-use Rattle.std.proofs.Common.{◌≡◌, ℕ, zero, suc, ◌+◌, ◌<◌, ◌≤◌, ◌∙◌, Bool, List, length, All, sum_by, slice_index_or, Option, Some, None, inl, inr, refl, ap, ap₂, sym, subst, arith, add-one, zero-add, take, take_all}
+use Rattle.std.proofs.Common.{◌≡◌, ℕ, zero, suc, ◌<◌, ◌≤◌, ◌∙◌, Bool, List, length, All, sum_by, slice_index_or, Option, Some, None, inl, inr, refl, ap, ap₂, sym, subst, arith, add-one, zero-add, take, take_all}
 use Rattle.std.specs.Prelude.{◌||◌}
 use Rattle.std.specs.List.{list_any, range_with_len}
 use Rattle.std.proofs.lemmas.List.Folds.{list_any_more}

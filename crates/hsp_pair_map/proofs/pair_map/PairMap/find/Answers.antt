@@ -1,4 +1,4 @@
-use Rattle.std.proofs.Common.{◌≡◌, ◌-◌, ◌∙◌, refl, sym, arith}
+use Rattle.std.proofs.Common.{◌≡◌, ◌-◌, arith}
 use Rattle.hsp_pair_map.proofs.Finding.{entry_read, searched_first, searched_next, before_less, found_there, found_nowhere}
 use Rattle.hsp_pair_map.proofs.pair_map.PairMap.find.Goals as goal
 
