@@ -63,7 +63,7 @@ only_place test same alike (x ∷ xs) apart zero row e t =
 only_place {Row} test same alike (x ∷ xs) apart (suc n) row e t = elim (cases_Bool (test x)) [
   | inl passes ↦
       let later : same x row ≡ false =
-          rw (get_or_from_slice_get xs n row row e) at (All-from_recursion (λ (y : Row). same x y ≡ false) xs apart.0 n row (slice_get_within xs n row e)) in
+      rw (get_or_from_slice_get xs n row row e) at (All-from_recursion (λ (y : Row). same x y ≡ false) xs apart.0 n row (slice_get_within xs n row e)) in
       absurd (both_ways (same x row) later (alike x row passes t))
   | inr fails ↦ rw (fails, only_place test same alike xs apart.1 n row e t) (omega arith)
 ]

@@ -13,7 +13,7 @@ numbers_of-requires c =
 pub invariant_of-result : goal.invariant_of-result
 invariant_of-result c =
     rw c.in_ok-rows-2.ensures.ok
-      (((demand_is_read (records_of c.args.text.now) (map demand_entry c.in_ok-rows.rows.entries)).0 c.in_ok-rows.ensures).1, c.in_ok-numbers.ensures.ok ∙ c.in_ok-numbers_of.ensures)
+    (((demand_is_read (records_of c.args.text.now) (map demand_entry c.in_ok-rows.rows.entries)).0 c.in_ok-rows.ensures).1, c.in_ok-numbers.ensures.ok ∙ c.in_ok-numbers_of.ensures)
 
 pub returns : goal.returns
 returns c = rw c.in_ok-rows-2.ensures.ok c.in_ok-rows.ensures
