@@ -1,5 +1,5 @@
 -- What the runs read from inputs, and what the page says of them.
-use Rattle.std.proofs.Common.{◌≡◌, ℕ, List, Option, Some, None, Result, Ok, Err, refl, ap, sym}
+use Rattle.std.proofs.Common.{◌≡◌, ℕ, List, Option, Some, None, Result, Ok, Err, refl, ap, sym, arith}
 use Rattle.hsp_names.specs.Handle.{ReadingsAreHandles}
 use Rattle.hsp_record.specs.Fields.{Means}
 use Rattle.hsp_record.specs.Values.{HandleValue, values_format}
@@ -10,7 +10,7 @@ use Rattle.hsp_instance.specs.Instance.{Instance, IsInstance}
 use Rattle.hsp_headline.specs.Told as told
 use Rattle.hsp_headline.specs.Instance.{IsInstanceOf}
 use Rattle.hsp_headline.specs.Laws.{AcceptsTheDefined, GivesTheDefined}
-use Rattle.hsp_headline.specs.Readings.{AreListed, ReadsValues, some_list}
+use Rattle.hsp_headline.specs.Readings.{AreListed, ReadsValues}
 use Rattle.hsp_faults.specs.declared.fault.Fault.{Fault}
 use Rattle.hsp_faults.specs.declared.fault.Fault.TheVariants.{Capacity, Costs, Demand, Settings, Values}
 use Rattle.hsp_headline.specs.declared.inputs.Inputs.{Inputs}
@@ -19,19 +19,16 @@ use Rattle.hsp_headline.proofs.Page.{Holds, is_defined, is_read, is_within}
 
 -- what a part gave well is what the whole tells
 pub told_well : {A E : Type 0} (part : E → Fault) (r : Result A E) (x : A) → Ok x ≡ told_as part r → r ≡ Ok x
-told_well part (Ok y) x e = let same : x ≡ y = cc (e) in ap (λ z. Ok z) (sym same)
-told_well part (Err fault) x e = cc (e)
+told_well part r x e = grind arith
 
 pub listed : (octets : List ℕ) (values : List HandleValue) → AreListed octets (Ok values) → Means values_format octets (Ok values)
 listed octets values are = let same = told_well Values are.0 values are.3 in rw same at are.1
 
 values_are : (given : Option (List ℕ)) (values : Option (List HandleValue)) → ReadsValues given (Ok values) → told.AreValues given values
 values_are None values are = let none : values ≡ None = cc (are) in rw none tt
-values_are (Some octets) values are = by are.0 are.1 are.2
-  where
-    by : (reading : Result (List HandleValue) Fault) → AreListed octets reading → Ok values ≡ some_list reading → told.AreValues (Some octets) values
-    by (Ok own) is e = let same : values ≡ Some own = cc (e) in rw same (listed octets own is)
-    by (Err fault) is e = cc (e)
+values_are (Some octets) values (Ok own, is, e) =
+    let same : values ≡ Some own = cc (e) in rw same (listed octets own is)
+values_are (Some octets) values (Err fault, is, e) = cc (e)
 
 values_are_read : (given : Option (List ℕ)) (values : Option (List HandleValue)) → told.AreValues given values → ReadsValues given (Ok values)
 values_are_read None None are = refl
@@ -40,7 +37,8 @@ values_are_read (Some octets) None are = absurd are
 values_are_read (Some octets) (Some values) are = (Ok values, (Ok values, are, (λ e. cc (e)), refl), refl)
 
 -- what the runs have read
-hold : (inputs : Inputs) (it : Instance) → IsInstanceOf inputs (Ok it) → (read : building.Inputs) × Holds inputs read × IsBuilt read (Ok it)
+pub hold : (inputs : Inputs) (it : Instance) → IsInstanceOf inputs (Ok it)
+    → (read : building.Inputs) × Holds inputs read × IsBuilt read (Ok it)
 hold inputs it is =
     let settings = went_on _ _ it is in
     let values = went_on _ _ it settings.2 in

@@ -1,9 +1,8 @@
 -- What runs answer wherever inputs define an instance and octets spell a certificate that holds for it.
 use Rattle.std.proofs.Common.{◌≡◌, ◌≢◌, ◌∙◌, ◌<◌, ◌≤◌, ◌⊎◌, inl, inr, ℕ, List, Result, Ok, Err, IfOk, IsErrAnd, IsOkUnless, decimal, refl, ap, subst, sym, arith}
-use Rattle.std.proofs.lemmas.Bool.{le-leb, ne_eqb}
-use Rattle.hsp_text.specs.Whole.{whole_within}
+use Rattle.std.proofs.lemmas.Bool.{ne_eqb}
 use Rattle.hsp_text.specs.declared.limits.TheConstants.{MOST_FRONTS}
-use Rattle.hsp_text.proofs.Numerals.{digits_spell_their_number}
+use Rattle.hsp_tables.proofs.TableRows.{whole_is_read}
 use Rattle.hsp_instance.specs.Instance.{Instance}
 use Rattle.hsp_cert.specs.Certificate.{Best, Claim}
 use Rattle.hsp_cert.specs.Certificate.Claim.{best, short}
@@ -11,6 +10,8 @@ use Rattle.hsp_cert.specs.Reading.{Agrees, Means}
 use Rattle.hsp_cert.specs.declared.fault.CertFault.{CertFault}
 use Rattle.hsp_cert.specs.declared.fault.CertFault.TheVariants as cert_fault
 use Rattle.hsp_check.specs.Instance.{network_of}
+use Rattle.hsp_check.specs.Plan.{Plan}
+use Rattle.hsp_check.specs.Uses.{table}
 use Rattle.hsp_check.specs.declared.verdict.Verdict.{Verdict}
 use Rattle.hsp_check.specs.declared.verdict.Verdict.TheVariants.{Yes}
 use Rattle.hsp_dispatch.specs.Desks.{by_fronts, by_plan}
@@ -23,37 +24,27 @@ use Rattle.hsp_dispatch.specs.declared.fault.LogFault.TheVariants as log_fault
 use Rattle.hsp_faults.specs.FaultText.{log_told}
 use Rattle.hsp_faults.specs.declared.fault.Fault.{Fault}
 use Rattle.hsp_faults.specs.declared.fault.Fault.TheVariants.{BadFronts, Cert, Log, OutOfMemory}
-use Rattle.hsp_runs.specs.Always.{AcceptsClaim, GivesTheDefinedAlways, ReadsAlways}
+use Rattle.hsp_runs.specs.Always.{GivesTheDefinedAlways, ReadsAlways}
 use Rattle.hsp_runs.specs.Counts.{above_none}
-use Rattle.hsp_runs.specs.Dispatch.{AnswersAs, AnswersBy, EndsLog, Refuses, a_dispatcher, fronts_at, so_many}
+use Rattle.hsp_runs.specs.Dispatch.{AnswersAs, AnswersBy, EndsLog, Refuses, Staff, a_dispatcher, fronts_at, so_many}
 use Rattle.hsp_headline.specs.Headline.{Defines, ShowsOf}
 use Rattle.hsp_headline.specs.Instance.{IsInstanceOf}
 use Rattle.hsp_headline.specs.Laws.{GivesNothingElse}
 use Rattle.hsp_runs.specs.Logs.{IsOkUnlessLog}
 use Rattle.hsp_runs.specs.Plan.{IsPlanText, Printed}
 use Rattle.hsp_headline.specs.Shown.{Holds, Shows, Spells}
-use Rattle.hsp_headline.specs.Memory.{IsOrNoMemory, OrNoMemory}
+use Rattle.hsp_headline.specs.Memory.{OrNoMemory}
 use Rattle.hsp_runs.specs.declared.accepted.Accepted.{Accepted}
 use Rattle.hsp_headline.specs.declared.inputs.Inputs.{Inputs}
 
 -- ---- a fault that is handed on
 
-pub handed_unless : {X : Type 0} (value : X) (answer : Result X Fault) (fault : Fault) → IsErrAnd answer (λ e. e ≡ fault) → fault ≡ OutOfMemory
-    → IsOrNoMemory value answer
-handed_unless value (Ok x) fault is memory = absurd is
-handed_unless value (Err e) fault is memory = is ∙ memory
-
-pub handed_ok : {X : Type 0} (answer : Result X Fault) (fault : Fault) → IsErrAnd answer (λ e. e ≡ fault) → fault ≡ OutOfMemory → IsOkUnless answer OutOfMemory
-handed_ok (Ok x) fault is memory = absurd is
-handed_ok (Err e) fault is memory = is ∙ memory
-
-pub handed_claim : (claim : Claim) (answer : Result Accepted Fault) (fault : Fault) → IsErrAnd answer (λ e. e ≡ fault) → fault ≡ OutOfMemory → AcceptsClaim claim answer
-handed_claim claim (Ok x) fault is memory = absurd is
-handed_claim claim (Err e) fault is memory = is ∙ memory
-
-pub handed_log : {S : Type 0} (answer : Result S Fault) (fault : Fault) → IsErrAnd answer (λ e. e ≡ fault) → fault ≡ OutOfMemory → IsOkUnlessLog answer
-handed_log (Ok x) fault is memory = absurd is
-handed_log (Err e) fault is memory = inl (is ∙ memory)
+-- what holds of the fault that memory ran out holds of the answer
+pub handed : {X : Type 0} (P : Result X Fault → Type 0) → P (Err OutOfMemory)
+    → (answer : Result X Fault) (fault : Fault)
+    → IsErrAnd answer (λ e. e ≡ fault) → fault ≡ OutOfMemory → P answer
+handed P holds (Ok x) fault is memory = absurd is
+handed P holds (Err e) fault is memory = rw (is ∙ memory) holds
 
 -- ---- what is read
 
@@ -114,32 +105,38 @@ ends_always : {S : Type 0} (all : S → FrontSums) (run : Streams) (answer : Res
 ends_always all run (Ok sums) desk ends = tt
 ends_always all run (Err e) desk (fault, is, stops) = subst IsOfLog (sym is) (told_always fault)
 
-by_plan_always : (it : Instance) (claim : Claim) (plan : Best) (run : Streams) (answer : Result LogSums Fault) → claim ≡ best plan
-    → AnswersAs a_dispatcher it claim run answer → IsOkUnlessLog answer
-by_plan_always it (best c) plan run answer is (held, left, same, end) = ends_always all_of run answer (by_plan it held left) end
-by_plan_always it (short c) plan run answer is refused = cc (is)
+-- whoever answers by the plan of what is accepted ends, or stops by a fault of the log
+module _ {S : Type 0} (staff : Staff S) (run : Streams) (answer : Result S Fault)
+    (ends : (it : Instance) (x : Plan) → staff.At it x (EndsLog staff.all run answer) → IsOkUnlessLog answer) where
+  by_claim : (it : Instance) (claim : Claim) (plan : Best) → claim ≡ best plan → AnswersAs staff it claim run answer
+      → IsOkUnlessLog answer
+  by_claim it (best c) plan is answered = ends it (table c.uses) answered
+  by_claim it (short c) plan is refused = cc (is)
 
-pub dispatched_always : (accepted : Accepted) (plan : Best) (run : Streams) (answer : Result LogSums Fault) → accepted.certificate ≡ best plan
+  pub answered_always : (accepted : Accepted) (plan : Best) → accepted.certificate ≡ best plan
+      → AnswersBy staff accepted run answer
+      → IsOkUnlessLog answer
+  answered_always accepted plan is (inl refused) = refused_always run answer refused
+  answered_always accepted plan is (inr answered) = by_claim accepted.instance accepted.certificate plan is answered
+
+pub dispatched_always : (run : Streams) (answer : Result LogSums Fault) (accepted : Accepted) (plan : Best)
+    → accepted.certificate ≡ best plan
     → AnswersBy a_dispatcher accepted run answer → IsOkUnlessLog answer
-dispatched_always accepted plan run answer is (inl refused) = refused_always run answer refused
-dispatched_always accepted plan run answer is (inr answered) = by_plan_always accepted.instance accepted.certificate plan run answer is answered
+dispatched_always run answer =
+    answered_always a_dispatcher run answer (λ it x (held, left, same, end). ends_always all_of run answer
+    (by_plan it held left) end)
 
-by_fronts_always : (it : Instance) (claim : Claim) (plan : Best) (fronts : ℕ) (run : Streams) (answer : Result FrontSums Fault) → claim ≡ best plan
-    → AnswersAs (so_many fronts) it claim run answer → IsOkUnlessLog answer
-by_fronts_always it (best c) plan fronts run answer is (old, new, are, end) = ends_always (λ sums. sums) run answer (by_fronts old new) end
-by_fronts_always it (short c) plan fronts run answer is refused = cc (is)
-
-pub dispatched_at_always : (accepted : Accepted) (plan : Best) (fronts : ℕ) (run : Streams) (answer : Result FrontSums Fault) → accepted.certificate ≡ best plan
-    → AnswersBy (so_many fronts) accepted run answer → IsOkUnlessLog answer
-dispatched_at_always accepted plan fronts run answer is (inl refused) = refused_always run answer refused
-dispatched_at_always accepted plan fronts run answer is (inr answered) =
-    by_fronts_always accepted.instance accepted.certificate plan fronts run answer is answered
+pub dispatched_at_always : (fronts : ℕ) (run : Streams) (answer : Result FrontSums Fault) (accepted : Accepted)
+    (plan : Best)
+    → accepted.certificate ≡ best plan → AnswersBy (so_many fronts) accepted run answer → IsOkUnlessLog answer
+dispatched_at_always fronts run answer =
+    answered_always (so_many fronts) run answer (λ it x (old, new, are, end). ends_always (λ sums. sums) run answer
+    (by_fronts old new) end)
 
 -- a word that spells a number of fronts has no fault
 number_read : (word : List ℕ) (fronts : ℕ) → word ≡ decimal fronts → 0 < fronts → fronts ≤ MOST_FRONTS → fronts_at word ≡ Ok fronts
 number_read word fronts is some few =
-    let spelled = (digits_spell_their_number fronts (decimal fronts) (omega arith)).1 refl in
-    let whole : whole_within MOST_FRONTS (decimal fronts) ≡ Ok fronts = rw (spelled.0, spelled.1, le-leb fronts MOST_FRONTS few) refl in
+    let whole = whole_is_read MOST_FRONTS fronts (omega arith) few in
     let above : above_none BadFronts (Ok fronts) ≡ Ok fronts = rw (ne_eqb fronts 0 (λ e. omega (arith, e))) refl in
     ap (λ w. fronts_at w) is ∙ ap (λ r. above_none BadFronts r) whole ∙ above
 

@@ -53,15 +53,8 @@ answered_at it (short c) plan fronts old new run given answer is are told whole 
 
 module _ (P : Type 0) where
   late : (fault : LogFault) (e : Fault) → e ≡ log_told fault → IsBeforeLog e → P
-  late log_fault.ReadFailed e told before = absurd (before.log log_fault.ReadFailed told)
-  late log_fault.WriteFailed e told before = absurd (before.log log_fault.WriteFailed told)
-  late log_fault.Header e told before = absurd (before.log log_fault.Header told)
-  late (log_fault.Fields row) e told before = absurd (before.log (log_fault.Fields row) told)
-  late (log_fault.BadHandle row) e told before = absurd (before.log (log_fault.BadHandle row) told)
-  late log_fault.LogTooLong e told before = absurd (before.log log_fault.LogTooLong told)
   late log_fault.OutOfMemory e told before = absurd (before.memory told)
-  late (log_fault.BadBody row) e told before = absurd (before.log (log_fault.BadBody row) told)
-  late (log_fault.BadFront row) e told before = absurd (before.log (log_fault.BadFront row) told)
+  late fault e told before = absurd (before.log fault told)
 
   -- a run over a log reports no fault that comes before the log
   pub none_before : {S : Type 0} (given : Result S LogFault) (answer : Result S Fault) → IsReported given answer → IfErr answer (λ e. IsBeforeLog e → P)

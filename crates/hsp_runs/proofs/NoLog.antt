@@ -1,16 +1,15 @@
 -- Faults before a log is read are not the log's.
 use Rattle.std.proofs.Common.{◌≡◌, ◌≢◌, ℕ, List, Option, Some, None, Result, Ok, Err}
 use Rattle.hsp_text.specs.Answers.{Then, told_as}
-use Rattle.hsp_record.specs.Values.{HandleValue}
 use Rattle.hsp_instance.specs.Instance.{Instance}
 use Rattle.hsp_cert.specs.Certificate.{Claim}
 use Rattle.hsp_dispatch.specs.declared.fault.LogFault.{LogFault}
 use Rattle.hsp_runs.specs.Accepted.{IsAccepted, IsAcceptedOf}
 use Rattle.hsp_runs.specs.Check.{IsCertificate}
 use Rattle.hsp_headline.specs.Instance.{BuildsInstance, IsInstanceOf, IsWithCosts, IsWithDemand, IsWithSettings, IsWithValues}
-use Rattle.hsp_headline.specs.Readings.{AreListed, ReadsValues, some_list}
+use Rattle.hsp_headline.specs.Readings.{AreListed, ReadsValues}
 use Rattle.hsp_faults.specs.declared.fault.Fault.{Fault}
-use Rattle.hsp_faults.specs.declared.fault.Fault.TheVariants.{BadFronts, BadIndex, BadOption, BadServers, Build, Capacity, Cert, Costs, Demand, Handle, Log, NoValue, NotSiteValue, OutOfMemory, Refused, Settings, Site, Values, WrongKind}
+use Rattle.hsp_faults.specs.declared.fault.Fault.TheVariants.{Build, Capacity, Cert, Costs, Demand, Log, Settings, Values}
 use Rattle.hsp_headline.specs.declared.inputs.Inputs.{Inputs}
 
 -- no fault that the relation has is the log's
@@ -32,11 +31,8 @@ listed_none octets fault of is e = told_none Values (λ own from same. cc (same)
 
 values_none : (octets : Option (List ℕ)) → HasNoLog (ReadsValues octets)
 values_none None fault of is e = cc (is)
-values_none (Some octets) fault of is e = by is.0 is.1 is.2
-  where
-    by : (reading : Result (List HandleValue) Fault) → AreListed octets reading → ◌≡◌ {A = Result (Option (List HandleValue)) Fault} (Err fault) (some_list reading) → ⊥
-    by (Ok values) listed same = cc (same)
-    by (Err own) listed same = let own_is : own ≡ Log of = cc (same, e) in listed_none octets own of listed own_is
+values_none (Some octets) fault of (Ok values, listed, same) e = cc (same)
+values_none (Some octets) fault of (Err own, listed, same) e = listed_none octets own of listed (cc (same, e))
 
 instance_none : (inputs : Inputs) → HasNoLog (IsInstanceOf inputs)
 instance_none inputs =
@@ -49,25 +45,7 @@ instance_none inputs =
     (λ capacities fault of is e. told_none Build (λ own from same. cc (same)) is.0 fault of is.2 e)))))
 
 accepted_none : (it : Instance) (claim : Claim) → HasNoLog (IsAccepted it claim)
-accepted_none it claim (Refused reason) of is e = cc (e)
-accepted_none it claim BadOption of is e = is
-accepted_none it claim BadServers of is e = is
-accepted_none it claim BadIndex of is e = is
-accepted_none it claim (Handle fault) of is e = is
-accepted_none it claim (Site fault) of is e = is
-accepted_none it claim (Settings fault) of is e = is
-accepted_none it claim (Values fault) of is e = is
-accepted_none it claim NoValue of is e = is
-accepted_none it claim NotSiteValue of is e = is
-accepted_none it claim (Demand fault) of is e = is
-accepted_none it claim (Costs fault) of is e = is
-accepted_none it claim (Capacity fault) of is e = is
-accepted_none it claim (Build fault) of is e = is
-accepted_none it claim (Cert fault) of is e = is
-accepted_none it claim WrongKind of is e = is
-accepted_none it claim (Log fault) of is e = is
-accepted_none it claim BadFronts of is e = is
-accepted_none it claim OutOfMemory of is e = is
+accepted_none it claim fault of is e = rw e at is
 
 pub no_log : (inputs : Inputs) (octets : List ℕ) → HasNoLog (IsAcceptedOf inputs octets)
 no_log inputs octets =

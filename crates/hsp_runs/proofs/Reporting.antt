@@ -4,23 +4,12 @@ use Rattle.hsp_text.specs.Answers.{Stands, Then}
 use Rattle.hsp_instance.specs.Instance.{Instance}
 use Rattle.hsp_cert.specs.Certificate.{Best, Claim, Short}
 use Rattle.hsp_cert.specs.Certificate.Claim.{best, short}
-use Rattle.hsp_check.specs.Instance.{network_of}
-use Rattle.hsp_check.specs.Valid.{IsValid}
-use Rattle.hsp_report.specs.Conditions.{IsPlanFor, IsShortageFor}
 use Rattle.hsp_report.specs.LoadReport.{IsLoadReport}
 use Rattle.hsp_report.specs.RegionReport.{IsRegionReport}
 use Rattle.hsp_report.specs.ShortageReport.{IsShortageReport}
 use Rattle.hsp_runs.specs.Accepted.{plan_in, shortage_in}
 use Rattle.hsp_runs.specs.Report.{report_of}
 use Rattle.hsp_runs.specs.declared.report.ReportKind.TheVariants.{Load, Region, Shortage}
-
-pub plan_for : (it : Instance) (claim : Claim) (plan : Best) → plan_in claim ≡ Ok plan → IsValid (network_of it) claim → IsPlanFor it claim
-plan_for it (best c) plan is valid = valid
-plan_for it (short c) plan is valid = cc
-
-pub shortage_for : (it : Instance) (claim : Claim) (set : Short) → shortage_in claim ≡ Ok set → IsValid (network_of it) claim → IsShortageFor it claim
-shortage_for it (best c) set is valid = cc
-shortage_for it (short c) set is valid = valid
 
 pub loads_told : (it : Instance) (claim : Claim) (plan : Best) (text : List ℕ) → plan_in claim ≡ Ok plan → IsLoadReport it claim text → Ok text ≡ report_of Load it claim
 loads_told it (best c) plan text is report = ap (λ t. Ok t) report

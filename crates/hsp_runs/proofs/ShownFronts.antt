@@ -1,6 +1,7 @@
 -- What a run of fronts over a log shows of inputs and a certificate.
-use Rattle.std.proofs.Common.{◌≡◌, ◌≢◌, ◌∙◌, ◌<◌, ◌≤◌, ◌⊎◌, inl, inr, ℕ, zero, suc, List, [], ◌∷◌, ◌++◌, Result, Ok, Err, decimal, map, refl, ap, sym, arith}
-use Rattle.std.proofs.lemmas.Bool.{cases_lt, le-ltb, lt-ltb, ne_eqb}
+use Rattle.std.proofs.Common.{◌≡◌, ◌≢◌, ◌∙◌, ◌<◌, ◌≤◌, ◌⊎◌, inl, inr, ℕ, List, [], ◌∷◌, ◌++◌, Result, Ok, Err, decimal, map, refl, ap, sym, arith}
+use Rattle.std.proofs.lemmas.Bool.{cases_lt, le-ltb, lt-ltb}
+use Rattle.std.proofs.lemmas.Bool.Decides.{nat_tests}
 use Rattle.hsp_text.specs.Whole.{whole_within}
 use Rattle.hsp_text.specs.declared.limits.TheConstants.{MOST_FRONTS}
 use Rattle.hsp_text.specs.declared.whole.WholeFault.{WholeFault}
@@ -36,7 +37,7 @@ use Rattle.hsp_faults.specs.declared.fault.Fault.TheVariants.{BadFronts, Log}
 use Rattle.hsp_headline.specs.declared.inputs.Inputs.{Inputs}
 use Rattle.hsp_runs.proofs.ByHash.{logs_go_by_hash}
 use Rattle.hsp_runs.proofs.Ending.{ends}
-use Rattle.hsp_headline.proofs.PageRows.{whole_is}
+use Rattle.hsp_tables.proofs.TableRows.{whole_is}
 use Rattle.hsp_runs.proofs.ShownLog.{refused, shown_by, shown_of}
 
 -- ---- the answers by shares
@@ -86,23 +87,16 @@ log_at inputs octets fronts some run answer accepted c is kind (old, new, are, e
 -- ---- the number of fronts
 
 number_of : (word : List ℕ) (fronts : ℕ) → fronts_at word ≡ Ok fronts → (word ≡ decimal fronts) × (0 < fronts) × (fronts ≤ MOST_FRONTS)
-number_of word fronts is = by (whole_within MOST_FRONTS word) refl is
-  where
-    by : (r : Result ℕ WholeFault) → whole_within MOST_FRONTS word ≡ r → above_none BadFronts r ≡ Ok fronts → (word ≡ decimal fronts) × (0 < fronts) × (fronts ≤ MOST_FRONTS)
-    by (Err e) read same = cc (same)
-    by (Ok zero) read same = cc (same)
-    by (Ok (suc n)) read same =
-        let one : suc n ≡ fronts = let own = rw (ne_eqb (suc n) 0 (λ e. omega (arith, e))) at same in cc (own) in
-        let whole = whole_is MOST_FRONTS word (suc n) (omega arith) read in
-        (rw one at whole.0, omega (arith, one), rw one at whole.1)
+number_of word fronts is =
+    let read : (0 < fronts) × (whole_within MOST_FRONTS word ≡ Ok fronts) = grind (arith, nat_tests) in
+    let whole = whole_is MOST_FRONTS word fronts (omega arith) read.1 in
+    (whole.0, read.0, whole.1)
 
 fault_of : (word : List ℕ) (fault : Fault) → fronts_at word ≡ Err fault → fault ≡ BadFronts
 fault_of word fault is = by (whole_within MOST_FRONTS word) is
   where
     by : (r : Result ℕ WholeFault) → above_none BadFronts r ≡ Err fault → fault ≡ BadFronts
-    by (Err e) same = cc (same)
-    by (Ok zero) same = cc (same)
-    by (Ok (suc n)) same = let own = rw (ne_eqb (suc n) 0 (λ e. omega (arith, e))) at same in cc (own)
+    by r same = grind (arith, nat_tests)
 
 -- ---- what is shown
 

@@ -1,11 +1,10 @@
 -- What a run over a log shows of inputs and a certificate.
-use Rattle.std.proofs.Common.{◌≡◌, ◌≢◌, ◌∙◌, ◌⊎◌, inl, inr, ℕ, List, [], Result, Ok, Err, IsErrAnd, map, refl, sym, subst}
+use Rattle.std.proofs.Common.{◌≡◌, ◌≢◌, ◌∙◌, ◌⊎◌, inl, inr, ℕ, List, [], Result, Ok, Err, IsErrAnd, map, refl, sym}
 use Rattle.hsp_csv.specs.Records.{Fields}
 use Rattle.hsp_instance.specs.Instance.{Instance}
 use Rattle.hsp_cert.specs.Certificate.{Best, Claim}
 use Rattle.hsp_cert.specs.Certificate.Claim.{best, short}
 use Rattle.hsp_cert.specs.Reading.{Means}
-use Rattle.hsp_cert.specs.declared.fault.CertFault.{CertFault}
 use Rattle.hsp_check.specs.Instance.{network_of}
 use Rattle.hsp_check.specs.Plan.{Plan}
 use Rattle.hsp_check.specs.Uses.{table}
@@ -19,21 +18,18 @@ use Rattle.hsp_dispatch.specs.declared.answer.LogSums.{LogSums}
 use Rattle.hsp_dispatch.proofs.Dispatching.{never_exceeds}
 use Rattle.hsp_dispatch.proofs.OverCalls.{same_answers}
 use Rattle.hsp_dispatch.proofs.Resting.{rest_same}
-use Rattle.hsp_runs.specs.Accepted.{IsAccepted, IsAcceptedOf}
+use Rattle.hsp_runs.specs.Accepted.{IsAcceptedOf}
 use Rattle.hsp_runs.specs.Check.{IsCertificate}
 use Rattle.hsp_runs.specs.Dispatch.{AnswersAs, AnswersBy, EndsLog, IsAnsweredBy, Refuses, Staff, a_dispatcher}
 use Rattle.hsp_headline.specs.Headline.{Defines}
-use Rattle.hsp_headline.specs.Instance.{IsInstanceOf}
 use Rattle.hsp_runs.specs.Logs.{IsLogOf, IsRefused, ShowsPlanOf, ShowsLogOf}
 use Rattle.hsp_headline.specs.Shown.{Holds}
 use Rattle.hsp_runs.specs.declared.accepted.Accepted.{Accepted}
 use Rattle.hsp_faults.specs.declared.fault.Fault.{Fault}
-use Rattle.hsp_faults.specs.declared.fault.Fault.TheVariants.{Cert, Log, OutOfMemory, WrongKind}
+use Rattle.hsp_faults.specs.declared.fault.Fault.TheVariants.{Log, OutOfMemory, WrongKind}
 use Rattle.hsp_headline.specs.declared.inputs.Inputs.{Inputs}
-use Rattle.hsp_text.specs.Answers.{Then, told_as}
 use Rattle.hsp_runs.specs.Laws.{DispatchedLogsShow}
-use Rattle.hsp_headline.proofs.Steps.{went_on}
-use Rattle.hsp_runs.proofs.ByHash.{logs_go_by_hash}
+use Rattle.hsp_runs.proofs.ByHash.{accepted_of, logs_go_by_hash}
 use Rattle.hsp_runs.proofs.Dispatching.{is_fault}
 use Rattle.hsp_runs.proofs.Ending.{ends}
 use Rattle.hsp_runs.proofs.NoLog.{no_log}
@@ -44,29 +40,18 @@ use Rattle.hsp_names.specs.Handle.{ReadingsAreHandles}
 -- ---- the certificate
 
 certificate_is : (octets : List ℕ) (claim : Claim) → IsCertificate octets (Ok claim) → Means octets (Ok claim)
-certificate_is octets claim is = by is.0 is.1 is.3
-  where
-    by : (reading : Result Claim CertFault) → Means octets reading → Ok claim ≡ told_as Cert reading → Means octets (Ok claim)
-    by (Ok own) means e = let same : claim ≡ own = cc (e) in rw same means
-    by (Err fault) means e = cc (e)
-
-accepted_text : (inputs : Inputs) (octets : List ℕ) (accepted : Accepted) → IsAcceptedOf inputs octets (Ok accepted) → Means octets (Ok accepted.certificate)
-accepted_text inputs octets accepted is =
-    let read = went_on (IsInstanceOf inputs) (λ instance. Then (IsCertificate octets) (IsAccepted instance)) accepted is in
-    let judged = went_on (IsCertificate octets) (IsAccepted read.0) accepted read.2 in
-    rw judged.2.1 (certificate_is octets judged.0 judged.1)
+certificate_is octets claim (Ok own, means, memory, e) = let same : claim ≡ own = cc (e) in rw same means
+certificate_is octets claim (Err fault, means, memory, e) = cc (e)
 
 -- the instance is defined, and the certificate holds for it
 accepted_holds : ReadingsAreHandles → (inputs : Inputs) (octets : List ℕ) (accepted : Accepted) → IsAcceptedOf inputs octets (Ok accepted)
     → Defines inputs accepted.instance × Holds (network_of accepted.instance) accepted.certificate
 accepted_holds handles inputs octets accepted is =
-    let read = went_on (IsInstanceOf inputs) (λ instance. Then (IsCertificate octets) (IsAccepted instance)) accepted is in
-    let judged = went_on (IsCertificate octets) (IsAccepted read.0) accepted read.2 in
-    let same : read.0 ≡ accepted.instance = sym judged.2.0 in
-    let kind : judged.0 ≡ accepted.certificate = sym judged.2.1 in
-    let defines = gives_the_defined handles inputs read.0 read.1 in
-    let holds = valid_holds read.0 judged.0 (is_instance handles inputs read.0 read.1) judged.2.2 in
-    (subst (λ it. Defines inputs it) same defines, subst (λ claim. Holds (network_of accepted.instance) claim) kind (subst (λ it. Holds (network_of it) judged.0) same holds))
+    let (read, certified, valid) = accepted_of inputs octets accepted is in (
+      gives_the_defined handles inputs accepted.instance read,
+      valid_holds accepted.instance accepted.certificate
+          (is_instance handles inputs accepted.instance read) valid,
+    )
 
 -- ---- what is refused
 
@@ -96,7 +81,8 @@ module _ {S : Type 0} (staff : Staff S) (inputs : Inputs) (octets : List ℕ) (r
       → Holds (network_of accepted.instance) accepted.certificate → AnswersBy staff accepted run answer → IsRefused run answer ⊎ ShowsPlanOf inputs octets Is
   shown_by accepted is defines holds (inl none) = inl (refused run OutOfMemory answer of_memory none)
   shown_by accepted is defines holds (inr answered) =
-      by_claim accepted accepted.certificate is defines refl holds (accepted_text inputs octets accepted is) answered
+      by_claim accepted accepted.certificate is defines refl holds
+      (certificate_is octets accepted.certificate (accepted_of inputs octets accepted is).1) answered
 
   pub shown_of : ReadingsAreHandles → IsAnsweredBy staff inputs octets run answer → IsRefused run answer ⊎ ShowsPlanOf inputs octets Is
   shown_of handles (inl none) = inl (refused run OutOfMemory answer of_memory none)

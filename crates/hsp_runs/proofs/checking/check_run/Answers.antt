@@ -1,12 +1,15 @@
-use Rattle.std.proofs.Common.{subst, sym}
+use Rattle.std.proofs.Common.{refl, subst, sym}
 use Rattle.hsp_check.specs.declared.verdict.Verdict.TheVariants.{Yes}
+use Rattle.hsp_headline.specs.Memory.{IsOrNoMemory}
 use Rattle.hsp_headline.specs.Shown.{Shows}
-use Rattle.hsp_runs.proofs.Always.{checked_shows, handed_unless}
+use Rattle.hsp_runs.proofs.Always.{checked_shows, handed}
 use Rattle.hsp_runs.proofs.Reporting.{stands_then}
 use Rattle.hsp_runs.proofs.checking.check_run.Goals as goal
 
 pub returns-in_err-instance-clause-exactly : goal.returns-in_err-instance-clause-exactly
-returns-in_err-instance-clause-exactly c = λ (it, page, shows). handed_unless Yes _ _ c.from_residual.ensures.1 (c.in_err-instance.ensures.always it page)
+returns-in_err-instance-clause-exactly c =
+    λ (it, page, shows). handed (IsOrNoMemory Yes) refl _ _ c.from_residual.ensures.1
+    (c.in_err-instance.ensures.always it page)
 
 pub returns-clause-exactly : goal.returns-clause-exactly
 returns-clause-exactly c = λ (it, page, shows).

@@ -1,6 +1,7 @@
 use Rattle.std.proofs.Common.{inl, refl}
 use Rattle.hsp_cert.specs.Certificate.Claim.{best}
-use Rattle.hsp_runs.proofs.Always.{dispatched_always, handed_log}
+use Rattle.hsp_runs.specs.Logs.{IsOkUnlessLog}
+use Rattle.hsp_runs.proofs.Always.{dispatched_always, handed}
 use Rattle.hsp_runs.proofs.ShownLog.{shown_nothing, shown_where}
 use Rattle.hsp_runs.proofs.dispatch.dispatch_run.Goals as goal
 
@@ -16,8 +17,10 @@ returns-clause-shows g c =
 
 pub returns-in_err-accepted-clause-always : goal.returns-in_err-accepted-clause-always
 returns-in_err-accepted-clause-always g c = λ it plan page spells.
-    handed_log _ _ c.from_residual.ensures.1 (c.in_err-accepted.ensures.always it (best plan) page spells)
+    handed IsOkUnlessLog (inl refl) _ _ c.from_residual.ensures.1
+    (c.in_err-accepted.ensures.always it (best plan) page spells)
 
 pub returns-clause-always : goal.returns-clause-always
 returns-clause-always g c = λ it plan page spells.
-    dispatched_always c.in_ok-accepted.accepted plan _ c.dispatched.result (c.in_ok-accepted.ensures.always it (best plan) page spells) c.dispatched.ensures.answers
+    dispatched_always _ c.dispatched.result c.in_ok-accepted.accepted plan
+    (c.in_ok-accepted.ensures.always it (best plan) page spells) c.dispatched.ensures.answers

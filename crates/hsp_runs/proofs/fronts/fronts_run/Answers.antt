@@ -1,6 +1,7 @@
 use Rattle.std.proofs.Common.{inl, refl}
 use Rattle.hsp_cert.specs.Certificate.Claim.{best}
-use Rattle.hsp_runs.proofs.Always.{dispatched_at_always, handed_log, no_fault}
+use Rattle.hsp_runs.specs.Logs.{IsOkUnlessLog}
+use Rattle.hsp_runs.proofs.Always.{dispatched_at_always, handed, no_fault}
 use Rattle.hsp_runs.proofs.ShownFronts.{fronts_shown_where}
 use Rattle.hsp_runs.proofs.ShownLog.{shown_nothing}
 use Rattle.hsp_runs.proofs.fronts.fronts_run.Goals as goal
@@ -23,9 +24,10 @@ returns-in_err-fronts-clause-always g c = λ fronts spelled some few it plan pag
 
 pub returns-in_err-accepted-clause-always : goal.returns-in_err-accepted-clause-always
 returns-in_err-accepted-clause-always g c = λ fronts spelled some few it plan page spells.
-    handed_log _ _ c.from_residual-in_err-accepted.ensures.1 (c.in_err-accepted.ensures.always it (best plan) page spells)
+    handed IsOkUnlessLog (inl refl) _ _ c.from_residual-in_err-accepted.ensures.1
+    (c.in_err-accepted.ensures.always it (best plan) page spells)
 
 pub returns-clause-always : goal.returns-clause-always
 returns-clause-always g c = λ fronts spelled some few it plan page spells.
-    dispatched_at_always c.in_ok-accepted.accepted plan c.in_ok-fronts.fronts _ c.dispatched_at.result
+    dispatched_at_always c.in_ok-fronts.fronts _ c.dispatched_at.result c.in_ok-accepted.accepted plan
     (c.in_ok-accepted.ensures.always it (best plan) page spells) c.dispatched_at.ensures.answers
