@@ -63,7 +63,8 @@ parts_of_row part it row cells are = record {
 pub part_left : (part : ℕ → ℕ) → part 0 ≡ 0 → (site : ℕ) (cells : List Cell) → AreCells cells → left_at (parts_in part cells) site ≡ part (left_at cells site)
 part_left part nothing site [] are = sym nothing
 part_left part nothing site (cell ∷ cells) are =
-    let none = λ (at : cell.site ≡ site). none_at (parts_in part cells) site (parts_after part site cells (rw at at are.1.0)) in
+    let behind = parts_after part site cells in
+    let none = λ (at : cell.site ≡ site). none_at (parts_in part cells) site (behind (rw at at are.1.0)) in
     grind (arith, nothing, none, part_left part nothing site cells are.1.1)
 
 -- one cell more

@@ -40,7 +40,9 @@ before_is : (u v : UseLine) → is_before u v ≡ true → Before u v
 before_is u v test = record { rows = grind arith; sites = λ same. grind arith }
 
 before_both : (u v w : UseLine) → Before u v → Before v w → Before u w
-before_both u v w a b = record { rows = omega (arith, a.rows, b.rows); sites = λ same. grind (arith, a.sites, b.sites, a.rows, b.rows) }
+before_both u v w a b =
+    let sites : u.row ≡ w.row → u.site < w.site = λ same. grind (arith, a.sites, b.sites, a.rows, b.rows) in
+    record { rows = omega (arith, a.rows, b.rows); sites = sites }
 
 abbrev pub InOrder : List UseLine → Type 0
 InOrder [] = Unit {0}
@@ -109,7 +111,8 @@ left_is : (it : Instance) (row site : ℕ) (uses : List UseLine) → InOrder use
 left_is it row site [] order = refl
 left_is it row site (one ∷ uses) order =
     let later = λ (here : one.row ≡ row). cells_after it one uses order.0 in
-    let none = λ (here : one.row ≡ row) (at : one.site ≡ site). none_at (cells_of it row uses) site (rw (← here, ← at) (later here)) in
+    let cells = cells_of it row uses in
+    let none = λ (here : one.row ≡ row) (at : one.site ≡ site). none_at cells site (rw (← here, ← at) (later here)) in
     grind (arith, none, sum_by-cons (count_at row site) one uses, left_is it row site uses order.1)
 
 -- ---- uses that go where they may

@@ -43,11 +43,17 @@ none_before (suc n) s t x h =
 -- in a spread each of its sites is as often as its number says, and no other one at all
 pub times_in : (n s t : ℕ) (x : ℕ → ℕ) → s ≤ t → t < s + n → times t (spread_from n s x) ≡ x t
 times_in zero s t x low high = absurd (omega arith)
-times_in (suc n) s t x low high = grind (arith, times_append t (replicate (x s) s) (spread_from n (s + 1) x), times_same (x s) s, times_other (x s) s t, none_before n (s + 1) s x, times_in n (s + 1) t x)
+times_in (suc n) s t x low high =
+    let both = times_append t (replicate (x s) s) (spread_from n (s + 1) x) in
+    let none = none_before n (s + 1) s x in
+    grind (arith, both, times_same (x s) s, times_other (x s) s t, none, times_in n (s + 1) t x)
 
 pub times_within : (n s t : ℕ) (x : ℕ → ℕ) → times t (spread_from n s x) ≤ x t
 times_within zero s t x = omega arith
-times_within (suc n) s t x = grind (arith, times_append t (replicate (x s) s) (spread_from n (s + 1) x), times_same (x s) s, times_other (x s) s t, none_before n (s + 1) s x, times_within n (s + 1) t x)
+times_within (suc n) s t x =
+    let both = times_append t (replicate (x s) s) (spread_from n (s + 1) x) in
+    let none = none_before n (s + 1) s x in
+    grind (arith, both, times_same (x s) s, times_other (x s) s t, none, times_within n (s + 1) t x)
 
 -- an element of a spread is a site that something is sent to
 occurs : (xs : List ℕ) (k site : ℕ) → slice_get xs k ≡ Some site → 0 < times site xs

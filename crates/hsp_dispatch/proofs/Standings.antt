@@ -51,7 +51,9 @@ left_whole fronts front left (cell ∷ cells) whole = grind (arith, left_whole f
 -- who takes one has one less in all
 pub left_taken : (fronts front left : ℕ) (cells : List Cell) → without_first (left_among fronts front left cells) ≡ left_among fronts front (left - 1) cells
 left_taken fronts front left [] = refl
-left_taken fronts front left (cell ∷ cells) = grind (arith, left_whole fronts front (left - 1) cells, left_taken fronts front left cells)
+left_taken fronts front left (cell ∷ cells) =
+    let whole = left_whole fronts front (left - 1) cells in
+    grind (arith, whole, left_taken fronts front left cells)
 
 -- who has something left of one cell alone goes to its server
 pub first_sole : (fronts front left server : ℕ) (cells : List Cell) → IsSole server cells → left ≢ 0

@@ -34,7 +34,9 @@ module _ {A : Type 0} (by : Kinding A) (is : IsKinding by) where
   -- a row with another's count counts as both
   both : (table : List A) (f r : A) → by.same f r ≡ true → counted by table (by.with_count_of f r) ≡ counted by (counted by table f) r
   both [] f r e = grind arith
-  both (g ∷ rest) f r e = grind (arith, joined_is g f r, is.transitive, is.kept f r, is.symmetric, is.grouped g f r, both rest f r e)
+  both (g ∷ rest) f r e =
+      let joined = joined_is g f r in
+      grind (arith, joined, is.transitive, is.kept f r, is.symmetric, is.grouped g f r, both rest f r e)
 
   -- a row that was counted in a table counts after it
   after : (s table : List A) (r : A) → counted_all by table (counted by s r) ≡ counted by (counted_all by table s) r

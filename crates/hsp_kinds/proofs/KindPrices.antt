@@ -47,7 +47,8 @@ of_kind i k v l = grind arith
 
 -- what holds of servers or hosts with room left, by equal loads and bounds
 idle_alike : (own other : List ℕ) (f g : ℕ → ℕ) (p : List ℕ) → own ≡ other → ((j : ℕ) → f j ≡ g j) →
-    ((j : ℕ) → j < length own → f j < slice_index own j → slice_index p j ≡ 0) → (j : ℕ) → j < length other → g j < slice_index other j → slice_index p j ≡ 0
+    ((j : ℕ) → j < length own → f j < slice_index own j → slice_index p j ≡ 0) →
+    (j : ℕ) → j < length other → g j < slice_index other j → slice_index p j ≡ 0
 idle_alike own other f g p same loads idle j l less = idle j (rw same l) (rw (same, loads j) less)
 
 module _ (n m : Network) (kind : ℕ → ℕ) (n-is : IsNetwork n) (m-is : IsNetwork m) (are : AreKinds n m kind) (x : Plan) (u of_kinds p q : List ℕ) (own : ArePricesOfKinds n kind u of_kinds) where
@@ -80,7 +81,9 @@ module _ (n m : Network) (kind : ℕ → ℕ) (n-is : IsNetwork n) (m-is : IsNet
         All-weaker (KindLow (kind i)) (RowLow i) (λ a low. omega (arith, own i l, paid_alike a.server)) (arcs_of n i)
         (rw (are.arcs i l) (of_row KindLow m.arcs prices.below (kind i))));
     used = of_all RowPaid (length n.demands) n.arcs n-is.sources (λ i l.
-        All-weaker (KindPaid (kind i)) (RowPaid i) (λ a paid more. omega (arith, own i l, paid_alike a.server, paid (omega (arith, no_more i a.site l)))) (arcs_of n i)
+        All-weaker (KindPaid (kind i)) (RowPaid i) (λ a paid more.
+        let sent = paid (omega (arith, no_more i a.site l)) in
+        omega (arith, own i l, paid_alike a.server, sent)) (arcs_of n i)
         (rw (are.arcs i l) (of_row KindPaid m.arcs prices.used (kind i))));
     idle = idle_alike m.capacities n.capacities _ _ p (sym are.capacities) (λ j. sym (alike.load j)) prices.idle;
     idle_host = idle_alike m.limits n.limits _ _ q (sym are.limits) (λ h. sym (alike.host_load h)) prices.idle_host;

@@ -29,7 +29,9 @@ pub some_row : (rows : ℕ) (arcs : List NetworkArc) → All (λ a. a.row < rows
 some_row rows [] inside set j e = absurd (false≢true e)
 some_row rows (a ∷ rest) inside set j e = elim (or_cases (set a.row && a.server == j) (list_any (λ a. set a.row && a.server == j) rest) e) [
   | inl own ↦ (a.row, All-head (λ b. b.row < rows) a rest inside, grind arith, grind (arith, eq-eqb a.row a.row refl))
-  | inr more ↦ let r = some_row rows rest (All-tail (λ b. b.row < rows) a rest inside) set j more in (r.0, r.1, r.2, grind (arith, r.3))
+  | inr more ↦
+      let r = some_row rows rest (All-tail (λ b. b.row < rows) a rest inside) set j more in
+      (r.0, r.1, r.2, grind (arith, r.3))
 ]
 
 -- what the servers that pass can take, each by itself and together on their hosts
@@ -44,7 +46,8 @@ module _ (caps limits : List ℕ) where
   hosted host_of passes h = min (slice_index limits h) (sum_below (length caps) (together_on host_of passes h))
 
   more_room : (a b : ℕ → Option ℕ) (r q : ℕ → Bool) → ((j : ℕ) → a j ≡ b j) → ((j : ℕ) → r j ≡ true → q j ≡ true) →
-      sum_below (length caps) (alone a r) + sum_below (length limits) (hosted a r) ≤ sum_below (length caps) (alone b q) + sum_below (length limits) (hosted b q)
+      sum_below (length caps) (alone a r) + sum_below (length limits) (hosted a r)
+      ≤ sum_below (length caps) (alone b q) + sum_below (length limits) (hosted b q)
   more_room a b r q same more =
       let on = λ (h : ℕ). sum_below_le (length caps) (together_on a r h) (together_on b q h) (λ j l. rw (same j) (less (is_on (b j) h) j)) in
       omega (
@@ -112,16 +115,20 @@ module _ (n m : Network) (kind : ℕ → ℕ) (n-is : IsNetwork n) (m-is : IsNet
       let row = row_of_kind (length n.demands) kind set k.0 k.2 in
       reached_by n.arcs set row.0 j row.3 (ap (λ arcs. leads_to arcs j) (are.arcs row.0 row.1 ∙ ap (arcs_of m) row.2) ∙ k.3)
 
+  less_back : (s t : ℕ → Bool) → ((j : ℕ) → reaches m s j ≡ true → reaches n t j ≡ true) → capacity_of m s ≤ capacity_of n t
+  less_back s t more = less_capacity m n s t (sym are.capacities) (sym are.limits) (λ j. sym (are.host_of j)) more
+
   pub kept_sets : ShortSetsAreKept n m kind
   kept_sets = record {
-    of_kinds = λ set. (
-      (λ short. omega (arith, less_capacity n m (λ i. set (kind i)) set are.capacities are.limits are.host_of (rows_reach set), asked set)),
-      (λ short. omega (arith, less_capacity m n set (λ i. set (kind i)) (sym are.capacities) (sym are.limits) (λ j. sym (are.host_of j)) (kinds_reach set), asked set)),
-    );
+    of_kinds = λ set.
+        let rows = λ (i : ℕ). set (kind i) in
+        let less = less_capacity n m rows set are.capacities are.limits are.host_of (rows_reach set) in
+        let more = less_back set rows (kinds_reach set) in
+        ((λ short. omega (arith, less, asked set)), (λ short. omega (arith, more, asked set)));
     of_rows = λ set short. (
       has_row (length n.demands) kind set,
       (let t = has_row (length n.demands) kind set in
-          let a = less_capacity m n t set (sym are.capacities) (sym are.limits) (λ j. sym (are.host_of j)) (kinds_of_reach set) in
+          let a = less_back t set (kinds_of_reach set) in
           let b : demand_of n set ≤ demand_of n (λ i. t (kind i)) =
           sum_below_le (length n.demands) _ _ (λ i l. grind (arith, has_row_of (length n.demands) kind set i l)) in
           omega (arith, asked t)),

@@ -37,9 +37,9 @@ pub by_rows : (rows : ℕ) (arcs : List NetworkArc) → All (λ a. a.row < rows)
     sum_by (λ a. g a.row (without_row a)) arcs ≡ sum_below rows (λ i. sum_by (g i) (arcs_in arcs i))
 by_rows rows [] inside g = sym (sum_below_zero rows (λ i. 0) (λ i l. refl))
 by_rows rows (a ∷ rest) inside g =
-    let l : a.row < rows = All-head (λ b. b.row < rows) a rest inside in
+    let own = one_term rows a.row (λ i. g i (without_row a)) (All-head (λ b. b.row < rows) a rest inside) in
     sum_by-cons (λ b. g b.row (without_row b)) a rest
-    ∙ ap₂ (λ v w. v + w) (sym (one_term rows a.row (λ i. g i (without_row a)) l)) (by_rows rows rest (All-tail (λ b. b.row < rows) a rest inside) g)
+    ∙ ap₂ (λ v w. v + w) (sym own) (by_rows rows rest (All-tail (λ b. b.row < rows) a rest inside) g)
     ∙ sym (sum_below_add rows (λ i. when (a.row == i) (g i (without_row a))) (λ i. sum_by (g i) (arcs_in rest i)))
     ∙ sum_below_same rows _ _ (λ i m. sym (more_arcs a rest i (g i)))
 

@@ -45,9 +45,10 @@ above (a ∷ arcs) = a.site + 1 + above arcs
 pub all_below : (arcs : List NetworkArc) (i : ℕ) → All (λ (a : Arc). a.site < above arcs) (arcs_in arcs i)
 all_below [] i = All-nil (λ (a : Arc). a.site < 0)
 all_below (a ∷ arcs) i =
-    let rest = All-weaker (λ (b : Arc). b.site < above arcs) (λ (b : Arc). b.site < above (a ∷ arcs)) (λ b l. omega arith) (arcs_in arcs i) (all_below arcs i) in
+    let within = λ (b : Arc). b.site < above (a ∷ arcs) in
+    let rest = All-weaker (λ b. b.site < above arcs) within (λ b l. omega arith) (arcs_in arcs i) (all_below arcs i) in
     elim (cases_Bool (a.row == i)) [
-      | inl t ↦ rw t (All-cons (λ (b : Arc). b.site < above (a ∷ arcs)) (without_row a) (arcs_in arcs i) (omega arith) rest)
+      | inl t ↦ rw t (All-cons within (without_row a) (arcs_in arcs i) (omega arith) rest)
       | inr f ↦ rw f rest
     ]
 

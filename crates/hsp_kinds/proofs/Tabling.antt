@@ -1,5 +1,6 @@
 -- The table of rows has their kinds.
 use Rattle.std.proofs.Common.{◌≡◌, ℕ, zero, suc, ◌+◌, ◌<◌, ◌≤◌, ◌==◌, ◌&&◌, inl, inr, true, List, [], ◌∷◌, ◌++◌, length, map, sum_by, slice_index, slice_index_or, All, refl, ap, ap₂, sym, ◌∙◌, subst, arith, eq-eqb, ne_eqb, append-nil}
+use Rattle.std.specs.Prelude.{◌↔◌}
 use Rattle.std.specs.Str.{bytes_eq}
 use Rattle.std.proofs.lemmas.Slice.Eq.{bytes_eq-Decides}
 use Rattle.std.proofs.lemmas.List.{length-map, get_or-map}
@@ -26,11 +27,14 @@ use Rattle.hsp_kinds.proofs.Placing.{place_in, place_within, placed_same, all_mo
 
 -- two rows of one kind have one region, and their handles the same places
 abbrev SamePlaces : List CostEntry → List Site → Row → Row → Type 0
-SamePlaces costs sites a b = (a.region ≡ b.region) × (places_at (sites_for costs sites a.region) a.handle ≡ places_at (sites_for costs sites a.region) b.handle)
+SamePlaces costs sites a b =
+    (a.region ≡ b.region) × (places_at (sites_for costs sites a.region) a.handle ≡ places_at (sites_for costs sites a.region) b.handle)
 
-both_equal : (a b c d : List ℕ) → (((bytes_eq a b && bytes_eq c d) ≡ true) → (a ≡ b) × (c ≡ d)) × ((a ≡ b) × (c ≡ d) → (bytes_eq a b && bytes_eq c d) ≡ true)
+both_equal : (a b c d : List ℕ) → ((bytes_eq a b && bytes_eq c d) ≡ true) ↔ ((a ≡ b) × (c ≡ d))
 both_equal a b c d = (
-  (λ e. let parts = and_parts (bytes_eq a b) (bytes_eq c d) e in ((bytes_eq-Decides a b).0 parts.0, (bytes_eq-Decides c d).0 parts.1)),
+  (λ e.
+      let parts = and_parts (bytes_eq a b) (bytes_eq c d) e in
+      ((bytes_eq-Decides a b).0 parts.0, (bytes_eq-Decides c d).0 parts.1)),
   (λ e. and_from (bytes_eq a b) (bytes_eq c d) ((bytes_eq-Decides a b).1 e.0) ((bytes_eq-Decides c d).1 e.1)),
 )
 
@@ -61,7 +65,9 @@ kinds_are_classes costs sites = record {
 same_arcs : (costs : List CostEntry) (a b : Row) (n first : ℕ) (sites : List Site) → a.region ≡ b.region →
     places_at (sites_for costs sites a.region) a.handle ≡ places_at (sites_for costs sites a.region) b.handle → arcs_from costs a n first sites ≡ arcs_from costs b n first sites
 same_arcs costs a b n first [] r p = refl
-same_arcs costs a b n first (site ∷ more) r p = grind (arith, same_arcs costs a b (n + 1) (first + length site.servers) more r)
+same_arcs costs a b n first (site ∷ more) r p =
+    let later = first + length site.servers in
+    grind (arith, same_arcs costs a b (n + 1) later more r)
 
 pub kinds_have_arcs : KindsHaveArcs
 kinds_have_arcs costs sites a b e = let p = same_parts costs sites a b e in same_arcs costs a b 0 0 sites p.0 p.1

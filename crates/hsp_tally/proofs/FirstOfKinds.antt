@@ -1,12 +1,13 @@
 -- The first rows of kinds, as rows are added.
-use Rattle.std.proofs.Common.{◌≡◌, ◌∙◌, ◌&&◌, ◌+◌, inl, inr, ℕ, Bool, true, false, cond, List, [], ◌∷◌, ◌++◌, Some, None, Vec, Global, is_some, length, length-append, take, refl, ap, sym, arith}
+use Rattle.std.proofs.Common.{◌≡◌, ◌∙◌, ◌&&◌, ◌+◌, inl, inr, ℕ, Bool, true, false, cond, List, [], ◌∷◌, ◌++◌, Some, None, Vec, Global, is_some, length, take, add-zero, zero-add, refl, ap, sym, arith}
 use Rattle.std.proofs.lemmas.Bool.{cases_Bool, true≢false}
 use Rattle.std.proofs.lemmas.Cmp.{nat_list_eq_equiv}
+use Rattle.std.proofs.lemmas.Iterator.Adapters.{position_from-zero}
 use Rattle.std.proofs.lemmas.List.{length-take, take_more}
 use Rattle.std.proofs.lemmas.Option.{get_or_from_slice_get, slice_get_within}
 use Rattle.std.proofs.lemmas.List.Folds.{list_any-append}
 use Rattle.std.specs.Cmp.Lexicographic.{bytes_decides}
-use Rattle.std.specs.List.{AllByRecursion, position, slice_get}
+use Rattle.std.specs.List.{AllByRecursion, position, position_from, slice_get}
 use Rattle.std.specs.Map.{lookup}
 use Rattle.std.specs.Str.{bytes_eq}
 use Rattle.indexmap.specs.IndexMap.{insert_entry}
@@ -25,10 +26,16 @@ use Rattle.hsp_tally.specs.declared.keys.KindKey.{KindKey}
 -- ---- positions
 
 module _ {A : Type 0} where
+  from_next : (p : A → Bool) (n : ℕ) (xs : List A) (x : A) → position_from p n (xs ++ x ∷ []) ≡ or_else (position_from p n xs) (cond (p x) (Some (n + length xs)) None)
+  from_next p n [] x = rw add-zero refl
+  from_next p n (y ∷ xs) x = grind (arith, from_next p (n + 1) xs x)
+
   -- the place in a list and one more
   pub place_next : (p : A → Bool) (xs : List A) (x : A) → position p (xs ++ x ∷ []) ≡ or_else (position p xs) (cond (p x) (Some (length xs)) None)
-  place_next p [] x = grind arith
-  place_next p (y ∷ xs) x = grind (arith, place_next p xs x, length-append xs (x ∷ []))
+  place_next p xs x =
+      let all = position_from-zero p (xs ++ x ∷ []) in
+      let first = position_from-zero p xs in
+      rw (all, first, from_next p 0 xs x, zero-add (length xs)) refl
 
   -- tests that agree find one place
   pub place_same : (p q : A → Bool) (xs : List A) → ((x : A) → p x ≡ q x) → position p xs ≡ position q xs
@@ -61,7 +68,8 @@ pub is_added : (es : List FirstRow) (key : KindKey) (number : ℕ) → is_some (
     → HasAdded es (insert_entry (λ (a b : KindKey). bytes_eq a.region.items b.region.items && bytes_eq a.places.items b.places.items) es key number) key.region.items key.places.items number
 is_added [] key number none region places = refl
 is_added (e ∷ es) key number none region places =
-    let later = λ (n : is_some (lookup (is_key_of key.region.items key.places.items) es) ≡ false). is_added es key number n region places in
+    let there = is_some (lookup (is_key_of key.region.items key.places.items) es) in
+    let later = λ (n : there ≡ false). is_added es key number n region places in
     grind (arith, later)
 
 -- the same of a key of a region and of places
@@ -87,7 +95,11 @@ module _ (costs : List CostEntry) (sites : List Site) where
 
   -- a row of the region and the places of a query is of its kind
   same_test : (region handle : List ℕ) (row : Row) → has_places costs sites region (places_at (sites_for costs sites region) handle) row ≡ is_of_kind costs sites region handle row
-  same_test region handle row = grind (arith, bytes_decides, nat_list_eq_equiv.symm)
+  same_test region handle row =
+      let own = places_at (sites_for costs sites row.region) row.handle in
+      let sought = places_at (sites_for costs sites region) handle in
+      let turned = nat_list_eq_equiv.symm sought own in
+      grind (arith, bytes_decides row.region region, nat_list_eq_equiv.symm region row.region, turned)
 
   -- the first row of a kind, by the key of a query
   pub first_of_kind : (rows : List Row) (firsts : List FirstRow) (region handle places : List ℕ) → HasFirsts costs sites rows firsts → places ≡ places_at (sites_for costs sites region) handle
@@ -99,7 +111,9 @@ module _ (costs : List CostEntry) (sites : List Site) where
 
 -- a region that is added is there, and the others stay
 pub region_added : (regions : List (Vec ℕ Global)) (region : Vec ℕ Global) → has_region (insert_key (λ (a b : Vec ℕ Global). bytes_eq a.items b.items) regions region) region.items ≡ true
-region_added regions region = grind (arith, list_any-append (λ (kept : Vec ℕ Global). bytes_eq region.items kept.items) regions (region ∷ []), nat_list_eq_equiv.refl region.items)
+region_added regions region =
+    let last = list_any-append (λ (kept : Vec ℕ Global). bytes_eq region.items kept.items) regions (region ∷ []) in
+    grind (arith, last, nat_list_eq_equiv.refl region.items)
 
 -- the regions of one row more
 pub one_region : (rows : List Row) (n : ℕ) (row : Row) (old new : List (Vec ℕ Global)) → slice_get rows n ≡ Some row → HasRegions (take n rows) old → has_region new row.region ≡ true

@@ -46,7 +46,9 @@ module _ (name : List ℕ) where
 
   all_there : (more names : List (List ℕ)) → list_any (bytes_eq name) more ≡ true → list_any (bytes_eq name) (fold (insert_key bytes_eq) names more) ≡ true
   all_there [] names e = absurd (false≢true e)
-  all_there (other ∷ more) names e = grind (arith, all_kept more (insert_key bytes_eq names other), inserted_there names other, all_there more (insert_key bytes_eq names other))
+  all_there (other ∷ more) names e =
+      let with = insert_key bytes_eq names other in
+      grind (arith, all_kept more with, inserted_there names other, all_there more with)
 
 pub there_already : (regions : List (List ℕ)) (region : List ℕ) → list_any (bytes_eq region) regions ≡ true → with_region regions region ≡ regions
 there_already regions region e = rw e refl
@@ -120,7 +122,8 @@ module _ (costs : List CostEntry) (sites : List Site) (row : Row) where
   place_stays seen [] less = absurd (omega arith)
   place_stays seen (first ∷ rows) less = grind (arith, place_stays seen rows)
 
-  longer : (rows : List Row) → length rows ≤ length (counted (by_capped costs sites) rows row)
+  -- a table grows
+  pub longer : (rows : List Row) → length rows ≤ length (counted (by_capped costs sites) rows row)
   longer [] = omega arith
   longer (first ∷ rows) = grind (arith, longer rows)
 

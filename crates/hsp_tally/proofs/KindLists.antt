@@ -90,7 +90,9 @@ module _ (lent : LentKind) (handle : List ℕ) (count : ℕ) (key : KindKey) (ki
   added_length (e ∷ es) none = grind (arith, test_is e, added_length es)
 
   added_at : (es : List KindEntry) → list_any (is_key lent) (keys_of es) ≡ false → position_or_len (is_key lent) (keys_of (insert_entry equal_keys es key kind)) ≡ length es
-  added_at [] none = rw (region, same_places, (bytes_decides lent.region.now lent.region.now).1 refl, (bytes_decides lent.places.now lent.places.now).1 refl) refl
+  added_at [] none =
+      let same = λ (xs : List ℕ). (bytes_decides xs xs).1 refl in
+      rw (region, same_places, same lent.region.now, same lent.places.now) refl
   added_at (e ∷ es) none = grind (arith, test_is e, added_at es)
 
   pub added_place : (es : List KindEntry) → list_any (is_key lent) (keys_of es) ≡ false → position (is_key lent) (keys_of (insert_entry equal_keys es key kind)) ≡ Some (length es)
@@ -109,7 +111,10 @@ rows_are (e ∷ es) = ap (λ t. row_in e ∷ t) (rows_are es)
 module _ (costs : List CostEntry) (sites : List Site) where
   -- equal keys are those of rows of one kind
   pub same_by_key : (a b : Row) → same_key (key_of costs sites a) (key_of costs sites b) ≡ is_same_kind costs sites a b
-  same_by_key a b = grind (arith, bytes_decides, nat_list_eq_equiv.symm)
+  same_by_key a b =
+      let places = λ (row : Row). places_at (sites_for costs sites row.region) row.handle in
+      let turned = nat_list_eq_equiv.symm (places b) (places a) in
+      grind (arith, bytes_decides a.region b.region, nat_list_eq_equiv.symm b.region a.region, turned)
 
   abbrev pub IsKeyed : KeyEntry × Row → Type 0
   IsKeyed e = e.0 ≡ key_of costs sites e.1
@@ -164,10 +169,16 @@ module _ (costs : List CostEntry) (sites : List Site) where
       counted_keyed =
           keyed_map new (rw (is, lent_is) (keyed_kept (record { region = lent.region.now; handle = handle; count = count }) (map keyed_in old) (keyed_list old all)))
 
+  place_or_len_of_kind : (lent : LentKind) (row : Row) → record { region = lent.region.now; places = lent.places.now } ≡ key_of costs sites row
+      → (es : List KindEntry) → AllByRecursion (HasKey costs sites) es → position_or_len (is_key lent) (keys_of es) ≡ position_or_len (λ r. is_same_kind costs sites r row) (map row_in es)
+  place_or_len_of_kind lent row is [] all = refl
+  place_or_len_of_kind lent row is (e ∷ es) all =
+      let test : is_key lent e.0 ≡ is_same_kind costs sites (row_in e) row = ap (same_key (key_in e.0)) is ∙ test_at row (keyed_in e) all.0 in
+      rw (test, place_or_len_of_kind lent row is es all.1) refl
+
   -- the place of a key is that of the row's kind
   pub place_of_kind : (lent : LentKind) (row : Row) → record { region = lent.region.now; places = lent.places.now } ≡ key_of costs sites row
       → (es : List KindEntry) → AllByRecursion (HasKey costs sites) es → position (is_key lent) (keys_of es) ≡ position (λ r. is_same_kind costs sites r row) (map row_in es)
-  place_of_kind lent row is [] all = refl
-  place_of_kind lent row is (e ∷ es) all =
-      let test : is_key lent e.0 ≡ is_same_kind costs sites (row_in e) row = ap (same_key (key_in e.0)) is ∙ test_at row (keyed_in e) all.0 in
-      grind (arith, test, place_of_kind lent row is es all.1)
+  place_of_kind lent row is es all =
+      let same_length : length (keys_of es) ≡ length (map row_in es) = keys_length es ∙ sym (length-map es row_in) in
+      rw (same_length, place_or_len_of_kind lent row is es all) refl
