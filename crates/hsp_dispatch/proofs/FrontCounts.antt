@@ -1,8 +1,8 @@
 -- The entries at a front, and what fronts assign, counted in the answers to all events.
-use Rattle.std.proofs.Common.{◌≡◌, ◌≢◌, ◌<◌, ◌≤◌, ◌+◌, ◌-◌, ◌∙◌, ◌++◌, ◌==◌, ℕ, List, [], ◌∷◌, map, if◌then◌else◌, arith, refl, sym, ap, ap₂, eq-eqb, zero-add}
+use Rattle.std.proofs.Common.{◌≡◌, ◌≢◌, ◌<◌, ◌≤◌, ◌+◌, ◌-◌, ◌∙◌, ◌++◌, ◌==◌, ℕ, List, [], ◌∷◌, map, if◌then◌else◌, arith, refl, sym, ap, eq-eqb}
 use Rattle.std.proofs.Common.{inl, inr}
 use Rattle.std.specs.Prelude.{nat_lt}
-use Rattle.std.proofs.lemmas.Bool.{cases_eq, cases_lt, le-ltb, lt-ltb, ne_eqb}
+use Rattle.std.proofs.lemmas.Bool.{cases_lt, le-ltb, lt-ltb, ne_eqb}
 use Rattle.std.proofs.lemmas.List.{append-nil}
 use Rattle.hsp_instance.specs.Instance.{Instance}
 use Rattle.hsp_check.specs.Plan.{Plan}
@@ -20,10 +20,7 @@ use Rattle.hsp_dispatch.proofs.Each.{each_map}
 
 pub entries_append : (front : ℕ) (a b : List Event) → entries_at front (a ++ b) ≡ entries_at front a ++ entries_at front b
 entries_append front [] b = refl
-entries_append front (event ∷ a) b = elim (cases_eq event.front front) [
-  | inl here ↦ rw (eq-eqb event.front front here) (ap (λ (more : List Entry). event.entry ∷ more) (entries_append front a b))
-  | inr other ↦ rw (ne_eqb event.front front other) (entries_append front a b)
-]
+entries_append front (event ∷ a) b = grind (arith, entries_append front a b)
 
 pub more_here : (front : ℕ) (events : List Event) (event : Event) → event.front ≡ front → entries_at front (events ++ event ∷ []) ≡ entries_at front events ++ event.entry ∷ []
 more_here front events event here = entries_append front events (event ∷ []) ∙ rw (eq-eqb event.front front here) refl
@@ -44,14 +41,7 @@ unfolding event_answers_after
 at_front it fronts tables front before [] = refl
 at_front it fronts tables front before (event ∷ events) =
     let later = at_front it fronts tables front (before ++ event ∷ []) events in
-    let over : List Entry → List FrontAnswer = λ (entries : List Entry). each_after (own_answer it fronts tables front) entries (entries_at front events) in
-    elim (cases_eq event.front front) [
-      | inl here ↦
-          let first = ap (λ (n : ℕ). own_answer it fronts tables n (entries_at n before) event.entry) here in
-          rw (eq-eqb event.front front here)
-          (ap₂ (λ (a : FrontAnswer) (more : List FrontAnswer). a ∷ more) first (later ∙ ap over (more_here front before event here)))
-      | inr other ↦ rw (ne_eqb event.front front other) (later ∙ ap over (more_elsewhere front before event other))
-    ]
+    grind (arith, later, more_here front before event, more_elsewhere front before event)
 
 pub as_dispatchers : AnswersAsDispatchers
 unfolding answers_after
@@ -103,10 +93,7 @@ module _ (it : Instance) (fronts : ℕ) (tables : ℕ → Plan) (row site : ℕ)
 
   own_more : (front : ℕ) (event : Event) (events : List Event) (answer : FrontAnswer) (given : List FrontAnswer)
       → own_count front (event ∷ events) (answer ∷ given) ≡ (if event.front == front then hit event.entry answer else 0) + own_count front events given
-  own_more front event events answer given = elim (cases_eq event.front front) [
-    | inl here ↦ rw (eq-eqb event.front front here) refl
-    | inr other ↦ rw (ne_eqb event.front front other) (sym (zero-add (own_count front events given)))
-  ]
+  own_more front event events answer given = grind arith
 
   -- an event at no front is assigned nowhere
   no_hit : (earlier : List Event) (event : Event) → fronts ≤ event.front → hit event.entry (event_answer it fronts tables earlier event) ≡ 0

@@ -1,8 +1,7 @@
 -- The shares of fronts in a number.
-use Rattle.std.proofs.Common.{◌≡◌, ◌<◌, ◌≤◌, ◌+◌, ◌*◌, ◌/◌, ◌%◌, ◌∙◌, ℕ, zero, suc, if◌then◌else◌, arith, refl}
-use Rattle.std.proofs.Common.{inl, inr}
+use Rattle.std.proofs.Common.{◌≡◌, ◌<◌, ◌≤◌, ◌+◌, ◌*◌, ◌/◌, ◌%◌, ℕ, zero, suc, if◌then◌else◌, arith, refl}
 use Rattle.std.specs.Prelude.{min, nat_lt}
-use Rattle.std.proofs.lemmas.Bool.{cases_lt, lt-ltb, le-ltb}
+use Rattle.std.proofs.lemmas.Bool.{le-ltb}
 use Rattle.std.proofs.Math.Nat.{div-add-mod, mod-lt, zero-div, zero-mod}
 use Rattle.hsp_transport.specs.Sums.{sum_below}
 use Rattle.hsp_dispatch.specs.Fronts.{share}
@@ -14,10 +13,7 @@ at_least (suc fronts) q some = omega arith
 
 -- no front has more than the whole
 pub share_le : (fronts front number : ℕ) → 0 < fronts → share fronts front number ≤ number
-share_le fronts front number some = elim (cases_lt front (number % fronts)) [
-  | inl more ↦ rw (lt-ltb front (number % fronts) more) (omega (arith, div-add-mod number fronts, at_least fronts (number / fronts) some, more))
-  | inr less ↦ rw (le-ltb front (number % fronts) less) (omega (arith, div-add-mod number fronts, at_least fronts (number / fronts) some))
-]
+share_le fronts front number some = grind (arith, div-add-mod number fronts, at_least fronts (number / fronts) some)
 
 -- of nothing each front has nothing
 pub share_none : (fronts front : ℕ) → share fronts front 0 ≡ 0
@@ -29,10 +25,7 @@ share_none fronts front =
 -- as many fronts as there are in the remainder have one more each
 sums : (q r many : ℕ) → sum_below many (λ front. q + (if nat_lt front r then 1 else 0)) ≡ many * q + min many r
 sums q r zero = omega arith
-sums q r (suc many) = elim (cases_lt many r) [
-  | inl less ↦ rw (lt-ltb many r less) (omega (arith, sums q r many))
-  | inr more ↦ rw (le-ltb many r more) (omega (arith, sums q r many))
-]
+sums q r (suc many) = grind (arith, sums q r many)
 
 -- the shares of all fronts add up to the number
 pub shares_add_up : (fronts number : ℕ) → 0 < fronts → sum_below fronts (λ front. share fronts front number) ≡ number

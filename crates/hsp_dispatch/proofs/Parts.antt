@@ -1,5 +1,5 @@
 -- The parts in the cells of a row: each cell has a part of what it had, and those of which nothing is left are left out.
-use Rattle.std.proofs.Common.{◌≡◌, ◌<◌, ◌≤◌, ◌/◌, ◌%◌, ◌∙◌, ◌++◌, ℕ, List, [], ◌∷◌, arith, refl, sym, ap, eq-eqb}
+use Rattle.std.proofs.Common.{◌≡◌, ◌<◌, ◌≤◌, ◌/◌, ◌%◌, ◌++◌, ℕ, List, [], ◌∷◌, arith, refl, sym, eq-eqb}
 use Rattle.std.proofs.Common.{inl, inr}
 use Rattle.std.specs.List.{AllByRecursion}
 use Rattle.std.proofs.lemmas.Bool.{cases_eq, ne_eqb}
@@ -62,26 +62,15 @@ parts_of_row part it row cells are = record {
 -- the part in what is left at a site
 pub part_left : (part : ℕ → ℕ) → part 0 ≡ 0 → (site : ℕ) (cells : List Cell) → AreCells cells → left_at (parts_in part cells) site ≡ part (left_at cells site)
 part_left part nothing site [] are = sym nothing
-part_left part nothing site (cell ∷ cells) are = elim (cases_eq cell.site site) [
-  | inl at ↦
-      let none : left_at (parts_in part cells) site ≡ 0 = none_at (parts_in part cells) site (parts_after part site cells (rw at at are.1.0)) in
-      elim (cases_eq (part cell.left) 0) [
-        | inl empty ↦ rw (eq-eqb cell.site site at, eq-eqb (part cell.left) 0 empty) (none ∙ sym empty)
-        | inr some ↦ rw (eq-eqb cell.site site at, ne_eqb (part cell.left) 0 some) (rw (eq-eqb cell.site site at) refl)
-      ]
-  | inr away ↦ elim (cases_eq (part cell.left) 0) [
-    | inl empty ↦ rw (ne_eqb cell.site site away, eq-eqb (part cell.left) 0 empty) (part_left part nothing site cells are.1.1)
-    | inr some ↦ rw (ne_eqb cell.site site away, ne_eqb (part cell.left) 0 some) (rw (ne_eqb cell.site site away) (part_left part nothing site cells are.1.1))
-  ]
-]
+part_left part nothing site (cell ∷ cells) are =
+    let behind = parts_after part site cells in
+    let none = λ (at : cell.site ≡ site). none_at (parts_in part cells) site (behind (rw at at are.1.0)) in
+    grind (arith, nothing, none, part_left part nothing site cells are.1.1)
 
 -- one cell more
 pub parts_more : (part : ℕ → ℕ) (cells : List Cell) (cell : Cell) → parts_in part (cells ++ cell ∷ []) ≡ parts_in part cells ++ with_first (with_part part cell) []
 parts_more part [] cell = refl
-parts_more part (first ∷ cells) cell = elim (cases_eq (part first.left) 0) [
-  | inl none ↦ rw (eq-eqb (part first.left) 0 none) (parts_more part cells cell)
-  | inr some ↦ rw (ne_eqb (part first.left) 0 some) (ap (λ (rest : List Cell). with_part part first ∷ rest) (parts_more part cells cell))
-]
+parts_more part (first ∷ cells) cell = grind (arith, parts_more part cells cell)
 
 -- cells have no more in units of one
 pub parts_bounded : (portion : Portion) (cells : List Cell) → 0 < portion.fronts → portion.unit ≡ 1 → AreBounded cells → AreBounded (parts_in (part_of portion) cells)

@@ -1,10 +1,9 @@
 -- What the entries of a log leave of a plan, and that later entries are answered by it.
 use Rattle.std.proofs.Common.{◌≡◌, ◌≢◌, ◌<◌, ◌≤◌, ◌+◌, ◌-◌, ◌∙◌, ◌++◌, ◌==◌, ℕ, zero, suc, List, [], ◌∷◌, length, take, drop, cond, if◌then◌else◌, Option, Some, None, arith, refl, sym, ap, eq-eqb, zero-add}
-use Rattle.std.proofs.Common.{inl, inr}
-use Rattle.std.proofs.lemmas.Bool.{ne_eqb, cases_eq, cases_lt}
+use Rattle.std.proofs.lemmas.Bool.{ne_eqb}
 use Rattle.std.proofs.lemmas.List.{append-nil, append_assoc, drop-take, take-append-drop, take-take, take_all, take_more}
 use Rattle.std.proofs.lemmas.List.Sums.{sum_by-append, sum_by_push}
-use Rattle.std.proofs.lemmas.Option.{get_or_from_slice_get, slice_get-get_or, slice_get_within}
+use Rattle.std.proofs.lemmas.Option.{get_or_from_slice_get, slice_get_within}
 use Rattle.std.proofs.Math.Nat.{suc-add}
 use Rattle.std.specs.List.{slice_get}
 use Rattle.hsp_instance.specs.Instance.{Instance, Server}
@@ -45,24 +44,10 @@ hit it row site k own (Some element) is =
 hits : (it : Instance) (x : Plan) (row site : ℕ) (earlier : List Entry) (entry : Entry)
     → (if is_in it row site entry (answer_to it x earlier entry) then 1 else 0) + times site (take (count_for it row earlier) (spread it x row))
     ≡ times site (take (count_for it row (earlier ++ entry ∷ [])) (spread it x row))
-hits it x row site earlier entry = by_row (row_of it entry) refl
-  where
-    by_row : (found : Option ℕ) → row_of it entry ≡ found
-        → (if is_in it row site entry (answer_to it x earlier entry) then 1 else 0) + times site (take (count_for it row earlier) (spread it x row))
-        ≡ times site (take (count_for it row (earlier ++ entry ∷ [])) (spread it x row))
-    by_row None is =
-        let same : count_for it row (earlier ++ entry ∷ []) ≡ count_for it row earlier = count_more it row earlier entry ∙ rw is (omega arith) in
-        rw (same, is) (omega arith)
-    by_row (Some own) is = elim (cases_eq own row) [
-      | inl here ↦
-          let own_row : row_of it entry ≡ Some row = is ∙ ap Some here in
-          let one : count_for it row (earlier ++ entry ∷ []) ≡ count_for it row earlier + 1 = count_more it row earlier entry ∙ rw (own_row, eq-eqb row row refl) refl in
-          rw (one, own_row, eq-eqb row row refl)
-          (hit it row site (count_for it row earlier) (spread it x row) (slice_get (spread it x row) (count_for it row earlier)) refl)
-      | inr other ↦
-          let same : count_for it row (earlier ++ entry ∷ []) ≡ count_for it row earlier = count_more it row earlier entry ∙ rw (is, ne_eqb own row other) (omega arith) in
-          rw (same, is, ne_eqb own row other) (omega arith)
-    ]
+hits it x row site earlier entry =
+    let own = spread it x row in
+    let one = hit it row site (count_for it row earlier) own (slice_get own (count_for it row earlier)) refl in
+    grind (arith, one, count_more it row earlier entry)
 
 counted : (it : Instance) (x : Plan) (row site : ℕ) (earlier entries : List Entry)
     → count_in it row site entries (answers_after it x earlier entries) + times site (take (count_for it row earlier) (spread it x row))

@@ -1,21 +1,20 @@
 -- The cells that the uses of a plan give the rows of an instance.
-use Rattle.std.proofs.Common.{◌≡◌, ◌≢◌, ◌<◌, ◌≤◌, ◌+◌, ◌∙◌, ◌++◌, ◌==◌, ◌&&◌, Bool, true, false, ℕ, zero, suc, List, [], ◌∷◌, All, length, map, take, replicate, if◌then◌else◌, Option, Some, None, arith, refl, sym, ap, subst, eq-eqb, eqb-true}
+use Rattle.std.proofs.Common.{◌≡◌, ◌<◌, ◌≤◌, ◌+◌, ◌∙◌, ◌++◌, ◌==◌, ◌&&◌, Bool, true, ℕ, zero, suc, List, [], ◌∷◌, length, map, take, replicate, if◌then◌else◌, Option, Some, None, arith, refl, sym, ap, subst, eq-eqb, eqb-true}
 use Rattle.std.proofs.Common.{inl, inr}
-use Rattle.std.specs.Prelude.{nat_le, nat_lt}
 use Rattle.std.specs.List.{AllByRecursion, list_all, list_any, slice_get}
-use Rattle.std.proofs.lemmas.Bool.{and_parts, cases_Bool, cases_eq, cases_lt, leb-true, ltb-true, ne_eqb, or_cases}
+use Rattle.std.proofs.lemmas.Bool.{and_parts, cases_Bool, cases_eq, cases_lt, ne_eqb, or_cases}
 use Rattle.std.proofs.lemmas.List.{append-nil, get_or-set_other, get_or-set_same, length-replicate, length-set}
 use Rattle.std.proofs.lemmas.List.Elements.{recursion_from_All}
 use Rattle.std.proofs.lemmas.List.Folds.{list_any-append}
 use Rattle.std.proofs.lemmas.List.Sums.{sum_by-cons}
-use Rattle.std.proofs.lemmas.Option.{get_or_from_slice_get, same_Some, slice_get_past, slice_get_within}
+use Rattle.std.proofs.lemmas.Option.{get_or_from_slice_get, slice_get_past, slice_get_within}
 use Rattle.std.proofs.Math.ListN.{set}
 use Rattle.hsp_text.specs.declared.limits.TheConstants.{GREATEST_COUNT}
 use Rattle.hsp_cert.specs.declared.use_line.UseLine.{UseLine}
 use Rattle.hsp_cert.specs.Certificate.{ascends, ascends_from, is_before, is_use}
 use Rattle.hsp_instance.specs.Instance.{AreArcs, Instance, IsArc, IsInstance, IsServer}
 use Rattle.hsp_instance.specs.declared.arc.Arc.{Arc}
-use Rattle.hsp_instance.proofs.Lists.{all_at, all_from, there}
+use Rattle.hsp_instance.proofs.Lists.{all_at, all_from}
 use Rattle.hsp_check.specs.declared.arc.NetworkArc.{NetworkArc}
 use Rattle.hsp_check.specs.Instance.{arc_of, arcs_from, network_of}
 use Rattle.hsp_check.specs.Network.{is_allowed}
@@ -38,24 +37,12 @@ pub record Before (u v : UseLine) : Type 0 where
   pub sites : u.row ≡ v.row → u.site < v.site
 
 before_is : (u v : UseLine) → is_before u v ≡ true → Before u v
-before_is u v test = elim (cases_Bool (nat_lt u.row v.row)) [
-  | inl less ↦ let l = ltb-true u.row v.row less in record { rows = omega arith; sites = λ same. absurd (omega arith) }
-  | inr not_less ↦
-      let same : (u.row == v.row && nat_lt u.site v.site) ≡ true = rw not_less at test in
-      let parts = and_parts (u.row == v.row) (nat_lt u.site v.site) same in
-      let r = eqb-true u.row v.row parts.0 in
-      let l = ltb-true u.site v.site parts.1 in
-      record { rows = omega arith; sites = λ same. omega arith }
-]
+before_is u v test = record { rows = grind arith; sites = λ same. grind arith }
 
 before_both : (u v w : UseLine) → Before u v → Before v w → Before u w
-before_both u v w a b = record {
-  rows = omega (arith, a.rows, b.rows);
-  sites = λ same.
-      let first = a.sites (omega (arith, a.rows, b.rows)) in
-      let second = b.sites (omega (arith, a.rows, b.rows)) in
-      omega arith;
-}
+before_both u v w a b =
+    let sites : u.row ≡ w.row → u.site < w.site = λ same. grind (arith, a.sites, b.sites, a.rows, b.rows) in
+    record { rows = omega (arith, a.rows, b.rows); sites = sites }
 
 abbrev pub InOrder : List UseLine → Type 0
 InOrder [] = Unit {0}
@@ -78,11 +65,7 @@ abbrev IsCounted : UseLine → Type 0
 IsCounted one = (0 < one.count) × (one.count ≤ GREATEST_COUNT)
 
 is_counted : (one : UseLine) → is_use one ≡ true → IsCounted one
-is_counted one is =
-    let both = and_parts (nat_le one.row 8191 && nat_le one.site 31) (nat_le 1 one.count && nat_le one.count GREATEST_COUNT) is in
-    let count = and_parts (nat_le 1 one.count) (nat_le one.count GREATEST_COUNT) both.1 in
-    let least = leb-true 1 one.count count.0 in
-    (omega arith, leb-true one.count GREATEST_COUNT count.1)
+is_counted one is = (grind arith, grind arith)
 
 counted : (uses : List UseLine) → list_all is_use uses ≡ true → AllByRecursion IsCounted uses
 counted [] all = tt
@@ -126,20 +109,11 @@ count_at row site one = if one.row == row && one.site == site then one.count els
 -- what is left of the cells is what the uses say
 left_is : (it : Instance) (row site : ℕ) (uses : List UseLine) → InOrder uses → left_at (cells_of it row uses) site ≡ table uses row site
 left_is it row site [] order = refl
-left_is it row site (one ∷ uses) order = split (left_is it row site uses order.1) ∙ sym (sum_by-cons (count_at row site) one uses)
-  where
-    split : left_at (cells_of it row uses) site ≡ table uses row site → left_at (cells_of it row (one ∷ uses)) site ≡ count_at row site one + table uses row site
-    split others = elim (cases_eq one.row row) [
-      | inl here ↦
-          let later : AllByRecursion (λ (cell : Cell). one.site < cell.site) (cells_of it row uses) = rw (← here) (cells_after it one uses order.0) in
-          elim (cases_eq one.site site) [
-            | inl at ↦
-                let none : left_at (cells_of it row uses) site ≡ 0 = none_at (cells_of it row uses) site (rw (← at) later) in
-                rw (eq-eqb one.row row here, eq-eqb one.site site at) (omega (arith, others, none))
-            | inr away ↦ rw (eq-eqb one.row row here, ne_eqb one.site site away) (omega (arith, others))
-          ]
-      | inr other ↦ rw (ne_eqb one.row row other) (omega (arith, others))
-    ]
+left_is it row site (one ∷ uses) order =
+    let later = λ (here : one.row ≡ row). cells_after it one uses order.0 in
+    let cells = cells_of it row uses in
+    let none = λ (here : one.row ≡ row) (at : one.site ≡ site). none_at cells site (rw (← here, ← at) (later here)) in
+    grind (arith, none, sum_by-cons (count_at row site) one uses, left_is it row site uses order.1)
 
 -- ---- uses that go where they may
 
@@ -240,10 +214,7 @@ each_is it row uses is goes =
 cells_more : (it : Instance) (row : ℕ) (uses : List UseLine) (one : UseLine)
     → cells_of it row (uses ++ one ∷ []) ≡ cells_of it row uses ++ (if one.row == row then cell_of it one ∷ [] else [])
 cells_more it row [] one = refl
-cells_more it row (first ∷ uses) one = elim (cases_eq first.row row) [
-  | inl here ↦ rw (eq-eqb first.row row here) (ap (λ (cells : List Cell). cell_of it first ∷ cells) (cells_more it row uses one))
-  | inr other ↦ rw (ne_eqb first.row row other) (cells_more it row uses one)
-]
+cells_more it row (first ∷ uses) one = grind (arith, cells_more it row uses one)
 
 -- the first uses
 record AreGiven (it : Instance) (uses : List UseLine) : Type 0 where

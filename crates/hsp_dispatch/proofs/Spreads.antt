@@ -1,12 +1,11 @@
 -- Spreads, and what is left of them when their first elements are taken.
 use Rattle.std.proofs.Common.{◌≡◌, ◌≢◌, ◌<◌, ◌≤◌, ◌+◌, ◌-◌, ◌∙◌, ◌++◌, ◌==◌, ℕ, zero, suc, List, [], ◌∷◌, count_by, length, take, drop, replicate, cond, Some, arith, refl, sym, ap, eq-eqb}
 use Rattle.std.proofs.Common.{inl, inr}
-use Rattle.std.proofs.lemmas.Bool.{ne_eqb, cases_eq, cases_lt}
+use Rattle.std.proofs.lemmas.Bool.{ne_eqb, cases_lt}
 use Rattle.std.proofs.lemmas.List.{drop-append-le, drop-drop, drop_at, drop-replicate, length-replicate, take-append-le, take-replicate}
 use Rattle.std.proofs.lemmas.List.Folds.{sum_by-replicate}
 use Rattle.std.proofs.lemmas.List.Sums.{sum_by-append, sum_by-cons}
-use Rattle.std.proofs.lemmas.Option.{same_Some}
-use Rattle.std.proofs.Math.Seq.{take-append-add}
+use Rattle.std.proofs.Math.Seq.{drop-nil, take-append-add}
 use Rattle.std.specs.List.{slice_get}
 use Rattle.hsp_dispatch.specs.Dispatch.{spread_from}
 
@@ -45,34 +44,25 @@ none_before (suc n) s t x h =
 pub times_in : (n s t : ℕ) (x : ℕ → ℕ) → s ≤ t → t < s + n → times t (spread_from n s x) ≡ x t
 times_in zero s t x low high = absurd (omega arith)
 times_in (suc n) s t x low high =
-    times_append t (replicate (x s) s) (spread_from n (s + 1) x) ∙ elim (cases_eq s t) [
-      | inl here ↦ rw (← here, times_same (x s) s, none_before n (s + 1) s x (omega arith)) (omega arith)
-      | inr other ↦ rw (times_other (x s) s t other, times_in n (s + 1) t x (omega arith) (omega arith)) (omega arith)
-    ]
+    let both = times_append t (replicate (x s) s) (spread_from n (s + 1) x) in
+    let none = none_before n (s + 1) s x in
+    grind (arith, both, times_same (x s) s, times_other (x s) s t, none, times_in n (s + 1) t x)
 
 pub times_within : (n s t : ℕ) (x : ℕ → ℕ) → times t (spread_from n s x) ≤ x t
 times_within zero s t x = omega arith
-times_within (suc n) s t x = rw (times_append t (replicate (x s) s) (spread_from n (s + 1) x)) (elim (cases_eq s t) [
-  | inl here ↦ rw (← here, times_same (x s) s, none_before n (s + 1) s x (omega arith)) (omega arith)
-  | inr other ↦ rw (times_other (x s) s t other) (omega (arith, times_within n (s + 1) t x))
-])
+times_within (suc n) s t x =
+    let both = times_append t (replicate (x s) s) (spread_from n (s + 1) x) in
+    let none = none_before n (s + 1) s x in
+    grind (arith, both, times_same (x s) s, times_other (x s) s t, none, times_within n (s + 1) t x)
 
 -- an element of a spread is a site that something is sent to
 occurs : (xs : List ℕ) (k site : ℕ) → slice_get xs k ≡ Some site → 0 < times site xs
 occurs [] k site e = absurd (cc)
-occurs (own ∷ xs) zero site e =
-    let same : own ≡ site = same_Some own site e in
-    rw (sum_by-cons (is_site site) own xs, eq-eqb own site same) (omega arith)
-occurs (own ∷ xs) (suc k) site e =
-    let later = occurs xs k site e in
-    rw (sum_by-cons (is_site site) own xs) (omega arith)
+occurs (own ∷ xs) zero site e = grind (arith, sum_by-cons (is_site site) own xs)
+occurs (own ∷ xs) (suc k) site e = omega (arith, sum_by-cons (is_site site) own xs, occurs xs k site e)
 
 pub is_sent : (n s k site : ℕ) (x : ℕ → ℕ) → slice_get (spread_from n s x) k ≡ Some site → 0 < x site
 is_sent n s k site x e = omega (arith, occurs (spread_from n s x) k site e, times_within n s site x)
-
-drop_nil : (k : ℕ) → drop {A = ℕ} k [] ≡ []
-drop_nil zero = refl
-drop_nil (suc k) = refl
 
 -- what is left when no more is taken than the first site has
 left_here : (n s k : ℕ) (x : ℕ → ℕ) → k ≤ x s
@@ -105,7 +95,7 @@ left_later n s j x others =
 
 -- what is left of a spread when its first elements are taken: the elements behind them
 pub spread_left : (n s k : ℕ) (x : ℕ → ℕ) → spread_from n s (λ t. x t - times t (take k (spread_from n s x))) ≡ drop k (spread_from n s x)
-spread_left zero s k x = sym (drop_nil k)
+spread_left zero s k x = sym (drop-nil k)
 spread_left (suc n) s k x = elim (cases_lt (x s) k) [
   | inl many ↦
       let all : k ≡ x s + (k - x s) = omega arith in

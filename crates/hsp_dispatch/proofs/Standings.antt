@@ -1,14 +1,14 @@
 -- Where fronts stand among the cells of a row, and what they take of them.
-use Rattle.std.proofs.Common.{◌≡◌, ◌≢◌, ◌<◌, ◌≤◌, ◌+◌, ◌-◌, ◌*◌, ◌∙◌, ◌++◌, ℕ, zero, suc, List, [], ◌∷◌, drop, length, slice_index, Some, None, option_map, arith, refl, sym, ap, eq-eqb}
+use Rattle.std.proofs.Common.{◌≡◌, ◌≢◌, ◌<◌, ◌≤◌, ◌+◌, ◌-◌, ◌*◌, ◌∙◌, ℕ, zero, suc, List, [], ◌∷◌, drop, length, slice_index, Some, option_map, arith, refl, sym, ap}
 use Rattle.std.proofs.Common.{inl, inr}
-use Rattle.std.specs.List.{AllByRecursion, slice_get}
+use Rattle.std.specs.List.{slice_get}
 use Rattle.std.proofs.lemmas.Bool.{cases_eq, cases_lt, le-ltb, lt-ltb, ne_eqb}
 use Rattle.std.proofs.lemmas.List.{get_or-append-add, get_or_append_left, get_or_push, length-append}
 use Rattle.std.proofs.Math.Nat.{mul-le-mul_right, suc-mul}
 use Rattle.hsp_text.specs.declared.limits.TheConstants.{MOST_SITES}
 use Rattle.hsp_instance.proofs.Lists.{drop_at}
 use Rattle.hsp_dispatch.specs.Fronts.{share}
-use Rattle.hsp_dispatch.specs.Shares.{AreCells, cells_at, first_of, left_at, without_first}
+use Rattle.hsp_dispatch.specs.Shares.{AreCells, cells_at, first_of, without_first}
 use Rattle.hsp_dispatch.specs.Standings.{AreBounded, IsSole, all_sums, cells_left, left_among, left_from, place_of, shares_in, shares_sum, sums_of}
 use Rattle.hsp_dispatch.specs.declared.front_share.Standing.{Standing}
 use Rattle.hsp_dispatch.specs.declared.share.Cell.{Cell}
@@ -46,36 +46,14 @@ left_none fronts front (cell ∷ cells) = rw (le-ltb (shares_sum fronts front ce
 
 pub left_whole : (fronts front left : ℕ) (cells : List Cell) → left ≡ shares_sum fronts front cells → left_among fronts front left cells ≡ shares_in fronts front cells
 left_whole fronts front left [] whole = refl
-left_whole fronts front left (cell ∷ cells) whole = elim (cases_eq (share fronts front cell.left) 0) [
-  | inl none ↦
-      let sum : left ≡ share fronts front cell.left + shares_sum fronts front cells = whole in
-      let same : left ≡ shares_sum fronts front cells = omega (arith, none, sum) in
-      rw (le-ltb (shares_sum fronts front cells) left (omega (arith, same)), eq-eqb (share fronts front cell.left) 0 none) (left_whole fronts front left cells same)
-  | inr some ↦
-      let sum : left ≡ share fronts front cell.left + shares_sum fronts front cells = whole in
-      let own : left - shares_sum fronts front cells ≡ share fronts front cell.left = omega (arith, sum) in
-      rw (lt-ltb (shares_sum fronts front cells) left (omega (arith, some, sum)), ne_eqb (share fronts front cell.left) 0 some, own) refl
-]
+left_whole fronts front left (cell ∷ cells) whole = grind (arith, left_whole fronts front left cells)
 
 -- who takes one has one less in all
 pub left_taken : (fronts front left : ℕ) (cells : List Cell) → without_first (left_among fronts front left cells) ≡ left_among fronts front (left - 1) cells
 left_taken fronts front left [] = refl
-left_taken fronts front left (cell ∷ cells) = elim (cases_lt (shares_sum fronts front cells) left) [
-  | inl more ↦ elim (cases_eq (left - shares_sum fronts front cells) 1) [
-    | inl last ↦
-        let later = shares_sum fronts front cells in
-        let all : left - 1 ≡ later = omega (arith, more, last) in
-        rw (lt-ltb later left more, le-ltb later (left - 1) (omega (arith, all)))
-        (rw (eq-eqb (left - later) 1 last) (sym (left_whole fronts front (left - 1) cells all)))
-    | inr some ↦
-        let later = shares_sum fronts front cells in
-        let less : left - later - 1 ≡ left - 1 - later = omega (arith, more) in
-        rw (lt-ltb later left more, lt-ltb later (left - 1) (omega (arith, more, some))) (rw (ne_eqb (left - later) 1 some, less) refl)
-  ]
-  | inr few ↦
-      let later = shares_sum fronts front cells in
-      rw (le-ltb later left few, le-ltb later (left - 1) (omega (arith, few))) (left_taken fronts front left cells)
-]
+left_taken fronts front left (cell ∷ cells) =
+    let whole = left_whole fronts front (left - 1) cells in
+    grind (arith, whole, left_taken fronts front left cells)
 
 -- who has something left of one cell alone goes to its server
 pub first_sole : (fronts front left server : ℕ) (cells : List Cell) → IsSole server cells → left ≢ 0
@@ -98,10 +76,7 @@ less_behind fronts front (suc k) (cell ∷ cells) = omega (arith, less_behind fr
 stands_at : (fronts front left here k : ℕ) (cells : List Cell) → here ≢ 0 → here + shares_sum fronts front (drop (k + 1) cells) ≡ left
     → (k ≢ 0 → left ≤ shares_sum fronts front (drop k cells)) → left_from fronts front here (drop k cells) ≡ left_among fronts front left cells
 stands_at fronts front left here zero [] some all as_many = refl
-stands_at fronts front left here zero (cell ∷ later) some all as_many =
-    let behind = shares_sum fronts front later in
-    let own : left - behind ≡ here = omega (arith, all) in
-    rw (lt-ltb behind left (omega (arith, all, some)), own) refl
+stands_at fronts front left here zero (cell ∷ later) some all as_many = grind arith
 stands_at fronts front left here (suc k) [] some all as_many = refl
 stands_at fronts front left here (suc k) (cell ∷ later) some all as_many =
     let few : left ≤ shares_sum fronts front (drop k later) = as_many (λ e. absurd (cc)) in

@@ -1,27 +1,27 @@
 -- What a query takes of what is held.
-use Rattle.std.proofs.Common.{◌≡◌, ◌≢◌, ◌<◌, ◌≤◌, ◌+◌, ◌-◌, ◌∙◌, ◌++◌, true, ℕ, zero, suc, List, [], ◌∷◌, length, position, take, replicate, Option, Some, None, Ok, IfSome, option_map, arith, refl, sym, ap, subst, eq-eqb}
+use Rattle.std.proofs.Common.{◌≡◌, ◌≢◌, ◌<◌, ◌-◌, ◌∙◌, true, ℕ, List, [], ◌∷◌, length, position, take, Option, Some, Ok, IfSome, option_map, arith, refl, sym, ap, subst, eq-eqb}
 use Rattle.std.proofs.Common.{inl, inr}
 use Rattle.std.specs.List.{slice_get}
 use Rattle.std.specs.Str.{bytes_eq}
 use Rattle.std.proofs.lemmas.Bool.{and_parts, cases_eq, ne_eqb}
 use Rattle.std.proofs.lemmas.List.{get_or-set_other, get_or-set_same, length-set}
 use Rattle.std.proofs.lemmas.List.Quantifiers.{position-Some}
-use Rattle.std.proofs.lemmas.Option.{get_or_from_slice_get, same_Some, slice_get_within}
+use Rattle.std.proofs.lemmas.Option.{get_or_from_slice_get}
 use Rattle.std.proofs.lemmas.Slice.Eq.{bytes_eq-Decides}
 use Rattle.std.proofs.Math.ListN.{set}
 use Rattle.hsp_names.specs.Handle.{handle_in}
-use Rattle.hsp_instance.specs.Instance.{AreArcs, Instance, IsArc, IsInstance, IsNamed, Row, Server, has_keys}
+use Rattle.hsp_instance.specs.Instance.{Instance, IsInstance, IsNamed, Row, Server, has_keys}
 use Rattle.hsp_instance.specs.declared.arc.Arc.{Arc}
 use Rattle.hsp_instance.proofs.Lists.{all_at, there}
-use Rattle.hsp_dispatch.specs.Dispatch.{answer_at, arc_to, assigned_to, end_of, server_to, spread}
+use Rattle.hsp_dispatch.specs.Dispatch.{answer_at, assigned_to, end_of, server_to, spread}
 use Rattle.hsp_dispatch.specs.Lines.{served_by}
 use Rattle.hsp_dispatch.specs.Shares.{AreCells, AreCellsOf, Held, IsCellOf, IsHeld, IsRestOf, cells_at, first_answer, first_of, holding, left_at, left_of, taken_answer, without_first}
-use Rattle.hsp_dispatch.specs.declared.answer.Answer.TheVariants.{Assigned, Spent}
+use Rattle.hsp_dispatch.specs.declared.answer.Answer.TheVariants.{Assigned}
 use Rattle.hsp_dispatch.specs.declared.share.Cell.{Cell}
 use Rattle.hsp_dispatch.proofs.Resting.{rest_here, rest_other}
 use Rattle.hsp_dispatch.proofs.Shares.{first_site, none_at, sites_of, sites_within, spread_is}
 use Rattle.hsp_dispatch.proofs.SharedOut.{own_arc}
-use Rattle.hsp_dispatch.proofs.Spreads.{same_spread, times}
+use Rattle.hsp_dispatch.proofs.Spreads.{times}
 
 -- the spread of what is left of a row
 spread_held : (held : Held) (row : ℕ) → IsHeld held → spread held.instance (left_of held) row ≡ sites_of (cells_at held.shares row)
@@ -62,18 +62,8 @@ left_after : (cells : List Cell) (site : ℕ) → AreCells cells → left_at (wi
 left_after [] site are = omega arith
 left_after (cell ∷ cells) site are =
     let first : take 1 (sites_of (cell ∷ cells)) ≡ cell.site ∷ [] = ap (λ (sites : List ℕ). take 1 sites) (first_site cells cell are).1 in
-    rw first (elim (cases_eq cell.left 1) [
-      | inl last ↦ rw (eq-eqb cell.left 1 last) (elim (cases_eq cell.site site) [
-        | inl at ↦
-            let none : left_at cells site ≡ 0 = none_at cells site (rw at at are.1.0) in
-            rw (eq-eqb cell.site site at) (omega (arith, none))
-        | inr away ↦ rw (ne_eqb cell.site site away) (omega arith)
-      ])
-      | inr more ↦ rw (ne_eqb cell.left 1 more) (elim (cases_eq cell.site site) [
-        | inl at ↦ rw (eq-eqb cell.site site at) (omega arith)
-        | inr away ↦ rw (ne_eqb cell.site site away) (omega arith)
-      ])
-    ])
+    let none = λ (at : cell.site ≡ site). none_at cells site (rw at at are.1.0) in
+    rw first (grind (arith, none))
 
 cells_after : (it : Instance) (row : ℕ) (cells : List Cell) → AreCellsOf it row cells → AreCellsOf it row (without_first cells)
 cells_after it row [] are = are

@@ -1,8 +1,8 @@
 -- What a feasible plan sends of a row to all sites is the whole number of the row.
-use Rattle.std.proofs.Common.{◌≡◌, ◌≢◌, ◌<◌, ◌+◌, ◌*◌, ◌∙◌, ◌==◌, ℕ, zero, suc, List, [], ◌∷◌, length, map, sum_by, Some, if◌then◌else◌, slice_index, arith, refl, sym, ap, ap₂, subst, eq-eqb}
+use Rattle.std.proofs.Common.{◌≡◌, ◌≢◌, ◌<◌, ◌+◌, ◌*◌, ◌∙◌, ◌==◌, ℕ, zero, suc, List, [], ◌∷◌, length, map, sum_by, Some, if◌then◌else◌, slice_index, arith, refl, sym, ap}
 use Rattle.std.proofs.Common.{inl, inr}
 use Rattle.std.specs.List.{AllByRecursion, slice_get}
-use Rattle.std.proofs.lemmas.Bool.{cases_Bool, cases_eq, ne_eqb}
+use Rattle.std.proofs.lemmas.Bool.{cases_Bool}
 use Rattle.std.proofs.lemmas.List.{get_or-map, length-map}
 use Rattle.std.proofs.lemmas.List.Elements.{All-from_recursion}
 use Rattle.std.proofs.lemmas.List.Sums.{sum_by-append, sum_by-cons}
@@ -33,21 +33,21 @@ given_to x row a = if a.row == row then x a.row a.site else 0
 own_list : (x : Plan) (row : ℕ) (arcs : List Arc) → sum_by (given_to x row) (map (arc_of row) arcs) ≡ sum_by (λ (arc : Arc). x row arc.site) arcs
 own_list x row [] = refl
 own_list x row (arc ∷ arcs) =
-    let here : given_to x row (arc_of row arc) ≡ x row arc.site = rw (eq-eqb row row refl) refl in
-    sum_by-cons (given_to x row) (arc_of row arc) (map (arc_of row) arcs) ∙ ap₂ (λ (m : ℕ) (n : ℕ). m + n) here (own_list x row arcs)
-    ∙ sym (sum_by-cons (λ (a : Arc). x row a.site) arc arcs)
+    let all = sum_by-cons (given_to x row) (arc_of row arc) (map (arc_of row) arcs) in
+    grind (arith, all, own_list x row arcs, sum_by-cons (λ (a : Arc). x row a.site) arc arcs)
 
 other_list : (x : Plan) (row i : ℕ) (arcs : List Arc) → i ≢ row → sum_by (given_to x row) (map (arc_of i) arcs) ≡ 0
 other_list x row i [] apart = refl
 other_list x row i (arc ∷ arcs) apart =
-    let here : given_to x row (arc_of i arc) ≡ 0 = rw (ne_eqb i row apart) refl in
-    sum_by-cons (given_to x row) (arc_of i arc) (map (arc_of i) arcs) ∙ ap₂ (λ (m : ℕ) (n : ℕ). m + n) here (other_list x row i arcs apart)
+    let all = sum_by-cons (given_to x row) (arc_of i arc) (map (arc_of i) arcs) in
+    grind (arith, apart, all, other_list x row i arcs apart)
 
 later_lists : (x : Plan) (row i : ℕ) (lists : List (List Arc)) → row < i → sum_by (given_to x row) (arcs_from i lists) ≡ 0
 later_lists x row i [] before = refl
 later_lists x row i (arcs ∷ lists) before =
-    sum_by-append (given_to x row) (map (arc_of i) arcs) (arcs_from (i + 1) lists)
-    ∙ ap₂ (λ (m : ℕ) (n : ℕ). m + n) (other_list x row i arcs (λ same. omega (arith, same, before))) (later_lists x row (i + 1) lists (omega arith))
+    let all = sum_by-append (given_to x row) (map (arc_of i) arcs) (arcs_from (i + 1) lists) in
+    let own = other_list x row i arcs (λ same. omega (arith, same, before)) in
+    omega (arith, all, own, later_lists x row (i + 1) lists (omega (arith, before)))
 
 over_own : (x : Plan) (row i k : ℕ) (lists : List (List Arc)) (own : List Arc) → row ≡ i + k → slice_get lists k ≡ Some own
     → sum_by (given_to x row) (arcs_from i lists) ≡ sum_by (λ (arc : Arc). x row arc.site) own
@@ -72,19 +72,15 @@ count_to site arcs = sum_by (λ (arc : Arc). if arc.site == site then 1 else 0) 
 none_to : (site : ℕ) (arcs : List Arc) → AllByRecursion (λ (later : Arc). site < later.site) arcs → count_to site arcs ≡ 0
 none_to site [] later = refl
 none_to site (arc ∷ arcs) later =
-    sum_by-cons (λ (a : Arc). if a.site == site then 1 else 0) arc arcs
-    ∙ rw (ne_eqb arc.site site (λ same. omega (arith, same, later.0)), none_to site arcs later.1) refl
+    let all = sum_by-cons (λ (a : Arc). if a.site == site then 1 else 0) arc arcs in
+    grind (arith, later.0, all, none_to site arcs later.1)
 
 one_to : (site : ℕ) (arcs : List Arc) (arc : Arc) → IsAscending arcs → arc_to site (Some arcs) ≡ Some arc → count_to site arcs ≡ 1
 one_to site [] arc up found = absurd (cc)
-one_to site (first ∷ arcs) arc up found = sum_by-cons (λ (a : Arc). if a.site == site then 1 else 0) first arcs ∙ elim (cases_eq first.site site) [
-  | inl here ↦
-      let none : count_to site arcs ≡ 0 = none_to site arcs (subst (λ (s : ℕ). AllByRecursion (λ (later : Arc). s < later.site) arcs) here up.0) in
-      rw (eq-eqb first.site site here, none) refl
-  | inr other ↦
-      let one : count_to site arcs ≡ 1 = one_to site arcs arc up.1 (rw (ne_eqb first.site site other) at found) in
-      rw (ne_eqb first.site site other, one) refl
-]
+one_to site (first ∷ arcs) arc up found =
+    let all = sum_by-cons (λ (a : Arc). if a.site == site then 1 else 0) first arcs in
+    let none = λ (here : first.site ≡ site). none_to site arcs (rw here at up.0) in
+    grind (arith, all, none, one_to site arcs arc up.1)
 
 -- ---- the sum over all sites
 

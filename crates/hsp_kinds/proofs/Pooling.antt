@@ -1,7 +1,6 @@
 -- A plan of rows, pooled by their kinds.
-use Rattle.std.proofs.Common.{◌≡◌, ℕ, ◌*◌, ◌<◌, ◌==◌, inl, inr, Bool, true, false, cond, List, length, sum_by, slice_index, if◌then◌else◌, ap, ap₂, sym, ◌∙◌, subst, arith, one-mul, zero-mul}
+use Rattle.std.proofs.Common.{◌≡◌, ℕ, ◌*◌, ◌<◌, ◌≤◌, ◌==◌, Bool, cond, List, length, sum_by, slice_index, if◌then◌else◌, ap, ap₂, sym, ◌∙◌, arith, one-mul, zero-mul}
 use Rattle.std.specs.List.{list_any}
-use Rattle.std.proofs.lemmas.Bool.{cases_eq}
 use Rattle.hsp_instance.specs.declared.arc.Arc.{Arc}
 use Rattle.hsp_transport.specs.Sums.{sum_below}
 use Rattle.hsp_transport.proofs.Summing.{sum_below_same, sum_below_zero}
@@ -9,7 +8,7 @@ use Rattle.hsp_check.specs.Network.{Network, IsNetwork, is_allowed}
 use Rattle.hsp_check.specs.Plan.{Plan, planned, served, load, Feasible, is_on}
 use Rattle.hsp_kinds.specs.Kinds.{without_row, arcs_of, together, AreKinds, pooled, AreAlikeIn}
 use Rattle.hsp_kinds.specs.Keeping.{KindsPoolPlans}
-use Rattle.hsp_kinds.proofs.Rowwise.{when, when_zero, when_there, by_rows, by_row, allowed_by, by_kinds, turned, sum_by_when, sum_below_times, times_when, same_by}
+use Rattle.hsp_kinds.proofs.Rowwise.{when, when_zero, by_rows, by_row, allowed_by, by_kinds, turned, sum_by_when, sum_below_times, times_when, same_by}
 
 -- what a plan sends over arcs, each with a weight
 abbrev pub weighed : Network → (Arc → ℕ) → Plan → ℕ
@@ -20,10 +19,9 @@ abbrev pub at_server : ℕ → Arc → ℕ
 at_server j a = cond (a.server == j) 1 0
 
 once : (t : Bool) (v : ℕ) → when t v ≡ cond t 1 0 * v
-once true v = sym (one-mul v)
-once false v = sym (zero-mul v)
+once t v = grind (arith, one-mul v, zero-mul v)
 
-pub load_is : (n : Network) (x : Plan) (j : ℕ) → load n x j ≡ weighed n (at_server j) x
+load_is : (n : Network) (x : Plan) (j : ℕ) → load n x j ≡ weighed n (at_server j) x
 load_is n x j = same_by _ _ n.arcs (λ a. once (a.server == j) (planned x a))
 
 -- two plans that give the same weighed sums are alike
@@ -37,6 +35,11 @@ alike_by n m x y caps host_of same =
           sum_below_same (length n.capacities) _ _ (λ j l. ap₂ (λ o v. if is_on o h then v else 0) (host_of j) (loads j))
           ∙ ap (λ caps. sum_below (length caps) (λ j. if is_on (m.host_of j) h then load m y j else 0)) caps;
     }
+
+-- loads within bounds, and equal loads within equal ones
+pub within_alike : (own other : List ℕ) (f g : ℕ → ℕ) → own ≡ other → ((j : ℕ) → f j ≡ g j) →
+    ((j : ℕ) → j < length own → f j ≤ slice_index own j) → (j : ℕ) → j < length other → g j ≤ slice_index other j
+within_alike own other f g same loads within j l = rw (← same, ← loads j) (within j (rw same l))
 
 module _ (n m : Network) (kind : ℕ → ℕ) (n-is : IsNetwork n) (m-is : IsNetwork m) (are : AreKinds n m kind) where
   -- what a row sends over its kind's arcs, and what the kind sends
@@ -64,11 +67,8 @@ module _ (n m : Network) (kind : ℕ → ℕ) (n-is : IsNetwork n) (m-is : IsNet
   served_is w x i = by_row w.arcs i (λ r a. x r a.site) ∙ same_by _ _ (arcs_of w i) (λ a. sym (one-mul (x i a.site)))
 
   -- a term of a kind's rows, by what is known of them
-  pub term : (f g : ℕ → ℕ) (k i : ℕ) → (kind i ≡ k → f i ≡ g i) → when (kind i == k) (f i) ≡ when (kind i == k) (g i)
-  term f g k i same = elim (cases_eq (kind i) k) [
-    | inl e ↦ ap (λ v. when (kind i == k) v) (same e)
-    | inr ne ↦ when_there (kind i) k (f i) ne ∙ sym (when_there (kind i) k (g i) ne)
-  ]
+  term : (f g : ℕ → ℕ) (k i : ℕ) → (kind i ≡ k → f i ≡ g i) → when (kind i == k) (f i) ≡ when (kind i == k) (g i)
+  term f g k i same = grind arith
 
   -- a kind gets what its rows get
   pub kind_gets : (x : Plan) (k : ℕ) → served m (pooled n kind x) k ≡ together n kind (λ i. served n x i) k
@@ -91,18 +91,8 @@ module _ (n m : Network) (kind : ℕ → ℕ) (n-is : IsNetwork n) (m-is : IsNet
             term (λ i. x i s) (λ i. 0) k i (λ e. feasible.allowed i s (allowed_alike i s l ∙ ap (λ k. is_allowed m k s) e ∙ no)) ∙ when_zero (kind i == k));
         flow = record {
           met = λ k l. kind_gets x k ∙ sum_below_same (length n.demands) _ _ (λ i m. ap (λ v. when (kind i == k) v) (feasible.flow.met i m)) ∙ sym (are.demands k l);
-          within = λ j l.
-              let l' : j < length n.capacities = subst (λ caps. j < length caps) (sym are.capacities) l in
-              let w = feasible.flow.within j l' in
-              let e = alike.load j in
-              let c : slice_index n.capacities j ≡ slice_index m.capacities j = ap (λ caps. slice_index caps j) are.capacities in
-              omega arith;
-          hosted = λ h l.
-              let l' : h < length n.limits = subst (λ caps. h < length caps) (sym are.limits) l in
-              let w = feasible.flow.hosted h l' in
-              let e = alike.host_load h in
-              let c : slice_index n.limits h ≡ slice_index m.limits h = ap (λ caps. slice_index caps h) are.limits in
-              omega arith;
+          within = within_alike n.capacities m.capacities _ _ are.capacities alike.load feasible.flow.within;
+          hosted = within_alike n.limits m.limits _ _ are.limits alike.host_load feasible.flow.hosted;
         };
       }
 

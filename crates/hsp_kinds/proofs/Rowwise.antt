@@ -1,9 +1,8 @@
 -- Sums over arcs, row by row, and sums over rows, kind by kind.
-use Rattle.std.proofs.Common.{◌≡◌, ℕ, zero, suc, ◌+◌, ◌*◌, ◌<◌, ◌==◌, ◌&&◌, ◌||◌, Bool, true, false, cond, inl, inr, ◌⊎◌, List, [], ◌∷◌, map, filter, sum_by, All, if◌then◌else◌, refl, ap, ap₂, sym, ◌∙◌, arith, mul-zero, mul-add, eq-eqb, ne_eqb}
+use Rattle.std.proofs.Common.{◌≡◌, ℕ, zero, suc, ◌+◌, ◌*◌, ◌<◌, ◌==◌, ◌&&◌, Bool, true, false, List, [], ◌∷◌, sum_by, All, if◌then◌else◌, refl, ap, ap₂, sym, ◌∙◌, arith, mul-zero, mul-add, eq-eqb, ne_eqb}
 use Rattle.std.specs.List.{list_any}
 use Rattle.std.proofs.lemmas.List.Sums.{sum_by-cons}
 use Rattle.std.proofs.lemmas.List.Elements.{All-head, All-tail}
-use Rattle.std.proofs.lemmas.Bool.{cases_eq}
 use Rattle.hsp_instance.specs.declared.arc.Arc.{Arc}
 use Rattle.hsp_check.specs.declared.arc.NetworkArc.{NetworkArc}
 use Rattle.hsp_transport.specs.Sums.{sum_below}
@@ -21,29 +20,26 @@ pub when_there : (i k v : ℕ) → (i ≡ k → ⊥) → when (i == k) v ≡ 0
 when_there i k v ne = rw (ne_eqb i k ne)
 
 pub when_zero : (t : Bool) → when t 0 ≡ 0
-when_zero true = refl
-when_zero false = refl
+when_zero t = grind arith
 
--- one row's arcs, one arc more
+-- a sum over arcs, one arc more
 more_arcs : (a : NetworkArc) (rest : List NetworkArc) (i : ℕ) (g : Arc → ℕ) →
     sum_by g (arcs_in (a ∷ rest) i) ≡ when (a.row == i) (g (without_row a)) + sum_by g (arcs_in rest i)
-more_arcs a rest i g = by_test (a.row == i)
-  where
-    by_test : (t : Bool) → sum_by g (map without_row (cond t (a ∷ filter (λ b. b.row == i) rest) (filter (λ b. b.row == i) rest))) ≡ when t (g (without_row a)) + sum_by g (arcs_in rest i)
-    by_test true = sum_by-cons g (without_row a) (arcs_in rest i)
-    by_test false = omega arith
+more_arcs a rest i g = grind (arith, sum_by-cons g (without_row a) (arcs_in rest i))
+
+-- one of many terms alone
+one_term : (n i : ℕ) (f : ℕ → ℕ) → i < n → sum_below n (λ k. when (i == k) (f k)) ≡ f i
+one_term n i f l =
+    sum_below_one n (λ k. when (i == k) (f k)) i l (λ k m ne. when_there i k (f k) (λ q. ne (sym q))) ∙ when_here i (f i)
 
 -- a sum over all arcs is the sum over the rows of the sums over their arcs
 pub by_rows : (rows : ℕ) (arcs : List NetworkArc) → All (λ a. a.row < rows) arcs → (g : ℕ → Arc → ℕ) →
     sum_by (λ a. g a.row (without_row a)) arcs ≡ sum_below rows (λ i. sum_by (g i) (arcs_in arcs i))
 by_rows rows [] inside g = sym (sum_below_zero rows (λ i. 0) (λ i l. refl))
 by_rows rows (a ∷ rest) inside g =
-    let l : a.row < rows = All-head (λ b. b.row < rows) a rest inside in
-    let one : sum_below rows (λ i. when (a.row == i) (g i (without_row a))) ≡ when (a.row == a.row) (g a.row (without_row a)) =
-    sum_below_one rows (λ i. when (a.row == i) (g i (without_row a))) a.row l (λ k m ne. when_there a.row k (g k (without_row a)) (λ q. ne (sym q))) in
-    let here : when (a.row == a.row) (g a.row (without_row a)) ≡ g a.row (without_row a) = when_here a.row (g a.row (without_row a)) in
+    let own = one_term rows a.row (λ i. g i (without_row a)) (All-head (λ b. b.row < rows) a rest inside) in
     sum_by-cons (λ b. g b.row (without_row b)) a rest
-    ∙ ap₂ (λ v w. v + w) (sym (one ∙ here)) (by_rows rows rest (All-tail (λ b. b.row < rows) a rest inside) g)
+    ∙ ap₂ (λ v w. v + w) (sym own) (by_rows rows rest (All-tail (λ b. b.row < rows) a rest inside) g)
     ∙ sym (sum_below_add rows (λ i. when (a.row == i) (g i (without_row a))) (λ i. sum_by (g i) (arcs_in rest i)))
     ∙ sum_below_same rows _ _ (λ i m. sym (more_arcs a rest i (g i)))
 
@@ -51,32 +47,21 @@ by_rows rows (a ∷ rest) inside g =
 pub by_row : (arcs : List NetworkArc) (i : ℕ) (g : ℕ → Arc → ℕ) → sum_by (λ a. when (a.row == i) (g a.row (without_row a))) arcs ≡ sum_by (g i) (arcs_in arcs i)
 by_row [] i g = refl
 by_row (a ∷ rest) i g =
-    sum_by-cons (λ b. when (b.row == i) (g b.row (without_row b))) a rest
-    ∙ ap₂ (λ v w. v + w) (own (cases_eq a.row i)) (by_row rest i g)
-    ∙ sym (more_arcs a rest i (g i))
-  where
-    own : (a.row ≡ i) ⊎ (a.row ≡ i → ⊥) → when (a.row == i) (g a.row (without_row a)) ≡ when (a.row == i) (g i (without_row a))
-    own (inl e) = ap (λ r. when (a.row == i) (g r (without_row a))) e
-    own (inr ne) = when_there a.row i (g a.row (without_row a)) ne ∙ sym (when_there a.row i (g i (without_row a)) ne)
+    let first = sum_by-cons (λ b. when (b.row == i) (g b.row (without_row b))) a rest in
+    grind (arith, first, by_row rest i g, more_arcs a rest i (g i))
 
 -- whether a row may use a site, by its arcs
 pub allowed_by : (arcs : List NetworkArc) (i s : ℕ) → list_any (λ a. a.row == i && a.site == s) arcs ≡ list_any (λ a. a.site == s) (arcs_in arcs i)
 allowed_by [] i s = refl
-allowed_by (a ∷ rest) i s = by_test (allowed_by rest i s) (a.row == i)
-  where
-    by_test : list_any (λ b. b.row == i && b.site == s) rest ≡ list_any (λ b. b.site == s) (arcs_in rest i) → (t : Bool) → ((t && a.site == s) || list_any (λ b. b.row == i && b.site == s) rest)
-        ≡ list_any (λ b. b.site == s) (map without_row (cond t (a ∷ filter (λ b. b.row == i) rest) (filter (λ b. b.row == i) rest)))
-    by_test same true = ap (λ v. (a.site == s) || v) same
-    by_test same false = same
+allowed_by (a ∷ rest) i s = grind (arith, allowed_by rest i s)
 
 -- a sum over rows is the sum over the kinds of the sums over their rows
 pub by_kinds : (kinds : ℕ) (kind : ℕ → ℕ) (h : ℕ → ℕ → ℕ) (rows : ℕ) → ((i : ℕ) → i < rows → kind i < kinds) →
     sum_below rows (λ i. h (kind i) i) ≡ sum_below kinds (λ k. sum_below rows (λ i. when (kind i == k) (h k i)))
 by_kinds kinds kind h zero inside = sym (sum_below_zero kinds (λ k. 0) (λ k l. refl))
 by_kinds kinds kind h (suc rows) inside =
-    let one : sum_below kinds (λ k. when (kind rows == k) (h k rows)) ≡ when (kind rows == kind rows) (h (kind rows) rows) =
-    sum_below_one kinds (λ k. when (kind rows == k) (h k rows)) (kind rows) (inside rows (omega arith)) (λ k m ne. when_there (kind rows) k (h k rows) (λ q. ne (sym q))) in
-    ap₂ (λ v w. v + w) (by_kinds kinds kind h rows (λ i l. inside i (omega arith))) (sym (one ∙ when_here (kind rows) (h (kind rows) rows)))
+    ap₂ (λ v w. v + w) (by_kinds kinds kind h rows (λ i l. inside i (omega arith)))
+    (sym (one_term kinds (kind rows) (λ k. h k rows) (inside rows (omega arith))))
     ∙ sym (sum_below_add kinds (λ k. sum_below rows (λ i. when (kind i == k) (h k i))) (λ k. when (kind rows == k) (h k rows)))
 
 -- the two orders of adding up
@@ -88,7 +73,7 @@ turned f (x ∷ xs) rows =
     ∙ sym (sum_below_add rows (λ i. f i x) (λ i. sum_by (f i) xs))
     ∙ sum_below_same rows _ _ (λ i l. sym (sum_by-cons (f i) x xs))
 
-pub sum_by_none : {A : Type 0} (xs : List A) → sum_by (λ (a : A). 0) xs ≡ 0
+sum_by_none : {A : Type 0} (xs : List A) → sum_by (λ (a : A). 0) xs ≡ 0
 sum_by_none [] = refl
 sum_by_none (x ∷ xs) = omega (arith, sum_by-cons (λ a. 0) x xs, sum_by_none xs)
 
@@ -101,8 +86,7 @@ sum_below_times zero c f = mul-zero c
 sum_below_times (suc n) c f = mul-add c (sum_below n f) (f n) ∙ ap (λ v. v + c * f n) (sum_below_times n c f)
 
 pub times_when : (c v : ℕ) (t : Bool) → c * when t v ≡ when t (c * v)
-times_when c v true = refl
-times_when c v false = mul-zero c
+times_when c v t = grind (arith, mul-zero c)
 
 -- sums of equal terms of each element
 pub same_by : {A : Type 0} (f g : A → ℕ) (xs : List A) → ((a : A) → f a ≡ g a) → sum_by f xs ≡ sum_by g xs

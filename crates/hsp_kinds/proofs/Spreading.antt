@@ -1,8 +1,8 @@
 -- A plan of kinds, spread over their rows: the queries of a kind's rows, one row after another, are laid beside what the plan sends to
 -- the sites, one site after another, and a row sends to a site as much as lies beside it there.
-use Rattle.std.proofs.Common.{◌≡◌, ℕ, zero, suc, ◌+◌, ◌-◌, ◌*◌, ◌<◌, ◌≤◌, ◌==◌, ◌⊎◌, inl, inr, Bool, true, false, List, [], ◌∷◌, length, sum_by, slice_index, All, min, refl, ap, sym, ◌∙◌, subst, arith, one-mul, mul_comm, eq-eqb, ne_eqb, cond, map, filter, ◌||◌}
+use Rattle.std.proofs.Common.{◌≡◌, ℕ, zero, suc, ◌+◌, ◌-◌, ◌*◌, ◌<◌, ◌≤◌, ◌==◌, ◌⊎◌, inl, inr, false, List, [], ◌∷◌, length, sum_by, slice_index, All, min, refl, ap, sym, ◌∙◌, arith, one-mul, mul_comm, eq-eqb, ne_eqb}
 use Rattle.std.specs.List.{list_any}
-use Rattle.std.proofs.lemmas.Bool.{cases_eq, cases_lt}
+use Rattle.std.proofs.lemmas.Bool.{cases_Bool, cases_eq, cases_lt}
 use Rattle.std.proofs.lemmas.List.{get_or_past}
 use Rattle.std.proofs.lemmas.List.Folds.{list_any_none}
 use Rattle.std.proofs.lemmas.List.Sums.{sum_by-cons}
@@ -16,7 +16,7 @@ use Rattle.hsp_check.specs.Plan.{Plan, served, Feasible, Best}
 use Rattle.hsp_kinds.specs.Kinds.{without_row, arcs_in, arcs_of, arcs_to, AreKinds, HasOneArcASite, IsPooled, pooled, AreAlikeIn}
 use Rattle.hsp_kinds.specs.Keeping.{KindsSpreadPlans}
 use Rattle.hsp_kinds.proofs.Rowwise.{when, when_here, allowed_by, same_by}
-use Rattle.hsp_kinds.proofs.Pooling.{weighed, alike_by, carried_over, served_is, allowed_alike, pool_feasible, pooled_alike}
+use Rattle.hsp_kinds.proofs.Pooling.{weighed, alike_by, carried_over, served_is, allowed_alike, pool_feasible, pooled_alike, within_alike}
 
 -- of a stretch of a line from a to b, as much as lies between c and d
 abbrev pub beside : ℕ → ℕ → ℕ → ℕ → ℕ
@@ -25,31 +25,17 @@ beside a b c d = (min b d - c) - (min a d - c)
 -- a line cut up at one side
 pub along_rows : (n : ℕ) (e : ℕ → ℕ) (c d : ℕ) → c ≤ d → sum_below n (λ i. beside (sum_below i e) (sum_below i e + e i) c d) ≡ min (sum_below n e) d - c
 along_rows zero e c d l = omega arith
-along_rows (suc n) e c d l =
-    let before : sum_below n (λ i. beside (sum_below i e) (sum_below i e + e i) c d) ≡ min (sum_below n e) d - c = along_rows n e c d l in
-    omega arith
+along_rows (suc n) e c d l = omega (arith, along_rows n e c d l)
 
 -- and at the other
 pub along_sites : (n : ℕ) (y : ℕ → ℕ) (a b : ℕ) → a ≤ b → sum_below n (λ s. beside a b (sum_below s y) (sum_below s y + y s)) ≡ min b (sum_below n y) - min a (sum_below n y)
 along_sites zero y a b l = omega arith
-along_sites (suc n) y a b l =
-    let before : sum_below n (λ s. beside a b (sum_below s y) (sum_below s y + y s)) ≡ min b (sum_below n y) - min a (sum_below n y) = along_sites n y a b l in
-    omega arith
-
--- a stretch of no length lies beside none
-pub beside_none : (a c d : ℕ) → beside a (a + 0) c d ≡ 0
-beside_none a c d = omega arith
-
-pub none_beside : (a b c : ℕ) → beside a b c (c + 0) ≡ 0
-none_beside a b c = omega arith
+along_sites (suc n) y a b l = omega (arith, along_sites n y a b l)
 
 -- a part of a sum
 pub part_below : (n i : ℕ) (e : ℕ → ℕ) → i < n → sum_below i e + e i ≤ sum_below n e
 part_below zero i e l = absurd (omega arith)
-part_below (suc n) i e l = elim (cases_eq i n) [
-  | inl same ↦ rw same (omega arith)
-  | inr ne ↦ let before : sum_below i e + e i ≤ sum_below n e = part_below n i e (omega arith) in omega arith
-]
+part_below (suc n) i e l = grind (arith, part_below n i e)
 
 -- a number above all sites of arcs
 abbrev pub above : List NetworkArc → ℕ
@@ -58,21 +44,18 @@ above (a ∷ arcs) = a.site + 1 + above arcs
 
 pub all_below : (arcs : List NetworkArc) (i : ℕ) → All (λ (a : Arc). a.site < above arcs) (arcs_in arcs i)
 all_below [] i = All-nil (λ (a : Arc). a.site < 0)
-all_below (a ∷ arcs) i = by_test (a.row == i) (All-weaker (λ (b : Arc). b.site < above arcs) (λ (b : Arc). b.site < above (a ∷ arcs)) (λ b l. omega arith) (arcs_in arcs i) (all_below arcs i))
-  where
-    by_test : (t : Bool) → All (λ (b : Arc). b.site < above (a ∷ arcs)) (arcs_in arcs i)
-        → All (λ (b : Arc). b.site < above (a ∷ arcs)) (map without_row (cond t (a ∷ filter (λ b. b.row == i) arcs) (filter (λ b. b.row == i) arcs)))
-    by_test true rest = All-cons (λ (b : Arc). b.site < above (a ∷ arcs)) (without_row a) (arcs_in arcs i) (omega arith) rest
-    by_test false rest = rest
+all_below (a ∷ arcs) i =
+    let within = λ (b : Arc). b.site < above (a ∷ arcs) in
+    let rest = All-weaker (λ b. b.site < above arcs) within (λ b l. omega arith) (arcs_in arcs i) (all_below arcs i) in
+    elim (cases_Bool (a.row == i)) [
+      | inl t ↦ rw t (All-cons within (without_row a) (arcs_in arcs i) (omega arith) rest)
+      | inr f ↦ rw f rest
+    ]
 
 -- no arc leads to a site that none does
 pub none_to : (arcs : List Arc) (s : ℕ) → arcs_to arcs s ≡ 0 → list_any (λ a. a.site == s) arcs ≡ false
 none_to [] s e = refl
-none_to (a ∷ arcs) s e = by_test (a.site == s) (sym (sum_by-cons (λ b. when (b.site == s) 1) a arcs) ∙ e) (none_to arcs s)
-  where
-    by_test : (t : Bool) → when t 1 + arcs_to arcs s ≡ 0 → (arcs_to arcs s ≡ 0 → list_any (λ b. b.site == s) arcs ≡ false) → (t || list_any (λ b. b.site == s) arcs) ≡ false
-    by_test true e rest = absurd (omega arith)
-    by_test false e rest = rest (omega arith)
+none_to (a ∷ arcs) s e = grind (arith, sum_by-cons (λ b. when (b.site == s) 1) a arcs, none_to arcs s)
 
 -- what a row gets is what goes to all sites, where it has one arc a site and nothing goes where it may not
 pub over_sites : (arcs : List Arc) (most : ℕ) (x : ℕ → ℕ) → All (λ a. a.site < most) arcs → ((s : ℕ) → arcs_to arcs s ≤ 1) →
@@ -83,7 +66,7 @@ over_sites arcs most x inside one none =
     ∙ sum_below_same most _ _ (λ s l. each s (cases_eq (arcs_to arcs s) 0))
   where
     each : (s : ℕ) → (arcs_to arcs s ≡ 0) ⊎ (arcs_to arcs s ≡ 0 → ⊥) → x s * arcs_to arcs s ≡ x s
-    each s (inl e) = let z : x s ≡ 0 = none s (none_to arcs s e) in rw (e, z) refl
+    each s (inl e) = rw (none s (none_to arcs s e)) (omega arith)
     each s (inr ne) = let e : arcs_to arcs s ≡ 1 = omega (arith, one s) in rw e (mul_comm (x s) 1 ∙ one-mul (x s))
 
 -- what the rows before row i of its kind ask for
@@ -123,37 +106,29 @@ module _ (n m : Network) (kind : ℕ → ℕ) (n-is : IsNetwork n) (m-is : IsNet
       let e : ℕ → ℕ = λ r. when (kind r == k) (slice_index n.demands r) in
       let c = sent_before y k s in
       let d = sent_before y k s + y k s in
-      sum_below_same (length n.demands) _ _ (λ i m. each i (cases_eq (kind i) k))
+      sum_below_same (length n.demands) _ _ (λ i m. each i)
       ∙ along_rows (length n.demands) e c d (omega arith)
-      ∙ all (cases_lt s (above m.arcs))
+      ∙ all
     where
-      each : (i : ℕ) → (kind i ≡ k) ⊎ (kind i ≡ k → ⊥) →
+      each : (i : ℕ) →
           when (kind i == k) (spread n kind y i s)
           ≡ beside (asked_before n kind k i) (asked_before n kind k i + when (kind i == k) (slice_index n.demands i)) (sent_before y k s) (sent_before y k s + y k s)
-      each i (inl e) =
-          let t : (kind i == k) ≡ true = eq-eqb (kind i) k e in
-          rw t (ap (λ k. beside (asked_before n kind k i) (asked_before n kind k i + slice_index n.demands i) (sent_before y k s) (sent_before y k s + y k s)) e)
-      each i (inr ne) =
-          let t : (kind i == k) ≡ false = ne_eqb (kind i) k ne in
-          rw t (sym (beside_none (asked_before n kind k i) (sent_before y k s) (sent_before y k s + y k s)))
+      each i = elim (cases_eq (kind i) k) [
+        | inl e ↦ rw e (rw (eq-eqb k k refl))
+        | inr ne ↦ rw (ne_eqb (kind i) k ne) (omega arith)
+      ]
 
-      all : (s < above m.arcs) ⊎ (above m.arcs ≤ s) → min (asked_before n kind k (length n.demands)) (sent_before y k s + y k s) - sent_before y k s ≡ y k s
-      all (inl b) =
-          let p : sent_before y k s + y k s ≤ sum_below (above m.arcs) (y k) = part_below (above m.arcs) s (y k) b in
-          let q = sent_all k l in
-          let r = asked_all k l in
-          omega arith
-      all (inr b) = let z = beyond k s b in omega arith
+      all : min (asked_before n kind k (length n.demands)) (sent_before y k s + y k s) - sent_before y k s ≡ y k s
+      all = elim (cases_lt s (above m.arcs)) [
+        | inl b ↦ omega (arith, part_below (above m.arcs) s (y k) b, sent_all k l, asked_all k l)
+        | inr b ↦ omega (arith, beyond k s b)
+      ]
 
   -- nothing goes where a row may not
   spread_allowed : (i s : ℕ) → is_allowed n i s ≡ false → spread n kind y i s ≡ 0
   spread_allowed i s off = elim (cases_lt i (length n.demands)) [
-    | inl l ↦
-        let z : y (kind i) s ≡ 0 = feasible.allowed (kind i) s (sym (allowed_alike n m kind n-is m-is are i s l) ∙ off) in
-        rw z (none_beside (asked_before n kind (kind i) i) (asked_before n kind (kind i) i + slice_index n.demands i) (sent_before y (kind i) s))
-    | inr l ↦
-        let z : slice_index n.demands i ≡ 0 = get_or_past n.demands i 0 l in
-        rw z (beside_none (asked_before n kind (kind i) i) (sent_before y (kind i) s) (sent_before y (kind i) s + y (kind i) s))
+    | inl l ↦ omega (arith, feasible.allowed (kind i) s (sym (allowed_alike n m kind n-is m-is are i s l) ∙ off))
+    | inr l ↦ omega (arith, get_or_past n.demands i 0 l)
   ]
 
   -- a row gets what it asks for
@@ -163,15 +138,12 @@ module _ (n m : Network) (kind : ℕ → ℕ) (n-is : IsNetwork n) (m-is : IsNet
       let in-kinds : k < length m.demands = are.inside i l in
       let e : ℕ → ℕ = λ r. when (kind r == k) (slice_index n.demands r) in
       let own : e i ≡ slice_index n.demands i = when_here k (slice_index n.demands i) in
-      let p : sum_below i e + e i ≤ sum_below (length n.demands) e = part_below (length n.demands) i e l in
-      let q = sent_all k in-kinds in
-      let r = asked_all k in-kinds in
       served_is n m kind n-is m-is are n (spread n kind y) i
       ∙ ap (λ arcs. sum_by (λ a. 1 * spread n kind y i a.site) arcs) (are.arcs i l)
       ∙ over_sites (arcs_of m k) (above m.arcs) (spread n kind y i) (all_below m.arcs k) (λ s. one k s in-kinds)
       (λ s off. spread_allowed i s (allowed_alike n m kind n-is m-is are i s l ∙ allowed_by m.arcs k s ∙ off))
       ∙ along_sites (above m.arcs) (y k) (asked_before n kind k i) (asked_before n kind k i + slice_index n.demands i) (omega arith)
-      ∙ omega arith
+      ∙ omega (arith, part_below (length n.demands) i e l, sent_all k in-kinds, asked_all k in-kinds)
 
   -- a weighed sum is the same of plans that send the same over all arcs
   same_weighed : (c : Arc → ℕ) → weighed m c (pooled n kind (spread n kind y)) ≡ weighed m c y
@@ -185,18 +157,8 @@ module _ (n m : Network) (kind : ℕ → ℕ) (n-is : IsNetwork n) (m-is : IsNet
     allowed = spread_allowed;
     flow = record {
       met = spread_met;
-      within = λ j l.
-          let l' : j < length m.capacities = subst (λ caps. j < length caps) are.capacities l in
-          let w = feasible.flow.within j l' in
-          let e = spread_alike.load j in
-          let c : slice_index n.capacities j ≡ slice_index m.capacities j = ap (λ caps. slice_index caps j) are.capacities in
-          omega arith;
-      hosted = λ h l.
-          let l' : h < length m.limits = subst (λ caps. h < length caps) are.limits l in
-          let w = feasible.flow.hosted h l' in
-          let e = spread_alike.host_load h in
-          let c : slice_index n.limits h ≡ slice_index m.limits h = ap (λ caps. slice_index caps h) are.limits in
-          omega arith;
+      within = within_alike m.capacities n.capacities _ _ (sym are.capacities) (λ j. sym (spread_alike.load j)) feasible.flow.within;
+      hosted = within_alike m.limits n.limits _ _ (sym are.limits) (λ h. sym (spread_alike.host_load h)) feasible.flow.hosted;
     };
   }
 
@@ -205,9 +167,7 @@ module _ (n m : Network) (kind : ℕ → ℕ) (n-is : IsNetwork n) (m-is : IsNet
     feasible = spread_feasible;
     least = λ z other.
         let a = best.least (pooled n kind z) (pool_feasible n m kind n-is m-is are z other) in
-        let b = (pooled_alike n m kind n-is m-is are z).total in
-        let c = spread_alike.total in
-        omega arith;
+        omega (arith, a, (pooled_alike n m kind n-is m-is are z).total, spread_alike.total);
   }
 
 pub kinds_spread_plans : KindsSpreadPlans

@@ -1,58 +1,58 @@
 -- The table of rows has their kinds.
-use Rattle.std.proofs.Common.{◌≡◌, ℕ, zero, suc, ◌+◌, ◌<◌, ◌≤◌, ◌==◌, inl, inr, Bool, true, false, cond, Option, Some, None, List, [], ◌∷◌, ◌++◌, length, map, filter, sum_by, slice_index, slice_index_or, All, refl, ap, ap₂, sym, ◌∙◌, subst, arith, eq-eqb, ne_eqb, append-nil}
-use Rattle.std.specs.Prelude.{is_some}
+use Rattle.std.proofs.Common.{◌≡◌, ℕ, zero, suc, ◌+◌, ◌<◌, ◌≤◌, ◌==◌, ◌&&◌, inl, inr, true, List, [], ◌∷◌, ◌++◌, length, map, sum_by, slice_index, slice_index_or, All, refl, ap, ap₂, sym, ◌∙◌, subst, arith, eq-eqb, ne_eqb, append-nil}
+use Rattle.std.specs.Prelude.{◌↔◌}
 use Rattle.std.specs.Str.{bytes_eq}
 use Rattle.std.proofs.lemmas.Slice.Eq.{bytes_eq-Decides}
 use Rattle.std.proofs.lemmas.List.{length-map, get_or-map}
 use Rattle.std.proofs.lemmas.List.Elements.{All-append, All-nil, All-cons}
-use Rattle.std.proofs.lemmas.List.Sums.{sum_by-cons}
-use Rattle.std.proofs.lemmas.Bool.{cases_eq, and_parts, and_from}
-use Rattle.hsp_hash.specs.Place.{server_place}
+use Rattle.std.proofs.lemmas.List.Sums.{sum_by_from}
+use Rattle.std.proofs.lemmas.Bool.{and_parts, and_from}
 use Rattle.hsp_tables.specs.Costs.{CostEntry}
 use Rattle.hsp_instance.specs.declared.arc.Arc.{Arc}
-use Rattle.hsp_instance.specs.Building.{arc_to, arcs_from, cost_of}
+use Rattle.hsp_instance.specs.Building.{arcs_from}
 use Rattle.hsp_instance.specs.Instance.{Row, Site}
 use Rattle.hsp_check.specs.declared.arc.NetworkArc.{NetworkArc}
 use Rattle.hsp_check.specs.Instance.{arc_of, arcs_from as arcs_of_rows}
 use Rattle.hsp_check.specs.Network.{IsNetwork}
 use Rattle.hsp_transport.specs.Sums.{sum_below}
 use Rattle.hsp_transport.proofs.Summing.{by_place, sum_below_same}
-use Rattle.hsp_kinds.specs.Kinds.{AreKinds, HasOneArcASite, without_row, arcs_in, arcs_of, arcs_to}
+use Rattle.hsp_kinds.specs.Kinds.{AreKinds, HasOneArcASite, arcs_in, arcs_of, arcs_to}
 use Rattle.hsp_kinds.specs.Tables.{IsKinding}
 use Rattle.hsp_kinds.specs.Rows.{KindsAreClasses, KindsHaveArcs, Service, TablesAreOfKinds, by_kind, is_same_kind, kinds_of, network_for, places_at, sites_for, with_count_of}
-use Rattle.hsp_kinds.proofs.Rowwise.{when, when_here, when_there}
+use Rattle.hsp_kinds.proofs.Rowwise.{when}
 use Rattle.hsp_kinds.proofs.KindPrices.{of_row, of_all}
 use Rattle.hsp_kinds.proofs.Placing.{place_in, place_within, placed_same, all_more, all_there, all_seen}
 
 -- ---- kinds are classes
 
-same_region : (costs : List CostEntry) (sites : List Site) (a b : Row) → is_same_kind costs sites a b ≡ true → a.region ≡ b.region
-same_region costs sites a b e =
-    (bytes_eq-Decides a.region b.region).0 (and_parts (bytes_eq a.region b.region) (bytes_eq (places_at (sites_for costs sites a.region) a.handle) (places_at (sites_for costs sites a.region) b.handle)) e).0
+-- two rows of one kind have one region, and their handles the same places
+abbrev SamePlaces : List CostEntry → List Site → Row → Row → Type 0
+SamePlaces costs sites a b =
+    (a.region ≡ b.region) × (places_at (sites_for costs sites a.region) a.handle ≡ places_at (sites_for costs sites a.region) b.handle)
 
-same_places : (costs : List CostEntry) (sites : List Site) (a b : Row) → is_same_kind costs sites a b ≡ true →
-    places_at (sites_for costs sites a.region) a.handle ≡ places_at (sites_for costs sites a.region) b.handle
-same_places costs sites a b e =
-    (bytes_eq-Decides (places_at (sites_for costs sites a.region) a.handle) (places_at (sites_for costs sites a.region) b.handle)).0
-    (and_parts (bytes_eq a.region b.region) (bytes_eq (places_at (sites_for costs sites a.region) a.handle) (places_at (sites_for costs sites a.region) b.handle)) e).1
+both_equal : (a b c d : List ℕ) → ((bytes_eq a b && bytes_eq c d) ≡ true) ↔ ((a ≡ b) × (c ≡ d))
+both_equal a b c d = (
+  (λ e.
+      let parts = and_parts (bytes_eq a b) (bytes_eq c d) e in
+      ((bytes_eq-Decides a b).0 parts.0, (bytes_eq-Decides c d).0 parts.1)),
+  (λ e. and_from (bytes_eq a b) (bytes_eq c d) ((bytes_eq-Decides a b).1 e.0) ((bytes_eq-Decides c d).1 e.1)),
+)
 
-same_from : (costs : List CostEntry) (sites : List Site) (a b : Row) → a.region ≡ b.region →
-    places_at (sites_for costs sites a.region) a.handle ≡ places_at (sites_for costs sites a.region) b.handle → is_same_kind costs sites a b ≡ true
-same_from costs sites a b r p =
-    and_from (bytes_eq a.region b.region) (bytes_eq (places_at (sites_for costs sites a.region) a.handle) (places_at (sites_for costs sites a.region) b.handle))
-    ((bytes_eq-Decides a.region b.region).1 r) ((bytes_eq-Decides (places_at (sites_for costs sites a.region) a.handle) (places_at (sites_for costs sites a.region) b.handle)).1 p)
+same_parts : (costs : List CostEntry) (sites : List Site) (a b : Row) → is_same_kind costs sites a b ≡ true → SamePlaces costs sites a b
+same_parts costs sites a b e = (both_equal a.region b.region _ _).0 e
+
+same_from : (costs : List CostEntry) (sites : List Site) (a b : Row) → SamePlaces costs sites a b → is_same_kind costs sites a b ≡ true
+same_from costs sites a b e = (both_equal a.region b.region _ _).1 e
 
 pub kinds_are_classes : KindsAreClasses
 kinds_are_classes costs sites = record {
-  reflexive = λ a. same_from costs sites a a refl refl;
-  symmetric = λ a b e.
-      let r = same_region costs sites a b e in
-      same_from costs sites b a (sym r) (sym (subst (λ region. places_at (sites_for costs sites region) a.handle ≡ places_at (sites_for costs sites region) b.handle) r (same_places costs sites a b e)));
+  reflexive = λ a. same_from costs sites a a (refl, refl);
+  symmetric = λ a b e. let p = same_parts costs sites a b e in same_from costs sites b a (sym p.0, rw (← p.0) (sym p.1));
   transitive = λ a b c e f.
-      let r = same_region costs sites a b e in
-      same_from costs sites a c (r ∙ same_region costs sites b c f)
-      (same_places costs sites a b e ∙ subst (λ region. places_at (sites_for costs sites region) b.handle ≡ places_at (sites_for costs sites region) c.handle) (sym r) (same_places costs sites b c f));
-  kept = λ a b. same_from costs sites a (with_count_of a b) refl refl;
+      let p = same_parts costs sites a b e in
+      let q = same_parts costs sites b c f in
+      same_from costs sites a c (p.0 ∙ q.0, p.1 ∙ rw p.0 q.1);
+  kept = λ a b. same_from costs sites a (with_count_of a b) (refl, refl);
   grouped = λ a b c. ap (counts a) (omega arith);
   swapped = λ a b c. ap (counts a) (omega arith);
 }
@@ -66,65 +66,25 @@ same_arcs : (costs : List CostEntry) (a b : Row) (n first : ℕ) (sites : List S
     places_at (sites_for costs sites a.region) a.handle ≡ places_at (sites_for costs sites a.region) b.handle → arcs_from costs a n first sites ≡ arcs_from costs b n first sites
 same_arcs costs a b n first [] r p = refl
 same_arcs costs a b n first (site ∷ more) r p =
-    by_cost (cost_of costs a.region site.name) p (same_arcs costs a b (n + 1) (first + length site.servers) more r)
-    ∙ ap (λ region. arc_to b.handle n first site (cost_of costs region site.name) ++ arcs_from costs b (n + 1) (first + length site.servers) more) r
-  where
-    others : List Site
-    others = filter (λ (s : Site). is_some (cost_of costs a.region s.name)) more
+    let later = first + length site.servers in
+    grind (arith, same_arcs costs a b (n + 1) later more r)
 
-    place : List ℕ → ℕ
-    place handle = server_place site.option handle (length site.servers)
-
-    by_cost : (o : Option ℕ) →
-        places_at (cond (is_some o) (site ∷ filter (λ (s : Site). is_some (cost_of costs a.region s.name)) more) (filter (λ (s : Site). is_some (cost_of costs a.region s.name)) more)) a.handle
-        ≡ places_at (cond (is_some o) (site ∷ filter (λ (s : Site). is_some (cost_of costs a.region s.name)) more) (filter (λ (s : Site). is_some (cost_of costs a.region s.name)) more)) b.handle →
-        (places_at (sites_for costs more a.region) a.handle ≡ places_at (sites_for costs more a.region) b.handle →
-        arcs_from costs a (n + 1) (first + length site.servers) more ≡ arcs_from costs b (n + 1) (first + length site.servers) more) →
-        arc_to a.handle n first site o ++ arcs_from costs a (n + 1) (first + length site.servers) more
-        ≡ arc_to b.handle n first site o ++ arcs_from costs b (n + 1) (first + length site.servers) more
-    by_cost None q rest = rest q
-    by_cost (Some cost) q rest =
-        ap₂ (λ (v : ℕ) (arcs : List Arc). record { site = n; server = first + v; cost = cost } ∷ arcs) (head_same q) (rest (tail_same q))
-      where
-        head_same : server_place site.option a.handle (length site.servers) ∷ places_at (filter (λ (s : Site). is_some (cost_of costs a.region s.name)) more) a.handle
-            ≡ server_place site.option b.handle (length site.servers) ∷ places_at (filter (λ (s : Site). is_some (cost_of costs a.region s.name)) more) b.handle
-            → server_place site.option a.handle (length site.servers) ≡ server_place site.option b.handle (length site.servers)
-        head_same e = ap (λ (xs : List ℕ). slice_index xs 0) e
-
-        tail_same : server_place site.option a.handle (length site.servers) ∷ places_at (filter (λ (s : Site). is_some (cost_of costs a.region s.name)) more) a.handle
-            ≡ server_place site.option b.handle (length site.servers) ∷ places_at (filter (λ (s : Site). is_some (cost_of costs a.region s.name)) more) b.handle
-            → places_at (filter (λ (s : Site). is_some (cost_of costs a.region s.name)) more) a.handle ≡ places_at (filter (λ (s : Site). is_some (cost_of costs a.region s.name)) more) b.handle
-        tail_same e = ap rest_of e
-          where
-            rest_of : List ℕ → List ℕ
-            rest_of [] = []
-            rest_of (x ∷ xs) = xs
+pub kinds_have_arcs : KindsHaveArcs
+kinds_have_arcs costs sites a b e = let p = same_parts costs sites a b e in same_arcs costs a b 0 0 sites p.0 p.1
 
 -- ---- the arcs of a row of a network of lists
 
 arcs_append : (xs ys : List NetworkArc) (i : ℕ) → arcs_in (xs ++ ys) i ≡ arcs_in xs i ++ arcs_in ys i
 arcs_append [] ys i = refl
-arcs_append (x ∷ xs) ys i = by_test (x.row == i) (arcs_append xs ys i)
-  where
-    by_test : (t : Bool) → arcs_in (xs ++ ys) i ≡ arcs_in xs i ++ arcs_in ys i →
-        map without_row (cond t (x ∷ filter (λ b. b.row == i) (xs ++ ys)) (filter (λ b. b.row == i) (xs ++ ys)))
-        ≡ map without_row (cond t (x ∷ filter (λ b. b.row == i) xs) (filter (λ b. b.row == i) xs)) ++ arcs_in ys i
-    by_test true e = ap (λ arcs. without_row x ∷ arcs) e
-    by_test false e = e
+arcs_append (x ∷ xs) ys i = grind (arith, arcs_append xs ys i)
 
 own_arcs : (arcs : List Arc) (j : ℕ) → arcs_in (map (arc_of j) arcs) j ≡ arcs
 own_arcs [] j = refl
-own_arcs (a ∷ arcs) j =
-    let t : (j == j) ≡ true = eq-eqb j j refl in
-    ap (λ t. map without_row (cond t (arc_of j a ∷ filter (λ b. b.row == j) (map (arc_of j) arcs)) (filter (λ b. b.row == j) (map (arc_of j) arcs)))) t
-    ∙ ap (λ rest. a ∷ rest) (own_arcs arcs j)
+own_arcs (a ∷ arcs) j = grind (arith, own_arcs arcs j, eq-eqb j j refl)
 
 no_arcs : (arcs : List Arc) (j i : ℕ) → (j ≡ i → ⊥) → arcs_in (map (arc_of j) arcs) i ≡ []
 no_arcs [] j i ne = refl
-no_arcs (a ∷ arcs) j i ne =
-    let t : (j == i) ≡ false = ne_eqb j i ne in
-    ap (λ t. map without_row (cond t (arc_of j a ∷ filter (λ b. b.row == i) (map (arc_of j) arcs)) (filter (λ b. b.row == i) (map (arc_of j) arcs)))) t
-    ∙ no_arcs arcs j i ne
+no_arcs (a ∷ arcs) j i ne = grind (arith, no_arcs arcs j i ne, ne_eqb j i ne)
 
 before_arcs : (lists : List (List Arc)) (j i : ℕ) → i < j → arcs_in (arcs_of_rows j lists) i ≡ []
 before_arcs [] j i l = refl
@@ -157,30 +117,17 @@ rows_below (arcs ∷ lists) j most l =
 
 none_before : (costs : List CostEntry) (row : Row) (n first : ℕ) (sites : List Site) (s : ℕ) → s < n → arcs_to (arcs_from costs row n first sites) s ≡ 0
 none_before costs row n first [] s l = refl
-none_before costs row n first (site ∷ more) s l = by_cost (cost_of costs row.region site.name) (none_before costs row (n + 1) (first + length site.servers) more s (omega arith))
-  where
-    by_cost : (o : Option ℕ) → arcs_to (arcs_from costs row (n + 1) (first + length site.servers) more) s ≡ 0 → arcs_to (arc_to row.handle n first site o ++ arcs_from costs row (n + 1) (first + length site.servers) more) s ≡ 0
-    by_cost None e = e
-    by_cost (Some cost) e =
-        let a : Arc = record { site = n; server = first + server_place site.option row.handle (length site.servers); cost = cost } in
-        let z : when (n == s) 1 ≡ 0 = when_there n s 1 (λ q. omega arith) in
-        sum_by-cons (λ b. when (b.site == s) 1) a (arcs_from costs row (n + 1) (first + length site.servers) more) ∙ omega (arith, z, e)
+none_before costs row n first (site ∷ more) s l =
+    let later = first + length site.servers in
+    let sum = sum_by_from (λ (b : Arc). when (b.site == s) 1) (0 + when (n == s) 1) (arcs_from costs row (n + 1) later more) in
+    grind (arith, none_before costs row (n + 1) later more s, sum)
 
 one_a_site : (costs : List CostEntry) (row : Row) (n first : ℕ) (sites : List Site) (s : ℕ) → arcs_to (arcs_from costs row n first sites) s ≤ 1
 one_a_site costs row n first [] s = omega arith
 one_a_site costs row n first (site ∷ more) s =
-    by_cost (cost_of costs row.region site.name) (one_a_site costs row (n + 1) (first + length site.servers) more s) (λ l. none_before costs row (n + 1) (first + length site.servers) more s l)
-  where
-    by_cost : (o : Option ℕ) → arcs_to (arcs_from costs row (n + 1) (first + length site.servers) more) s ≤ 1 → (s < n + 1 → arcs_to (arcs_from costs row (n + 1) (first + length site.servers) more) s ≡ 0)
-        → arcs_to (arc_to row.handle n first site o ++ arcs_from costs row (n + 1) (first + length site.servers) more) s ≤ 1
-    by_cost None one none = one
-    by_cost (Some cost) one none =
-        let a : Arc = record { site = n; server = first + server_place site.option row.handle (length site.servers); cost = cost } in
-        let all = sum_by-cons (λ b. when (b.site == s) 1) a (arcs_from costs row (n + 1) (first + length site.servers) more) in
-        elim (cases_eq n s) [
-          | inl e ↦ let z = none (omega arith) in let h : when (n == s) 1 ≡ 1 = subst (λ s. when (n == s) 1 ≡ 1) e (when_here n 1) in omega (arith, all, z, h)
-          | inr ne ↦ let z : when (n == s) 1 ≡ 0 = when_there n s 1 ne in omega (arith, all, z, one)
-        ]
+    let later = first + length site.servers in
+    let sum = sum_by_from (λ (b : Arc). when (b.site == s) 1) (0 + when (n == s) 1) (arcs_from costs row (n + 1) later more) in
+    grind (arith, one_a_site costs row (n + 1) later more s, none_before costs row (n + 1) later more s, sum)
 
 -- ---- the two networks
 
@@ -217,7 +164,7 @@ module _ (at : Service) (rows : List Row) where
   alike i l =
       let same = placed_same (by_kind at.costs at.sites) classes count (λ a b. refl) table (row_at rows i) no_row (all_there (by_kind at.costs at.sites) classes count (λ a b. refl) rows [] i no_row l) in
       arcs_are rows i l
-      ∙ sym (same_arcs at.costs (row_at table (kind i)) (row_at rows i) 0 0 at.sites (same_region at.costs at.sites (row_at table (kind i)) (row_at rows i) same) (same_places at.costs at.sites (row_at table (kind i)) (row_at rows i) same))
+      ∙ sym (kinds_have_arcs at.costs at.sites (row_at table (kind i)) (row_at rows i) same)
       ∙ sym (arcs_are table (kind i) (there i l))
 
   in_rows : (i : ℕ) → i < length (map count rows) → i < length rows
@@ -268,6 +215,3 @@ module _ (at : Service) (rows : List Row) where
 
 pub tables_are_of_kinds : TablesAreOfKinds
 tables_are_of_kinds at rows = ((kind at rows, table_kinds at rows), rows_are at rows, one_site at rows)
-
-pub kinds_have_arcs : KindsHaveArcs
-kinds_have_arcs costs sites a b e = same_arcs costs a b 0 0 sites (same_region costs sites a b e) (same_places costs sites a b e)

@@ -1,11 +1,10 @@
 -- A printed table is read back as the table.
-use Rattle.std.proofs.Common.{◌≡◌, ◌∙◌, ◌+◌, ◌<◌, ◌≤◌, nat_le, ℕ, zero, suc, true, false, cond, List, [], ◌∷◌, ◌++◌, Ok, codes, length, length-append, map, refl, ap, sym, add-one, arith}
-use Rattle.std.proofs.lemmas.Bool.{and_parts, and_from, false_from_ne_true, le-leb, true≢false}
+use Rattle.std.proofs.Common.{◌≡◌, ◌∙◌, ◌+◌, ◌<◌, ◌≤◌, nat_le, ℕ, zero, suc, true, false, cond, List, [], ◌∷◌, ◌++◌, Ok, codes, length, length-append, map, refl, ap, add-one, arith}
+use Rattle.std.proofs.lemmas.Bool.{le-leb}
 use Rattle.std.proofs.lemmas.List.{length-map}
 use Rattle.std.specs.Cmp.Lexicographic.{bytes_decides}
 use Rattle.std.specs.List.{AllByRecursion, IsDistinct}
 use Rattle.std.specs.Prelude.{decimal}
-use Rattle.std.specs.Str.{bytes_eq}
 use Rattle.csv.proofs.RoundTrip.{read-write}
 use Rattle.csv.specs.Machine.{next_record}
 use Rattle.csv.specs.Reading.{default_config, records, records_from, strip_bom}
@@ -83,12 +82,9 @@ module _ (digits : DigitsSpellTheirNumber) where
 -- rows of two kinds have two names
 module _ (costs : List CostEntry) (sites : List Site) where
   two_names : (a b : Row) → is_same_kind costs sites a b ≡ false → same_demand (entry_of a) (entry_of b) ≡ false
-  two_names a b other = false_from_ne_true (same_demand (entry_of a) (entry_of b)) (λ same.
-      let parts = and_parts (bytes_eq a.region b.region) (bytes_eq a.handle b.handle) same in
-      let handle : a.handle ≡ b.handle = (bytes_decides a.handle b.handle).0 parts.1 in
-      let places : places_at (sites_for costs sites a.region) a.handle ≡ places_at (sites_for costs sites a.region) b.handle = ap (places_at (sites_for costs sites a.region)) handle in
-      true≢false (sym (and_from (bytes_eq a.region b.region) (bytes_eq (places_at (sites_for costs sites a.region) a.handle) (places_at (sites_for costs sites a.region) b.handle)) parts.0
-      ((bytes_decides (places_at (sites_for costs sites a.region) a.handle) (places_at (sites_for costs sites a.region) b.handle)).1 places)) ∙ other))
+  two_names a b other =
+      let own = places_at (sites_for costs sites a.region) in
+      grind (arith, bytes_decides a.handle b.handle, bytes_decides (own a.handle) (own b.handle))
 
   names_apart : (row : Row) (rows : List Row) → AllByRecursion (λ y. is_same_kind costs sites row y ≡ false) rows → AllByRecursion (λ y. same_demand (entry_of row) y ≡ false) (map entry_of rows)
   names_apart row [] all = tt

@@ -1,31 +1,25 @@
 -- The table of a log in two parts is that of the tables of the parts.
-use Rattle.std.proofs.Common.{◌≡◌, ◌∙◌, ◌+◌, ◌-◌, ◌≤◌, ◌^◌, nat_le, ℕ, suc, Bool, true, false, cond, List, [], ◌∷◌, ◌++◌, Option, Some, None, Ok, Err, decimal, length, length-append, refl, ap, sym, arith}
-use Rattle.std.proofs.lemmas.Bool.{le-leb, leb-true}
-use Rattle.std.specs.List.{AllByRecursion, list_any}
+use Rattle.std.proofs.Common.{◌≡◌, ◌∙◌, ◌+◌, ◌-◌, ◌≤◌, ◌^◌, nat_le, ℕ, true, List, [], ◌∷◌, ◌++◌, Option, Some, Ok, decimal, length, length-append, refl, ap, sym, arith}
+use Rattle.std.proofs.lemmas.Bool.{le-leb}
+use Rattle.std.specs.List.{AllByRecursion}
 use Rattle.std.specs.Prelude.{Result}
-use Rattle.std.specs.Str.{bytes_eq}
 use Rattle.hsp_csv.specs.Records.{Fields}
 use Rattle.hsp_instance.specs.Instance.{IsNamed, Row, Site, regions_of}
 use Rattle.hsp_instance.proofs.Lists.{all_append}
-use Rattle.hsp_kinds.specs.Rows.{is_same_kind}
 use Rattle.hsp_kinds.specs.Tables.{LogInParts, counted, counted_all}
 use Rattle.hsp_tables.specs.Costs.{CostEntry}
 use Rattle.hsp_text.specs.Answers.{◌>>=◌, or_fault, told_as}
-use Rattle.hsp_text.specs.Name.{is_name}
-use Rattle.hsp_text.specs.Whole.{DigitsSpellTheirNumber, is_whole, whole_within}
-use Rattle.std.specs.Str.Parse.{digits_value}
+use Rattle.hsp_text.specs.Whole.{DigitsSpellTheirNumber}
 use Rattle.hsp_text.specs.declared.limits.TheConstants.{MOST_DEMAND_ROWS, MOST_REGIONS}
-use Rattle.hsp_text.specs.declared.whole.WholeFault.{WholeFault}
-use Rattle.hsp_text.specs.declared.whole.WholeFault.TheVariants as whole
 use Rattle.hsp_names.specs.Handle as names
 use Rattle.hsp_names.specs.declared.fault.HandleFault.{HandleFault}
 use Rattle.hsp_tally.specs.Keys.{with_region}
-use Rattle.hsp_tally.specs.Tally.{IsKept, by_capped, with_counted, with_more}
+use Rattle.hsp_tally.specs.Tally.{IsKept, by_capped, with_counted}
 use Rattle.hsp_tally.proofs.Capped.{capped_kinds_are_classes, tables_are_capped}
-use Rattle.hsp_tally.proofs.KindCounts.{counted_regions, counted_well}
+use Rattle.hsp_tally.proofs.KindCounts.{counted_regions, counted_well, longer}
 use Rattle.hsp_tally.proofs.KindTables.{counted_is, no_kinds}
 use Rattle.hsp_stream.specs.KindsLaws.{IsLogCount, PartsMakeTheTable, SpellRows, Spells, TableIsOfKinds}
-use Rattle.hsp_stream.specs.KindsLog.{Parts, count_in, count_or, handle_or, kinds_told, name_in, parts_in, row_of, rows_from, with_parts, with_record}
+use Rattle.hsp_stream.specs.KindsLog.{Parts, count_in, handle_or, kinds_told, name_in, parts_in, row_of, rows_from, with_parts, with_record}
 use Rattle.hsp_stream.specs.KindsTable.{fields_of_row, records_of_rows}
 use Rattle.hsp_stream.specs.declared.fault.RowFault.TheVariants as fault
 use Rattle.hsp_stream.specs.declared.fault.RowFault.{RowFault}
@@ -39,23 +33,13 @@ use Rattle.hsp_stream.proofs.KindsWhole.{rows_kept, step, told}
 -- ---- the rows that records spell, whatever their numbers
 
 name_any : (n m : ℕ) (octets name : List ℕ) → name_in n octets ≡ Ok name → name_in m octets ≡ Ok name
-name_any n m octets name e = by (is_name octets) e
-  where
-    by : (b : Bool) → cond b (Ok octets) (Err (fault.BadName n)) ≡ Ok name → cond b (Ok octets) (Err (fault.BadName m)) ≡ Ok name
-    by true e = let same : octets ≡ name = cc (e) in ap Ok same
-    by false e = let bad : ◌≡◌ {A = Result (List ℕ) RowFault} (Err (fault.BadName n)) (Ok name) = e in cc
+name_any n m octets name e = grind arith
 
 handle_any : (n m : ℕ) (r : Result (List ℕ) HandleFault) (handle : List ℕ) → handle_or n r ≡ Ok handle → handle_or m r ≡ Ok handle
-handle_any n m (Ok found) handle e = let same : found ≡ handle = cc (e) in ap Ok same
-handle_any n m (Err f) handle e = let bad : ◌≡◌ {A = Result (List ℕ) RowFault} (Err (fault.BadHandle n f)) (Ok handle) = e in cc
+handle_any n m r handle e = grind arith
 
 count_any : (n m : ℕ) (o : Option (List ℕ)) (count : ℕ) → count_in n o ≡ Ok count → count_in m o ≡ Ok count
-count_any n m None count e = let same : 1 ≡ count = cc (e) in ap Ok same
-count_any n m (Some octets) count e = by (whole_within GREATEST_ROW_COUNT octets) e
-  where
-    by : (r : Result ℕ WholeFault) → count_or n r ≡ Ok count → count_or m r ≡ Ok count
-    by (Ok found) e = let same : found ≡ count = cc (e) in ap Ok same
-    by (Err f) e = let bad : ◌≡◌ {A = Result ℕ RowFault} (Err (fault.BadNumber n)) (Ok count) = e in cc
+count_any n m o count e = grind arith
 
 row_any : (n m : ℕ) (parts : Parts) (row : Row) → row_of n parts ≡ Ok row → row_of m parts ≡ Ok row
 row_any n m parts row e =
@@ -105,8 +89,7 @@ module _ (costs : List CostEntry) (sites : List Site) where
       )
     where
       some_is : (o : Option Parts) (x : Parts) → or_fault (Log (fault.Fields n)) o ≡ Ok x → Some x ≡ o
-      some_is None x e = let bad : ◌≡◌ {A = Result Parts StreamFault} (Err (Log (fault.Fields n))) (Ok x) = e in cc
-      some_is (Some y) x e = let same : y ≡ x = cc (e) in ap Some (sym same)
+      some_is o x e = grind arith
 
   rows_read : (form : CountForm) (n : ℕ) (table all : List Row) (records : List Fields) → rows_from costs sites form n table records ≡ Ok all
       → (rows : List Row) × SpellRows form records rows × (all ≡ counted_all (by_capped costs sites) table rows)
@@ -119,24 +102,14 @@ module _ (costs : List CostEntry) (sites : List Site) where
 
   -- ---- tables only grow
 
-  longer : (rows : List Row) (row : Row) → length rows ≤ length (counted (by_capped costs sites) rows row)
-  longer [] row = omega arith
-  longer (first ∷ rows) row = by (is_same_kind costs sites first row) (longer rows row)
-    where
-      by : (b : Bool) → length rows ≤ length (counted (by_capped costs sites) rows row) → suc (length rows) ≤ length (cond b (with_more first row.count ∷ rows) (first ∷ counted (by_capped costs sites) rows row))
-      by true more = omega arith
-      by false more = omega arith
-
   wider : (regions : List (List ℕ)) (region : List ℕ) → length regions ≤ length (with_region regions region)
-  wider regions region = by (list_any (bytes_eq region) regions)
-    where
-      by : (b : Bool) → length regions ≤ length (cond b regions (regions ++ region ∷ []))
-      by true = omega arith
-      by false = omega (arith, length-append regions (region ∷ []))
+  wider regions region = grind (arith, length-append regions (region ∷ []))
 
   all_longer : (more rows : List Row) → length rows ≤ length (counted_all (by_capped costs sites) rows more)
   all_longer [] rows = omega arith
-  all_longer (row ∷ more) rows = omega (arith, longer rows row, all_longer more (counted (by_capped costs sites) rows row))
+  all_longer (row ∷ more) rows =
+      let next = counted (by_capped costs sites) rows row in
+      omega (arith, longer costs sites row rows, all_longer more next)
 
   all_wider : (more rows : List Row) → length (regions_of rows) ≤ length (regions_of (counted_all (by_capped costs sites) rows more))
   all_wider [] rows = omega arith
@@ -187,17 +160,7 @@ parts_make_the_table digits parts costs sites form a b first second all one two 
 -- ---- the table is of kinds
 
 count_kept : (n : ℕ) (o : Option (List ℕ)) (count : ℕ) → count_in n o ≡ Ok count → count ≤ 2 ^ 64 - 1
-count_kept n None count e = let same : 1 ≡ count = cc (e) in omega arith
-count_kept n (Some octets) count e = by (is_whole octets) (nat_le (digits_value 10 octets) GREATEST_ROW_COUNT) refl e
-  where
-    by : (a b : Bool) → nat_le (digits_value 10 octets) GREATEST_ROW_COUNT ≡ b
-        → count_or n (cond a (cond b (Ok (digits_value 10 octets)) (Err whole.TooLarge)) (Err whole.NotWhole)) ≡ Ok count → count ≤ 2 ^ 64 - 1
-    by true true t e =
-        let same : digits_value 10 octets ≡ count = cc (e) in
-        let within = leb-true (digits_value 10 octets) GREATEST_ROW_COUNT t in
-        omega arith
-    by true false t e = let bad : ◌≡◌ {A = Result ℕ RowFault} (Err (fault.BadNumber n)) (Ok count) = e in cc
-    by false b t e = let bad : ◌≡◌ {A = Result ℕ RowFault} (Err (fault.BadNumber n)) (Ok count) = e in cc
+count_kept n o count e = grind arith
 
 row_kept : (parts : Parts) (row : Row) → row_of 0 parts ≡ Ok row → IsKept row
 row_kept parts row e =

@@ -11,10 +11,6 @@ use Rattle.hsp_stream.specs.declared.kinds_files.Files.{Files}
 use Rattle.hsp_stream.specs.declared.kinds_files.KindsInputs.{KindsInputs}
 
 module _ (inputs : KindsInputs) (word : Option (List ℕ)) (records : List Fields) where
-  -- the unit is at fault
-  pub unit_stops : (fault : StreamFault) → unit_at word ≡ Err fault → IsKindsText inputs word records (Err fault)
-  unit_stops fault is = (Err fault, sym is, refl)
-
   -- a file is at fault
   pub files_stop : (unit : ℕ) (fault : Fault) → unit_at word ≡ Ok unit → AreFilesIn inputs (Err fault) → IsKindsText inputs word records (Err (input_told fault))
   files_stop unit fault is files = (Ok unit, sym is, (Err (input_told fault), (Err fault, files, refl), refl))

@@ -109,8 +109,3 @@ pub so_far_fault : (unit : ℕ) (rows : List Row) (row : ℕ) (text : List ℕ) 
 so_far_fault unit rows row text kind fault at so_far bad =
     sym so_far.2 ∙ ap (rows_in_units unit so_far.0 row) (drop_at rows row kind at)
     ∙ ap (λ r. r >>= λ count. rows_in_units unit (so_far.0 ++ with_count kind count ∷ []) (row + 1) (drop (row + 1) rows)) bad
-
-pub so_far_whole : (unit : ℕ) (rows : List Row) (row : ℕ) (text : List ℕ) → drop row rows ≡ [] → IsTextSoFar unit rows row text → (rows_in_units unit [] 0 rows >>= λ units. Ok (table_text units)) ≡ Ok text
-so_far_whole unit rows row text none so_far =
-    let all : rows_in_units unit [] 0 rows ≡ Ok so_far.0 = sym so_far.2 ∙ ap (rows_in_units unit so_far.0 row) none in
-    ap (λ (r : Result (List Row) StreamFault). r >>= λ units. Ok (table_text units)) all ∙ ap Ok (sym so_far.1)

@@ -1,6 +1,5 @@
 -- The table of a log is one of kinds, and so is the table in units.
-use Rattle.std.proofs.Common.{◌≡◌, ◌∙◌, ◌+◌, ◌≤◌, nat_lt, not, ℕ, Bool, true, false, cond, List, [], ◌∷◌, ◌++◌, Ok, Err, append_assoc, append-nil, length, map, refl, ap, sym}
-use Rattle.std.proofs.lemmas.Bool.{ltb-false}
+use Rattle.std.proofs.Common.{arith, ◌≡◌, ◌∙◌, ◌+◌, ◌≤◌, ℕ, true, false, List, [], ◌∷◌, ◌++◌, Ok, Err, append_assoc, append-nil, length, map, refl, ap, sym}
 use Rattle.std.proofs.lemmas.List.{length-map, map-append}
 use Rattle.std.specs.List.{AllByRecursion, IsDistinct}
 use Rattle.std.specs.Prelude.{Result}
@@ -8,21 +7,16 @@ use Rattle.hsp_csv.specs.Records.{Fields, records_of}
 use Rattle.hsp_instance.specs.Instance.{IsNamed, Row, Site, regions_of}
 use Rattle.hsp_instance.proofs.Lists.{all_push, map_twice}
 use Rattle.hsp_kinds.specs.Rows.{is_same_kind}
-use Rattle.hsp_kinds.specs.Units.{rounded_up}
 use Rattle.hsp_names.specs.Handle as names
-use Rattle.hsp_names.specs.declared.fault.HandleFault.{HandleFault}
-use Rattle.hsp_names.specs.declared.fault.HandleFault.TheVariants as handle_fault
-use Rattle.std.specs.Str.{is_utf8}
 use Rattle.hsp_tables.specs.Costs.{CostEntry}
 use Rattle.hsp_tables.specs.Table.{first_seen}
 use Rattle.hsp_text.specs.Answers.{◌>>=◌, or_fault, told_as}
 use Rattle.hsp_text.specs.Name.{is_name}
-use Rattle.hsp_text.specs.declared.limits.TheConstants.{GREATEST_COUNT, LONGEST_HANDLE}
+use Rattle.hsp_text.specs.declared.limits.TheConstants.{GREATEST_COUNT}
 use Rattle.hsp_tally.specs.Tally.{with_counted}
 use Rattle.hsp_tally.proofs.KindTables.{IsKindTable, kinds_more, no_kinds}
 use Rattle.hsp_stream.specs.KindsLog.{Parts, count_in, form_of, handle_or, kinds_told, name_in, parts_in, row_of, rows_from, table_of, with_parts, with_record}
 use Rattle.hsp_stream.specs.KindsTable.{in_unit, rows_in_units, table_in_units, table_text, with_count}
-use Rattle.hsp_stream.specs.declared.fault.RowFault.{RowFault}
 use Rattle.hsp_stream.specs.declared.fault.RowFault.TheVariants as fault
 use Rattle.hsp_stream.specs.declared.fault.StreamFault.{StreamFault}
 use Rattle.hsp_stream.specs.declared.fault.StreamFault.TheVariants.{Log}
@@ -40,37 +34,17 @@ step (Ok x) f y e = (x, refl, e)
 step {B = B} {E = E} (Err fault) f y e = let bad : ◌≡◌ {A = Result B E} (Err fault) (Ok y) = e in cc
 
 pub told : {A E F : Type 0} (part : E → F) (r : Result A E) (x : A) → told_as part r ≡ Ok x → r ≡ Ok x
-told {A} {E} {F} part (Ok y) x e = let same : y ≡ x = cc (e) in ap Ok same
-told {A} {E} {F} part (Err fault) x e = let bad : ◌≡◌ {A = Result A F} (Err (part fault)) (Ok x) = e in cc
+told part r x e = grind arith
 
 name_is : (row : ℕ) (octets name : List ℕ) → name_in row octets ≡ Ok name → is_name name ≡ true
-name_is row octets name e = by (is_name octets) refl e
-  where
-    by : (b : Bool) → is_name octets ≡ b → cond b (Ok octets) (Err (fault.BadName row)) ≡ Ok name → is_name name ≡ true
-    by true is e = let same : octets ≡ name = cc (e) in rw (← same) is
-    by false is e = let bad : ◌≡◌ {A = Result (List ℕ) RowFault} (Err (fault.BadName row)) (Ok name) = e in cc
+name_is row octets name e = grind arith
 
 -- what is read as a handle is the octets that were read
 handle_own : (octets found : List ℕ) → names.handle_in octets ≡ Ok found → octets ≡ found
-handle_own octets found e =
-    first (nat_lt LONGEST_HANDLE (length octets)) (not (is_utf8 octets)) (not (names.has_slash octets)) (not (names.has_segments (names.naming_authority octets))) e
-  where
-    first : (a b c d : Bool) → cond a (Err handle_fault.TooLong) (cond b (Err handle_fault.NotUtf8) (cond c (Err handle_fault.NoSlash) (cond d (Err handle_fault.EmptySegment) (Ok octets)))) ≡ Ok found → octets ≡ found
-    first true b c d e = let bad : ◌≡◌ {A = Result (List ℕ) HandleFault} (Err handle_fault.TooLong) (Ok found) = e in cc
-    first false true c d e = let bad : ◌≡◌ {A = Result (List ℕ) HandleFault} (Err handle_fault.NotUtf8) (Ok found) = e in cc
-    first false false true d e = let bad : ◌≡◌ {A = Result (List ℕ) HandleFault} (Err handle_fault.NoSlash) (Ok found) = e in cc
-    first false false false true e = let bad : ◌≡◌ {A = Result (List ℕ) HandleFault} (Err handle_fault.EmptySegment) (Ok found) = e in cc
-    first false false false false e = cc (e)
+handle_own octets found e = grind arith
 
 handle_is : (row : ℕ) (octets handle : List ℕ) → handle_or row (names.handle_in octets) ≡ Ok handle → names.handle_in handle ≡ Ok handle
-handle_is row octets handle e = by (names.handle_in octets) refl e
-  where
-    by : (r : Result (List ℕ) HandleFault) → names.handle_in octets ≡ r → handle_or row r ≡ Ok handle → names.handle_in handle ≡ Ok handle
-    by (Ok found) is e =
-        let same : found ≡ handle = cc (e) in
-        let own : octets ≡ found = handle_own octets found is in
-        rw (← same, ← own) (is ∙ ap Ok (sym own))
-    by (Err f) is e = let bad : ◌≡◌ {A = Result (List ℕ) RowFault} (Err (fault.BadHandle row f)) (Ok handle) = e in cc
+handle_is row octets handle e = grind (arith, handle_own octets handle)
 
 row_named : (row : ℕ) (parts : Parts) (read : Row) → row_of row parts ≡ Ok read → IsNamed read
 row_named row parts read e =
@@ -106,11 +80,7 @@ abbrev pub bares : List Row → List Row
 bares rows = map (λ row. with_count row 0) rows
 
 count_few : (row unit count units : ℕ) → in_unit row unit count ≡ Ok units → units ≤ GREATEST_COUNT
-count_few row unit count units e = by (nat_lt GREATEST_COUNT (rounded_up unit count)) refl e
-  where
-    by : (b : Bool) → nat_lt GREATEST_COUNT (rounded_up unit count) ≡ b → cond b (Err (Log (fault.CountTooLarge row (rounded_up GREATEST_COUNT count)))) (Ok (rounded_up unit count)) ≡ Ok units → units ≤ GREATEST_COUNT
-    by true is e = let bad : ◌≡◌ {A = Result ℕ StreamFault} (Err (Log (fault.CountTooLarge row (rounded_up GREATEST_COUNT count)))) (Ok units) = e in cc
-    by false is e = let same : rounded_up unit count ≡ units = cc (e) in rw (← same) (ltb-false GREATEST_COUNT (rounded_up unit count) is)
+count_few row unit count units e = grind arith
 
 pub units_are : (unit row : ℕ) (done rest all : List Row) → rows_in_units unit done row rest ≡ Ok all → AllByRecursion IsCounted done → (bares all ≡ bares (done ++ rest)) × AllByRecursion IsCounted all
 units_are unit row done [] all e few = let same : done ≡ all = cc (e) in rw (← same, append-nil) (refl, few)

@@ -1,6 +1,5 @@
 -- Lines and fields that are written piece by piece.
-use Rattle.std.proofs.Common.{◌≡◌, ◌∙◌, ℕ, zero, suc, ◌+◌, ◌==◌, List, [], ◌∷◌, ◌++◌, Option, Some, None, drop, length, ◌≤◌, arith, option_map, refl, ap, sym, append_assoc, append-nil, inl, inr}
-use Rattle.std.proofs.lemmas.Bool.{cases_Bool}
+use Rattle.std.proofs.Common.{◌≡◌, ◌∙◌, ℕ, ◌+◌, List, [], ◌∷◌, ◌++◌, Option, Some, None, drop, arith, option_map, refl, ap, sym, append_assoc, append-nil}
 use Rattle.std.specs.List.{slice_get}
 use Rattle.csv.specs.Writing.{default_writer, escaped}
 use Rattle.hsp_instance.specs.Instance.{Site}
@@ -10,10 +9,7 @@ use Rattle.hsp_stream.specs.PlaceLines.{place_line, place_lines}
 -- an octet before others
 escaped_then : (c : ℕ) (rest : List ℕ) → escaped default_writer (c ∷ rest) ≡ escaped default_writer (c ∷ []) ++ escaped default_writer rest
 unfolding escaped
-escaped_then c rest = elim (cases_Bool (c == 34)) [
-  | inl t ↦ rw t refl
-  | inr f ↦ rw f refl
-]
+escaped_then c rest = grind arith
 
 -- one octet more is written
 pub one_escaped : (out new left : List ℕ) (c : ℕ) (rest whole : List ℕ) → left ≡ c ∷ rest → new ≡ out ++ escaped default_writer (c ∷ []) → out ++ escaped default_writer left ≡ whole
@@ -25,13 +21,6 @@ one_escaped out new left c rest whole next is all =
 pub all_escaped : (out left whole : List ℕ) → left ≡ [] → out ++ escaped default_writer left ≡ whole → out ≡ whole
 unfolding escaped
 all_escaped out left whole none all = sym (append-nil out) ∙ ap (λ l. out ++ escaped default_writer l) (sym none) ∙ all
-
--- nothing is left past the end
-pub dropped_all : (n : ℕ) (xs : List ℕ) → length xs ≤ n → drop n xs ≡ []
-dropped_all zero [] few = refl
-dropped_all zero (x ∷ xs) few = absurd (omega arith)
-dropped_all (suc n) [] few = refl
-dropped_all (suc n) (x ∷ xs) few = dropped_all n xs (omega arith)
 
 -- the pieces of a line, one after the other
 pub line_pieces : (out a b p i n1 n2 n3 n4 n5 n6 n7 n8 : List ℕ) → n1 ≡ out ++ a → n2 ≡ n1 ++ 44 ∷ [] → n3 ≡ n2 ++ b → n4 ≡ n3 ++ 44 ∷ [] → n5 ≡ n4 ++ p → n6 ≡ n5 ++ 44 ∷ [] → n7 ≡ n6 ++ i → n8 ≡ n7 ++ 10 ∷ []

@@ -1,5 +1,5 @@
 -- Rows that were answered in turn.
-use Rattle.std.proofs.Common.{◌≡◌, ◌≢◌, ◌<◌, ◌+◌, ◌∙◌, ◌++◌, Bool, ℕ, zero, suc, List, [], ◌∷◌, length, map, Option, None, Some, count_by, arith, refl, sym, ap, cond, append_assoc, append-nil}
+use Rattle.std.proofs.Common.{◌≡◌, ◌≢◌, ◌+◌, ◌∙◌, ◌++◌, Bool, ℕ, suc, List, [], ◌∷◌, length, map, Option, None, Some, count_by, arith, refl, sym, ap, cond, append_assoc, append-nil}
 use Rattle.std.specs.List.{slice_get}
 use Rattle.std.proofs.lemmas.List.{map_push}
 use Rattle.std.proofs.lemmas.List.Sums.{sum_by_push}
@@ -11,14 +11,16 @@ use Rattle.hsp_dispatch.specs.Lines.{served_by}
 use Rattle.hsp_dispatch.specs.Shares.{Held, left_of}
 use Rattle.hsp_dispatch.specs.declared.answer.Answer.{Answer}
 use Rattle.hsp_dispatch.specs.declared.form.Form.{Form}
-use Rattle.hsp_dispatch.proofs.Resting.{answer_after, answers_more, rest_none, rest_parts, rest_same}
+use Rattle.hsp_dispatch.proofs.Each.{each_parts}
+use Rattle.hsp_dispatch.proofs.Lists.{none_from}
+use Rattle.hsp_dispatch.proofs.Resting.{answer_after, rest_none, rest_parts, rest_same}
 use Rattle.hsp_talk.specs.Talk.{AreTaken}
 use Rattle.hsp_stream.specs.Asking.{AreAsked, Asked, AsksAt}
 use Rattle.hsp_stream.specs.Asking.Asked.{bad, nothing, query}
 use Rattle.hsp_tally.specs.Tally.{capped}
 use Rattle.hsp_stream.specs.Saying.{IsAmong, Said, is_answered, is_refused, none_said, said, said_line, said_of, sums_said, with_given}
 use Rattle.hsp_tally.specs.Tally.{capped}
-use Rattle.hsp_stream.specs.Saying.Said.{answered, refused, silent}
+use Rattle.hsp_stream.specs.Saying.Said.{answered}
 use Rattle.hsp_stream.specs.Telling.{Answering, AreAnswered, IsGiven, TakesRow, Telling, entries_in, entry_for, said_by}
 use Rattle.hsp_stream.specs.declared.given.Given.{Given}
 use Rattle.hsp_stream.specs.declared.given.Given.TheVariants as given
@@ -52,71 +54,49 @@ unfolding answers_after
 as_many it x earlier [] = refl
 as_many it x earlier (entry ∷ entries) = ap suc (as_many it x (earlier ++ entry ∷ []) entries)
 
--- what is said to a row, by the answer to its query
-abbrev said_with : Asked → Answer → Said
-said_with nothing answer = silent
-said_with (query entry) answer = answered answer
-said_with (bad refusal) answer = refused refusal
-
-said_query : (costs : List CostEntry) (it : Instance) (asked : List Asked) (given : List Answer) (entry : Entry) (answer : Answer)
-    → length given ≡ length (entries_in costs it asked) → said (asked ++ query entry ∷ []) (given ++ answer ∷ []) ≡ said asked given ++ answered answer ∷ []
-said_query costs it [] [] entry answer many = refl
-said_query costs it [] (a ∷ given) entry answer many = absurd (omega arith)
-said_query costs it (nothing ∷ asked) given entry answer many = ap (λ (all : List Said). silent ∷ all) (said_query costs it asked given entry answer many)
-said_query costs it (bad refusal ∷ asked) given entry answer many = ap (λ (all : List Said). refused refusal ∷ all) (said_query costs it asked given entry answer many)
-said_query costs it (query e ∷ asked) [] entry answer many = absurd (omega arith)
-said_query costs it (query e ∷ asked) (a ∷ given) entry answer many = ap (λ (all : List Said). answered a ∷ all) (said_query costs it asked given entry answer (omega arith))
-
-said_nothing : (asked : List Asked) (given : List Answer) → said (asked ++ nothing ∷ []) given ≡ said asked given ++ silent ∷ []
-said_nothing [] given = refl
-said_nothing (nothing ∷ asked) given = ap (λ (all : List Said). silent ∷ all) (said_nothing asked given)
-said_nothing (bad refusal ∷ asked) given = ap (λ (all : List Said). refused refusal ∷ all) (said_nothing asked given)
-said_nothing (query e ∷ asked) [] = ap (λ (all : List Said). silent ∷ all) (said_nothing asked [])
-said_nothing (query e ∷ asked) (a ∷ given) = ap (λ (all : List Said). answered a ∷ all) (said_nothing asked given)
-
-said_bad : (asked : List Asked) (given : List Answer) (why : _) → said (asked ++ bad why ∷ []) given ≡ said asked given ++ refused why ∷ []
-said_bad [] given why = refl
-said_bad (nothing ∷ asked) given why = ap (λ (all : List Said). silent ∷ all) (said_bad asked given why)
-said_bad (bad refusal ∷ asked) given why = ap (λ (all : List Said). refused refusal ∷ all) (said_bad asked given why)
-said_bad (query e ∷ asked) [] why = ap (λ (all : List Said). silent ∷ all) (said_bad asked [] why)
-said_bad (query e ∷ asked) (a ∷ given) why = ap (λ (all : List Said). answered a ∷ all) (said_bad asked given why)
+-- what is said to one row more, by the answers behind those to the earlier ones
+said_then : (costs : List CostEntry) (it : Instance) (asked : List Asked) (given more : List Answer) (one : Asked)
+    → length given ≡ length (entries_in costs it asked)
+    → said (asked ++ one ∷ []) (given ++ more) ≡ said asked given ++ said (one ∷ []) more
+said_then costs it [] [] more one many = refl
+said_then costs it [] (a ∷ given) more one many = absurd (omega arith)
+said_then costs it (nothing ∷ asked) given more one many = rw (said_then costs it asked given more one many) refl
+said_then costs it (bad refusal ∷ asked) given more one many = rw (said_then costs it asked given more one many) refl
+said_then costs it (query e ∷ asked) [] more one many = absurd (omega arith)
+said_then costs it (query e ∷ asked) (a ∷ given) more one many = rw (said_then costs it asked given more one (omega arith)) refl
 
 -- all that is said by a plan
 abbrev pub all_said : List CostEntry → Instance → Plan → List Asked → List Said
 all_said costs it x asked = said asked (answers it x (entries_in costs it asked))
 
 -- what is said to one row more, where earlier rows left `held` of the plan
+said_one : (costs : List CostEntry) (x : Plan) (held : Held) (entries : List Entry) (one : Asked)
+    → IsSame (left_of held) (rest held.instance x entries)
+    → said (one ∷ []) (answers_after held.instance x entries (entries_in costs held.instance (one ∷ []))) ≡ said_by (record { costs = costs; held = held }) one ∷ []
+unfolding answers_after
+said_one costs x held entries nothing left = refl
+said_one costs x held entries (bad refusal) left = refl
+said_one costs x held entries (query entry) left =
+    let own = entry_for costs held.instance entry in
+    ap (λ (a : Answer). answered a ∷ []) (sym (answer_after held.instance x (left_of held) entries own left))
+
 said_more : (costs : List CostEntry) (x : Plan) (held : Held) (asked : List Asked) (one : Asked)
     → IsSame (left_of held) (rest held.instance x (entries_in costs held.instance asked))
     → all_said costs held.instance x (asked ++ one ∷ []) ≡ all_said costs held.instance x asked ++ said_by (record { costs = costs; held = held }) one ∷ []
-said_more costs x held asked nothing left =
-    let it = held.instance in
-    let same : entries_in costs it (asked ++ nothing ∷ []) ≡ entries_in costs it asked = entries_then costs it asked (nothing ∷ []) ∙ append-nil (entries_in costs it asked) in
-    ap (λ (es : List Entry). said (asked ++ nothing ∷ []) (answers it x es)) same ∙ said_nothing asked (answers it x (entries_in costs it asked))
-said_more costs x held asked (bad refusal) left =
-    let it = held.instance in
-    let same : entries_in costs it (asked ++ bad refusal ∷ []) ≡ entries_in costs it asked = entries_then costs it asked (bad refusal ∷ []) ∙ append-nil (entries_in costs it asked) in
-    ap (λ (es : List Entry). said (asked ++ bad refusal ∷ []) (answers it x es)) same ∙ said_bad asked (answers it x (entries_in costs it asked)) refusal
-said_more costs x held asked (query entry) left =
+unfolding answers_after
+said_more costs x held asked one left =
     let it = held.instance in
     let entries = entries_in costs it asked in
-    let own = entry_for costs it entry in
-    let given : answers it x (entries_in costs it (asked ++ query entry ∷ [])) ≡ answers it x entries ++ answer_to it x entries own ∷ [] =
-    ap (answers it x) (entries_then costs it asked (query entry ∷ [])) ∙ answers_more it x [] entries own in
-    let answer : answer_to it (left_of held) [] own ≡ answer_to it x entries own = answer_after it x (left_of held) entries own left in
-    ap (said (asked ++ query entry ∷ [])) given ∙ said_query costs it asked (answers it x entries) entry (answer_to it x entries own) (as_many it x [] entries)
-    ∙ ap (λ (a : Answer). said asked (answers it x entries) ++ answered a ∷ []) (sym answer)
+    let own = entries_in costs it (one ∷ []) in
+    ap (λ (es : List Entry). said (asked ++ one ∷ []) (answers it x es)) (entries_then costs it asked (one ∷ []))
+    ∙ ap (said (asked ++ one ∷ [])) (each_parts (answer_to it x) [] entries own)
+    ∙ said_then costs it asked (answers it x entries) (answers_after it x entries own) one (as_many it x [] entries)
+    ∙ ap (λ (last : List Said). said asked (answers it x entries) ++ last) (said_one costs x held entries one left)
 
 -- ---- sums
 
 counted_more : (kind : Said → Bool) (all : List Said) (one : Said) → count_by kind (all ++ one ∷ []) ≡ count_by kind all + cond (kind one) 1 0
 counted_more kind all one = sum_by_push (λ (s : Said). cond (kind s) 1 0) all one
-
-capped_more : (n k : ℕ) → capped (capped n + k) ≡ capped (n + k)
-capped_more n k = omega arith
-
-capped_none : (n : ℕ) → capped (n + 0) ≡ capped n
-capped_none n = omega arith
 
 -- sums with what is said to one row more
 abbrev with_said : StreamSums → Said → StreamSums
@@ -130,36 +110,20 @@ with_said sums one = record {
 sums_more : (all : List Said) (one : Said) → sums_said (all ++ one ∷ []) ≡ with_said (sums_said all) one
 sums_more all one =
     rw (counted_more (is_answered is_assigned) all one, counted_more (is_answered is_spent) all one, counted_more (is_answered is_unknown) all one, counted_more is_refused all one)
-    (rw (
-      capped_more (count_by (is_answered is_assigned) all) (cond (is_answered is_assigned one) 1 0),
-      capped_more (count_by (is_answered is_spent) all) (cond (is_answered is_spent one) 1 0),
-      capped_more (count_by (is_answered is_unknown) all) (cond (is_answered is_unknown one) 1 0),
-      capped_more (count_by is_refused all) (cond (is_refused one) 1 0),
-    ) refl)
-
-capped_stays : (all : List Said) (kind : Said → Bool) → capped (capped (count_by kind all) + 0) ≡ capped (count_by kind all)
-capped_stays all kind = omega arith
-
-is_there : (servers : List Server) (number : ℕ) → number < length servers → slice_get servers number ≡ None → ⊥
-is_there [] number there none = absurd (omega (arith, there))
-is_there (server ∷ servers) zero there none = cc none
-is_there (server ∷ servers) (suc number) there none = is_there servers number (omega (arith, there)) none
+    (grind arith)
 
 served : (all : List Said) (server : Option Server) (number : ℕ) → server ≢ None → with_given (sums_said all) (given.Server number) ≡ with_said (sums_said all) (answered (served_by server))
 served all None number there = absurd (there refl)
-served all (Some server) number there =
-    rw (capped_stays all (is_answered is_spent), capped_stays all (is_answered is_unknown), capped_stays all is_refused) refl
+served all (Some server) number there = grind arith
 
 given_sums : (it : Instance) (all : List Said) (how : Given) → IsAmong (length it.servers) how → with_given (sums_said all) how ≡ with_said (sums_said all) (said_of it how)
-given_sums it all (given.Server number) among = served all (slice_get it.servers number) number (λ none. is_there it.servers number among none)
-given_sums it all given.Nothing among =
-    rw (capped_stays all (is_answered is_assigned), capped_stays all (is_answered is_spent), capped_stays all (is_answered is_unknown), capped_stays all is_refused) refl
-given_sums it all given.Spent among =
-    rw (capped_stays all (is_answered is_assigned), capped_stays all (is_answered is_unknown), capped_stays all is_refused) refl
-given_sums it all given.Unknown among =
-    rw (capped_stays all (is_answered is_assigned), capped_stays all (is_answered is_spent), capped_stays all is_refused) refl
-given_sums it all (given.Refused refusal) among =
-    rw (capped_stays all (is_answered is_assigned), capped_stays all (is_answered is_spent), capped_stays all (is_answered is_unknown)) refl
+given_sums it all (given.Server number) among =
+    let past = none_from it.servers number in
+    served all (slice_get it.servers number) number (λ none. absurd (omega (arith, past none, among)))
+given_sums it all given.Nothing among = grind arith
+given_sums it all given.Spent among = grind arith
+given_sums it all given.Unknown among = grind arith
+given_sums it all (given.Refused refusal) among = grind arith
 
 -- ---- desks
 

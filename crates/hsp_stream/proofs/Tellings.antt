@@ -1,13 +1,13 @@
 -- Queries, answered by the rows of their kinds.
-use Rattle.std.proofs.Common.{◌≡◌, ◌<◌, ◌+◌, ◌∙◌, true, false, true≢false, ℕ, zero, suc, List, [], ◌∷◌, length, Option, None, Some, IfSome, arith, refl, sym, ap, add-zero}
-use Rattle.std.proofs.Common.{inl, inr}
+use Rattle.std.proofs.Common.{◌≡◌, ◌<◌, ◌+◌, ◌∙◌, true, false, ℕ, zero, suc, List, [], ◌∷◌, length, Option, None, Some, IfSome, arith, refl, sym, ap, add-zero}
 use Rattle.std.specs.Prelude.{position}
 use Rattle.std.specs.List.{IsDistinct, position_from, slice_get}
 use Rattle.std.specs.Str.{bytes_eq}
-use Rattle.std.proofs.lemmas.Bool.{and_parts, cases_Bool}
+use Rattle.std.proofs.lemmas.Bool.{and_parts}
 use Rattle.std.proofs.lemmas.Iterator.Adapters.{position_from-zero}
 use Rattle.std.proofs.lemmas.List.Quantifiers.{position-Some}
 use Rattle.std.proofs.lemmas.Map.Keys.{IsDistinct-head, IsDistinct-tail}
+use Rattle.std.proofs.lemmas.Cmp.{nat_list_eq_equiv}
 use Rattle.std.specs.Cmp.Lexicographic.{bytes_decides}
 use Rattle.hsp_tables.specs.Costs.{CostEntry}
 use Rattle.hsp_instance.specs.Instance.{Instance, IsInstance, Row, has_keys, same_keys}
@@ -16,7 +16,7 @@ use Rattle.hsp_tally.specs.Finding.{Finding, is_of_kind, row_for, row_found}
 use Rattle.hsp_dispatch.specs.Dispatch.{Entry, IsSame, answer_in, rest, row_of}
 use Rattle.hsp_dispatch.specs.Shares.{Held, IsRestOf, first_answer, left_of, taken_answer}
 use Rattle.hsp_dispatch.proofs.Resting.{rest_none, rest_unknown}
-use Rattle.hsp_stream.specs.Asking.Asked.{bad, nothing, query}
+use Rattle.hsp_stream.specs.Asking.Asked.{bad, query}
 use Rattle.hsp_stream.specs.Saying.{IsAmong, given_of, said_of}
 use Rattle.hsp_stream.specs.Saying.Said.{answered}
 use Rattle.hsp_stream.specs.Telling.{IsGiven, Telling, entry_for}
@@ -35,12 +35,7 @@ has_own region handle row r h = rw ((bytes_decides region row.region).1 r, (byte
 
 -- rows of other keys are passed over
 apart : (first row : Row) → same_keys first row ≡ false → has_keys row.region row.handle first ≡ false
-apart first row other = elim (cases_Bool (has_keys row.region row.handle first)) [
-  | inl same ↦
-      let keys = keys_of row.region row.handle first same in
-      absurd (true≢false (sym (has_own first.region first.handle row (sym keys.0) (sym keys.1)) ∙ other))
-  | inr differs ↦ differs
-]
+apart first row other = grind (arith, nat_list_eq_equiv.symm)
 
 own_from : (n : ℕ) (rows : List Row) (k : ℕ) (row : Row) → IsDistinct same_keys rows → slice_get rows k ≡ Some row
     → position_from (has_keys row.region row.handle) n rows ≡ Some (n + k)
@@ -100,9 +95,6 @@ nothing_left teller = rest_none teller.held.instance (left_of teller.held)
 
 pub refused_so : (teller : Telling) (refusal : RowRefusal) → IsGiven teller (bad refusal) teller (given.Refused refusal)
 refused_so teller refusal = record { costs = refl; instance = refl; among = tt; said_is = refl; left = nothing_left teller }
-
-pub silent_so : (teller : Telling) → IsGiven teller nothing teller given.Nothing
-silent_so teller = record { costs = refl; instance = refl; among = tt; said_is = refl; left = nothing_left teller }
 
 pub unknown_so : (finder new_finder : Finding) (held : Held) (entry : Entry) → finder.it ≡ held.instance → new_finder ≡ finder
     → row_found finder entry.region entry.handle ≡ None → IsGiven (telling finder held) (query entry) (telling new_finder held) given.Unknown

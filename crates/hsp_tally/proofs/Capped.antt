@@ -1,12 +1,12 @@
 -- Sums that are kept up to a greatest one.
-use Rattle.std.proofs.Common.{◌≡◌, ◌∙◌, ◌+◌, ◌-◌, ◌^◌, ◌≤◌, ℕ, Bool, true, false, cond, List, [], ◌∷◌, map, min, refl, ap, arith}
+use Rattle.std.proofs.Common.{◌≡◌, ◌∙◌, ℕ, List, [], ◌∷◌, map, refl, ap, arith}
 use Rattle.std.specs.List.{AllByRecursion}
 use Rattle.hsp_tables.specs.Costs.{CostEntry}
 use Rattle.hsp_instance.specs.Instance.{Row, Site}
-use Rattle.hsp_kinds.specs.Rows.{by_kind, is_same_kind}
+use Rattle.hsp_kinds.specs.Rows.{by_kind}
 use Rattle.hsp_kinds.specs.Tables.{counted, counted_all}
 use Rattle.hsp_kinds.proofs.Tabling.{kinds_are_classes}
-use Rattle.hsp_tally.specs.Tally.{CappedKindsAreClasses, IsKept, TablesAreCapped, by_capped, capped, capped_row, with_more}
+use Rattle.hsp_tally.specs.Tally.{CappedKindsAreClasses, IsKept, TablesAreCapped, by_capped, capped, capped_row}
 
 pub capped_kinds_are_classes : CappedKindsAreClasses
 capped_kinds_are_classes costs sites =
@@ -26,16 +26,7 @@ capped_kinds_are_classes costs sites =
 module _ (costs : List CostEntry) (sites : List Site) where
   one_more : (table : List Row) (row : Row) → IsKept row → counted (by_capped costs sites) (map capped_row table) row ≡ map capped_row (counted (by_kind costs sites) table row)
   one_more [] row kept = let same : row.count ≡ capped row.count = omega arith in ap (λ n. record { region = row.region; handle = row.handle; count = n } ∷ []) same
-  one_more (first ∷ table) row kept = chosen (is_same_kind costs sites first row) (one_more table row kept)
-    where
-      sum : capped (capped first.count + row.count) ≡ capped (first.count + row.count)
-      sum = omega arith
-
-      chosen : (b : Bool) → counted (by_capped costs sites) (map capped_row table) row ≡ map capped_row (counted (by_kind costs sites) table row)
-          → cond b (with_more (capped_row first) row.count ∷ map capped_row table) (capped_row first ∷ counted (by_capped costs sites) (map capped_row table) row)
-          ≡ map capped_row (cond b (record { region = first.region; handle = first.handle; count = first.count + row.count } ∷ table) (first ∷ counted (by_kind costs sites) table row))
-      chosen true more = ap (λ n. record { region = first.region; handle = first.handle; count = n } ∷ map capped_row table) sum
-      chosen false more = ap (λ t. capped_row first ∷ t) more
+  one_more (first ∷ table) row kept = grind (arith, one_more table row kept)
 
   all_more : (table rows : List Row) → AllByRecursion IsKept rows → counted_all (by_capped costs sites) (map capped_row table) rows ≡ map capped_row (counted_all (by_kind costs sites) table rows)
   all_more table [] kept = refl

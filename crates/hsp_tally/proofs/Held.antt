@@ -1,25 +1,20 @@
 -- What a table of kinds holds, as rows are counted.
-use Rattle.std.proofs.Common.{◌≡◌, ◌∙◌, ◌⊎◌, ◌&&◌, ◌+◌, ◌<◌, ◌≤◌, inl, inr, nat_le, nat_lt, ℕ, true, false, List, [], ◌∷◌, Option, Some, Ok, Err, length, map, option_map, refl, ap, sym, arith}
-use Rattle.std.proofs.lemmas.Bool.{and_parts, cases_Bool, leb-true, ltb-true}
+use Rattle.std.proofs.Common.{◌≡◌, ◌∙◌, ◌<◌, ◌≤◌, ℕ, true, List, Some, Ok, length, map, option_map, refl, ap, sym, arith}
 use Rattle.std.proofs.lemmas.List.{length-map}
-use Rattle.std.specs.List.{AllByRecursion, find, list_any, position, position_or_len}
+use Rattle.std.specs.List.{find, list_any, position, position_or_len}
 use Rattle.std.specs.Map.{keys_of}
-use Rattle.std.specs.Str.{bytes_eq}
-use Rattle.hsp_hash.specs.Place.{server_place}
-use Rattle.std.specs.Str.{is_utf8}
-use Rattle.hsp_names.specs.Handle.{handle_in, has_segments, has_slash, is_handle, naming_authority}
+use Rattle.hsp_names.specs.Handle.{handle_in, is_handle}
 use Rattle.hsp_text.specs.Name.{is_name}
-use Rattle.hsp_text.specs.declared.limits.TheConstants.{LONGEST_HANDLE, MOST_DEMAND_ROWS, MOST_REGIONS}
-use Rattle.hsp_instance.specs.Instance.{IsNamed, Row, Site, regions_of}
+use Rattle.hsp_text.specs.declared.limits.TheConstants.{MOST_DEMAND_ROWS, MOST_REGIONS}
+use Rattle.hsp_instance.specs.Instance.{IsNamed, Row, regions_of}
 use Rattle.hsp_kinds.specs.Rows.{is_same_kind, places_at, sites_for}
 use Rattle.hsp_kinds.specs.Tables.{counted}
-use Rattle.hsp_tally.specs.Keys.{Sought, key_of, with_region}
-use Rattle.hsp_tally.specs.KindMaps.{AreHeld, IsSeenAs, KindEntry, by_key, is_key, joined, keyed_in, lent_row, row_in, seen_row}
+use Rattle.hsp_tally.specs.Keys.{Sought, key_of}
+use Rattle.hsp_tally.specs.KindMaps.{AreHeld, IsSeenAs, KindEntry, by_key, is_key, joined, keyed_in, lent_row, row_in}
 use Rattle.hsp_tally.specs.Seen.{IsPut, Seen, number_of, of_row}
 use Rattle.hsp_tally.specs.Tally.{by_capped, with_counted}
-use Rattle.hsp_tally.specs.declared.fault.KindsFault.TheVariants.{TooManyKinds, TooManyRegions}
 use Rattle.hsp_tally.specs.declared.keys.LentKind.{LentKind}
-use Rattle.hsp_tally.proofs.KindCounts.{all_stay, counted_regions, counted_well, few_regions, joined_keyed, joined_rows, kind_there, kinds_too_many, known_region, place_within}
+use Rattle.hsp_tally.proofs.KindCounts.{all_stay, counted_regions, counted_well, joined_keyed, joined_rows, kind_there, known_region, place_within}
 use Rattle.hsp_tally.proofs.KindLists.{counted_keyed, counted_rows, joined_length, place_of_kind}
 use Rattle.hsp_tally.proofs.SeenMaps.{found_has, put_all}
 
@@ -70,15 +65,7 @@ module _ (keys : Sought) (kinds : List KindEntry) (seen : List Seen) (held : Are
 -- ---- a row that is counted by its key
 
 pub handle_is : (handle : List ℕ) → is_handle handle ≡ true → handle_in handle ≡ Ok handle
-handle_is handle is =
-    let last = and_parts (nat_le (length handle) LONGEST_HANDLE && is_utf8 handle && has_slash handle) (has_segments (naming_authority handle)) is in
-    let third = and_parts (nat_le (length handle) LONGEST_HANDLE && is_utf8 handle) (has_slash handle) last.0 in
-    let second = and_parts (nat_le (length handle) LONGEST_HANDLE) (is_utf8 handle) third.0 in
-    let short : nat_lt LONGEST_HANDLE (length handle) ≡ false = not_less (length handle) LONGEST_HANDLE (leb-true (length handle) LONGEST_HANDLE second.0) in
-    rw (short, second.1, third.1, last.1) refl
-  where
-    not_less : (a b : ℕ) → a ≤ b → nat_lt b a ≡ false
-    not_less a b h = elim (cases_Bool (nat_lt b a)) [ inl t ↦ absurd (omega (arith, ltb-true b a t)) | inr f ↦ f ]
+handle_is handle is = grind arith
 
 module _ (keys : Sought) (old new : List KindEntry) (seen : List Seen) (held : AreHeld keys old seen) (lent : LentKind) (handle : List ℕ) (count : ℕ)
     (found : lent.places.now ≡ places_at (sites_for keys.costs keys.sites lent.region.now) handle) where

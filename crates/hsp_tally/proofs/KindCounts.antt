@@ -1,8 +1,8 @@
 -- Rows that are counted: their regions, their places, and the rows that were seen.
-use Rattle.std.proofs.Common.{◌≡◌, ◌∙◌, ◌&&◌, ◌||◌, ◌⊎◌, ◌+◌, ◌<◌, ◌≤◌, nat_lt, inl, inr, ℕ, zero, suc, not, Bool, true, false, cond, List, [], ◌∷◌, ◌++◌, Option, Some, None, Ok, Err, fold, length, length-append, map, refl, ap, sym, subst, arith}
-use Rattle.std.proofs.lemmas.Bool.{and_parts, cases_Bool, false≢true, lt-ltb, ltb-true, ltb-false, or_cases, or_left, or_right, true≢false}
+use Rattle.std.proofs.Common.{◌≡◌, ◌∙◌, ◌⊎◌, ◌<◌, ◌≤◌, nat_lt, inl, inr, ℕ, zero, suc, Bool, true, List, [], ◌∷◌, ◌++◌, Some, Ok, Err, fold, length, length-append, map, refl, ap, sym, arith}
+use Rattle.std.proofs.lemmas.Bool.{cases_Bool, false≢true}
 use Rattle.std.proofs.lemmas.Cmp.{nat_list_eq_equiv}
-use Rattle.std.proofs.lemmas.List.{length-map, map-append}
+use Rattle.std.proofs.lemmas.List.{map-append}
 use Rattle.std.specs.Cmp.Lexicographic.{bytes_decides}
 use Rattle.std.specs.List.{AllByRecursion, list_any, position, position_or_len}
 use Rattle.std.specs.Str.{bytes_eq}
@@ -12,45 +12,33 @@ use Rattle.hsp_tables.specs.Costs.{CostEntry}
 use Rattle.hsp_tables.specs.Table.{first_seen}
 use Rattle.hsp_text.specs.declared.limits.TheConstants.{MOST_DEMAND_ROWS, MOST_REGIONS}
 use Rattle.hsp_instance.specs.Instance.{Row, Site, regions_of}
-use Rattle.hsp_kinds.specs.Rows.{is_same_kind, places_at, sites_for}
-use Rattle.hsp_kinds.specs.Tables.{Kinding, counted}
+use Rattle.hsp_kinds.specs.Rows.{is_same_kind}
+use Rattle.hsp_kinds.specs.Tables.{counted}
 use Rattle.hsp_tally.specs.Keys.{with_region}
 use Rattle.hsp_tally.specs.KindMaps.{HasKey, IsSeenAs, KindEntry, joined, row_in, seen_row}
 use Rattle.hsp_tally.specs.Seen.{Seen}
-use Rattle.hsp_tally.specs.Tally.{by_capped, with_counted, with_more}
-use Rattle.hsp_tally.specs.declared.fault.KindsFault.TheVariants.{TooManyKinds, TooManyRegions}
+use Rattle.hsp_tally.specs.Tally.{by_capped, with_counted}
+use Rattle.hsp_tally.specs.declared.fault.KindsFault.TheVariants.{TooManyKinds}
 use Rattle.hsp_tally.proofs.KindLists.{counted_last, place_is}
 
 -- ---- regions
 
 any_append : (p : List ℕ → Bool) (xs ys : List (List ℕ)) → list_any p xs ≡ true → list_any p (xs ++ ys) ≡ true
 any_append p [] ys e = absurd (false≢true e)
-any_append p (x ∷ xs) ys e = elim (or_cases (p x) (list_any p xs) e) [
-  | inl own ↦ or_left (p x) (list_any p (xs ++ ys)) own
-  | inr more ↦ or_right (p x) (list_any p (xs ++ ys)) (any_append p xs ys more)
-]
+any_append p (x ∷ xs) ys e = grind (arith, any_append p xs ys)
 
 any_last : (p : List ℕ → Bool) (xs : List (List ℕ)) (y : List ℕ) → p y ≡ true → list_any p (xs ++ y ∷ []) ≡ true
-any_last p [] y e = or_left (p y) false e
-any_last p (x ∷ xs) y e = or_right (p x) (list_any p (xs ++ y ∷ [])) (any_last p xs y e)
+any_last p [] y e = grind arith
+any_last p (x ∷ xs) y e = grind (arith, any_last p xs y)
 
 module _ (name : List ℕ) where
   inserted_kept : (names : List (List ℕ)) (other : List ℕ) → list_any (bytes_eq name) names ≡ true → list_any (bytes_eq name) (insert_key bytes_eq names other) ≡ true
-  inserted_kept names other e = chosen (list_any (bytes_eq other) names)
-    where
-      chosen : (b : Bool) → list_any (bytes_eq name) (cond b names (names ++ other ∷ [])) ≡ true
-      chosen true = e
-      chosen false = any_append (bytes_eq name) names (other ∷ []) e
+  inserted_kept names other e = grind (arith, any_append (bytes_eq name) names (other ∷ []) e)
 
   inserted_there : (names : List (List ℕ)) (other : List ℕ) → bytes_eq name other ≡ true → list_any (bytes_eq name) (insert_key bytes_eq names other) ≡ true
-  inserted_there names other e = chosen (list_any (bytes_eq other) names) refl
-    where
-      is : name ≡ other
-      is = (bytes_decides name other).0 e
-
-      chosen : (b : Bool) → list_any (bytes_eq other) names ≡ b → list_any (bytes_eq name) (cond b names (names ++ other ∷ [])) ≡ true
-      chosen true t = rw is t
-      chosen false t = any_last (bytes_eq name) names other e
+  inserted_there names other e =
+      let is : name ≡ other = (bytes_decides name other).0 e in
+      grind (arith, any_last (bytes_eq name) names other e)
 
   all_kept : (more names : List (List ℕ)) → list_any (bytes_eq name) names ≡ true → list_any (bytes_eq name) (fold (insert_key bytes_eq) names more) ≡ true
   all_kept [] names e = e
@@ -58,25 +46,17 @@ module _ (name : List ℕ) where
 
   all_there : (more names : List (List ℕ)) → list_any (bytes_eq name) more ≡ true → list_any (bytes_eq name) (fold (insert_key bytes_eq) names more) ≡ true
   all_there [] names e = absurd (false≢true e)
-  all_there (other ∷ more) names e = elim (or_cases (bytes_eq name other) (list_any (bytes_eq name) more) e) [
-    | inl own ↦ all_kept more (insert_key bytes_eq names other) (inserted_there names other own)
-    | inr later ↦ all_there more (insert_key bytes_eq names other) later
-  ]
+  all_there (other ∷ more) names e =
+      let with = insert_key bytes_eq names other in
+      grind (arith, all_kept more with, inserted_there names other, all_there more with)
 
 pub there_already : (regions : List (List ℕ)) (region : List ℕ) → list_any (bytes_eq region) regions ≡ true → with_region regions region ≡ regions
 there_already regions region e = rw e refl
 
-pub not_there : (regions : List (List ℕ)) (region : List ℕ) → list_any (bytes_eq region) regions ≡ false → length (with_region regions region) ≡ length regions + 1
-not_there regions region e = rw e (length-append regions (region ∷ []))
-
 -- regions stay few where the region is known, or where there are not as many as there may be
 pub few_regions : (regions : List (List ℕ)) (region : List ℕ) → length regions ≤ MOST_REGIONS → (list_any (bytes_eq region) regions ≡ true) ⊎ (length regions < MOST_REGIONS) → length (with_region regions region) ≤ MOST_REGIONS
 few_regions regions region few (inl known) = rw (there_already regions region known) few
-few_regions regions region few (inr room) = chosen (list_any (bytes_eq region) regions)
-  where
-    chosen : (b : Bool) → length (cond b regions (regions ++ region ∷ [])) ≤ MOST_REGIONS
-    chosen true = few
-    chosen false = omega (arith, length-append regions (region ∷ []))
+few_regions regions region few (inr room) = grind (arith, length-append regions (region ∷ []))
 
 pub region_added : (rows : List Row) (row : Row) → regions_of (rows ++ row ∷ []) ≡ with_region (regions_of rows) row.region
 region_added rows row = ap first_seen (map-append (λ (r : Row). r.region) rows (row ∷ [])) ∙ first_seen-append (map (λ (r : Row). r.region) rows) row.region
@@ -84,12 +64,7 @@ region_added rows row = ap first_seen (map-append (λ (r : Row). r.region) rows 
 module _ (costs : List CostEntry) (sites : List Site) (row : Row) where
   region_there : (rows : List Row) → list_any (λ r. is_same_kind costs sites r row) rows ≡ true → list_any (bytes_eq row.region) (map (λ (r : Row). r.region) rows) ≡ true
   region_there [] e = absurd (false≢true e)
-  region_there (first ∷ rows) e = elim (or_cases (is_same_kind costs sites first row) (list_any (λ r. is_same_kind costs sites r row) rows) e) [
-    | inl own ↦
-        let same = (and_parts (bytes_eq first.region row.region) (bytes_eq (places_at (sites_for costs sites first.region) first.handle) (places_at (sites_for costs sites first.region) row.handle)) own).0 in
-        or_left (bytes_eq row.region first.region) (list_any (bytes_eq row.region) (map (λ (r : Row). r.region) rows)) (nat_list_eq_equiv.symm row.region first.region ∙ same)
-    | inr more ↦ or_right (bytes_eq row.region first.region) (list_any (bytes_eq row.region) (map (λ (r : Row). r.region) rows)) (region_there rows more)
-  ]
+  region_there (first ∷ rows) e = grind (arith, region_there rows, nat_list_eq_equiv.symm row.region first.region)
 
   -- a kind that is there has its region there
   pub known_region : (rows : List Row) → list_any (λ r. is_same_kind costs sites r row) rows ≡ true → with_region (regions_of rows) row.region ≡ regions_of rows
@@ -97,13 +72,7 @@ module _ (costs : List CostEntry) (sites : List Site) (row : Row) where
 
   same_regions : (rows : List Row) → list_any (λ r. is_same_kind costs sites r row) rows ≡ true → map (λ (r : Row). r.region) (counted (by_capped costs sites) rows row) ≡ map (λ (r : Row). r.region) rows
   same_regions [] e = absurd (false≢true e)
-  same_regions (first ∷ rows) e = chosen (is_same_kind costs sites first row) e (same_regions rows)
-    where
-      chosen : (b : Bool) → (b || list_any (λ r. is_same_kind costs sites r row) rows) ≡ true
-          → (list_any (λ r. is_same_kind costs sites r row) rows ≡ true → map (λ (r : Row). r.region) (counted (by_capped costs sites) rows row) ≡ map (λ (r : Row). r.region) rows)
-          → map (λ (r : Row). r.region) (cond b (with_more first row.count ∷ rows) (first ∷ counted (by_capped costs sites) rows row)) ≡ first.region ∷ map (λ (r : Row). r.region) rows
-      chosen true e more = refl
-      chosen false e more = ap (λ t. first.region ∷ t) (more e)
+  same_regions (first ∷ rows) e = grind (arith, same_regions rows)
 
   -- the regions of counted rows are those of the rows and that of the row
   pub counted_regions : (rows : List Row) → regions_of (counted (by_capped costs sites) rows row) ≡ with_region (regions_of rows) row.region
@@ -116,56 +85,24 @@ module _ (costs : List CostEntry) (sites : List Site) (row : Row) where
 
   pub counted_well : (rows : List Row) → length (with_region (regions_of rows) row.region) ≤ MOST_REGIONS → length (counted (by_capped costs sites) rows row) ≤ MOST_DEMAND_ROWS
       → with_counted costs sites rows row ≡ Ok (counted (by_capped costs sites) rows row)
-  counted_well rows regions kinds =
-      let first : nat_lt MOST_REGIONS (length (regions_of (rows ++ row ∷ []))) ≡ false = rw (region_added rows row) (not_less MOST_REGIONS (length (with_region (regions_of rows) row.region)) regions) in
-      let second : nat_lt MOST_DEMAND_ROWS (length (counted (by_capped costs sites) rows row)) ≡ false = not_less MOST_DEMAND_ROWS (length (counted (by_capped costs sites) rows row)) kinds in
-      rw (first, second) refl
-    where
-      not_less : (a b : ℕ) → b ≤ a → nat_lt a b ≡ false
-      not_less a b h = elim (cases_Bool (nat_lt a b)) [ inl t ↦ absurd (omega (arith, ltb-true a b t)) | inr f ↦ f ]
-
-  pub regions_too_many : (rows : List Row) → MOST_REGIONS < length (with_region (regions_of rows) row.region) → with_counted costs sites rows row ≡ Err TooManyRegions
-  regions_too_many rows regions =
-      let first : nat_lt MOST_REGIONS (length (regions_of (rows ++ row ∷ []))) ≡ true = rw (region_added rows row) (lt-ltb MOST_REGIONS (length (with_region (regions_of rows) row.region)) regions) in
-      rw first refl
+  counted_well rows regions kinds = grind (arith, region_added rows row)
 
   pub kinds_too_many : (rows : List Row) → length (with_region (regions_of rows) row.region) ≤ MOST_REGIONS → nat_lt MOST_DEMAND_ROWS (length (counted (by_capped costs sites) rows row)) ≡ true
       → with_counted costs sites rows row ≡ Err TooManyKinds
-  kinds_too_many rows regions kinds =
-      let first : nat_lt MOST_REGIONS (length (regions_of (rows ++ row ∷ []))) ≡ false = rw (region_added rows row) (not_less MOST_REGIONS (length (with_region (regions_of rows) row.region)) regions) in
-      rw (first, kinds) refl
-    where
-      not_less : (a b : ℕ) → b ≤ a → nat_lt a b ≡ false
-      not_less a b h = elim (cases_Bool (nat_lt a b)) [ inl t ↦ absurd (omega (arith, ltb-true a b t)) | inr f ↦ f ]
+  kinds_too_many rows regions kinds = grind (arith, region_added rows row)
 
   -- ---- a kind that is there
 
   -- where the place of a kind is within the rows, the kind is there
   pub kind_there : (rows : List Row) → position_or_len (λ r. is_same_kind costs sites r row) rows < length rows → list_any (λ r. is_same_kind costs sites r row) rows ≡ true
   kind_there [] less = absurd (omega arith)
-  kind_there (first ∷ rows) less = chosen (is_same_kind costs sites first row) less (kind_there rows)
-    where
-      later : ℕ
-      later = position_or_len (λ r. is_same_kind costs sites r row) rows
-
-      chosen : (b : Bool) → cond (not b) (1 + later) 0 < suc (length rows) → (later < length rows → list_any (λ r. is_same_kind costs sites r row) rows ≡ true) → (b || list_any (λ r. is_same_kind costs sites r row) rows) ≡ true
-      chosen true less more = refl
-      chosen false less more = more (omega arith)
+  kind_there (first ∷ rows) less = grind (arith, kind_there rows)
 
   -- and takes the count
   pub joined_rows : (es : List KindEntry) → position_or_len (λ r. is_same_kind costs sites r row) (map row_in es) < length (map row_in es)
       → map row_in (joined es (position_or_len (λ r. is_same_kind costs sites r row) (map row_in es)) row.count) ≡ counted (by_capped costs sites) (map row_in es) row
   joined_rows [] less = absurd (omega arith)
-  joined_rows (e ∷ es) less = chosen (is_same_kind costs sites (row_in e) row) less (joined_rows es)
-    where
-      later : ℕ
-      later = position_or_len (λ r. is_same_kind costs sites r row) (map row_in es)
-
-      chosen : (b : Bool) → cond (not b) (1 + later) 0 < suc (length (map row_in es))
-          → (later < length (map row_in es) → map row_in (joined es later row.count) ≡ counted (by_capped costs sites) (map row_in es) row)
-          → map row_in (joined (e ∷ es) (cond (not b) (1 + later) 0) row.count) ≡ cond b (with_more (row_in e) row.count ∷ map row_in es) (row_in e ∷ counted (by_capped costs sites) (map row_in es) row)
-      chosen true less more = refl
-      chosen false less more = let next : 1 + later ≡ suc later = omega arith in rw next (ap (λ t. row_in e ∷ t) (more (omega arith)))
+  joined_rows (e ∷ es) less = grind (arith, joined_rows es)
 
 -- a kind stands by its key after it took a count
 pub joined_keyed : (costs : List CostEntry) (sites : List Site) (es : List KindEntry) (number count : ℕ) → AllByRecursion (HasKey costs sites) es → AllByRecursion (HasKey costs sites) (joined es number count)
@@ -176,37 +113,19 @@ joined_keyed costs sites (e ∷ es) (suc number) count all = (all.0, joined_keye
 -- ---- rows that were seen
 
 pub place_within : {A : Type 0} (p : A → Bool) (xs : List A) (i : ℕ) → position p xs ≡ Some i → (position_or_len p xs ≡ i) × (i < length xs)
-place_within p xs i e = by (nat_lt (position_or_len p xs) (length xs)) refl e
-  where
-    by : (b : Bool) → nat_lt (position_or_len p xs) (length xs) ≡ b → cond b (Some (position_or_len p xs)) None ≡ Some i → (position_or_len p xs ≡ i) × (i < length xs)
-    by true t e = let is : position_or_len p xs ≡ i = cc e in (is, rw (← is) (ltb-true (position_or_len p xs) (length xs) t))
-    by false t e = let none : ◌≡◌ {A = Option ℕ} None (Some i) = e in cc
+place_within p xs i e = grind arith
 
 module _ (costs : List CostEntry) (sites : List Site) (row : Row) where
   -- a kind that is there keeps its place as a row is counted
   place_stays : (seen : Row) (rows : List Row) → position_or_len (λ r. is_same_kind costs sites r seen) rows < length rows
       → position_or_len (λ r. is_same_kind costs sites r seen) (counted (by_capped costs sites) rows row) ≡ position_or_len (λ r. is_same_kind costs sites r seen) rows
   place_stays seen [] less = absurd (omega arith)
-  place_stays seen (first ∷ rows) less = by (is_same_kind costs sites first row) (place_stays seen rows)
-    where
-      later : (b : Bool) → cond (not b) (1 + position_or_len (λ r. is_same_kind costs sites r seen) rows) 0 < suc (length rows)
-          → (position_or_len (λ r. is_same_kind costs sites r seen) rows < length rows → position_or_len (λ r. is_same_kind costs sites r seen) (counted (by_capped costs sites) rows row) ≡ position_or_len (λ r. is_same_kind costs sites r seen) rows)
-          → cond (not b) (1 + position_or_len (λ r. is_same_kind costs sites r seen) (counted (by_capped costs sites) rows row)) 0 ≡ cond (not b) (1 + position_or_len (λ r. is_same_kind costs sites r seen) rows) 0
-      later true less more = refl
-      later false less more = ap (λ n. 1 + n) (more (omega arith))
+  place_stays seen (first ∷ rows) less = grind (arith, place_stays seen rows)
 
-      by : (b : Bool) → (position_or_len (λ r. is_same_kind costs sites r seen) rows < length rows → position_or_len (λ r. is_same_kind costs sites r seen) (counted (by_capped costs sites) rows row) ≡ position_or_len (λ r. is_same_kind costs sites r seen) rows)
-          → position_or_len (λ r. is_same_kind costs sites r seen) (cond b (with_more first row.count ∷ rows) (first ∷ counted (by_capped costs sites) rows row)) ≡ position_or_len (λ r. is_same_kind costs sites r seen) (first ∷ rows)
-      by true more = refl
-      by false more = later (is_same_kind costs sites first seen) less more
-
-  longer : (rows : List Row) → length rows ≤ length (counted (by_capped costs sites) rows row)
+  -- a table grows
+  pub longer : (rows : List Row) → length rows ≤ length (counted (by_capped costs sites) rows row)
   longer [] = omega arith
-  longer (first ∷ rows) = by (is_same_kind costs sites first row) (longer rows)
-    where
-      by : (b : Bool) → length rows ≤ length (counted (by_capped costs sites) rows row) → suc (length rows) ≤ length (cond b (with_more first row.count ∷ rows) (first ∷ counted (by_capped costs sites) rows row))
-      by true more = omega arith
-      by false more = omega arith
+  longer (first ∷ rows) = grind (arith, longer rows)
 
   pub seen_stays : (rows : List Row) (seen : Seen) → IsSeenAs costs sites rows seen → IsSeenAs costs sites (counted (by_capped costs sites) rows row) seen
   seen_stays rows seen is =

@@ -1,6 +1,6 @@
 -- Kinds that are counted by their keys are counted as kinds of rows.
-use Rattle.std.proofs.Common.{◌≡◌, ◌∙◌, ◌&&◌, ◌⊎◌, ◌+◌, ◌<◌, ◌≤◌, nat_lt, inl, inr, ℕ, zero, suc, not, Bool, true, false, cond, List, [], ◌∷◌, ◌++◌, Option, Some, None, length, length-append, map, refl, ap, sym, subst, arith}
-use Rattle.std.proofs.lemmas.Bool.{and_from, cases_Bool, false≢true, lt-ltb, or_parts, true≢false}
+use Rattle.std.proofs.Common.{◌≡◌, ◌∙◌, ◌&&◌, ◌+◌, ◌<◌, inl, inr, ℕ, zero, suc, Bool, false, List, [], ◌∷◌, ◌++◌, Option, Some, None, length, length-append, map, refl, ap, sym, arith}
+use Rattle.std.proofs.lemmas.Bool.{cases_Bool}
 use Rattle.std.proofs.lemmas.Cmp.{nat_list_eq_equiv}
 use Rattle.std.specs.Cmp.Lexicographic.{bytes_decides}
 use Rattle.std.specs.List.{AllByRecursion, list_any, position, position_or_len, slice_get}
@@ -15,7 +15,7 @@ use Rattle.hsp_kinds.specs.Tables.{Kinding, counted}
 use Rattle.hsp_tally.specs.Keys.{KeyEntry, key_of}
 use Rattle.hsp_tally.specs.KindKeys.{key_in}
 use Rattle.hsp_tally.specs.KindMaps.{HasKey, KindEntry, by_key, is_key, joined, keyed_in, lent_row, row_in, same_key}
-use Rattle.hsp_tally.specs.Tally.{by_capped, capped, with_more}
+use Rattle.hsp_tally.specs.Tally.{by_capped, capped}
 use Rattle.hsp_tally.specs.declared.keys.KindKey.{KindKey}
 use Rattle.hsp_tally.specs.declared.keys.LentKind.{LentKind}
 use Rattle.hsp_tally.specs.declared.kinds.KindCount.{KindCount}
@@ -26,17 +26,7 @@ use Rattle.hsp_tally.specs.declared.kinds.KindCount.{KindCount}
 pub joined_by : (lent : LentKind) (handle : List ℕ) (count : ℕ) (es : List KindEntry) → position_or_len (is_key lent) (keys_of es) < length es
     → map keyed_in (joined es (position_or_len (is_key lent) (keys_of es)) count) ≡ counted by_key (map keyed_in es) (lent_row lent handle count)
 joined_by lent handle count [] less = absurd (omega arith)
-joined_by lent handle count (e ∷ es) less = chosen (is_key lent e.0) less (joined_by lent handle count es)
-  where
-    later : ℕ
-    later = position_or_len (is_key lent) (keys_of es)
-
-    chosen : (b : Bool) → cond (not b) (1 + later) zero < suc (length es)
-        → (later < length es → map keyed_in (joined es later count) ≡ counted by_key (map keyed_in es) (lent_row lent handle count))
-        → map keyed_in (joined (e ∷ es) (cond (not b) (1 + later) zero) count)
-        ≡ cond b ((key_in e.0, with_more (row_in e) count) ∷ map keyed_in es) (keyed_in e ∷ counted by_key (map keyed_in es) (lent_row lent handle count))
-    chosen true less more = refl
-    chosen false less more = let next : 1 + later ≡ suc later = omega arith in rw next (ap (λ t. keyed_in e ∷ t) (more (omega arith)))
+joined_by lent handle count (e ∷ es) less = grind (arith, joined_by lent handle count es)
 
 -- the keys stay
 pub joined_keys : (es : List KindEntry) (number count : ℕ) → keys_of (joined es number count) ≡ keys_of es
@@ -53,22 +43,16 @@ pub keys_length : (es : List KindEntry) → length (keys_of es) ≡ length es
 keys_length [] = refl
 keys_length (e ∷ es) = ap suc (keys_length es)
 
-some_place : (b : Bool) (n i : ℕ) → cond b (Some n) None ≡ Some i → n ≡ i
-some_place true n i e = cc e
-some_place false n i e = let none : ◌≡◌ {A = Option ℕ} None (Some i) = e in cc
-
 pub at_place : (lent : LentKind) (es : List KindEntry) (i : ℕ) → position (is_key lent) (keys_of es) ≡ Some i → position_or_len (is_key lent) (keys_of es) ≡ i
-at_place lent es i e = some_place _ (position_or_len (is_key lent) (keys_of es)) i e
+at_place lent es i e = grind arith
 
 pub place_is : {A : Type 0} (p : A → Bool) (xs : List A) (i : ℕ) → position_or_len p xs ≡ i → i < length xs → position p xs ≡ Some i
-place_is p xs i at less = let is : nat_lt (position_or_len p xs) (length xs) ≡ true = lt-ltb (position_or_len p xs) (length xs) (rw at less) in rw is (ap Some at)
+place_is p xs i at less = grind arith
 
 -- a row of a new kind stands last
 pub counted_last : {A : Type 0} (by : Kinding A) (rows : List A) (row : A) → list_any (λ f. by.same f row) rows ≡ false → counted by rows row ≡ rows ++ row ∷ []
 counted_last by [] row none = refl
-counted_last by (f ∷ rows) row none =
-    let parts = or_parts (by.same f row) (list_any (λ g. by.same g row) rows) none in
-    rw (parts.0) (ap (λ t. f ∷ t) (counted_last by rows row parts.1))
+counted_last by (f ∷ rows) row none = grind (arith, counted_last by rows row)
 
 key_among : (lent : LentKind) (handle : List ℕ) (count : ℕ) (es : List KindEntry) → list_any (λ f. by_key.same f (lent_row lent handle count)) (map keyed_in es) ≡ list_any (is_key lent) (keys_of es)
 key_among lent handle count [] = refl
@@ -85,7 +69,7 @@ one_more_kind lent handle count es none =
 pub set_joined : (es : List KindEntry) (number count : ℕ) (kind : KindCount) → slice_get (values_of es) number ≡ Some kind
     → set_value_at es number (record { handle = kind.handle; count = capped (kind.count + count) }) ≡ joined es number count
 set_joined [] number count kind is = let none : ◌≡◌ {A = Option KindCount} None (Some kind) = is in cc
-set_joined (e ∷ es) zero count kind is = let own : e.1 ≡ kind = cc is in rw (← own) refl
+set_joined (e ∷ es) zero count kind is = cc
 set_joined (e ∷ es) (suc number) count kind is = ap (λ t. e ∷ t) (set_joined es number count kind is)
 
 abbrev pub equal_keys : KindKey → KindKey → Bool
@@ -99,48 +83,17 @@ module _ (lent : LentKind) (handle : List ℕ) (count : ℕ) (key : KindKey) (ki
   pub added_by : (es : List KindEntry) → kind.handle.items ≡ handle → kind.count ≡ count → list_any (is_key lent) (keys_of es) ≡ false
       → map keyed_in (insert_entry equal_keys es key kind) ≡ counted by_key (map keyed_in es) (lent_row lent handle count)
   added_by [] h n none = rw (region, same_places, h, n) refl
-  added_by (e ∷ es) h n none = chosen (equal_keys key e.0) (is_key lent e.0) (test_is e ∙ parts.0) parts.0 (added_by es h n parts.1)
-    where
-      parts : (is_key lent e.0 ≡ false) × (list_any (is_key lent) (keys_of es) ≡ false)
-      parts = or_parts (is_key lent e.0) (list_any (is_key lent) (keys_of es)) none
-
-      chosen : (a b : Bool) → a ≡ false → b ≡ false → map keyed_in (insert_entry equal_keys es key kind) ≡ counted by_key (map keyed_in es) (lent_row lent handle count)
-          → map keyed_in (cond a ((e.0, kind) ∷ es) (e ∷ insert_entry equal_keys es key kind))
-          ≡ cond b ((key_in e.0, with_more (row_in e) count) ∷ map keyed_in es) (keyed_in e ∷ counted by_key (map keyed_in es) (lent_row lent handle count))
-      chosen false false p q more = ap (λ t. keyed_in e ∷ t) more
-      chosen true b p q more = absurd (true≢false p)
-      chosen false true p q more = absurd (true≢false q)
+  added_by (e ∷ es) h n none = grind (arith, test_is e, added_by es h n)
 
   pub added_length : (es : List KindEntry) → list_any (is_key lent) (keys_of es) ≡ false → length (insert_entry equal_keys es key kind) ≡ suc (length es)
   added_length [] none = refl
-  added_length (e ∷ es) none = chosen (equal_keys key e.0) (test_is e ∙ parts.0) (added_length es parts.1)
-    where
-      parts : (is_key lent e.0 ≡ false) × (list_any (is_key lent) (keys_of es) ≡ false)
-      parts = or_parts (is_key lent e.0) (list_any (is_key lent) (keys_of es)) none
-
-      chosen : (a : Bool) → a ≡ false → length (insert_entry equal_keys es key kind) ≡ suc (length es) → length (cond a ((e.0, kind) ∷ es) (e ∷ insert_entry equal_keys es key kind)) ≡ suc (suc (length es))
-      chosen false p more = ap suc more
-      chosen true p more = absurd (true≢false p)
+  added_length (e ∷ es) none = grind (arith, test_is e, added_length es)
 
   added_at : (es : List KindEntry) → list_any (is_key lent) (keys_of es) ≡ false → position_or_len (is_key lent) (keys_of (insert_entry equal_keys es key kind)) ≡ length es
-  added_at [] none = chosen (is_key lent key) own
-    where
-      own : is_key lent key ≡ true
-      own = and_from (bytes_eq lent.region.now key.region.items) (bytes_eq lent.places.now key.places.items)
-          ((bytes_decides lent.region.now key.region.items).1 (sym region)) ((bytes_decides lent.places.now key.places.items).1 (sym same_places))
-
-      chosen : (a : Bool) → a ≡ true → cond (not a) (1 + 0) 0 ≡ 0
-      chosen true p = refl
-      chosen false p = absurd (false≢true p)
-  added_at (e ∷ es) none = chosen (equal_keys key e.0) (test_is e ∙ parts.0) parts.0 (added_at es parts.1)
-    where
-      parts : (is_key lent e.0 ≡ false) × (list_any (is_key lent) (keys_of es) ≡ false)
-      parts = or_parts (is_key lent e.0) (list_any (is_key lent) (keys_of es)) none
-
-      chosen : (a : Bool) → a ≡ false → is_key lent e.0 ≡ false → position_or_len (is_key lent) (keys_of (insert_entry equal_keys es key kind)) ≡ length es
-          → position_or_len (is_key lent) (keys_of (cond a ((e.0, kind) ∷ es) (e ∷ insert_entry equal_keys es key kind))) ≡ suc (length es)
-      chosen false p q more = rw q (omega (arith, more))
-      chosen true p q more = absurd (true≢false p)
+  added_at [] none =
+      let same = λ (xs : List ℕ). (bytes_decides xs xs).1 refl in
+      rw (region, same_places, same lent.region.now, same lent.places.now) refl
+  added_at (e ∷ es) none = grind (arith, test_is e, added_at es)
 
   pub added_place : (es : List KindEntry) → list_any (is_key lent) (keys_of es) ≡ false → position (is_key lent) (keys_of (insert_entry equal_keys es key kind)) ≡ Some (length es)
   added_place es none =
@@ -158,16 +111,10 @@ rows_are (e ∷ es) = ap (λ t. row_in e ∷ t) (rows_are es)
 module _ (costs : List CostEntry) (sites : List Site) where
   -- equal keys are those of rows of one kind
   pub same_by_key : (a b : Row) → same_key (key_of costs sites a) (key_of costs sites b) ≡ is_same_kind costs sites a b
-  same_by_key a b = ap (λ t. t && bytes_eq (places_at (sites_for costs sites b.region) b.handle) (places_at (sites_for costs sites a.region) a.handle)) (nat_list_eq_equiv.symm b.region a.region) ∙ by (cases_Bool (bytes_eq a.region b.region))
-    where
-      by : (bytes_eq a.region b.region ≡ true) ⊎ (bytes_eq a.region b.region ≡ false)
-          → (bytes_eq a.region b.region && bytes_eq (places_at (sites_for costs sites b.region) b.handle) (places_at (sites_for costs sites a.region) a.handle)) ≡ is_same_kind costs sites a b
-      by (inl t) =
-          let r = (bytes_decides a.region b.region).0 t in
-          ap (λ u. bytes_eq a.region b.region && u)
-          (nat_list_eq_equiv.symm (places_at (sites_for costs sites b.region) b.handle) (places_at (sites_for costs sites a.region) a.handle)
-          ∙ ap (λ region. bytes_eq (places_at (sites_for costs sites a.region) a.handle) (places_at (sites_for costs sites region) b.handle)) (sym r))
-      by (inr f) = rw f refl
+  same_by_key a b =
+      let places = λ (row : Row). places_at (sites_for costs sites row.region) row.handle in
+      let turned = nat_list_eq_equiv.symm (places b) (places a) in
+      grind (arith, bytes_decides a.region b.region, nat_list_eq_equiv.symm b.region a.region, turned)
 
   abbrev pub IsKeyed : KeyEntry × Row → Type 0
   IsKeyed e = e.0 ≡ key_of costs sites e.1
@@ -189,22 +136,14 @@ module _ (costs : List CostEntry) (sites : List Site) where
 
     rows_by_key : (es : List (KeyEntry × Row)) → AllByRecursion IsKeyed es → map row_of (counted by_key es keyed_row) ≡ counted (by_capped costs sites) (map row_of es) row
     rows_by_key [] all = refl
-    rows_by_key (e ∷ es) all = chosen (same_key e.0 (key_of costs sites row)) (is_same_kind costs sites e.1 row) (test_at e all.0) (rows_by_key es all.1)
-      where
-        chosen : (a b : Bool) → a ≡ b → map row_of (counted by_key es keyed_row) ≡ counted (by_capped costs sites) (map row_of es) row
-            → map row_of (cond a ((e.0, with_more e.1 row.count) ∷ es) (e ∷ counted by_key es keyed_row)) ≡ cond b (with_more e.1 row.count ∷ map row_of es) (e.1 ∷ counted (by_capped costs sites) (map row_of es) row)
-        chosen true true p more = refl
-        chosen true false p more = absurd (true≢false p)
-        chosen false true p more = absurd (false≢true p)
-        chosen false false p more = ap (λ t. e.1 ∷ t) more
+    rows_by_key (e ∷ es) all = grind (arith, test_at e all.0, rows_by_key es all.1)
 
     keyed_kept : (es : List (KeyEntry × Row)) → AllByRecursion IsKeyed es → AllByRecursion IsKeyed (counted by_key es keyed_row)
     keyed_kept [] all = (refl, tt)
-    keyed_kept (e ∷ es) all = chosen (same_key e.0 (key_of costs sites row)) (keyed_kept es all.1)
-      where
-        chosen : (a : Bool) → AllByRecursion IsKeyed (counted by_key es keyed_row) → AllByRecursion IsKeyed (cond a ((e.0, with_more e.1 row.count) ∷ es) (e ∷ counted by_key es keyed_row))
-        chosen true more = (all.0, all.1)
-        chosen false more = (all.0, more)
+    keyed_kept (e ∷ es) all = elim (cases_Bool (same_key e.0 (key_of costs sites row))) [
+      | inl t ↦ rw t (all.0, all.1)
+      | inr f ↦ rw f (all.0, keyed_kept es all.1)
+    ]
 
   -- kinds that are counted by the key of a row are counted as its kind, and stand by their keys
   module _ (lent : LentKind) (handle : List ℕ) (count : ℕ) (found : lent.places.now ≡ places_at (sites_for costs sites lent.region.now) handle) (old : List KindEntry)
@@ -229,7 +168,6 @@ module _ (costs : List CostEntry) (sites : List Site) where
       pub counted_keyed : AllByRecursion (HasKey costs sites) new
       counted_keyed =
           keyed_map new (rw (is, lent_is) (keyed_kept (record { region = lent.region.now; handle = handle; count = count }) (map keyed_in old) (keyed_list old all)))
-      -- the place of a key is that of the row's kind
 
   place_or_len_of_kind : (lent : LentKind) (row : Row) → record { region = lent.region.now; places = lent.places.now } ≡ key_of costs sites row
       → (es : List KindEntry) → AllByRecursion (HasKey costs sites) es → position_or_len (is_key lent) (keys_of es) ≡ position_or_len (λ r. is_same_kind costs sites r row) (map row_in es)
@@ -238,6 +176,7 @@ module _ (costs : List CostEntry) (sites : List Site) where
       let test : is_key lent e.0 ≡ is_same_kind costs sites (row_in e) row = ap (same_key (key_in e.0)) is ∙ test_at row (keyed_in e) all.0 in
       rw (test, place_or_len_of_kind lent row is es all.1) refl
 
+  -- the place of a key is that of the row's kind
   pub place_of_kind : (lent : LentKind) (row : Row) → record { region = lent.region.now; places = lent.places.now } ≡ key_of costs sites row
       → (es : List KindEntry) → AllByRecursion (HasKey costs sites) es → position (is_key lent) (keys_of es) ≡ position (λ r. is_same_kind costs sites r row) (map row_in es)
   place_of_kind lent row is es all =

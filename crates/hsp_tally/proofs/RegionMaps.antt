@@ -1,6 +1,9 @@
 -- The sites where a region has costs, and the map that holds those of the regions that were sought.
-use Rattle.std.proofs.Common.{◌≡◌, ◌∙◌, ◌+◌, ◌<◌, ℕ, zero, suc, not, Bool, true, false, cond, ◌||◌, List, [], ◌∷◌, ◌++◌, Option, Some, None, Vec, Global, is_some, length, map, filter, option_map, take, refl, ap, sym, add-one, arith}
-use Rattle.std.proofs.lemmas.List.{map-append}
+use Rattle.std.proofs.Common.{◌≡◌, ◌∙◌, ◌+◌, ◌<◌, ℕ, zero, suc, Bool, true, false, cond, List, [], ◌∷◌, ◌++◌, Option, Some, None, inl, inr, Vec, Global, is_some, length, map, filter, option_map, take, refl, ap, sym, arith}
+use Rattle.std.proofs.lemmas.Bool.{cases_Bool}
+use Rattle.std.proofs.lemmas.List.{append-nil, map-append}
+use Rattle.std.proofs.lemmas.List.Elements.{filter_more}
+use Rattle.std.proofs.lemmas.Option.{get_or_from_slice_get, slice_get_within}
 use Rattle.std.proofs.lemmas.Map.Made.{is_some-lookup}
 use Rattle.std.specs.Cmp.Lexicographic.{bytes_decides}
 use Rattle.std.specs.List.{AllByRecursion, list_any, position, position_or_len, slice_get}
@@ -10,7 +13,7 @@ use Rattle.indexmap.specs.IndexMap.{insert_entry}
 use Rattle.hsp_hash.specs.declared.option.HashOption.{HashOption}
 use Rattle.hsp_tables.specs.Costs.{CostEntry}
 use Rattle.hsp_tables.specs.KeyedRows.{names_in}
-use Rattle.hsp_tables.proofs.SeenNames.{seen_before, names_in-insert_key}
+use Rattle.hsp_tables.proofs.SeenNames.{seen_before}
 use Rattle.hsp_instance.specs.Building.{cost_of}
 use Rattle.hsp_instance.specs.Instance.{Site}
 use Rattle.hsp_instance.specs.Instance as instance
@@ -20,29 +23,18 @@ use Rattle.hsp_tally.specs.Keys.{HasServer, HasSites, KnownSites, hash_of, name_
 
 -- ---- sites where a region has costs
 
-filter_take_suc : {A : Type 0} (p : A → Bool) (xs : List A) (i : ℕ) (x : A) → slice_get xs i ≡ Some x → filter p (take (suc i) xs) ≡ cond (p x) (filter p (take i xs) ++ x ∷ []) (filter p (take i xs))
-filter_take_suc {A} p [] i x e = let none : ◌≡◌ {A = Option A} None (Some x) = e in cc
-filter_take_suc p (y ∷ xs) zero x e = let same : y ≡ x = cc (e) in rw same refl
-filter_take_suc {A} p (y ∷ xs) (suc i) x e = ap (λ t. cond (p y) (y ∷ t) t) (filter_take_suc p xs i x e) ∙ chosen (p y) (p x) (filter p (take i xs))
-  where
-    chosen : (a b : Bool) (t : List A) → cond a (y ∷ cond b (t ++ x ∷ []) t) (cond b (t ++ x ∷ []) t) ≡ cond b (cond a (y ∷ t) t ++ x ∷ []) (cond a (y ∷ t) t)
-    chosen true true t = refl
-    chosen true false t = refl
-    chosen false true t = refl
-    chosen false false t = refl
-
 module _ (costs : List CostEntry) (sites : List Site) (region : List ℕ) (n : ℕ) (site : Site) (at : slice_get sites n ≡ Some site) where
-  has_cost : Site → Bool
+  abbrev has_cost : Site → Bool
   has_cost s = is_some (cost_of costs region s.name)
 
+  more_sites : sites_for costs (take (n + 1) sites) region ≡ sites_for costs (take n sites) region ++ cond (has_cost site) (site ∷ []) []
+  more_sites = rw (get_or_from_slice_get sites n site site at) at (filter_more has_cost sites n site (slice_get_within sites n site at))
+
   pub next_site : is_some (cost_of costs region site.name) ≡ true → map hash_of (sites_for costs (take (n + 1) sites) region) ≡ map hash_of (sites_for costs (take n sites) region) ++ hash_of site ∷ []
-  next_site is =
-      rw add-one (ap (map hash_of) (filter_take_suc (λ (s : Site). is_some (cost_of costs region s.name)) sites n site at ∙ ap (λ b. cond b (sites_for costs (take n sites) region ++ site ∷ []) (sites_for costs (take n sites) region)) is)
-      ∙ map-append hash_of (sites_for costs (take n sites) region) (site ∷ []))
+  next_site is = rw (more_sites, is) (map-append hash_of (sites_for costs (take n sites) region) (site ∷ []))
 
   pub no_next_site : is_some (cost_of costs region site.name) ≡ false → map hash_of (sites_for costs (take (n + 1) sites) region) ≡ map hash_of (sites_for costs (take n sites) region)
-  no_next_site is =
-      rw add-one (ap (map hash_of) (filter_take_suc (λ (s : Site). is_some (cost_of costs region s.name)) sites n site at ∙ ap (λ b. cond b (sites_for costs (take n sites) region ++ site ∷ []) (sites_for costs (take n sites) region)) is))
+  no_next_site is = rw (more_sites, is, append-nil) refl
 
 -- a site by its parts
 pub site_there : (o : Option Site) (name : List ℕ) (option : HashOption) (servers : ℕ) → option_map (λ (s : Site). s.name) o ≡ Some name → option_map (λ (s : Site). s.option) o ≡ Some option
@@ -61,11 +53,10 @@ site_named (Some site) name n = let a : site.name ≡ name = cc n in (site, refl
 -- each site where a region has a cost has a server
 pub all_have_servers : (p : Site → Bool) (sites : List Site) → AllByRecursion instance.HasServer sites → AllByRecursion HasServer (map hash_of (filter p sites))
 all_have_servers p [] all = tt
-all_have_servers p (site ∷ sites) all = chosen (p site) (all_have_servers p sites all.1)
-  where
-    chosen : (b : Bool) → AllByRecursion HasServer (map hash_of (filter p sites)) → AllByRecursion HasServer (map hash_of (cond b (site ∷ filter p sites) (filter p sites)))
-    chosen true more = (all.0, more)
-    chosen false more = more
+all_have_servers p (site ∷ sites) all = elim (cases_Bool (p site)) [
+  | inl t ↦ rw t (all.0, all_have_servers p sites all.1)
+  | inr f ↦ rw f (all_have_servers p sites all.1)
+]
 
 pub all_take : {A : Type 0} (P : A → Type 0) (n : ℕ) (xs : List A) → AllByRecursion P xs → AllByRecursion P (take n xs)
 all_take P zero xs all = tt
@@ -98,64 +89,34 @@ pub known_before : (name : List ℕ) (es : List KnownSites) → is_some (lookup 
 known_before name es there =
     rw (names_are es) (seen_before name (keys_of es) (sym (is_some-lookup (is_name name) es) ∙ there))
 
-some_place : (b : Bool) (n i : ℕ) → cond b (Some n) None ≡ Some i → n ≡ i
-some_place true n i e = cc e
-some_place false n i e = let none : ◌≡◌ {A = Option ℕ} None (Some i) = e in cc
-
 stands : (name : List ℕ) (es : List KnownSites) → position_or_len (is_name name) (keys_of es) < length es → option_map name_of (slice_get es (position_or_len (is_name name) (keys_of es))) ≡ Some name
 stands name [] less = absurd (omega arith)
-stands name (e ∷ es) less = chosen (is_name name e.0) refl less (stands name es)
-  where
-    later : ℕ
-    later = position_or_len (is_name name) (keys_of es)
-
-    chosen : (b : Bool) → is_name name e.0 ≡ b → cond (not b) (1 + later) zero < suc (length es) → (later < length es → option_map name_of (slice_get es later) ≡ Some name)
-        → option_map name_of (slice_get (e ∷ es) (cond (not b) (1 + later) zero)) ≡ Some name
-    chosen true is less more = ap Some (sym ((bytes_decides name e.0.items).0 is))
-    chosen false is less more = let next : 1 + later ≡ suc later = omega arith in rw next (more (omega arith))
+stands name (e ∷ es) less = grind (arith, stands name es, bytes_decides name e.0.items)
 
 -- the place of a region has its name
 pub known_place : (name : List ℕ) (es : List KnownSites) (i : ℕ) → i < length es → position (is_name name) (keys_of es) ≡ Some i → option_map name_of (slice_get es i) ≡ Some name
-known_place name es i less at =
-    let is = some_place _ (position_or_len (is_name name) (keys_of es)) i at in
-    rw (← is) (stands name es (rw is less))
+known_place name es i less at = grind (arith, stands name es)
 
 module _ (costs : List CostEntry) (sites : List Site) (key : Vec ℕ Global) (found : Vec SiteHash Global) where
   -- the sites of a region are added
   pub sites_added : (es : List KnownSites) → HasSites costs sites (key, found) → AllByRecursion (HasSites costs sites) es
       → AllByRecursion (HasSites costs sites) (insert_entry same es key found)
   sites_added [] has all = (has, tt)
-  sites_added (e ∷ es) has all = chosen (same key e.0) refl (sites_added es has all.1)
-    where
-      chosen : (is : Bool) → same key e.0 ≡ is → AllByRecursion (HasSites costs sites) (insert_entry same es key found)
-          → AllByRecursion (HasSites costs sites) (cond is ((e.0, found) ∷ es) (e ∷ insert_entry same es key found))
-      chosen true is more = ((has.0 ∙ ap (λ region. map hash_of (sites_for costs sites region)) ((bytes_decides key.items e.0.items).0 is), has.1), all.1)
-      chosen false is more = (all.0, more)
+  sites_added (e ∷ es) has all = elim (cases_Bool (same key e.0)) [
+    | inl is ↦ rw is ((rw (← (bytes_decides key.items e.0.items).0 is) has.0, has.1), all.1)
+    | inr other ↦ rw other (all.0, sites_added es has all.1)
+  ]
 
 -- and its name
 pub names_added : (key : Vec ℕ Global) (found : Vec SiteHash Global) (es : List KnownSites) → names_of (insert_entry same es key found) ≡ with_region (names_of es) key.items
 names_added key found [] = refl
-names_added key found (e ∷ es) = chosen (same key e.0) (list_any (bytes_eq key.items) (names_of es)) (names_added key found es)
-  where
-    chosen : (a b : Bool) → names_of (insert_entry same es key found) ≡ cond b (names_of es) (names_of es ++ key.items ∷ [])
-        → names_of (cond a ((e.0, found) ∷ es) (e ∷ insert_entry same es key found)) ≡ cond (a || b) (name_of e ∷ names_of es) (name_of e ∷ (names_of es ++ key.items ∷ []))
-    chosen true b more = refl
-    chosen false true more = ap (λ t. name_of e ∷ t) more
-    chosen false false more = ap (λ t. name_of e ∷ t) more
+names_added key found (e ∷ es) = grind (arith, names_added key found es)
 
 -- which stands at the place that it was given
 pub added_place : (key : Vec ℕ Global) (found : Vec SiteHash Global) (es : List KnownSites)
     → option_map name_of (slice_get (insert_entry same es key found) (position_or_len (λ (k : Vec ℕ Global). bytes_eq key.items k.items) (keys_of es))) ≡ Some key.items
 added_place key found [] = refl
-added_place key found (e ∷ es) = chosen (same key e.0) refl (added_place key found es)
-  where
-    later : ℕ
-    later = position_or_len (λ (k : Vec ℕ Global). bytes_eq key.items k.items) (keys_of es)
-
-    chosen : (is : Bool) → same key e.0 ≡ is → option_map name_of (slice_get (insert_entry same es key found) later) ≡ Some key.items
-        → option_map name_of (slice_get (cond is ((e.0, found) ∷ es) (e ∷ insert_entry same es key found)) (cond (not is) (1 + later) zero)) ≡ Some key.items
-    chosen true is more = ap Some (sym ((bytes_decides key.items e.0.items).0 is))
-    chosen false is more = let next : 1 + later ≡ suc later = omega arith in rw next more
+added_place key found (e ∷ es) = grind (arith, added_place key found es, bytes_decides key.items e.0.items)
 
 -- what stands at the place of a region are its sites
 pub known_sites : (costs : List CostEntry) (sites : List Site) (region : List ℕ) (found : List SiteHash) (o : Option KnownSites) → option_map name_of o ≡ Some region → option_map sites_of o ≡ Some found

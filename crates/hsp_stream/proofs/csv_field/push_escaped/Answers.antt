@@ -1,6 +1,6 @@
 use Rattle.std.proofs.Common.{drop}
-use Rattle.std.proofs.lemmas.List.{drop_more}
-use Rattle.hsp_stream.proofs.PlacePrinting.{all_escaped, dropped_all, one_escaped}
+use Rattle.std.proofs.lemmas.List.{drop_all, drop_more}
+use Rattle.hsp_stream.proofs.PlacePrinting.{all_escaped, one_escaped}
 use Rattle.hsp_stream.proofs.csv_field.push_escaped.Goals as goal
 
 pub loop-octet-preserved : goal.loop-octet-preserved
@@ -9,4 +9,4 @@ loop-octet-preserved c =
     c.in_ok-push_octet.ensures c.loop-octet.invariant
 
 pub returns : goal.returns
-returns c = all_escaped c.loop-octet.out.items (drop c.loop-octet.octet-index c.args.field.now) _ (dropped_all c.loop-octet.octet-index c.args.field.now c.loop-octet-test.false) c.loop-octet.invariant
+returns c = all_escaped c.loop-octet.out.items (drop c.loop-octet.octet-index c.args.field.now) _ (drop_all c.loop-octet.octet-index c.args.field.now c.loop-octet-test.false) c.loop-octet.invariant
