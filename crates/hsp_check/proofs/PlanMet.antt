@@ -1,7 +1,7 @@
 -- The conditions of a plan on a network, by its sums.
 use Rattle.std.proofs.Common.{◌≡◌, ℕ, ◌+◌, ◌*◌, ◌<◌, ◌≤◌, ◌↔◌, List, sum_by, All, slice_index, arith}
 use Rattle.hsp_cert.specs.declared.use_line.UseLine.{UseLine}
-use Rattle.hsp_check.specs.declared.lists.NetworkLists.{NetworkLists}
+use Rattle.hsp_check.specs.declared.lists.FlowLists.{FlowLists}
 use Rattle.hsp_check.specs.declared.prices.PriceLists.{PriceLists}
 use Rattle.hsp_check.specs.declared.verdict.Reason.TheVariants.{ArcPrice, UsedArcPrice}
 use Rattle.hsp_check.specs.Plan.{planned, total}
@@ -13,7 +13,7 @@ use Rattle.hsp_check.specs.Judged.{claim_of}
 use Rattle.hsp_check.specs.Verdict.{PlanMeets}
 use Rattle.hsp_check.proofs.FlowSums.{flow_sum, on_arcs}
 
-module _ (lists : NetworkLists) (cost : ℕ) (uses : List UseLine) (prices : PriceLists) (server_hosts : prices.server_hosts.now ≡ lists.server_hosts.now) (flows : All (λ l. l.flow ≡ planned (table uses) l.arc) lists.arc_flows.now) where
+module _ (lists : FlowLists) (cost : ℕ) (uses : List UseLine) (prices : PriceLists) (server_hosts : prices.server_hosts.now ≡ lists.server_hosts.now) (flows : All (λ l. l.flow ≡ planned (table uses) l.arc) lists.arc_flows.now) where
   pub cost_is : sum_by (λ l. l.arc.cost * l.flow) lists.arc_flows.now ≡ total (network_in lists) (table uses)
   cost_is = flow_sum (λ a m. a.cost * m) (table uses) lists.arc_flows.now flows
 

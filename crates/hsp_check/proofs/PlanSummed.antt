@@ -1,6 +1,6 @@
 -- The sums of the flows are those of the plan.
 use Rattle.std.proofs.Common.{◌≡◌, ℕ, ◌<◌, ◌==◌, ◌∙◌, length, sum_by, slice_index, All, if◌then◌else◌, ap, arith}
-use Rattle.hsp_check.specs.declared.lists.NetworkLists.{NetworkLists}
+use Rattle.hsp_check.specs.declared.lists.FlowLists.{FlowLists}
 use Rattle.hsp_check.specs.Lists.{AreHosted}
 use Rattle.hsp_check.specs.Plan.{Plan, is_on, planned, load}
 use Rattle.hsp_check.specs.ArcFlows.{host_in}
@@ -11,7 +11,7 @@ use Rattle.hsp_transport.proofs.Summing.{sum_below_same}
 use Rattle.hsp_check.proofs.FlowSums.{flow_sum}
 
 -- the loads of the flows, as they are added up
-pub record AreMade (lists : NetworkLists) (loads : Loads) : Type 0 where
+pub record AreMade (lists : FlowLists) (loads : Loads) : Type 0 where
   pub rows_many : length loads.rows.items ≡ length lists.demands.now
   pub rows_are : (i : ℕ) → i < length lists.demands.now → slice_index loads.rows.items i ≡ sum_by (λ l. if l.arc.row == i then l.flow else 0) lists.arc_flows.now
   pub servers_many : length loads.servers.items ≡ length lists.capacities.now
@@ -19,7 +19,7 @@ pub record AreMade (lists : NetworkLists) (loads : Loads) : Type 0 where
   pub hosts_many : length loads.hosts.items ≡ length lists.limits.now
   pub hosts_are : AreHosted lists.server_hosts.now loads.servers.items loads.hosts.items
 
-pub are_loads : (lists : NetworkLists) (loads : Loads) → length lists.capacities.now ≡ length lists.server_hosts.now → AreMade lists loads →
+pub are_loads : (lists : FlowLists) (loads : Loads) → length lists.capacities.now ≡ length lists.server_hosts.now → AreMade lists loads →
     (x : Plan) → All (λ l. l.flow ≡ planned x l.arc) lists.arc_flows.now → AreLoads (network_in lists) x loads
 are_loads lists loads many made x arc_flows = record {
   rows_many = made.rows_many;

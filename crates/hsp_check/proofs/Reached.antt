@@ -3,7 +3,7 @@ use Rattle.std.proofs.Common.{◌≡◌, ℕ, zero, suc, ◌+◌, ◌<◌, ◌==
 use Rattle.std.specs.Prelude.{◌&&◌, filter, IsSome, IfNone}
 use Rattle.std.specs.List.{list_any, range_with_len}
 use Rattle.std.proofs.lemmas.List.FromFn.{filter_of_map_range_with_len_more}
-use Rattle.hsp_check.specs.declared.lists.NetworkLists.{NetworkLists}
+use Rattle.hsp_check.specs.declared.lists.FlowLists.{FlowLists}
 use Rattle.hsp_check.specs.ArcFlows.{flag_at}
 use Rattle.hsp_check.specs.Reach.{network_in}
 use Rattle.hsp_check.specs.Short.{reaches, reached}
@@ -25,7 +25,7 @@ kept_same p q (suc n) same =
     more p ∙ ap₂ (λ xs b. xs ++ cond b (n ∷ []) []) (kept_same p q n (λ k l. same k (omega arith))) (same n (omega arith)) ∙ sym (more q)
 
 -- the servers that the flagged rows may use are those that the chosen ones may
-pub flagged_reach : (lists : NetworkLists) (rows servers : List Bool) (chosen : ℕ → Bool) → ((i : ℕ) → i < length lists.demands.now → flag_at rows i ≡ chosen i) →
+pub flagged_reach : (lists : FlowLists) (rows servers : List Bool) (chosen : ℕ → Bool) → ((i : ℕ) → i < length lists.demands.now → flag_at rows i ≡ chosen i) →
     length servers ≡ length lists.capacities.now →
     ((j : ℕ) → j < length lists.capacities.now → flag_at servers j ≡ list_any (λ l. flag_at rows l.arc.row && l.arc.server == j) lists.arc_flows.now) →
     filter (flag_at servers) (range_with_len 0 (length servers)) ≡ reached (network_in lists) chosen

@@ -6,7 +6,7 @@ use Rattle.std.proofs.Math.Path.{fun_ext}
 use Rattle.std.proofs.lemmas.List.Elements.{All-head, All-tail}
 use Rattle.hsp_check.specs.declared.arc.NetworkArc.{NetworkArc}
 use Rattle.hsp_check.specs.declared.sums.ArcFlow.{ArcFlow}
-use Rattle.hsp_check.specs.declared.lists.NetworkLists.{NetworkLists}
+use Rattle.hsp_check.specs.declared.lists.FlowLists.{FlowLists}
 use Rattle.hsp_transport.specs.Sums.{sum_below}
 use Rattle.hsp_check.specs.Network.{Network, transport}
 use Rattle.hsp_check.specs.Plan.{on_host}
@@ -24,7 +24,7 @@ any_of_arcs test [] = refl
 any_of_arcs test (one ∷ arc_flows) = ap (λ b. test one.arc || b) (any_of_arcs test arc_flows)
 
 -- the room of each server that the rows reach
-pub rooms_are : (lists : NetworkLists) (rows : ℕ → Bool) (rooms : List ℕ) → AreRoomsOf lists rows rooms →
+pub rooms_are : (lists : FlowLists) (rows : ℕ → Bool) (rooms : List ℕ) → AreRoomsOf lists rows rooms →
     (j : ℕ) → j < length lists.capacities.now → slice_index rooms j ≡ reached_capacity (transport (network_in lists)) rows j
 rooms_are lists rows rooms given j l =
     given j l ∙ ap (λ b. if b then slice_index lists.capacities.now j else 0) (sym (any_of_arcs (λ a. rows a.row && a.server == j) lists.arc_flows.now))
@@ -44,12 +44,12 @@ same_capacity n f g same =
     + sum_below (length n.limits) (λ h. min (slice_index n.limits h) (on_host n r h))) rooms
 
 -- what the flagged rows can reach is what the chosen ones can
-pub chosen_capacity : (lists : NetworkLists) (flags : List Bool) (chosen : ℕ → Bool) → ((i : ℕ) → i < length lists.demands.now → flag_at flags i ≡ chosen i) →
+pub chosen_capacity : (lists : FlowLists) (flags : List Bool) (chosen : ℕ → Bool) → ((i : ℕ) → i < length lists.demands.now → flag_at flags i ≡ chosen i) →
     capacity_of (network_in lists) (flag_at flags) ≡ capacity_of (network_in lists) chosen
 chosen_capacity lists flags chosen same =
     same_capacity (network_in lists) (flag_at flags) chosen ((on_arcs (λ a. flag_at flags a.row ≡ chosen a.row) lists.arc_flows.now).0 (λ k d l. same (slice_index_or lists.arc_flows.now k d).arc.row (lists.rows_in k d l)))
 
 -- and so is what they ask for
-pub chosen_demand : (lists : NetworkLists) (flags : List Bool) (chosen : ℕ → Bool) → ((i : ℕ) → i < length lists.demands.now → flag_at flags i ≡ chosen i) →
+pub chosen_demand : (lists : FlowLists) (flags : List Bool) (chosen : ℕ → Bool) → ((i : ℕ) → i < length lists.demands.now → flag_at flags i ≡ chosen i) →
     sum_below (length lists.demands.now) (λ i. if flag_at flags i then slice_index lists.demands.now i else 0) ≡ demand_of (network_in lists) chosen
 chosen_demand lists flags chosen same = sum_below_same (length lists.demands.now) _ _ (λ i l. ap (λ b. if b then slice_index lists.demands.now i else 0) (same i l))

@@ -1,6 +1,6 @@
 -- What a plan brings to rows, servers and hosts.
 use Rattle.std.specs.Prelude.{◌≡◌, ℕ, ◌<◌, length, slice_index}
-use Rattle.hsp_check.specs.declared.lists.NetworkLists.{NetworkLists}
+use Rattle.hsp_check.specs.declared.lists.FlowLists.{FlowLists}
 use Rattle.hsp_check.specs.declared.loads.Loads.{Loads}
 use Rattle.hsp_check.specs.ArcFlows.{AreFlowsOf}
 use Rattle.hsp_check.specs.Network.{Network}
@@ -17,5 +17,5 @@ pub record AreLoads (n : Network) (x : Plan) (loads : Loads) : Type 0 where
   pub hosts_are : (h : ℕ) → h < length n.limits → slice_index loads.hosts.items h ≡ host_load n x h
 
 -- the loads of whatever plan gives the arcs these flows
-abbrev pub AreFlowLoads : NetworkLists → Loads → Type 0
+abbrev pub AreFlowLoads : FlowLists → Loads → Type 0
 AreFlowLoads lists loads = (x : Plan) → AreFlowsOf x lists.arc_flows.now → AreLoads (network_in lists) x loads

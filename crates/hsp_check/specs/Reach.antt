@@ -1,14 +1,14 @@
 -- The networks that lists hold.
 use Rattle.std.specs.Prelude.{List, map}
 use Rattle.hsp_check.specs.declared.building.IndexedNetwork.{IndexedNetwork}
-use Rattle.hsp_check.specs.declared.lists.NetworkLists.{NetworkLists}
+use Rattle.hsp_check.specs.declared.lists.FlowLists.{FlowLists}
 use Rattle.hsp_check.specs.declared.numbers.NetworkNumbers.{NetworkNumbers}
 use Rattle.hsp_check.specs.declared.sums.ArcFlow.{ArcFlow}
 use Rattle.hsp_check.specs.Network.{Network}
 use Rattle.hsp_check.specs.ArcFlows.{host_in}
 
 -- the network that the lists are
-abbrev pub network_in : NetworkLists → Network
+abbrev pub network_in : FlowLists → Network
 network_in lists = record {
   demands = lists.demands.now;
   capacities = lists.capacities.now;

@@ -10,7 +10,7 @@ ghost use Rattle.hsp_check.specs.ArcFlows.{AreFlowsOf};
 ghost use Rattle.hsp_check.specs.Loads.{AreLoads};
 
 use crate::conditions::{are_met, are_within, idle_are_free};
-use crate::lists::NetworkLists;
+use crate::lists::FlowLists;
 use crate::loads::Loads;
 use crate::prices::PriceLists;
 use crate::sums::total_of;
@@ -20,7 +20,7 @@ use hsp_cert::UseLine;
 /// A plan on a network: its cost, its uses and its prices, and its loads.
 #[derive(Clone, Copy)]
 pub(crate) struct NetworkPlan<'a, 's> {
-    pub(crate) lists: NetworkLists<'a>,
+    pub(crate) lists: FlowLists<'a>,
     pub(crate) prices: PriceLists<'a>,
     pub(crate) cost: u64,
     pub(crate) uses: &'a [UseLine],

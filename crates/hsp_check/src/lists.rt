@@ -1,4 +1,4 @@
-// A network as lists.
+// A network as lists, with the flow of each arc.
 
 ghost use Rattle.std.specs.Prelude.{◌≡◌, ℕ, ◌<◌, ◌≤◌, ◌^◌, length, All, Some};
 ghost use Rattle.hsp_text.specs.declared.limits.TheConstants.{GREATEST_COST};
@@ -6,10 +6,10 @@ ghost use Rattle.hsp_check.specs.Lists.{HostsAreBelow};
 
 use crate::sums::ArcFlow;
 
-/// A network as lists: what each row asks for, what each server and each host can take, the host that each server
-/// stands on, and the arcs.
+/// A network as lists with flows: what each row asks for, what each server and each host can take, the host that each
+/// server stands on, and the arcs with their flows.
 #[derive(Clone, Copy)]
-pub(crate) struct NetworkLists<'a> {
+pub(crate) struct FlowLists<'a> {
     pub(crate) demands: &'a [u64],
     pub(crate) capacities: &'a [u64],
     pub(crate) limits: &'a [u64],

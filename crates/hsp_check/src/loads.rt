@@ -3,7 +3,7 @@
 ghost use Rattle.std.specs.Prelude.{IfOk};
 ghost use Rattle.hsp_check.specs.Loads.{AreFlowLoads};
 
-use crate::lists::NetworkLists;
+use crate::lists::FlowLists;
 use crate::sums::{End, add_hosts, add_up};
 use std::alloc::{AllocError, Global};
 
@@ -16,7 +16,7 @@ pub struct Loads {
 }
 
 /// The loads of the plan that gives the arcs these flows.
-pub(crate) fn loads_of(alloc: Global, lists: NetworkLists<'_>) -> Result<Loads, AllocError>
+pub(crate) fn loads_of(alloc: Global, lists: FlowLists<'_>) -> Result<Loads, AllocError>
     ensures { IfOk result (AreFlowLoads lists.entry) }
 {
     let rows = add_up(alloc, End::Row, lists.arc_flows, lists.demands.len())?;

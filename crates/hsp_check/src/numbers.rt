@@ -4,7 +4,7 @@ ghost use Rattle.std.specs.Prelude.{◌≡◌, ◌<◌, ◌≤◌, ◌^◌, All,
 ghost use Rattle.hsp_text.specs.declared.limits.TheConstants.{GREATEST_COST};
 ghost use Rattle.hsp_check.specs.Instance.{capacities_in, demands_in, server_hosts_in, limits_in};
 
-use crate::lists::NetworkLists;
+use crate::lists::FlowLists;
 use crate::sums::ArcFlow;
 use hsp_instance::{Instance, capacities_of, counts_of, limits_of, server_hosts_of};
 use std::alloc::{AllocError, Global};
@@ -48,7 +48,7 @@ impl NetworkNumbers {
     ghost use Rattle.hsp_check.specs.Reach.{network_in, network_with};
 
     /// The network of these numbers and arcs, as lists.
-    pub(crate) fn with<'a>(&'a self, arc_flows: &'a [ArcFlow]) -> NetworkLists<'a>
+    pub(crate) fn with<'a>(&'a self, arc_flows: &'a [ArcFlow]) -> FlowLists<'a>
         requires network { IsNetwork (network_with self.now arc_flows.now) }
         requires cheap { All (λ l. l.arc.cost ≤ GREATEST_COST) arc_flows.now }
         requires few { length arc_flows.now < 2 ^ 32 }
@@ -56,7 +56,7 @@ impl NetworkNumbers {
         ensures server_hosts { result.server_hosts.now ≡ self.now.server_hosts.items }
         ensures arc_flows { result.arc_flows.now ≡ arc_flows.now }
     {
-        NetworkLists {
+        FlowLists {
             demands: &self.demands,
             capacities: &self.capacities,
             limits: &self.limits,

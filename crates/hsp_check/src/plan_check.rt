@@ -15,7 +15,7 @@ ghost use Rattle.hsp_check.specs.Verdict.{IsVerdict, PlanMeets};
 use crate::arc_flows::flows_by_uses;
 use crate::indexing::IndexedArcs;
 use crate::judging::NetworkPlan;
-use crate::lists::NetworkLists;
+use crate::lists::FlowLists;
 use crate::loads::loads_of;
 use crate::numbers::NetworkNumbers;
 use crate::prices::PriceLists;
@@ -33,11 +33,7 @@ fn is_shaped(numbers: &NetworkNumbers, plan: &BestRef<'_>) -> bool
 }
 
 // The verdict on a plan whose uses are the flows of the arcs.
-fn judge<'a>(
-    alloc: Global,
-    lists: NetworkLists<'a>,
-    plan: &BestRef<'a>,
-) -> Result<Verdict, AllocError>
+fn judge<'a>(alloc: Global, lists: FlowLists<'a>, plan: &BestRef<'a>) -> Result<Verdict, AllocError>
     requires ranges { IsBest plan.now }
     requires shape { PlanMeets (network_in lists) plan.now Shape }
     requires uses { PlanMeets (network_in lists) plan.now NoSuchUse }

@@ -7,7 +7,7 @@ ghost use Rattle.hsp_check.specs.Lists.{AreFlagsOf};
 ghost use Rattle.hsp_check.specs.Reach.{network_in};
 ghost use Rattle.hsp_check.specs.Verdict.{IsVerdict, SetMeets, is_one_of};
 
-use crate::lists::NetworkLists;
+use crate::lists::FlowLists;
 use crate::shortage::{reached_capacity, sum_flagged};
 use crate::verdict::{Reason, Verdict};
 use hsp_cert::ShortRef;
@@ -50,7 +50,7 @@ pub(crate) fn flags_of(
 }
 
 // Whether the demand is what the rows of the set ask for.
-fn meets_demand(lists: NetworkLists<'_>, set: &ShortRef<'_>, flags: &[bool]) -> bool
+fn meets_demand(lists: FlowLists<'_>, set: &ShortRef<'_>, flags: &[bool]) -> bool
     requires many { length flags.now ≡ length lists.demands.now }
     requires flags { AreFlagsOf (is_one_of set.now.rows) (length lists.demands.now) flags.now }
     ensures { IsTrue result ↔ SetMeets (network_in lists.entry) set.now DemandSum }
@@ -61,7 +61,7 @@ fn meets_demand(lists: NetworkLists<'_>, set: &ShortRef<'_>, flags: &[bool]) -> 
 // Whether the capacity is what the rows of the set can reach.
 fn meets_capacity(
     alloc: Global,
-    lists: NetworkLists<'_>,
+    lists: FlowLists<'_>,
     set: &ShortRef<'_>,
     flags: &[bool],
 ) -> Result<bool, AllocError>
@@ -77,7 +77,7 @@ fn meets_capacity(
 /// The verdict on the certificate of a short set.
 pub(crate) fn check_set(
     alloc: Global,
-    lists: NetworkLists<'_>,
+    lists: FlowLists<'_>,
     set: &ShortRef<'_>,
 ) -> Result<Verdict, AllocError>
     ensures { IfOk result (λ verdict. IsVerdict (network_in lists.entry) (short set.now) verdict) }

@@ -7,7 +7,7 @@ ghost use Rattle.hsp_check.specs.Lists.{AreFlagsOf, AreRooms, AreSmall, AreZero,
 ghost use Rattle.hsp_check.specs.Reach.{network_in};
 ghost use Rattle.hsp_check.specs.Reached.{AreReached, AreRoomsOf, arcs_reach};
 
-use crate::lists::NetworkLists;
+use crate::lists::FlowLists;
 use crate::sums::{ArcFlow, add_hosts};
 use std::alloc::{AllocError, Global};
 
@@ -91,7 +91,7 @@ fn hosted_room(limits: &[u64], rooms: &[u128]) -> u128
 /// The servers that the flagged rows may use.
 pub(crate) fn reached_by(
     alloc: Global,
-    lists: NetworkLists,
+    lists: FlowLists,
     rows: &[bool],
 ) -> Result<Vec<bool>, AllocError>
     requires { length rows.now ≡ length lists.demands.now }
@@ -105,7 +105,7 @@ pub(crate) fn reached_by(
 }
 
 // The capacities of those servers, 0 for the others.
-fn rooms_of(alloc: Global, lists: NetworkLists, rows: &[bool]) -> Result<Vec<u128>, AllocError>
+fn rooms_of(alloc: Global, lists: FlowLists, rows: &[bool]) -> Result<Vec<u128>, AllocError>
     requires { length rows.now ≡ length lists.demands.now }
     ensures len { IfOk result (λ rooms. vec_len rooms ≡ length lists.entry.capacities.now) }
     ensures rooms { IfOk result (λ rooms. AreRoomsOf lists.entry (flag_at rows.now) rooms.items) }
@@ -121,7 +121,7 @@ fn rooms_of(alloc: Global, lists: NetworkLists, rows: &[bool]) -> Result<Vec<u12
 /// What all that the flagged rows can reach can take.
 pub(crate) fn reached_capacity(
     alloc: Global,
-    lists: NetworkLists,
+    lists: FlowLists,
     rows: &[bool],
 ) -> Result<u128, AllocError>
     requires { length rows.now ≡ length lists.demands.now }

@@ -12,7 +12,7 @@ ghost use Rattle.hsp_check.specs.Valid.{IsValid, IsValidPlan};
 
 use crate::arc_flows::flows_by_uses;
 use crate::building::{IndexedNetwork, build_network};
-use crate::lists::NetworkLists;
+use crate::lists::FlowLists;
 use crate::loads::{Loads, loads_of};
 use crate::sums::{total_of, worth_of};
 use hsp_cert::BestRef;
@@ -32,11 +32,7 @@ pub struct PlanSums {
 }
 
 // The sums of a plan on the lists, and of its prices.
-fn sums_of(
-    alloc: Global,
-    lists: NetworkLists<'_>,
-    plan: &BestRef<'_>,
-) -> Result<PlanSums, AllocError>
+fn sums_of(alloc: Global, lists: FlowLists<'_>, plan: &BestRef<'_>) -> Result<PlanSums, AllocError>
     requires arc_flows { AreFlowsOf (table plan.now.uses) lists.arc_flows.now }
     requires valid { IsValidPlan (network_in lists) plan.now }
     ensures { IfOk result (AreSums (network_in lists.entry) plan.now) }

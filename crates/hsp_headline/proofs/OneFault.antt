@@ -7,7 +7,7 @@ use Rattle.hsp_record.specs.Values.{values_format}
 use Rattle.hsp_text.specs.Answers.{told_as}
 use Rattle.hsp_instance.specs.Building as building
 use Rattle.hsp_instance.proofs.OneAnswer.{IsOne, then_one}
-use Rattle.hsp_headline.specs.Instance.{BuildsInstance, IsWithCosts, IsWithDemand, IsWithSettings, IsWithValues, ReadsCapacities, ReadsCosts, ReadsDemand}
+use Rattle.hsp_headline.specs.Instance.{BuildsInstance, ReadsCapacitiesOn, ReadsCostsOn, ReadsValuesOn, ReadsDemandOn, ReadsCapacities, ReadsCosts, ReadsDemand}
 use Rattle.hsp_headline.specs.Laws.{GivesNothingElse, GivesOneAnswer}
 use Rattle.hsp_headline.specs.Readings.{AreListed, ReadsSettings, ReadsValues, some_list}
 use Rattle.hsp_faults.specs.declared.fault.Fault.TheVariants.{Build, Values}
@@ -25,10 +25,10 @@ built_one once read a b is also = is.2 ∙ ap (λ t. told_as Build t) (once read
 
 pub gives_one_answer : formats.HasOneAnswer values_format → building.HasOneAnswer → GivesOneAnswer
 gives_one_answer one once inputs =
-    then_one (ReadsSettings inputs.settings.items) (IsWithSettings inputs) (λ a b is also. is ∙ sym also) (λ settings.
-    then_one (ReadsValues (option_map (λ v. v.items) inputs.values)) (IsWithValues inputs settings) (values_one one (option_map (λ v. v.items) inputs.values)) (λ values.
-    then_one (ReadsDemand inputs.demand.items) (IsWithDemand inputs settings values) (λ a b is also. is ∙ sym also) (λ demand.
-    then_one (ReadsCosts inputs.costs.items) (IsWithCosts inputs settings values demand) (λ a b is also. is ∙ sym also) (λ costs.
+    then_one (ReadsSettings inputs.settings.items) (ReadsValuesOn inputs) (λ a b is also. is ∙ sym also) (λ settings.
+    then_one (ReadsValues (option_map (λ v. v.items) inputs.values)) (ReadsDemandOn inputs settings) (values_one one (option_map (λ v. v.items) inputs.values)) (λ values.
+    then_one (ReadsDemand inputs.demand.items) (ReadsCostsOn inputs settings values) (λ a b is also. is ∙ sym also) (λ demand.
+    then_one (ReadsCosts inputs.costs.items) (ReadsCapacitiesOn inputs settings values demand) (λ a b is also. is ∙ sym also) (λ costs.
     then_one (ReadsCapacities inputs.capacity.items) (λ capacities. BuildsInstance (record { settings = settings; values = values; demand = demand; costs = costs; capacities = capacities }))
     (λ a b is also. is ∙ sym also) (λ capacities.
     built_one once (record { settings = settings; values = values; demand = demand; costs = costs; capacities = capacities }))))))

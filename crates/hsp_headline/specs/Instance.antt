@@ -31,27 +31,27 @@ abbrev pub BuildsInstance : building.Inputs → Result Instance Fault → Type 0
 BuildsInstance read answer =
     (built : Result Instance BuildFault) × building.IsBuilt read built × (answer ≡ told_as Build built)
 
--- what is read after the costs, the demand, the values and the settings
-abbrev pub IsWithCosts : Inputs → SettingsEntries → Option (List HandleValue) → List DemandEntry → List CostEntry
+-- the capacities are read and the instance is built; before that the costs are read, the demand, and the values
+abbrev pub ReadsCapacitiesOn : Inputs → SettingsEntries → Option (List HandleValue) → List DemandEntry → List CostEntry
     → Result Instance Fault → Type 0
-IsWithCosts inputs settings values demand costs =
+ReadsCapacitiesOn inputs settings values demand costs =
     Then (ReadsCapacities inputs.capacity.items)
     (λ capacities.
     BuildsInstance
     (record { settings = settings; values = values; demand = demand; costs = costs; capacities = capacities }))
 
-abbrev pub IsWithDemand : Inputs → SettingsEntries → Option (List HandleValue) → List DemandEntry
+abbrev pub ReadsCostsOn : Inputs → SettingsEntries → Option (List HandleValue) → List DemandEntry
     → Result Instance Fault → Type 0
-IsWithDemand inputs settings values demand =
-    Then (ReadsCosts inputs.costs.items) (IsWithCosts inputs settings values demand)
+ReadsCostsOn inputs settings values demand =
+    Then (ReadsCosts inputs.costs.items) (ReadsCapacitiesOn inputs settings values demand)
 
-abbrev pub IsWithValues : Inputs → SettingsEntries → Option (List HandleValue) → Result Instance Fault → Type 0
-IsWithValues inputs settings values = Then (ReadsDemand inputs.demand.items) (IsWithDemand inputs settings values)
+abbrev pub ReadsDemandOn : Inputs → SettingsEntries → Option (List HandleValue) → Result Instance Fault → Type 0
+ReadsDemandOn inputs settings values = Then (ReadsDemand inputs.demand.items) (ReadsCostsOn inputs settings values)
 
-abbrev pub IsWithSettings : Inputs → SettingsEntries → Result Instance Fault → Type 0
-IsWithSettings inputs settings =
-    Then (ReadsValues (option_map (λ v. v.items) inputs.values)) (IsWithValues inputs settings)
+abbrev pub ReadsValuesOn : Inputs → SettingsEntries → Result Instance Fault → Type 0
+ReadsValuesOn inputs settings =
+    Then (ReadsValues (option_map (λ v. v.items) inputs.values)) (ReadsDemandOn inputs settings)
 
 -- the instance of the settings, the values, the demand, the costs and the capacities, read in this order
 abbrev pub IsInstanceOf : Inputs → Result Instance Fault → Type 0
-IsInstanceOf inputs = Then (ReadsSettings inputs.settings.items) (IsWithSettings inputs)
+IsInstanceOf inputs = Then (ReadsSettings inputs.settings.items) (ReadsValuesOn inputs)

@@ -1,7 +1,8 @@
 // The hash of a pair of names, eight octets a step.
 
 ghost use Rattle.std.specs.Prelude.{◌≡◌, ◌+◌, ◌<◌, ◌≤◌, ◌*◌, ◌^◌, fold, length};
-ghost use Rattle.hsp_pair_map.specs.Hashing.{bucket_of, folded, hash_of, mark_of, mixed, name_mixed, word_at, words_mixed};
+ghost use Rattle.hsp_pair_map.specs.Hashing.{bucket_of, folded, hash_of, mark_of, mixed, name_mixed, word_at};
+ghost use Rattle.hsp_pair_map.specs.Hashing.{words_mixed};
 
 use byteorder::{ByteOrder, LittleEndian};
 

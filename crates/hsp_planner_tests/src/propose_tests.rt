@@ -1,5 +1,5 @@
-// Proposals for networks that can be worked by hand. Running out of memory is no answer: each call is made once more then, and
-// has to succeed.
+// Proposals for networks that can be worked by hand. Running out of memory is no answer: each call is made once more
+// then, and has to succeed.
 
 use crate::same::is_same;
 use hsp_network::{Network, NetworkLists, Outcome, PricedFlow};

@@ -6,7 +6,7 @@ use Rattle.hsp_cert.specs.Certificate.{Claim}
 use Rattle.hsp_dispatch.specs.declared.fault.LogFault.{LogFault}
 use Rattle.hsp_runs.specs.Accepted.{IsAccepted, IsAcceptedOf}
 use Rattle.hsp_runs.specs.Check.{IsCertificate}
-use Rattle.hsp_headline.specs.Instance.{BuildsInstance, IsInstanceOf, IsWithCosts, IsWithDemand, IsWithSettings, IsWithValues}
+use Rattle.hsp_headline.specs.Instance.{BuildsInstance, IsInstanceOf, ReadsCapacitiesOn, ReadsCostsOn, ReadsValuesOn, ReadsDemandOn}
 use Rattle.hsp_headline.specs.Readings.{AreListed, ReadsValues}
 use Rattle.hsp_faults.specs.declared.fault.Fault.{Fault}
 use Rattle.hsp_faults.specs.declared.fault.Fault.TheVariants.{Build, Capacity, Cert, Costs, Demand, Log, Settings, Values}
@@ -36,10 +36,10 @@ values_none (Some octets) fault of (Err own, listed, same) e = listed_none octet
 
 instance_none : (inputs : Inputs) → HasNoLog (IsInstanceOf inputs)
 instance_none inputs =
-    then_none _ (IsWithSettings inputs) (λ fault of is e. told_none Settings (λ own from same. cc (same)) _ fault of is e) (λ settings.
-    then_none _ (IsWithValues inputs settings) (values_none _) (λ values.
-    then_none _ (IsWithDemand inputs settings values) (λ fault of is e. told_none Demand (λ own from same. cc (same)) _ fault of is e) (λ demand.
-    then_none _ (IsWithCosts inputs settings values demand) (λ fault of is e. told_none Costs (λ own from same. cc (same)) _ fault of is e) (λ costs.
+    then_none _ (ReadsValuesOn inputs) (λ fault of is e. told_none Settings (λ own from same. cc (same)) _ fault of is e) (λ settings.
+    then_none _ (ReadsDemandOn inputs settings) (values_none _) (λ values.
+    then_none _ (ReadsCostsOn inputs settings values) (λ fault of is e. told_none Demand (λ own from same. cc (same)) _ fault of is e) (λ demand.
+    then_none _ (ReadsCapacitiesOn inputs settings values demand) (λ fault of is e. told_none Costs (λ own from same. cc (same)) _ fault of is e) (λ costs.
     then_none _ (λ capacities. BuildsInstance (record { settings = settings; values = values; demand = demand; costs = costs; capacities = capacities }))
     (λ fault of is e. told_none Capacity (λ own from same. cc (same)) _ fault of is e)
     (λ capacities fault of is e. told_none Build (λ own from same. cc (same)) is.0 fault of is.2 e)))))

@@ -3,8 +3,9 @@
 ghost use Rattle.std.specs.Prelude.{IfOk, option_map};
 ghost use Rattle.hsp_runs.specs.Always.{GivesTheDefinedAlways};
 ghost use Rattle.hsp_headline.specs.Headline.{Defines};
-ghost use Rattle.hsp_headline.specs.Instance.{BuildsInstance, IsInstanceOf, IsWithCosts, IsWithDemand, IsWithSettings};
-ghost use Rattle.hsp_headline.specs.Instance.{IsWithValues, ReadsCapacities, ReadsCosts, ReadsDemand};
+ghost use Rattle.hsp_headline.specs.Instance.{BuildsInstance, IsInstanceOf, ReadsCapacitiesOn, ReadsCostsOn};
+ghost use Rattle.hsp_headline.specs.Instance.{ReadsValuesOn};
+ghost use Rattle.hsp_headline.specs.Instance.{ReadsDemandOn, ReadsCapacities, ReadsCosts, ReadsDemand};
 ghost use Rattle.hsp_headline.specs.Memory.{OrNoMemory};
 
 use crate::readings::{settings_in, values_in};
@@ -94,7 +95,7 @@ fn read_capacities_on(
     demand: &Demand,
     costs: &Costs,
 ) -> Result<Instance, Fault>
-    ensures { OrNoMemory (IsWithCosts inputs.now sources.entry.settings.now
+    ensures { OrNoMemory (ReadsCapacitiesOn inputs.now sources.entry.settings.now
         (option_map (λ v. v.now) sources.entry.values) demand.now costs.now) result }
 {
     let capacity = capacities_in(alloc, &inputs.capacity)?;
@@ -108,7 +109,7 @@ fn read_costs_on(
     sources: Sources<'_, '_, '_>,
     demand: &Demand,
 ) -> Result<Instance, Fault>
-    ensures { OrNoMemory (IsWithDemand inputs.now sources.entry.settings.now
+    ensures { OrNoMemory (ReadsCostsOn inputs.now sources.entry.settings.now
         (option_map (λ v. v.now) sources.entry.values) demand.now) result }
 {
     let costs = costs_in(alloc, &inputs.costs)?;
@@ -122,7 +123,7 @@ fn read_demand_on(
     settings: &Settings,
     values: Option<&ValueList<'_>>,
 ) -> Result<Instance, Fault>
-    ensures { OrNoMemory (IsWithValues inputs.now settings.now
+    ensures { OrNoMemory (ReadsDemandOn inputs.now settings.now
         (option_map (λ v. v.now) values.entry)) result }
 {
     let demand = demand_in(alloc, &inputs.demand)?;
@@ -131,7 +132,7 @@ fn read_demand_on(
 
 // Reads the values, the tables after them, and builds the instance.
 fn read_values_on(alloc: Global, inputs: &Inputs, settings: &Settings) -> Result<Instance, Fault>
-    ensures { OrNoMemory (IsWithSettings inputs.now settings.now) result }
+    ensures { OrNoMemory (ReadsValuesOn inputs.now settings.now) result }
 {
     let values = values_in(alloc, inputs.values.as_deref())?;
     read_demand_on(alloc, inputs, settings, values.as_ref())

@@ -18,17 +18,17 @@ abbrev pub are_checked : List Site → List CostEntry → Result Files Fault
 are_checked sites costs =
     told_as Build (unless (cost_fault sites 0 costs)) >>= λ _. Ok (record { sites = sites; costs = costs })
 
--- what is read after the costs, the values and the settings
-abbrev pub AreWithCosts : SettingsEntries → Option (List HandleValue) → List CostEntry → Result Files Fault → Type 0
-AreWithCosts settings values costs = Then (AreSites settings values) (λ sites answer. answer ≡ are_checked sites costs)
+-- the sites are built and the costs checked; before that the costs are read, and the values
+abbrev pub ReadsSitesOn : SettingsEntries → Option (List HandleValue) → List CostEntry → Result Files Fault → Type 0
+ReadsSitesOn settings values costs = Then (AreSites settings values) (λ sites answer. answer ≡ are_checked sites costs)
 
-abbrev pub AreWithValues : KindsInputs → SettingsEntries → Option (List HandleValue) → Result Files Fault → Type 0
-AreWithValues inputs settings values = Then (ReadsCosts inputs.costs.items) (AreWithCosts settings values)
+abbrev pub ReadsCostsOn : KindsInputs → SettingsEntries → Option (List HandleValue) → Result Files Fault → Type 0
+ReadsCostsOn inputs settings values = Then (ReadsCosts inputs.costs.items) (ReadsSitesOn settings values)
 
-abbrev pub AreWithSettings : KindsInputs → SettingsEntries → Result Files Fault → Type 0
-AreWithSettings inputs settings =
-    Then (ReadsValues (option_map (λ v. v.items) inputs.values)) (AreWithValues inputs settings)
+abbrev pub ReadsValuesOn : KindsInputs → SettingsEntries → Result Files Fault → Type 0
+ReadsValuesOn inputs settings =
+    Then (ReadsValues (option_map (λ v. v.items) inputs.values)) (ReadsCostsOn inputs settings)
 
 -- the sites and the costs of the files, read in the order of settings, values and costs
 abbrev pub AreFilesIn : KindsInputs → Result Files Fault → Type 0
-AreFilesIn inputs = Then (ReadsSettings inputs.settings.items) (AreWithSettings inputs)
+AreFilesIn inputs = Then (ReadsSettings inputs.settings.items) (ReadsValuesOn inputs)

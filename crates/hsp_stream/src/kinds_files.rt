@@ -2,7 +2,7 @@
 
 ghost use Rattle.std.specs.Prelude.{option_map};
 ghost use Rattle.hsp_runs.specs.Memory.{OrNoMemory};
-ghost use Rattle.hsp_stream.specs.KindsFiles.{AreFilesIn, AreWithCosts, AreWithSettings, AreWithValues, are_checked};
+ghost use Rattle.hsp_stream.specs.KindsFiles.{AreFilesIn, ReadsSitesOn, ReadsValuesOn, ReadsCostsOn, are_checked};
 ghost use Rattle.hsp_text.specs.Answers.{Gives};
 
 use hsp_faults::Fault;
@@ -47,7 +47,7 @@ fn read_sites_on(
     values: Option<&ValueList<'_>>,
     costs: Costs,
 ) -> Result<Files, Fault>
-    ensures { OrNoMemory (AreWithCosts settings.now (option_map (λ v. v.now) values.entry) costs)
+    ensures { OrNoMemory (ReadsSitesOn settings.now (option_map (λ v. v.now) values.entry) costs)
         result }
 {
     let sites = sites_of(alloc, settings, values)?;
@@ -61,7 +61,7 @@ fn read_costs_on(
     settings: &Settings,
     values: Option<&ValueList<'_>>,
 ) -> Result<Files, Fault>
-    ensures { OrNoMemory (AreWithValues inputs.now settings.now
+    ensures { OrNoMemory (ReadsCostsOn inputs.now settings.now
         (option_map (λ v. v.now) values.entry)) result }
 {
     let costs = costs_in(alloc, &inputs.costs)?;
@@ -70,7 +70,7 @@ fn read_costs_on(
 
 // Reads the values and what follows them.
 fn read_values_on(alloc: Global, inputs: &KindsInputs, settings: &Settings) -> Result<Files, Fault>
-    ensures { OrNoMemory (AreWithSettings inputs.now settings.now) result }
+    ensures { OrNoMemory (ReadsValuesOn inputs.now settings.now) result }
 {
     let values = values_in(alloc, inputs.values.as_deref())?;
     read_costs_on(alloc, inputs, settings, values.as_ref())

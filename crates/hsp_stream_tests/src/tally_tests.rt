@@ -12,8 +12,8 @@ use std::alloc::{AllocError, Global};
 
 // Puts in a number, and once more where memory ran out. Whether it is in then.
 fn has_put(seen: &mut SeenRows, alloc: Global, region: &[u8], handle: &[u8], number: u32) -> bool {
-    seen.put(alloc, region, handle, number).is_ok()
-        || seen.put(alloc, region, handle, number).is_ok()
+    seen.remember(alloc, region, handle, number).is_ok()
+        || seen.remember(alloc, region, handle, number).is_ok()
 }
 
 #[test]

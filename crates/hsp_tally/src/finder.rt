@@ -88,7 +88,7 @@ impl<'a> RowFinder<'a> {
         }
         let row = self.rows.find(alloc, region, handle)?;
         if let Some(number) = number_for(row) {
-            self.seen.put(alloc, region, octets, number)?;
+            self.seen.remember(alloc, region, octets, number)?;
         }
         Ok(row)
     }

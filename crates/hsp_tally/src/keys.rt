@@ -77,7 +77,7 @@ impl Equivalent<KindKey> for LentKind<'_> {
 }
 
 // Writes the place of a handle at each of the sites over what the list had.
-fn put_places(
+fn fill_places(
     places: &mut Vec<u32>,
     sites: &[SiteHash],
     handle: HandleRef<'_>,
@@ -166,7 +166,7 @@ impl<'a> KindKeys<'a> {
             (sites_for self.old.costs self.old.sites region.now) (octets_of handle.entry)) }
     {
         let place = place_of(alloc, &mut self.known, self.sites, self.costs, region)?;
-        put_places(&mut self.places, sites_there(&self.known, place), handle)
+        fill_places(&mut self.places, sites_there(&self.known, place), handle)
     }
 
     // The places that were found last.

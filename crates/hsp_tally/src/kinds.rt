@@ -194,7 +194,10 @@ impl<'a> Kinds<'a> {
         let places = self.keys.places();
         let key = LentKind { region, places };
         let number = count_by(alloc, &mut self.kinds, key, handle.bytes(), count)?;
-        match self.seen.put(alloc, region, handle.bytes(), number as u32) {
+        match self
+            .seen
+            .remember(alloc, region, handle.bytes(), number as u32)
+        {
             Ok(()) | Err(_) => {}
         }
         Ok(())

@@ -156,7 +156,7 @@ impl SeenRows {
 
     /// Puts in a number for a region and a handle. It is left out where there are rows enough, or where the row is too
     /// long. Where memory runs out nothing changes.
-    pub fn put(
+    pub fn remember(
         &mut self,
         alloc: Global,
         region: &[u8],

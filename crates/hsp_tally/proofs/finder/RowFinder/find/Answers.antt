@@ -22,4 +22,4 @@ invariant_of-self-in-Continue-branch-2 c =
     let octets = c.bytes-octets.result.now in
     let row = c.in_ok-row.ensures.row ∙ ap (row_for rows.costs rows.it region) (sym c.bytes-octets.ensures.octets) in
     let is = c.in-Some-number_for.ensures ∙ ap number_for row in
-    rw c.in_ok-row.ensures.same (put_all (IsFound rows.costs rows.it) c.self.inside.seen c.put.new.self _ c.in_ok-put.ensures.put c.self.invariant is)
+    rw c.in_ok-row.ensures.same (put_all (IsFound rows.costs rows.it) c.self.inside.seen c.remember.new.self _ c.in_ok-remember.ensures.put c.self.invariant is)

@@ -13,11 +13,11 @@ found c =
     known_sites c.self.inside.costs.now c.self.inside.sites.now c.args.region.now c.sites_there.result.now (slice_get c.place_of.new.known.entries c.in_ok-place.place) c.in_ok-place.ensures.place c.sites_there.ensures
     (λ e at. all_at (HasSites c.self.inside.costs.now c.self.inside.sites.now) c.place_of.new.known.entries c.in_ok-place.place e c.in_ok-place.ensures.all at)
 
-pub put_places-requires : goal.put_places-requires
-put_places-requires c = (found (goal.at.put_places-requires c).After-sites_there).1
+pub fill_places-requires : goal.fill_places-requires
+fill_places-requires c = (found (goal.at.fill_places-requires c).After-sites_there).1
 
 pub returns-clause-places : goal.returns-clause-places
 returns-clause-places c =
     let is = found (goal.at.returns-clause-places c).After-sites_there in
     let e = ap (map (place_by (octets_of c.args.handle))) is.0 ∙ map_twice hash_of (place_by (octets_of c.args.handle)) (sites_for c.self.inside.costs.now c.self.inside.sites.now c.args.region.now) in
-    rw (← c.self.view_is, ← e) c.put_places.ensures
+    rw (← c.self.view_is, ← e) c.fill_places.ensures

@@ -68,9 +68,9 @@ pub invariant_of-self-2 : goal.invariant_of-self-2
 invariant_of-self-2 c =
     let d = (goal.at.invariant_of-self-2 c).After-count_by in
     new_held c.self.inside.keys c.self.inside.kinds.entries c.count_by.new.kinds.entries c.self.inside.seen c.self.invariant (lent d) (octets_of c.args.handle) c.args.count (found d)
-    (is_counted d c.in_ok-number.ensures.counted) c.put.new.self c.in_ok-number.number c.find.new.self c.in_ok-find.ensures.costs c.in_ok-find.ensures.sites
+    (is_counted d c.in_ok-number.ensures.counted) c.remember.new.self c.in_ok-number.number c.find.new.self c.in_ok-find.ensures.costs c.in_ok-find.ensures.sites
     (rw (c.in_ok-find.ensures.regions) (few d)) c.in_ok-number.ensures.few c.in_ok-number.ensures.place c.requires.named
-    (handle_is (octets_of c.args.handle) (rw (← c.bytes.ensures.octets) c.bytes.ensures.handle)) (rw (← c.bytes-2.ensures.octets) c.put.ensures.put)
+    (handle_is (octets_of c.args.handle) (rw (← c.bytes.ensures.octets) c.bytes.ensures.handle)) (rw (← c.bytes-2.ensures.octets) c.remember.ensures.put)
 
 pub returns-clause-whole : goal.returns-clause-whole
 returns-clause-whole c =

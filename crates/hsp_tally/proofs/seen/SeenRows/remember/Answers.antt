@@ -2,7 +2,7 @@ use Rattle.std.proofs.Common.{◌∙◌, ap, inr, map}
 use Rattle.hsp_tables.specs.Keyed.{PairName}
 use Rattle.hsp_tally.specs.SeenKeys.{seen_entry}
 use Rattle.hsp_tally.proofs.SeenMaps.{seen_put}
-use Rattle.hsp_tally.proofs.seen.SeenRows.put.Goals as goal
+use Rattle.hsp_tally.proofs.seen.SeenRows.remember.Goals as goal
 
 pub returns-clause-put : goal.returns-clause-put
 returns-clause-put c =
