@@ -1,3 +1,5 @@
+ghost use Rattle.std.specs.Prelude.{◌<◌};
+
 use crate::same::is_same;
 use hsp_pair_map::PairMap;
 use std::alloc::{AllocError, Global};
