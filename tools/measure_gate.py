@@ -1,8 +1,9 @@
 #!/usr/bin/env python3
 """Runs `rt ci`, and prints the processor seconds that each crate took.
 
-    tools/measure_gate.py [--jobs N] [--log FILE]      N checks side by side, by default as many as in `make test`;
-                                                       the log is what rt ci prints
+    tools/measure_gate.py [--jobs N] [--log FILE] [--edits]      N checks side by side, by default as many as in
+                                                                 `make test`; the log is what rt ci prints;
+                                                                 each edit's seconds too, dearest first
 
 The seconds of a crate are those of its proof, of the proof that its must-fail edits begin with, of the edits, and of
 its tests. What rt kept of an earlier run on the machine is not proved again, and has no seconds here.
@@ -12,6 +13,7 @@ second of each check is missed.
 """
 import argparse
 import collections
+import glob
 import os
 import re
 import subprocess
@@ -33,9 +35,16 @@ def kind_of(words):
     return "before the edits" if words[words.index("--incremental") + 1].endswith("/seed") else "edits"
 
 
+def edit_of(words, crate):
+    """The file of the must-fail edit that a check over a proof tries. The folder that it works in has its number."""
+    number = os.path.basename(words[words.index("--incremental") + 1])
+    edits = sorted(glob.glob(f"{TOP}/crates/{crate}/must-fail/*.edit"))
+    return os.path.basename(edits[int(number)]) if number.isdigit() else ""
+
+
 def checks_of(parent):
     """The checks that run below a process. Each is known by its process number and its start, and has its crate, its
-    kind and its seconds so far."""
+    kind, the edit that it tries, and its seconds so far."""
     for number in filter(str.isdigit, os.listdir("/proc")):
         try:
             with open(f"/proc/{number}/stat") as file:
@@ -45,36 +54,43 @@ def checks_of(parent):
             with open(f"/proc/{number}/cmdline") as file:
                 words = file.read().split("\0")
             if "--crate-name" in words and os.path.basename(words[0]) == "rattle":
-                crate = words[words.index("--crate-name") + 1]
-                yield (number, fields[19]), (crate, kind_of(words), sum(map(int, fields[11:15])) / TICK)
+                crate, kind = words[words.index("--crate-name") + 1], kind_of(words)
+                edit = edit_of(words, crate) if kind == "edits" else ""
+                yield (number, fields[19]), (crate, kind, edit, sum(map(int, fields[11:15])) / TICK)
         except (FileNotFoundError, ProcessLookupError):
             continue
 
 
 def measured(jobs, log):
-    """Runs rt ci to its end. Returns its status, the seconds by the clock, and what checks took by crate and kind."""
+    """Runs rt ci to its end. Returns its status, the seconds by the clock, what checks took by crate and kind, and what
+    each edit took."""
     began, seen = time.monotonic(), {}
     run = subprocess.Popen(["rt", "ci"], cwd=TOP, env={**os.environ, "RT_JOBS": str(jobs)}, stdout=log, stderr=subprocess.STDOUT)
     while run.poll() is None:
         seen.update(checks_of(run.pid))
         time.sleep(1)
-    took = collections.Counter()
-    for crate, kind, seconds in seen.values():
+    took, edits = collections.Counter(), collections.Counter()
+    for crate, kind, edit, seconds in seen.values():
         took[crate, kind] += seconds
-    return run.returncode, time.monotonic() - began, took
+        if edit:
+            edits[crate, edit] += seconds
+    return run.returncode, time.monotonic() - began, took, edits
 
 
 def main():
     arguments = argparse.ArgumentParser(description="Prints the processor seconds that rt ci takes, by crate.")
     arguments.add_argument("--jobs", type=int, default=lanes.lanes())
     arguments.add_argument("--log", default="/tmp/rt-ci.log")
+    arguments.add_argument("--edits", action="store_true")
     given = arguments.parse_args()
     with open(given.log, "w", encoding="utf-8") as log:
-        status, clock, took = measured(given.jobs, log)
+        status, clock, took, edits = measured(given.jobs, log)
     print(f"| Crate | {' | '.join(it.capitalize() for it in KINDS)} |")
     print("|---" * (len(KINDS) + 1) + "|")
     for crate in dict.fromkeys(crate for crate, _ in took):
         print(f"| `{crate}` | {' | '.join(str(round(took[crate, kind])) for kind in KINDS)} |")
+    for (crate, edit), seconds in edits.most_common() if given.edits else ():
+        print(f"{round(seconds)} {crate}/{edit}")
     for kind in KINDS:
         print(f"{kind}: {sum(seconds for (_, it), seconds in took.items() if it == kind) / 60:.0f} minutes")
     print(f"{sum(took.values()) / 60:.0f} minutes of a processor, {clock / 60:.0f} by the clock, {given.jobs} checks side by side")

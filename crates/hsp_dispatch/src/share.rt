@@ -14,13 +14,19 @@ pub(crate) struct Cell {
     pub(crate) left: u64,
 }
 
+/// The cells of a row behind its first one, and the place of the next of them.
+#[derive(Drop)]
+pub(crate) struct Later {
+    cells: Vec<Cell>,
+    next: usize,
+}
+
 /// What is left for a row: cells in ascending order of their sites, each with something left. The first cell stands in
-/// place, so that most queries touch no other memory. It is spent where nothing is left.
+/// place and the others behind a box, so that most queries touch little memory. It is spent where nothing is left.
 #[derive(Drop)]
 pub(crate) struct RowShare {
     first: Cell,
-    more: Vec<Cell>,
-    next: usize,
+    later: Box<Later>,
 }
 
 impl Model for RowShare {
@@ -30,28 +36,33 @@ impl Model for RowShare {
 
     ghost Value = { List Cell };
 
-    ghost view = { λ s. with_first s.first (drop s.next s.more.items) };
+    ghost view = { λ s.
+        with_first s.first (drop s.later.value.next s.later.value.cells.items) };
 
-    ghost invariant = { λ s. (s.next ≤ length s.more.items)
-        × AreCells (with_first s.first (drop s.next s.more.items))
-        × (s.first.left ≡ 0 → drop s.next s.more.items ≡ []) };
+    ghost invariant = { λ s. (s.later.value.next ≤ length s.later.value.cells.items)
+        × AreCells (with_first s.first (drop s.later.value.next s.later.value.cells.items))
+        × (s.first.left ≡ 0 → drop s.later.value.next s.later.value.cells.items ≡ []) };
 }
 
 impl RowShare {
     /// A share of nothing.
-    pub(crate) fn new(alloc: Global) -> RowShare
-        ensures { result ≡ [] }
+    pub(crate) fn new(alloc: Global) -> Result<RowShare, AllocError>
+        ensures { IfOk result (λ share. share ≡ []) }
     {
         let spent = Cell {
             site: 0,
             server: 0,
             left: 0,
         };
-        RowShare {
-            first: spent,
-            more: Vec::new(alloc),
+        let none = Later {
+            cells: Vec::new(alloc),
             next: 0,
-        }
+        };
+        let later = Box::new(alloc, none)?;
+        Ok(RowShare {
+            first: spent,
+            later,
+        })
     }
 
     /// Adds a cell, if something is left in it. Its site comes after all others.
@@ -62,8 +73,8 @@ impl RowShare {
         if self.first.left == 0 {
             self.first = cell;
         } else if cell.left > 0 {
-            self.more.reserve_exact(1)?;
-            self.more.push(cell)?;
+            self.later.cells.reserve_exact(1)?;
+            self.later.cells.push(cell)?;
         }
         Ok(())
     }
@@ -78,11 +89,11 @@ impl RowShare {
         if cell.left == 0 {
             return None;
         }
-        if cell.left > 1 || self.next == self.more.len() {
+        if cell.left > 1 || self.later.next == self.later.cells.len() {
             self.first.left -= 1;
         } else {
-            self.first = self.more[self.next];
-            self.next += 1;
+            self.first = self.later.cells[self.later.next];
+            self.later.next += 1;
         }
         Some(cell)
     }
@@ -94,7 +105,7 @@ impl RowShare {
         let mut cells = Vec::new(alloc);
         if self.first.left > 0 {
             cells.push(self.first)?;
-            cells.extend_from_slice(&self.more[self.next..])?;
+            cells.extend_from_slice(&self.later.cells[self.later.next..])?;
         }
         Ok(cells)
     }
@@ -106,7 +117,7 @@ impl RowShare {
         if self.first.site == site {
             return self.first.left;
         }
-        for cell in &self.more[self.next..] {
+        for cell in &self.later.cells[self.later.next..] {
             if cell.site == site {
                 return cell.left;
             }

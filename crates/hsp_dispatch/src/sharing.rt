@@ -51,7 +51,7 @@ fn empty_shares(alloc: Global, count: u32) -> Result<Vec<RowShare>, AllocError>
 {
     let mut shares = Vec::new(alloc);
     for _row in 0..count {
-        shares.push(RowShare::new(alloc))?;
+        shares.push(RowShare::new(alloc)?)?;
     }
     Ok(shares)
 }

@@ -15,9 +15,9 @@ use std::marker::Model;
 pub(crate) struct Entry {
     mark: u32,
     before: u32,
-    start: usize,
-    cut: usize,
-    end: usize,
+    start: u32,
+    cut: u32,
+    end: u32,
 }
 
 /// A map from pairs of names to their numbers. The first pair that is added has the number 0.
@@ -50,8 +50,8 @@ fn is_pair(octets: &[u8], entry: Entry, mark: u32, first: &[u8], second: &[u8]) 
         ↔ (pair_in octets.now entry ≡ record { first = first.now; second = second.now }) }
 {
     entry.mark == mark
-        && &octets[entry.start..entry.cut] == first
-        && &octets[entry.cut..entry.end] == second
+        && &octets[entry.start as usize..entry.cut as usize] == first
+        && &octets[entry.cut as usize..entry.end as usize] == second
 }
 
 impl PairMap {
@@ -75,7 +75,8 @@ impl PairMap {
         self.entries.len() as u32
     }
 
-    /// The number of a pair, or None where it was not added. Of a pair that was added twice it is the greater number.
+    /// The number of a pair, or None where it was not added. A pair that was added twice has two numbers, and either of
+    /// them may be found.
     pub fn find(&self, first: &[u8], second: &[u8]) -> Option<u32>
         ensures found { IfSome result (λ number.
             slice_get self.now number ≡ Some (record { first = first.now; second = second.now })) }
@@ -95,7 +96,11 @@ impl PairMap {
         None
     }
 
-    /// Adds a pair, whose number is that of the pairs before it. Without memory nothing is added.
+    /// Adds a pair, whose number is that of the pairs before it.
+    ///
+    /// # Errors
+    ///
+    /// An `AllocError` where memory runs out, or where all names together would have 2^32 octets. Then nothing is added.
     pub fn push(&mut self, first: &[u8], second: &[u8]) -> Result<(), AllocError>
         requires { length self.old + 1 < 2 ^ 32 }
         ensures added { OnOk result (self.new
@@ -106,14 +111,17 @@ impl PairMap {
         self.octets.extend_from_slice(first)?;
         let cut = self.octets.len();
         self.octets.extend_from_slice(second)?;
+        let Ok(end) = u32::try_from(self.octets.len()) else {
+            return Err(AllocError);
+        };
         let hash = hash_of(first, second);
         let bucket = bucket_of(self.lasts.len(), hash);
         let entry = Entry {
             mark: mark_of(hash),
             before: self.lasts[bucket],
-            start,
-            cut,
-            end: self.octets.len(),
+            start: start as u32,
+            cut: cut as u32,
+            end,
         };
         self.entries.push(entry)?;
         self.lasts[bucket] = self.entries.len() as u32;
