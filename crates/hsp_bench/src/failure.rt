@@ -1,7 +1,5 @@
 // Why nothing was measured.
 
-use hsp_cert::CertFault;
-use hsp_dispatch::LogFault;
 use hsp_instance::BuildFault;
 use hsp_record::RecordFault;
 use hsp_tables::TableFault;
@@ -23,12 +21,8 @@ pub enum Failure {
     Values(RecordFault),
     /// The inputs that were made have no instance.
     Build(BuildFault),
-    /// The text that was written is no certificate's.
-    Text(CertFault),
-    /// The numbers are no certificate's, or none that is valid.
+    /// The numbers that were made are not a network's.
     Numbers,
-    /// The log that was made isn't answered to its end.
-    Log(LogFault),
 }
 
 impl From<AllocError> for Failure {
@@ -64,17 +58,5 @@ impl From<RecordFault> for Failure {
 impl From<BuildFault> for Failure {
     fn from(fault: BuildFault) -> Failure {
         Failure::Build(fault)
-    }
-}
-
-impl From<CertFault> for Failure {
-    fn from(fault: CertFault) -> Failure {
-        Failure::Text(fault)
-    }
-}
-
-impl From<LogFault> for Failure {
-    fn from(fault: LogFault) -> Failure {
-        Failure::Log(fault)
     }
 }

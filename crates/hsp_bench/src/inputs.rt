@@ -32,16 +32,6 @@ impl Texts {
             capacity: String::new(alloc),
         }
     }
-
-    /// How many octets the texts have together.
-    pub(crate) fn octets(&self) -> usize {
-        self.settings
-            .len()
-            .saturating_add(self.values.len())
-            .saturating_add(self.demand.len())
-            .saturating_add(self.costs.len())
-            .saturating_add(self.capacity.len())
-    }
 }
 
 // How many servers a site has: no two sites have as many, so that handles that share a server at one site seldom share

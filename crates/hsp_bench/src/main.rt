@@ -1,12 +1,9 @@
-// The program that measures how long instances, certificates and plans at the limits take, and counts how many
-// proposals for networks are accepted.
+// The program that measures how long plans take, by a proposal and by searches, and counts how many proposals for
+// networks are accepted.
 #![tactic(auto)]
 
-mod certificates;
 mod failure;
 mod inputs;
-mod instances;
-mod logs;
 mod networks;
 mod plans;
 mod proposals;
@@ -18,10 +15,7 @@ mod values;
 mod watch;
 mod words;
 
-use certificates::measure_certificate;
 use failure::Failure;
-use instances::measure_instance;
-use logs::measure_log;
 use networks::count_accepted;
 use plans::{measure_plan, measure_plans};
 use proposals::count_proposals;
@@ -31,7 +25,7 @@ use std::time::CpuClock;
 use words::{Measurement, measurement_in};
 
 const USAGE: &str =
-    "hsp_bench: name what to measure: instance, certificate, log, plans, plan ROWS PERCENT MOST [HOSTS], proposals MANY, or networks MANY";
+    "hsp_bench: name what to measure: plans, plan ROWS PERCENT MOST [HOSTS], proposals MANY, or networks MANY";
 
 // How many small instances are planned where no words ask for more.
 const FEW: u32 = 400;
@@ -50,9 +44,6 @@ fn measure<R: AllocGlobal + Clock + CpuClock + Print>(
     measurement: &Measurement,
 ) -> Result<(), Failure> {
     match measurement {
-        Measurement::Instance => measure_instance(rt),
-        Measurement::Certificate => measure_certificate(rt),
-        Measurement::Log => measure_log(rt),
         Measurement::Plan(size) => measure_plan(rt, size),
         Measurement::Plans => measure_plans(rt),
         Measurement::Proposals(many) => count_proposals(rt, *many),

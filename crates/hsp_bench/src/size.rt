@@ -10,11 +10,3 @@ pub struct Size {
     /// How many hosts have a limit, at which they bind where capacity is not above five thirds of the demand.
     pub hosts: u16,
 }
-
-/// The limits of an instance, with capacity to spare.
-pub const LARGEST: Size = Size {
-    rows: 8_192,
-    percent: 200,
-    most: 1_000_000,
-    hosts: 0,
-};

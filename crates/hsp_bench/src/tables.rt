@@ -10,9 +10,9 @@ use hsp_tables::{
 };
 use std::alloc::Global;
 
-/// What the texts of the five inputs spell.
+// What the texts of the five inputs spell.
 #[derive(Drop)]
-pub struct Tables<'a> {
+struct Tables<'a> {
     settings: Settings,
     values: ValueList<'a>,
     rows: RowTables,
@@ -35,8 +35,8 @@ fn read_rows(alloc: Global, texts: &Texts) -> Result<RowTables, Failure> {
     })
 }
 
-/// Reads the texts.
-pub(crate) fn read_texts<'a>(alloc: Global, texts: &'a Texts) -> Result<Tables<'a>, Failure> {
+// Reads the texts.
+fn read_texts<'a>(alloc: Global, texts: &'a Texts) -> Result<Tables<'a>, Failure> {
     Ok(Tables {
         settings: read_settings(alloc, texts.settings.as_bytes())?,
         values: decode_values(alloc, &texts.values)?,
@@ -44,8 +44,8 @@ pub(crate) fn read_texts<'a>(alloc: Global, texts: &'a Texts) -> Result<Tables<'
     })
 }
 
-/// Builds the instance of what was read.
-pub(crate) fn build_instance(alloc: Global, tables: &Tables<'_>) -> Result<Instance, Failure> {
+// Builds the instance of what was read.
+fn build_instance(alloc: Global, tables: &Tables<'_>) -> Result<Instance, Failure> {
     Ok(build(
         alloc,
         &tables.settings,

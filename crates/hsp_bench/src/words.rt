@@ -6,9 +6,6 @@ use hsp_text::read_whole;
 /// What is to be measured.
 #[derive(Drop)]
 pub enum Measurement {
-    Instance,
-    Certificate,
-    Log,
     Plan(Size),
     Plans,
     Proposals(u32),
@@ -37,17 +34,6 @@ fn size_in(rows: &str, percent: &str, most: &str, hosts: u16) -> Option<Size> {
     })
 }
 
-// What a single word asks for.
-fn measurement_of(word: &str) -> Option<Measurement> {
-    match word {
-        "instance" => Some(Measurement::Instance),
-        "certificate" => Some(Measurement::Certificate),
-        "log" => Some(Measurement::Log),
-        "plans" => Some(Measurement::Plans),
-        _ => None,
-    }
-}
-
 // What a word and how many to draw ask for.
 fn drawing_of(word: &str, many: &str) -> Option<Measurement> {
     let many = number_in(many, MOST_DRAWN)?;
@@ -66,7 +52,7 @@ fn plan_of(rows: &str, percent: &str, most: &str, hosts: u16) -> Option<Measurem
 /// What the words ask for, and None where they ask for nothing.
 pub(crate) fn measurement_in(words: &[String]) -> Option<Measurement> {
     match words {
-        [one] => measurement_of(one.as_str()),
+        [one] if one.as_str() == "plans" => Some(Measurement::Plans),
         [one, many] => drawing_of(one.as_str(), many.as_str()),
         [one, rows, percent, most] if one.as_str() == "plan" => plan_of(rows, percent, most, 0),
         [one, rows, percent, most, hosts] if one.as_str() == "plan" => {
