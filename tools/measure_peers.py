@@ -88,8 +88,8 @@ class Instance:
             for word in (f"--{option}", measure_dispatch.write(folder, name, lines))
         ]
 
-    def network(self, program: str) -> str:
-        """The network in numbers, with the servers that `hsplan locate` names for each handle."""
+    def network(self, program: str, folder: str) -> str:
+        """A file of the network in numbers, with the servers that `hsplan locate` names for each handle."""
         firsts = [sum(self.sites[:site]) for site in range(SITES)]
 
         def places(row: int) -> list[int]:
@@ -107,7 +107,8 @@ class Instance:
             for site in range(SITES)
         ]
         head = f"{ROWS} {len(self.capacities)} {len(arcs)}"
-        return "\n".join([head, " ".join(map(str, self.counts)), " ".join(map(str, self.capacities)), *arcs]) + "\n"
+        lines = [head, " ".join(map(str, self.counts)), " ".join(map(str, self.capacities)), *arcs]
+        return measure_dispatch.write(folder, "network.txt", lines)
 
 
 def built_peer(folder: str) -> str:
@@ -118,14 +119,28 @@ def built_peer(folder: str) -> str:
     return peer
 
 
-def turn(program: str, peer: str, words: list[str], network: str) -> tuple[float, float, str, str]:
-    """The seconds of hsplan and of LEMON, and the least cost that each states."""
-    with tempfile.TemporaryFile("w+") as out, open(os.devnull, "w", encoding="utf-8") as told:
-        _, seconds, _ = measure_dispatch.spent_by([program, "plan", *words], out, told)
-        out.seek(0)
-        cost = next((line.split()[1] for line in out if line.startswith("cost ")), "-1")
-    other, took = subprocess.run([peer], input=network, stdout=subprocess.PIPE, text=True, check=True).stdout.split()
-    return seconds, float(took), cost, other
+def cost_in(path: str) -> str:
+    """The least cost that a plan states."""
+    with open(path, encoding="utf-8") as plan:
+        return next((line.split()[1] for line in plan if line.startswith("cost ")), "-1")
+
+
+def run(words: list[str], path: str) -> tuple[float, float, str]:
+    """The seconds and the peak megabytes of a run, and its standard error. What it prints goes to a file."""
+    with open(path, "w", encoding="utf-8") as out, tempfile.TemporaryFile("w+") as told:
+        _, seconds, memory = measure_dispatch.spent_by(words, out, told)
+        told.seek(0)
+        return seconds, memory, told.read()
+
+
+def turn(folder: str, program: str, words: list[str], peer: list[str]) -> tuple[dict[str, float], str, str]:
+    """What a turn took by kind, and the costs that hsplan and LEMON state."""
+    own, other, verdict = (os.path.join(folder, name) for name in ("own.txt", "other.txt", "verdict.txt"))
+    plan, memory, _ = run([program, "plan", *words], own)
+    check, _, _ = run([program, "check", *words, "--plan", own], verdict)
+    whole, held, solving = run(peer, other)
+    took = {"plan": plan, "memory": memory, "check": check, "LEMON": whole, "held": held, "solving": float(solving)}
+    return took, cost_in(own), cost_in(other)
 
 
 def main() -> int:
@@ -134,20 +149,23 @@ def main() -> int:
     arguments.add_argument("--program", default=programs.built_path("hsplan"))
     arguments.add_argument("factors", type=float, nargs="*", default=FACTORS)
     chosen = arguments.parse_args()
-    print("| Capacity over demand | Cost | hsplan, files to certificate | LEMON, solving only | hsplan over LEMON |")
-    print("|---|---|---|---|---|")
+    heads = "Capacity over demand|Cost|`plan`|LEMON|`plan` over LEMON|LEMON, solving only|Memory of both|`check`"
+    print(f"| {heads.replace('|', ' | ')} |\n|{'---|' * 8}")
     with tempfile.TemporaryDirectory() as folder:
         peer = built_peer(folder)
         for factor in chosen.factors:
             instance = Instance(folder, factor)
-            network = instance.network(chosen.program)
-            turns = [turn(chosen.program, peer, instance.words, network) for _ in range(chosen.turns)]
-            own, other = statistics.median(it[0] for it in turns), statistics.median(it[1] for it in turns)
-            if any(it[2] != it[3] for it in turns):
+            words = [peer, instance.network(chosen.program, folder)]
+            turns = [turn(folder, chosen.program, instance.words, words) for _ in range(chosen.turns)]
+            if any(own != other for _, own, other in turns):
                 print(f"at factor {factor} the costs differ: {turns}", file=sys.stderr)
                 return 1
+            mid = {kind: statistics.median(took[kind] for took, _, _ in turns) for kind in turns[0][0]}
             print(
-                f"| {factor:.2f} | {int(turns[0][2]):,} | {own:.3f} | {other:.3f} | {own / other:.2f} |", flush=True
+                f"| {factor:.2f} | {int(turns[0][1]):,} | {mid['plan']:.3f} | {mid['LEMON']:.3f} "
+                f"| {mid['plan'] / mid['LEMON']:.2f} | {mid['solving']:.3f} "
+                f"| {mid['memory']:.1f}, {mid['held']:.1f} MB | {mid['check']:.3f} |",
+                flush=True,
             )
     return 0
 
