@@ -86,6 +86,14 @@ def test_a_doubt_is_not_raised_where_it_is_not_due(example: Example) -> None:
         subprocess.run(["rm", "-r", str(folder)], check=True)
 
 
+def test_a_word_of_hsp_toml_that_nothing_reads(example: Example) -> None:
+    folder = example("two-sites")
+    (folder / "hsp.toml").write_text('title = "Films"\ncosts = "ms"\n[units]\n')
+    found = examined(str(folder), Desk(), {})
+    assert not found.errors
+    assert [(it.line, it.column, it.remedy) for it in found.warnings] == [(2, 1, "write cost"), (3, 2, "take it out")]
+
+
 def test_two_sites_with_one_record(example: Example) -> None:
     folder = example("base")
     lines = (folder / SETTINGS).read_text().splitlines()

@@ -8,6 +8,10 @@ from typing import NamedTuple
 from hsp.doctor.findings import quoted
 
 
+# What stands about a field in place of the quotes of a table.
+QUOTES = "'`\u2018\u2019\u201c\u201d\u201e\u00ab\u00bb"
+
+
 class Advice(NamedTuple):
     """Why a number is refused, what to do, and what stands in its place in a mended copy."""
 
@@ -76,6 +80,9 @@ def advice(text: str, name: str) -> Advice:
     found = _of_forms(bare) or _of_signs(bare)
     if found:
         return found
+    inner = bare.strip(QUOTES)
+    if re.fullmatch(r"0|[1-9][0-9]*", inner):
+        return Advice("other quotes than those of a table", f"write {inner}", inner)
     return Advice(
         f"letters or signs where {name} stands", f"write only digits for {name} in place of {quoted(text, 20)}"
     )
