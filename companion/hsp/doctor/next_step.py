@@ -45,7 +45,13 @@ def _of_plan(service: Service, at: str, desk: Desk) -> str:
             f"hsp sites FILE.. --into {service.folder}", "brings the sites in, of a proxy's JSON or their records"
         )
     if not service.rows:
-        return step("hsp demand LOG..", "counts the queries of access logs for demand.csv")
+        command = f"hsp demand LOG.. --regions FILE --into {shlex.quote(service.folder)}"
+        return step(command, "counts the queries of access logs, by a table network,region")
+    if not {region for region, _ in service.costs} & set(service.regions):
+        example = f"{service.regions[0]},{service.sites[0].name},N"
+        return step(NAMES["costs"], f"has no cost of {listed(service.regions, 6)} yet: write rows as {example}")
+    if not any(service.capacities.values()):
+        return step(NAMES["capacity"], "has only servers that take 0: write what each takes")
     path = os.path.join(service.folder, "plan.txt")
     if not os.path.isfile(path):
         return step(f"hsp plan{at}", "plans, and keeps the plan in plan.txt")
