@@ -13,6 +13,7 @@ import pytest
 
 from hsp.doctor import Examined, examined
 from hsp.doctor.findings import ERROR, Finding
+from hsp.doctor.printing import grouped
 from hsp.programs import Desk
 
 from conftest import TOP, Hsp
@@ -367,6 +368,25 @@ def test_two_rows_in_one_line_move_no_other(example: Example) -> None:
     (folder / CAPACITY).write_text(text.replace("1500\n", "1500").replace("reston,2,1460", "reston,2,x"))
     found = examined(str(folder), Desk(), {}).errors
     assert [(it.line, it.column) for it in found] == [(2, 9), (4, 10)], found
+
+
+def test_a_proxys_answer_in_place_of_the_settings(example: Example) -> None:
+    """One finding, and none for the sites that the tables name."""
+    folder = example("two-sites")
+    (folder / SETTINGS).write_text(json.dumps({"responseCode": 1, "values": [{"type": "HS_SITE"}]}, indent=1))
+    (only,) = examined(str(folder), Desk(), {}).errors
+    assert (only.message, only.line) == ("the settings are JSON, not TOML", 1)
+    assert f"hsp sites {folder / SETTINGS} makes the blocks" in only.remedy
+
+
+def test_columns_that_are_swapped_in_each_row(example: Example) -> None:
+    """Two findings, and not one for each name."""
+    folder = example("two-sites")
+    head, *rows = (folder / DEMAND).read_text().splitlines()
+    swapped = [",".join((it[1], it[0], it[2])) for it in (row.split(",") for row in rows)]
+    (folder / DEMAND).write_text("\n".join([head, *swapped, ""]))
+    first, second = grouped(examined(str(folder), Desk(), {}).errors)
+    assert first[0].remedy == "put the columns in the order region,handle,count" and len(first) == len(second) == 36
 
 
 def test_a_header_with_tabs_is_shown(example: Example) -> None:

@@ -146,7 +146,8 @@ def bad_name(spot: Spot, said: str) -> Explained:
         why = f"{len(field)} letters; a name has at most 64"
     elif "/" in field:
         why, remedy = "this looks like a handle", f"put the columns in the order {','.join(spot.header)}"
-    words = Words(f"{name} {quoted(field)} isn't a name", remedy, why, kind=f"BadName {name} {field}")
+    kind = f"BadName {name} /" if "/" in field else f"BadName {name} {field}"
+    words = Words(f"{name} {quoted(field)} isn't a name", remedy, why, kind=kind)
     mended = [spot.with_field(at, meant), spot.with_field(at, slug(field) or meant), spot.without()]
     return Explained(found(spot.path, spot.place(at), words, said), mended)
 
