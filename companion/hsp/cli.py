@@ -3,7 +3,6 @@
 from __future__ import annotations
 
 import csv
-import difflib
 import io
 import json
 import os
@@ -26,6 +25,7 @@ from hsp.doctor.printing import json_of as findings_json
 from hsp.doctor.printing import lines as finding_lines
 from hsp.files import replace_all
 from hsp.fleet.command import fleet
+from hsp.groups import Group
 from hsp.page import View, changes_between, render
 from hsp.programs import Desk, Missing, Refused
 from hsp.service import Service
@@ -50,25 +50,8 @@ class Folder(click.Path):
         return super().convert(value, param, context)
 
 
-class Commands(click.Group):
-    """The commands, a near name for a misspelt one, and one place for faults."""
-
-    def resolve_command(
-        self, context: click.Context, words: list[str]
-    ) -> tuple[str | None, click.Command | None, list[str]]:
-        if words and words[0] not in self.commands and not words[0].startswith("-"):
-            context.fail(f"no command '{words[0]}'{self.meant_by(words[0])}")
-        return super().resolve_command(context, words)
-
-    def meant_by(self, word: str) -> str:
-        """What is likely meant by a word that is no command: a near name, or a command of another program."""
-        near = difflib.get_close_matches(word, self.commands, 1, 0.8 if word in FORMS else 0.5)
-        others = [f"'{it}'" for it in near]
-        if word in FORMS:
-            others.append(f"'{FORMS[word].program} {word}'")
-        if word in ("help", "version"):
-            others.append(f"'hsp --{word}'")
-        return f"; did you mean {' or '.join(others)}?" if others else ""
+class Commands(Group):
+    """The commands, and one place for faults."""
 
     def invoke(self, context: click.Context) -> Any:
         try:

@@ -189,6 +189,10 @@ def test_words_that_are_no_command(hsp: Hsp, word: str, meant: str) -> None:
     assert f"no command '{word}'; did you mean {meant}?" in hsp(word, status=2).stderr
 
 
+def test_a_misspelt_command_of_fleet(hsp: Hsp) -> None:
+    assert "no command 'demnd'; did you mean 'demand'?" in hsp("fleet", "demnd", status=2).stderr
+
+
 def test_a_file_in_place_of_a_folder(hsp: Hsp, example: Example) -> None:
     path = example("two-sites") / "demand.csv"
     assert "is a file: give its folder" in hsp("plan", str(path), status=2).stderr

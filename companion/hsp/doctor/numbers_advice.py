@@ -3,6 +3,7 @@
 from __future__ import annotations
 
 import re
+from decimal import Decimal
 from typing import NamedTuple
 
 from hsp.doctor.findings import quoted
@@ -45,6 +46,11 @@ def _of_forms(bare: str) -> Advice | None:
 
 def _of_signs(bare: str) -> Advice | None:
     """Digits with other signs about them, or other signs only."""
+    short = re.fullmatch(r"([0-9]+(?:[.,][0-9]+)?)\s*([kKM])", bare)
+    if short:
+        thousands, name = (1, "thousands") if short[2] in "kK" else (2, "millions")
+        whole = f"{Decimal(short[1].replace(',', '.')) * 1000**thousands:.0f}"
+        return Advice(f"{short[2]} for {name}", f"write {whole}", whole)
     digits = re.match(r"[0-9]+", bare)
     if digits and re.fullmatch(r"[0-9]+\s*[^\W\d_%]*[%\u00b5]?[^\W\d_]*(/[^\W\d_]+)?", bare):
         return Advice("a unit behind the digits", f"write {digits[0]}; hsp.toml has the units", digits[0])

@@ -111,7 +111,9 @@ def bad_number(spot: Spot, said: str) -> Explained:
         remedy = f"{advised.remedy}; in the whole table: sed 's/, */,/g' {path} > plain.csv"
         words = replace(words, remedy=remedy)
     if name == "server_id" and not fields[at].strip().isdigit():
-        words = replace(words, remedy="write the identifier of the server, as hsplan site prints it")
+        remedy = "write the identifier of the server, as hsplan site prints it"
+        remedy += "" if fields[at].strip() else "; or take the row out, if it is a sum"
+        words = replace(words, remedy=remedy)
     mended = [spot.with_field(at, it) for it in dict.fromkeys((advised.mended, "1"))]
     mended = ([] if name == "server_id" else mended) + [spot.without()]
     return Explained(found(spot.path, spot.place(at), words, said), mended)
@@ -133,7 +135,7 @@ def bad_name(spot: Spot, said: str) -> Explained:
             "a row of commas only", "take the line out", "an empty row of a spreadsheet", kind="BadName empty"
         )
         return Explained(found(spot.path, spot.line(), words, said), [spot.without()])
-    known = [it for it in table_of(spot.question.text(spot.kind)).column(name) if slug(it) == it]
+    known = [it for it in table_of(spot.question.text(spot.kind)).column(name) if it and slug(it) == it]
     meant = near(field, set(known), 0.8) or slug(field) or ("eu" if name == "region" else "paris")
     why, remedy = "a name has only ASCII letters, digits, '-', '_' and '.', and at most 64 of them", f"write {meant}"
     if not field:
