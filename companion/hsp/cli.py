@@ -20,7 +20,7 @@ from hsp.doctor import Examined, examined, examined_words
 from hsp.doctor.commands import FORMS
 from hsp.doctor.doubts import OLD_PLAN
 from hsp.doctor.findings import visible
-from hsp.doctor.next_step import next_lines
+from hsp.doctor.next_step import next_lines, next_step
 from hsp.doctor.printing import json_of as findings_json
 from hsp.doctor.printing import lines as finding_lines
 from hsp.files import replace_all
@@ -262,6 +262,8 @@ def plan(
         click.echo(line)
     kept = "" if no_save else f"; kept in {path}"
     click.echo(f"check {colored(verdict, 'green')}: no plan within these capacities costs less{kept}")
+    if not (service.sites and service.rows or any(given.values())):
+        click.echo(next_step(service, desk))
 
 
 def earlier(folder: str, desk: Desk, now: Service) -> tuple[Service, Reference] | None:

@@ -193,6 +193,13 @@ def test_a_misspelt_command_of_fleet(hsp: Hsp) -> None:
     assert "no command 'demnd'; did you mean 'demand'?" in hsp("fleet", "demnd", status=2).stderr
 
 
+def test_the_plan_of_an_empty_service_says_what_comes_next(hsp: Hsp, example: Example, tmp_path: Path) -> None:
+    folder = tmp_path / "mine"
+    hsp("new", str(folder))
+    assert hsp("plan", str(folder)).stdout.splitlines()[-1].startswith(f"next  hsp sites FILE.. --into {folder}  ")
+    assert "next" not in hsp("plan", str(example("two-sites"))).stdout
+
+
 def test_a_file_in_place_of_a_folder(hsp: Hsp, example: Example) -> None:
     path = example("two-sites") / "demand.csv"
     assert "is a file: give its folder" in hsp("plan", str(path), status=2).stderr
