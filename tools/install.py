@@ -4,7 +4,8 @@
     tools/install.py --prefix /usr/local [--destdir D] [--uninstall]
 
 It installs the program built here where that is newer than its sources, and otherwise the released one. The released
-program is compared with release/SHA256SUMS first. What is installed runs once before the script ends.
+program is compared with release/SHA256SUMS first. What is installed runs once before the script ends. Where its folder
+isn't in PATH, a line says so.
 """
 from __future__ import annotations
 
@@ -54,10 +55,27 @@ def install(root: str) -> int:
         made = os.path.join(folder, "hsp")
         with open(made, "wb") as file:
             file.write(companion.archive())
-        put(made, os.path.join(root, "bin", "hsp"), 0o755)
+        target = os.path.join(root, "bin", "hsp")
+        put(made, target, 0o755)
+        print(companion_line(target))
     for source, target in programs.FILES.items():
         put(os.path.join(programs.TOP, source), os.path.join(root, target), 0o644)
     return 0
+
+
+def companion_line(path: str) -> str:
+    """Whether the companion runs. It needs packages that this machine may lack."""
+    ended = subprocess.run([path, "--version"], cwd="/", capture_output=True, text=True)
+    if ended.stdout == f"hsp {programs.version()}\n":
+        return f"{path} is installed, and runs"
+    return f"{path} is installed, and needs Python 3.11 with click and Jinja2 (Debian: python3-click python3-jinja2)"
+
+
+def path_line(folder: str) -> str:
+    """What is missing for the programs to be found by their names, if anything is."""
+    if os.path.realpath(folder) in {os.path.realpath(it) for it in os.environ.get("PATH", "").split(os.pathsep) if it}:
+        return ""
+    return f'not in PATH yet; in this shell: export PATH="{folder}:$PATH"'
 
 
 def uninstall(root: str) -> int:
@@ -80,9 +98,15 @@ def main() -> int:
     chosen = arguments.parse_args()
     root = os.path.abspath(chosen.destdir + os.path.abspath(os.path.expanduser(chosen.prefix)))
     try:
-        return uninstall(root) if chosen.uninstall else install(root)
-    except programs.Missing as missing:
-        print(missing, file=sys.stderr)
+        if chosen.uninstall:
+            return uninstall(root)
+        status = install(root)
+        missing = "" if chosen.destdir else path_line(os.path.join(root, "bin"))
+        if missing:
+            print(missing)
+        return status
+    except programs.Missing as fault:
+        print(fault, file=sys.stderr)
     except OSError as error:
         print(f"{error.filename}: {error.strerror}", file=sys.stderr)
     return 1

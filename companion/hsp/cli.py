@@ -3,7 +3,6 @@
 from __future__ import annotations
 
 import csv
-import difflib
 import io
 import json
 import os
@@ -18,12 +17,15 @@ from hsp.numbers import listed, some
 from hsp.plans import Planned, Reference, cheapest, least_purchase, planned, shortage, with_gains, with_purchase
 from hsp.charts import drawn
 from hsp.doctor import Examined, examined, examined_words
+from hsp.doctor.commands import FORMS
 from hsp.doctor.doubts import OLD_PLAN
 from hsp.doctor.findings import visible
-from hsp.doctor.next_step import next_lines
+from hsp.doctor.next_step import next_lines, next_step
 from hsp.doctor.printing import json_of as findings_json
 from hsp.doctor.printing import lines as finding_lines
+from hsp.files import replace_all
 from hsp.fleet.command import fleet
+from hsp.groups import Group
 from hsp.page import View, changes_between, render
 from hsp.programs import Desk, Missing, Refused
 from hsp.service import Service
@@ -33,18 +35,23 @@ from hsp.whatif import csv_of as cases_csv
 from hsp.whatif import lines as case_lines
 
 Command = TypeVar("Command", bound=Callable[..., Any])
+OUTPUT = click.Path(dir_okay=False, readable=False)
 
 
-class Commands(click.Group):
-    """The commands, a near name for a misspelt one, and one place for faults."""
+class Folder(click.Path):
+    """A folder of a service, which is there."""
 
-    def resolve_command(
-        self, context: click.Context, words: list[str]
-    ) -> tuple[str | None, click.Command | None, list[str]]:
-        if words and words[0] not in self.commands and not words[0].startswith("-"):
-            near = difflib.get_close_matches(words[0], self.commands, 1, 0.5)
-            context.fail(f"no command '{words[0]}'" + (f"; did you mean '{near[0]}'?" if near else ""))
-        return super().resolve_command(context, words)
+    def __init__(self) -> None:
+        super().__init__(exists=True, file_okay=False)
+
+    def convert(self, value: Any, param: click.Parameter | None, context: click.Context | None) -> Any:
+        if os.path.isfile(value):
+            self.fail(f"'{value}' is a file: give its folder, or the file behind its option", param, context)
+        return super().convert(value, param, context)
+
+
+class Commands(Group):
+    """The commands, and one place for faults."""
 
     def invoke(self, context: click.Context) -> Any:
         try:
@@ -94,15 +101,12 @@ def with_files(command: Command) -> Command:
     for kind in ("values", "capacity", "costs", "demand", "settings"):
         words = "the value list that the settings refer to" if kind == "values" else f"in place of DIR's {kind}"
         command = click.option(f"--{kind}", metavar="FILE", help=words)(command)
-    folder = click.Path(exists=True, file_okay=False)
-    return click.argument("folder", metavar="DIR", default=".", type=folder)(command)
+    return click.argument("folder", metavar="[DIR]", default=".", type=Folder())(command)
 
 
 def write(path: str, text: str) -> None:
     """Writes the whole text, or nothing."""
-    with open(path + ".part", "w", encoding="utf-8") as file:
-        file.write(text)
-    os.replace(path + ".part", path)
+    replace_all({path: text.encode("utf-8")})
 
 
 def progress(number: int) -> Callable[[], None]:
@@ -217,7 +221,7 @@ def show_shortage(service: Service, desk: Desk, as_json: bool) -> None:
 @with_files
 @click.option("--unit", help="of costs, such as ms")
 @click.option("--all", "every", is_flag=True, help="all full servers and all regions")
-@click.option("-o", "--output", metavar="FILE", help="the certificate, in place of DIR/plan.txt")
+@click.option("-o", "--output", metavar="FILE", type=OUTPUT, help="the certificate, in place of DIR/plan.txt")
 @click.option("--no-save", is_flag=True, help="keep no certificate")
 @click.option("--csv", "as_csv", is_flag=True, help="only how many queries of each region go to each site")
 @click.option("--json", "as_json", is_flag=True, help="the same sums for other programs")
@@ -258,6 +262,8 @@ def plan(
         click.echo(line)
     kept = "" if no_save else f"; kept in {path}"
     click.echo(f"check {colored(verdict, 'green')}: no plan within these capacities costs less{kept}")
+    if not (service.sites and service.rows or any(given.values())):
+        click.echo(next_step(service, desk))
 
 
 def earlier(folder: str, desk: Desk, now: Service) -> tuple[Service, Reference] | None:
@@ -305,7 +311,7 @@ def view_of(service: Service, desk: Desk, before: str | None) -> View:
 )
 @click.option("--unit", help="of costs, such as ms")
 @click.option("--title", help="of the page")
-@click.option("-o", "--output", metavar="FILE", help="the page, in place of DIR/plan.html")
+@click.option("-o", "--output", metavar="FILE", type=OUTPUT, help="the page, in place of DIR/plan.html")
 def view(
     folder: str, before: str | None, unit: str | None, title: str | None, output: str | None, **given: str | None
 ) -> None:
@@ -335,7 +341,7 @@ def view(
 )
 @click.option("--unit", help="of costs, such as ms")
 @click.option("--csv", "as_csv", is_flag=True, help="for other programs")
-@click.option("--chart", metavar="FILE", help="a picture of the costs, SVG")
+@click.option("--chart", metavar="FILE", type=OUTPUT, help="a picture of the costs, SVG")
 def whatif(
     folder: str,
     server: str | None,
@@ -381,7 +387,13 @@ class WordsBehind(click.Command):
             if [it for it in args[:at] if it not in ("--json", "--strict")]:
                 context.fail("give either DIR, or the words of a command of hsplan behind --")
             args = args[:at]
+        first = args[0] if args else ""
+        if first in ("hsplan", "hsplan-stream", *FORMS) and not os.path.isdir(first):
+            context.fail(f"no folder '{first}': words of a command stand behind --, as hsp doctor -- {first} ..")
         return super().parse_args(context, args)
+
+    def collect_usage_pieces(self, context: click.Context) -> list[str]:
+        return [*super().collect_usage_pieces(context), "| -- COMMAND.."]
 
 
 def shown_findings(found: Examined, summary: str) -> None:
@@ -400,7 +412,7 @@ def shown_findings(found: Examined, summary: str) -> None:
 @click.option("--json", "as_json", is_flag=True, help="one object for each finding, for editors")
 @click.pass_context
 def doctor(context: click.Context, folder: str, strict: bool, as_json: bool, **given: str | None) -> None:
-    """Shows each fault of the files, with its place, its cause and its remedy.
+    """Shows each fault of the files: place, cause and remedy.
 
     Where hsplan has no fault, it shows what is accepted and seldom meant. In place of DIR the words of a command of
     hsplan may stand behind --, as in: hsp doctor -- plan --settings settings.toml --demand demand.csv

@@ -12,11 +12,12 @@ from hsp.programs import Missing
 
 @contextlib.contextmanager
 def _named(path: str) -> Iterator[None]:
-    """Gives a fault of a write the name of its file."""
+    """Gives a fault of a write the name of its file, in place of the part that is written first."""
     try:
         yield
     except OSError as fault:
-        raise OSError(fault.errno, fault.strerror, fault.filename or path) from None
+        own = path if fault.filename in (None, f"{path}.part") else fault.filename
+        raise OSError(fault.errno, fault.strerror, own) from None
 
 
 def create(folder: str, texts: Mapping[str, str]) -> list[str]:
@@ -47,7 +48,8 @@ def replace_all(contents: Mapping[str, bytes]) -> None:
             with _named(path), open(parts[path], "wb") as file:
                 file.write(octets)
         for path, part in parts.items():
-            os.replace(part, path)
+            with _named(path):
+                os.replace(part, path)
     finally:
         for part in parts.values():
             with contextlib.suppress(FileNotFoundError):
@@ -61,7 +63,8 @@ def growing(path: str) -> Iterator[IO[bytes]]:
     try:
         with _named(path), open(part, "wb") as file:
             yield file
-        os.replace(part, path)
+        with _named(path):
+            os.replace(part, path)
     finally:
         with contextlib.suppress(FileNotFoundError):
             os.unlink(part)

@@ -15,7 +15,7 @@ from hsp.numbers import some
 from hsp.programs import Desk, Inputs, Refused, table_of
 from hsp.records import OPTIONS
 from hsp.service import NAMES, VALUES, dotted, sites_of
-from hsp.sitefiles import Found
+from hsp.sitefiles import Found, tidy
 
 CAPACITY_HEAD = "site,server_id,capacity"
 
@@ -121,7 +121,9 @@ def read_back(settings: bytes, before: int, added: list[Found], desk: Desk, valu
         if not 0 <= number < len(added):
             raise
         own = added[number]
-        raise Unfit(f"{own.file}: hsplan refuses {ascii(own.name)}: {fault.line}") from None
+        fresh = tidy(own.name)
+        remedy = f"; write --name {fresh}" if fresh and fresh != own.name and "BadSite" in fault.line else ""
+        raise Unfit(f"{own.file}: hsplan refuses {ascii(own.name)}: {fault.line}{remedy}") from None
     read = {it.name: it for it in sites_of(desk, inputs, tomllib.loads(settings.decode("utf-8-sig")))}
     for it in added:
         wanted, found = it.site(), read[it.name]

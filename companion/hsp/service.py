@@ -16,6 +16,7 @@ from hsp.programs import Certificate, Desk, Inputs, Missing, Refused
 NAMES = {"settings": "settings.toml", "demand": "demand.csv", "costs": "costs.csv", "capacity": "capacity.csv"}
 VALUES = "sites.values"
 TITLES = "hsp.toml"
+TITLE_KEYS = ("title", "cost", "time")
 
 
 @dataclass(frozen=True)
@@ -156,7 +157,7 @@ def titles_in(folder: str, title: str | None, cost: str | None) -> Titles:
             except (tomllib.TOMLDecodeError, UnicodeDecodeError) as error:
                 raise Missing(f"{path}: not TOML: {error}") from error
     names = [it for it in os.path.abspath(folder).split(os.sep) if it not in ("out", "")]
-    plain: dict[str, str] = {key: str(said[key]) for key in ("title", "cost", "time") if key in said}
+    plain: dict[str, str] = {key: str(said[key]) for key in TITLE_KEYS if key in said}
     fallback = names[-1] if names else folder
     own_title = title if title else plain.get("title", fallback)
     own_cost = cost if cost else plain.get("cost", "")

@@ -191,11 +191,11 @@ class Files:
             value.decode() for wanted in (b"name", b"desc") for name, value in record.attributes if name == wanted
         ]
         fallback = stem(notes.file) if index is None else f"{stem(notes.file)}-{index}"
-        return Found(notes.file, self.named(next(filter(_tidy, names), fallback)), record.octets(), fields)
+        return Found(notes.file, self.named(next(filter(tidy, names), fallback)), record.octets(), fields)
 
     def named(self, name: str) -> str:
         """The name with the signs that hsplan takes, and a number behind it where another site has it."""
-        plain = _tidy(name) or "site"
+        plain = tidy(name) or "site"
         fresh, count = plain, 2
         while fresh in self._names:
             fresh, count = f"{plain}-{count}", count + 1
@@ -203,7 +203,7 @@ class Files:
         return fresh
 
 
-def _tidy(name: str) -> str:
+def tidy(name: str) -> str:
     return re.sub(r"[^A-Za-z0-9_.-]+", "-", name).strip("-.").lower()[:56].rstrip("-.")
 
 

@@ -7,7 +7,8 @@ import io
 from collections.abc import Callable, Iterator
 from dataclasses import dataclass
 
-from hsp.numbers import average, signed
+from hsp.doctor.rows import near
+from hsp.numbers import average, listed, signed
 from hsp.plans import capacity_file
 from hsp.programs import Desk, Missing
 from hsp.service import Server, Service
@@ -89,8 +90,16 @@ def server_named(service: Service, words: str) -> Server:
     for it in service.servers:
         if words == f"{it.site}:{it.id}":
             return it
+    if not service.servers:
+        raise Missing(f"no server '{words}': the settings have no site")
+    site = words.rpartition(":")[0]
+    ids = [str(it.id) for it in service.servers if it.site == site]
+    if ids:
+        raise Missing(f"no server '{words}': {site} has {listed(ids, 8)}")
+    meant = near(words, [f"{it.site}:{it.id}" for it in service.servers])
     first = service.servers[0]
-    raise Missing(f"no server '{words}': write site:identifier, as {first.site}:{first.id}")
+    remedy = f"did you mean {meant}?" if meant else f"write site:identifier, as {first.site}:{first.id}"
+    raise Missing(f"no server '{words}': {remedy}")
 
 
 def sizes(changes: Changes, server: Server, low: int, high: int, points: int) -> list[Case]:

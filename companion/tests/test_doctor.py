@@ -13,6 +13,7 @@ import pytest
 
 from hsp.doctor import Examined, examined
 from hsp.doctor.findings import ERROR, Finding
+from hsp.doctor.printing import grouped
 from hsp.programs import Desk
 
 from conftest import TOP, Hsp
@@ -91,6 +92,11 @@ MISTAKES: dict[str, tuple[str, Edit, int, int, str]] = {
     "a count above the limit": (DEMAND, sub(",475", ",1000001"), 2, 28, "larger unit"),
     "a capacity above the limit": (CAPACITY, sub("1,1500", "1,1000000001"), 2, 9, "larger unit"),
     "no number": (COSTS, sub("paris,12", "paris,"), 2, 10, "write a number"),
+    "thousands by a letter": (CAPACITY, sub("1,1500", "1,1.5k"), 2, 9, "write 1500"),
+    "millions by a letter": (CAPACITY, sub("1,1500", "1,2M"), 2, 9, "write 2000000"),
+    "a sum among the capacities": (CAPACITY, more("paris,,3010\n"), 7, 7, "if it is a sum"),
+    "an empty region": (DEMAND, sub("eu,", ","), 2, 1, "as eu"),
+    "quotes of another kind": (DEMAND, sub(",475", ",'475'"), 2, 28, "write 475"),
     "unlimited": (CAPACITY, sub("1,1500", "1,unlimited"), 2, 9, "large number"),
     "digits of another script": (DEMAND, sub(",475", ",\u0664\u0667\u0665"), 2, 28, "write 475"),
     "columns of one row swapped": (DEMAND, line(2, "eu,475,20.500.1234/report-2024"), 2, 4, "region,handle,count"),
@@ -109,6 +115,9 @@ MISTAKES: dict[str, tuple[str, Edit, int, int, str]] = {
     "a line that was cut": (DEMAND, line(37, "asia,20.500.1234/code-v3"), 37, 1, "region,handle,count"),
     "a note among the rows": (COSTS, line(4, "# the Americas"), 4, 1, "take the line out"),
     "an empty row of a spreadsheet": (DEMAND, more(",,\n"), 38, 1, "take the line out"),
+    "two rows in one line": (DEMAND, sub("475\n", "475"), 2, 28, "new line before eu,20.500.1234/report-2025,303"),
+    "a name in other quotes": (COSTS, sub("us,paris", "'us',paris"), 4, 1, "write us"),
+    "the short form of a site": (COSTS, sub("us,paris", "us,par"), 4, 4, "write paris"),
     "a row twice": (COSTS, more("eu,paris,12\n"), 8, 1, "keep one"),
     "a pair with two costs": (COSTS, more("eu,paris,15\n"), 8, 1, "line 2 says 12"),
     "a log that isn't added up": (DEMAND, more("eu,20.500.1234/report-2024,25\n"), 38, 1, "sum 500"),
@@ -267,6 +276,7 @@ ONE_FINDING = (
     "two sites in one block",
     "a header among the rows",
     "a record in two lines",
+    "two rows in one line",
     "a record in three lines between three quotes",
 )
 
@@ -333,6 +343,61 @@ def test_all_files_at_once(hsp: Hsp, example: Example) -> None:
         (CAPACITY, 2, 13, "build: NoCapacity site 0 server_id 2"),
     ]
     assert found.status == hsp("doctor", str(folder), status=1).returncode
+
+
+def test_a_word_of_the_name_of_a_site(example: Example) -> None:
+    """A site is meant where a table has its beginning or a word of it, and no other site has that."""
+    folder = example("two-sites")
+    names = {"paris": "paris-data-centre", "reston": "reston-hall"}
+    for file in (SETTINGS, COSTS, CAPACITY):
+        text = (folder / file).read_text()
+        for old, new in names.items():
+            text = text.replace(old, new)
+        (folder / file).write_text(text)
+    costs = (folder / COSTS).read_text()
+    for site, name, remedy in (
+        ("paris-data-centre", "paris", "write paris-data-centre"),
+        ("reston-hall", "Hall", "write reston-hall"),
+        ("reston-hall", "atlantis", "[[site]]"),
+    ):
+        (folder / COSTS).write_text(costs.replace(f"us,{site}", f"us,{name}"))
+        (only,) = examined(str(folder), Desk(), {}).errors
+        assert remedy in only.remedy, only
+
+
+def test_two_rows_in_one_line_move_no_other(example: Example) -> None:
+    """The fault of a later line keeps its place, and a server in the second of the rows has its capacity."""
+    folder = example("two-sites")
+    text = (folder / CAPACITY).read_text()
+    (folder / CAPACITY).write_text(text.replace("1500\n", "1500").replace("reston,2,1460", "reston,2,x"))
+    found = examined(str(folder), Desk(), {}).errors
+    assert [(it.line, it.column) for it in found] == [(2, 9), (4, 10)], found
+
+
+def test_a_proxys_answer_in_place_of_the_settings(example: Example) -> None:
+    """One finding, and none for the sites that the tables name."""
+    folder = example("two-sites")
+    (folder / SETTINGS).write_text(json.dumps({"responseCode": 1, "values": [{"type": "HS_SITE"}]}, indent=1))
+    (only,) = examined(str(folder), Desk(), {}).errors
+    assert (only.message, only.line) == ("the settings are JSON, not TOML", 1)
+    assert f"hsp sites {folder / SETTINGS} makes the blocks" in only.remedy
+
+
+def test_columns_that_are_swapped_in_each_row(example: Example) -> None:
+    """Two findings, and not one for each name."""
+    folder = example("two-sites")
+    head, *rows = (folder / DEMAND).read_text().splitlines()
+    swapped = [",".join((it[1], it[0], it[2])) for it in (row.split(",") for row in rows)]
+    (folder / DEMAND).write_text("\n".join([head, *swapped, ""]))
+    first, second = grouped(examined(str(folder), Desk(), {}).errors)
+    assert first[0].remedy == "put the columns in the order region,handle,count" and len(first) == len(second) == 36
+
+
+def test_a_header_with_tabs_is_shown(example: Example) -> None:
+    folder = example("two-sites")
+    (folder / COSTS).write_text((folder / COSTS).read_text().replace(",", "\t"))
+    (only,) = examined(str(folder), Desk(), {}).errors
+    assert only.text == "region\tsite\tcost" and only.end == len(only.text) + 1
 
 
 def test_equal_faults_are_counted(hsp: Hsp, example: Example) -> None:
@@ -405,6 +470,8 @@ def test_files_that_cannot_be_read(hsp: Hsp, example: Example, tmp_path: Path) -
     lines = hsp("doctor", str(folder), status=5).stdout.splitlines()
     assert lines[0] == "error: no such file" and lines[1] == f"--> {folder}/costs.csv"
     assert f"  do   did you mean {folder}/cost.csv? Rename it, or give it by --costs" in lines
+    other = hsp("doctor", str(folder), "--demand", str(folder / "nope.csv"), status=5).stdout
+    assert f"did you mean {folder}/demand.csv?" in other
     assert "error: a folder, not a file" in lines and f"--> {folder}/capacity.csv" in lines
     empty = tmp_path / "empty"
     empty.mkdir()

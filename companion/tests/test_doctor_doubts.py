@@ -86,6 +86,14 @@ def test_a_doubt_is_not_raised_where_it_is_not_due(example: Example) -> None:
         subprocess.run(["rm", "-r", str(folder)], check=True)
 
 
+def test_a_word_of_hsp_toml_that_nothing_reads(example: Example) -> None:
+    folder = example("two-sites")
+    (folder / "hsp.toml").write_text('title = "Films"\ncosts = "ms"\n[units]\n')
+    found = examined(str(folder), Desk(), {})
+    assert not found.errors
+    assert [(it.line, it.column, it.remedy) for it in found.warnings] == [(2, 1, "write cost"), (3, 2, "take it out")]
+
+
 def test_two_sites_with_one_record(example: Example) -> None:
     folder = example("base")
     lines = (folder / SETTINGS).read_text().splitlines()
@@ -185,8 +193,16 @@ def test_what_comes_next(hsp: Hsp, example: Example, tmp_path: Path) -> None:
     folder = example("two-sites")
     rows = (folder / DEMAND).read_text()
     (folder / DEMAND).write_text(no_rows(rows))
-    assert "next  hsp demand LOG..  " in at_a_terminal(folder)
+    assert "next  hsp demand LOG.. --regions FILE --into .  " in at_a_terminal(folder)
     (folder / DEMAND).write_text(rows)
+    costs, capacity = (folder / COSTS).read_text(), (folder / CAPACITY).read_text()
+    (folder / COSTS).write_text(no_rows(costs))
+    shown = at_a_terminal(folder)
+    assert "next  costs.csv  has no cost of eu, us and asia yet: write rows as eu,paris,N" in shown
+    (folder / COSTS).write_text(costs)
+    (folder / CAPACITY).write_text(re.sub(r"\d+$", "0", capacity, flags=re.M))
+    assert "next  capacity.csv  has only servers that take 0" in at_a_terminal(folder)
+    (folder / CAPACITY).write_text(capacity)
     assert "next  hsp plan  " in at_a_terminal(folder)
     hsp("plan", str(folder))
     assert "next  hsp view" in at_a_terminal(folder)

@@ -77,12 +77,19 @@ WORDS = [
     ("locate --option handle --servers 3", "", "as the last word"),
     ("locate --settings settings.toml --option na 20.500.1234/film-5", "", "keep either"),
     ("locate --settings settings.toml 20.500.1234/a b", "b", "quotes"),
+    ("locate --settings settings.toml 20.500.1234/a 20.500.1234/b", "20.500.1234/b", "hsplan-stream places"),
+    ("dispatch " + FILES + " --plan plan.txt --log log.csv log2.csv", "log2.csv", "make one file of both"),
+    ("hsplan --version", "--version", "hsplan-stream --version"),
+    ("hsplan " + FILES + " plan", "--settings", "write plan first"),
+    ("hsp plan herbarium", "hsp", "hsp doctor herbarium"),
+    ("hsp sites answer.json", "hsp", "hsp --help"),
     ("site", "", "FILE as the last word"),
     ("hsplan-stream answer " + FILES + " --plan plan.txt --log log.csv --fronts 2", "", "--front N"),
 ]
 VALUES = [
     ("locate --option whole --servers 3 20.500.1234/film-5", "whole", "na, local or handle", "BadOption"),
     ("locate --option handle --servers 0 20.500.1234/film-5", "0", "1 to 1024", "BadServers"),
+    ("locate --option handle --servers 1025 20.500.1234/film-5", "1025", "1 to 1024", "BadServers"),
     ("site --index x sites.values", "x", "whole number", "BadIndex"),
     ("dispatch " + FILES + " --plan plan.txt --log log.csv --fronts 65", "65", "1 to 64", "BadFronts"),
     ("kinds --settings settings.toml --costs costs.csv --log log.csv --unit 0", "0", "from 1", "BadUnit"),
@@ -111,6 +118,24 @@ def test_values_that_an_option_does_not_take(folder: Path, words: str, marked: s
     program = "hsplan-stream " if words.startswith(("kinds", "answer")) else "hsplan "
     assert (program + words)[first["column"] - 1 : first["end"] - 1] == marked
     assert remedy in first["remedy"] and first["hsplan"] == said
+
+
+WHY = [
+    ("0", "0 is too few"),
+    ("1025", "it is too large"),
+    ("07", "zeros before the digits"),
+    ("three", "a whole number of digits only"),
+]
+
+
+@pytest.mark.parametrize("number, why", WHY)
+def test_why_an_option_does_not_take_a_number(folder: Path, number: str, why: str) -> None:
+    (only,) = told(f"locate --option handle --servers {number} 20.500.1234/film-5", 1)
+    assert only["why"] == why
+
+
+def test_a_question_for_help_lacks_nothing(folder: Path) -> None:
+    assert [it["message"] for it in told("plan --help", 2)] == ["plan has no --help"]
 
 
 def test_all_faults_of_words_and_their_files(folder: Path) -> None:

@@ -197,6 +197,36 @@ def test_a_handle_stays_text(hsp: Hsp, browser: Any, example: Example) -> None:
     assert page.requests() == [] and browser.get_log("browser") == []
 
 
+@pytest.mark.parametrize("region", ["scandinavia", "thelandsabouttheseaofthenorth"])
+def test_the_rows_stay_within_a_narrow_page(hsp: Hsp, browser: Any, example: Example, region: str) -> None:
+    """A handle is broken behind its slash, not within a word, and no name widens the page."""
+    folder = example("two-sites")
+    for name in ("demand.csv", "costs.csv"):
+        text = (folder / name).read_text().replace("asia,", f"{region},").replace("report-", "herbarium.")
+        (folder / name).write_text(text)
+    hsp("view", str(folder))
+    page = Page(browser, folder / "plan.html", 420, "light")
+    assert page.run("return document.documentElement.scrollWidth") <= 420
+    right, lines = page.run(
+        "const cells = [...document.querySelectorAll('#rows tbody td:nth-child(2)')], range = document.createRange();"
+        "return [document.getElementById('rows').getBoundingClientRect().right, cells.map(it => {"
+        "range.selectNodeContents(it); return new Set([...range.getClientRects()].map(it => it.top)).size})]"
+    )
+    assert right <= 420 and set(lines) <= {1, 2}
+
+
+def test_a_printed_page_says_how_many_rows_it_has(browser: Any, pages: dict[str, Path]) -> None:
+    for name, note in (("twelve-sites", '"The first 40 of these rows are printed."'), ("two-sites", "none")):
+        page = Page(browser, pages[name], 1200, "light")
+        browser.execute_cdp_cmd("Emulation.setEmulatedMedia", {"media": "print"})
+        look = "getComputedStyle(document.getElementById('rows').parentElement, '::after').content"
+        shown = page.run(
+            f"return [{look}, [...document.querySelectorAll('#rows tbody tr')].filter(it => it.offsetHeight).length]"
+        )
+        browser.execute_cdp_cmd("Emulation.setEmulatedMedia", {"media": ""})
+        assert shown == [note, 40 if name == "twelve-sites" else 36]
+
+
 def test_a_page_forbids_the_network(pages: dict[str, Path]) -> None:
     for path in pages.values():
         text = path.read_text(encoding="utf-8")

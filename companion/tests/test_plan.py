@@ -173,3 +173,48 @@ def test_the_version(hsp: Hsp) -> None:
     version = (Path(__file__).parents[2] / "VERSION").read_text().strip()
     assert hsp("--version").stdout == f"hsp {version}\n"
     assert "Shows the load plan" in hsp("--help").stdout
+
+
+@pytest.mark.parametrize(
+    "word, meant",
+    [
+        ("plann", "'plan'"),
+        ("check", "'hsplan check'"),
+        ("places", "'hsplan-stream places'"),
+        ("help", "'hsp --help'"),
+        ("site", "'sites' or 'hsplan site'"),
+    ],
+)
+def test_words_that_are_no_command(hsp: Hsp, word: str, meant: str) -> None:
+    assert f"no command '{word}'; did you mean {meant}?" in hsp(word, status=2).stderr
+
+
+def test_a_misspelt_command_of_fleet(hsp: Hsp) -> None:
+    assert "no command 'demnd'; did you mean 'demand'?" in hsp("fleet", "demnd", status=2).stderr
+
+
+def test_the_plan_of_an_empty_service_says_what_comes_next(hsp: Hsp, example: Example, tmp_path: Path) -> None:
+    folder = tmp_path / "mine"
+    hsp("new", str(folder))
+    assert hsp("plan", str(folder)).stdout.splitlines()[-1].startswith(f"next  hsp sites FILE.. --into {folder}  ")
+    assert "next" not in hsp("plan", str(example("two-sites"))).stdout
+
+
+def test_a_file_in_place_of_a_folder(hsp: Hsp, example: Example) -> None:
+    path = example("two-sites") / "demand.csv"
+    assert "is a file: give its folder" in hsp("plan", str(path), status=2).stderr
+    assert "stand behind --, as hsp doctor -- hsplan" in hsp("doctor", "hsplan", "plan", status=2).stderr
+
+
+def test_a_file_that_cannot_be_written(hsp: Hsp, example: Example) -> None:
+    """The fault names the file that was asked for, and leaves no part of it."""
+    folder = example("two-sites")
+    path = folder / "none" / "plan.html"
+    assert hsp("view", str(folder), "-o", str(path), status=5).stderr == f"hsp: {path}: No such file or directory\n"
+    assert "is a directory" in hsp("view", str(folder), "-o", str(folder), status=2).stderr
+    assert not list(folder.parent.rglob("*.part"))
+
+
+def test_the_help_has_whole_sentences(hsp: Hsp) -> None:
+    for words in ((), ("fleet",)):
+        assert "..." not in hsp(*words, "--help").stdout.partition("Commands:")[2]

@@ -404,6 +404,7 @@ def test_names_are_of_one_site_each(tmp_path: Path) -> None:
     assert "2 names for 1 site" in invoke("sites", both[0], "--name", "a", "--name", "b", status=1).stderr
     names = [it for it in invoke("sites", *both, "--name", "a").stdout.splitlines() if it.startswith("name")]
     assert names == ['name = "a"', 'name = "reston"']
+    assert "; write --name a-b\n" in invoke("sites", both[0], "--name", "A b", status=1).stderr
     for odd in ('a"b', "a\nb", "a b", "\udcff", ""):
         for words in (["--into", tmp_path], []):
             line = invoke("sites", both[0], "--name", odd, *words, status=1).stderr

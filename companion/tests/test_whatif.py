@@ -8,6 +8,8 @@ from collections.abc import Callable
 from pathlib import Path
 from xml.etree import ElementTree
 
+import pytest
+
 from hsp.plans import capacity_file
 from hsp.programs import Desk
 from hsp.service import read_service
@@ -43,7 +45,19 @@ def test_sizes_of_a_server(hsp: Hsp, example: Example) -> None:
     found = cases(hsp, str(folder), "--server", "paris:2", "--from", "1500", "--to", "1520", "--points", "3")
     assert [it["room"] for it in found] == ["1500", "1510", "1520"]
     assert [it["change"] for it in found] == ["720", "0", "-720"]
-    assert "write site:identifier, as paris:1" in hsp("whatif", str(folder), "--server", "paris", status=5).stderr
+
+
+@pytest.mark.parametrize(
+    "words, remedy",
+    [
+        ("x", "write site:identifier, as paris:1"),
+        ("paris2", "did you mean paris:2?"),
+        ("Paris:2", "did you mean paris:2?"),
+        ("paris:7", "paris has 1 and 2"),
+    ],
+)
+def test_no_such_server(hsp: Hsp, example: Example, words: str, remedy: str) -> None:
+    assert remedy in hsp("whatif", str(example("two-sites")), "--server", words, status=5).stderr
 
 
 def test_charts_are_svg(hsp: Hsp, example: Example) -> None:

@@ -2,6 +2,7 @@
 
 from __future__ import annotations
 
+import re
 from typing import NamedTuple
 
 from hsp.doctor.findings import Place, Words, found, quoted
@@ -54,9 +55,20 @@ def unknown_site(question: Question, said: Said) -> Explained | None:
     return Explained(found(spot.path, spot.place(at), words, line), [*mended, spot.without()], True)
 
 
+def short_of(name: str, names: list[str]) -> str:
+    """The only one of some names of which this is the beginning, or a word."""
+    words = {it: re.split(r"[-_.]", it.casefold()) for it in names}
+    found = [
+        it
+        for it in names
+        if len(name) > 1 and (name.casefold() in words[it] or it.casefold().startswith(name.casefold()))
+    ]
+    return found[0] if len(found) == 1 else ""
+
+
 def _site_words(question: Question, spot: Spot, name: str, names: list[str]) -> tuple[str, Words]:
     """The site that was likely meant, and what is said of a name that no site has."""
-    meant = near(name, names)
+    meant = near(name, names) or short_of(name, names)
     tables = [it for it in ("costs", "capacity") if it in question.files]
     used = {it for table in tables for it in table_of(question.text(table)).column("site")}
     lone = [it for it in names if it not in used]

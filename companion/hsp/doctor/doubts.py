@@ -4,18 +4,19 @@ from __future__ import annotations
 
 import os
 import re
+import tomllib
 import unicodedata
 from collections import defaultdict
 from collections.abc import Iterable, Iterator
 from dataclasses import dataclass, field
 from urllib.parse import unquote
 
-from hsp.doctor.findings import WARNING, Finding, Place, Text, Words, found, quoted, read_text
+from hsp.doctor.findings import WARNING, Finding, Place, Text, Words, decoded, found, quoted, read_text
 from hsp.doctor.rows import Row, Table, near, table_of
 from hsp.doctor.toml_places import value_of
 from hsp.numbers import listed, some
 from hsp.programs import Desk
-from hsp.service import NAMES, VALUES, Service, dotted
+from hsp.service import NAMES, TITLE_KEYS, TITLES, VALUES, Service, dotted
 
 # A demand beyond so many times all capacity, or a capacity beyond so many times the demand, has likely another unit.
 FAR_ABOVE, FAR_BELOW = 10, 1000
@@ -362,12 +363,32 @@ def old_plan(it: Read, desk: Desk) -> None:
         it.findings.append(found(path, Place(), words, "", WARNING))
 
 
+def titles(it: Read) -> None:
+    """Words of hsp.toml that no page and no line shows."""
+    path = os.path.normpath(os.path.join(it.service.folder, TITLES))
+    if not os.path.isfile(path):
+        return
+    text = read_text(path)
+    for key in tomllib.loads(decoded(text.octets)):
+        meant = near(key, TITLE_KEYS, 0.6)
+        if key in TITLE_KEYS:
+            continue
+        remedy = f"write {meant}" if meant else "take it out"
+        mark = f"did you mean {meant}?" if meant else ""
+        place = text.match(rf"^\s*\[?\"?({re.escape(key)})\b") or Place()
+        it.doubt(
+            text,
+            place,
+            Words(f"the key {quoted(key)} of {TITLES} is not read", remedy, f"hsp reads {listed(TITLE_KEYS)}", mark),
+        )
+
+
 def doubts(service: Service, desk: Desk) -> Iterator[Finding]:
     """All that is accepted and seldom meant, in the order of the files."""
     inputs = service.inputs
     demand, costs, capacity = (table_of(read_text(own)) for own in (inputs.demand, inputs.costs, inputs.capacity))
     it = Read(service, demand, costs, capacity, read_text(inputs.settings))
-    for look in (sites, hosts, handles, twins, priceless, idle, pairs, zeros, units, unused):
+    for look in (sites, hosts, handles, twins, priceless, idle, pairs, zeros, units, unused, titles):
         look(it)
     old_plan(it, desk)
     yield from it.findings

@@ -70,7 +70,11 @@ def _absent(path: str, kind: str) -> Words:
     if not os.path.isdir(folder):
         return Words("no such file", f"mend the path: there is no folder {folder}", f"{folder} isn't there")
     names = sorted(it for it in os.listdir(folder) if not it.startswith("."))
-    near = difflib.get_close_matches(os.path.basename(path), names, 1, 0.6)
+    own = os.path.basename(path)
+    near = difflib.get_close_matches(own, names, 1, 0.6)
+    stem = os.path.splitext(own)[0]
+    if near and not difflib.get_close_matches(stem, [os.path.splitext(near[0])[0]], 1, 0.6):
+        near = [it for it in (CONVENTIONS.get(kind, ""),) if it in names]
     if near:
         return Words(
             "no such file",

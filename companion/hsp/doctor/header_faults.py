@@ -162,7 +162,7 @@ def header_fault(question: Question, kind: str, said: Said) -> Explained:
     cause = cause_of(text, wanted)
     what = "a log for this command" if kind == "log" else kind
     first = text.line(1)
-    place = Place(1, 1, max(1, len(first)), first) if first.isprintable() else Place(1, 1, 1, "")
+    place = Place(1, 1, max(1, len(first)), first) if first.replace("\t", "").isprintable() else Place(1, 1, 1, "")
     want = listed(wanted, 3).replace(" and ", " or ")
     words = Words(f"the first line isn't the header of {what}", cause.remedy, cause.why, f"wanted: {want}")
     mended = [] if cause.text is None else [question.with_file(kind, draft.with_text(cause.text, cause.above))]

@@ -20,7 +20,7 @@ def step(command: str, why: str) -> str:
 
 def next_lines(folder: str, desk: Desk) -> Iterator[str]:
     """What stands in the folder, and the command that comes next there."""
-    at = "" if folder in ("", ".") else f" {shlex.quote(folder)}"
+    at = _behind(folder)
     there = [it for it in NAMES.values() if os.path.exists(os.path.join(folder, it))]
     if not there:
         yield f"no service here: a folder of one has {listed(NAMES.values())}"
@@ -33,19 +33,32 @@ def next_lines(folder: str, desk: Desk) -> Iterator[str]:
         return
     if found.service:
         yield head(found.service)
-        yield _of_plan(found.service, at, desk)
+        yield next_step(found.service, desk)
     if found.warnings:
         yield f"also  {bold(f'hsp doctor{at}')}  shows {some(len(found.warnings), 'warning')}"
 
 
-def _of_plan(service: Service, at: str, desk: Desk) -> str:
+def _behind(folder: str) -> str:
+    """The folder as the last word of a command, if it isn't the present one."""
+    return "" if folder in ("", ".") else f" {shlex.quote(folder)}"
+
+
+def next_step(service: Service, desk: Desk) -> str:
     """The step for a folder without a fault: whether there is a plan, and whether it is one of these inputs."""
+    at = _behind(service.folder)
     if not service.sites:
         return step(
-            f"hsp sites FILE.. --into {service.folder}", "brings the sites in, of a proxy's JSON or their records"
+            f"hsp sites FILE.. --into {shlex.quote(service.folder)}",
+            "brings the sites in, of a proxy's JSON or their records",
         )
     if not service.rows:
-        return step("hsp demand LOG..", "counts the queries of access logs for demand.csv")
+        command = f"hsp demand LOG.. --regions FILE --into {shlex.quote(service.folder)}"
+        return step(command, "counts the queries of access logs, by a table network,region")
+    if not {region for region, _ in service.costs} & set(service.regions):
+        example = f"{service.regions[0]},{service.sites[0].name},N"
+        return step(NAMES["costs"], f"has no cost of {listed(service.regions, 6)} yet: write rows as {example}")
+    if not any(service.capacities.values()):
+        return step(NAMES["capacity"], "has only servers that take 0: write what each takes")
     path = os.path.join(service.folder, "plan.txt")
     if not os.path.isfile(path):
         return step(f"hsp plan{at}", "plans, and keeps the plan in plan.txt")

@@ -3,9 +3,14 @@
 from __future__ import annotations
 
 import re
+from decimal import Decimal
 from typing import NamedTuple
 
 from hsp.doctor.findings import quoted
+
+
+# What stands about a field in place of the quotes of a table.
+QUOTES = "'`\u2018\u2019\u201c\u201d\u201e\u00ab\u00bb"
 
 
 class Advice(NamedTuple):
@@ -41,6 +46,11 @@ def _of_forms(bare: str) -> Advice | None:
 
 def _of_signs(bare: str) -> Advice | None:
     """Digits with other signs about them, or other signs only."""
+    short = re.fullmatch(r"([0-9]+(?:[.,][0-9]+)?)\s*([kKM])", bare)
+    if short:
+        thousands, name = (1, "thousands") if short[2] in "kK" else (2, "millions")
+        whole = f"{Decimal(short[1].replace(',', '.')) * 1000**thousands:.0f}"
+        return Advice(f"{short[2]} for {name}", f"write {whole}", whole)
     digits = re.match(r"[0-9]+", bare)
     if digits and re.fullmatch(r"[0-9]+\s*[^\W\d_%]*[%\u00b5]?[^\W\d_]*(/[^\W\d_]+)?", bare):
         return Advice("a unit behind the digits", f"write {digits[0]}; hsp.toml has the units", digits[0])
@@ -76,6 +86,9 @@ def advice(text: str, name: str) -> Advice:
     found = _of_forms(bare) or _of_signs(bare)
     if found:
         return found
+    inner = bare.strip(QUOTES)
+    if re.fullmatch(r"0|[1-9][0-9]*", inner):
+        return Advice("other quotes than those of a table", f"write {inner}", inner)
     return Advice(
         f"letters or signs where {name} stands", f"write only digits for {name} in place of {quoted(text, 20)}"
     )

@@ -10,7 +10,7 @@ from typing import NamedTuple
 from urllib.parse import unquote
 
 from hsp.doctor.findings import Finding, Place, Words, found, quoted
-from hsp.doctor.numbers_advice import advice
+from hsp.doctor.numbers_advice import QUOTES, advice
 from hsp.doctor.question import Question, Said
 from hsp.doctor.rows import HEADERS, Row, joined, near, spans_of, table_of
 from hsp.numbers import listed, some
@@ -111,7 +111,9 @@ def bad_number(spot: Spot, said: str) -> Explained:
         remedy = f"{advised.remedy}; in the whole table: sed 's/, */,/g' {path} > plain.csv"
         words = replace(words, remedy=remedy)
     if name == "server_id" and not fields[at].strip().isdigit():
-        words = replace(words, remedy="write the identifier of the server, as hsplan site prints it")
+        remedy = "write the identifier of the server, as hsplan site prints it"
+        remedy += "" if fields[at].strip() else "; or take the row out, if it is a sum"
+        words = replace(words, remedy=remedy)
     mended = [spot.with_field(at, it) for it in dict.fromkeys((advised.mended, "1"))]
     mended = ([] if name == "server_id" else mended) + [spot.without()]
     return Explained(found(spot.path, spot.place(at), words, said), mended)
@@ -133,18 +135,21 @@ def bad_name(spot: Spot, said: str) -> Explained:
             "a row of commas only", "take the line out", "an empty row of a spreadsheet", kind="BadName empty"
         )
         return Explained(found(spot.path, spot.line(), words, said), [spot.without()])
-    known = [it for it in table_of(spot.question.text(spot.kind)).column(name) if slug(it) == it]
+    known = [it for it in table_of(spot.question.text(spot.kind)).column(name) if it and slug(it) == it]
     meant = near(field, set(known), 0.8) or slug(field) or ("eu" if name == "region" else "paris")
     why, remedy = "a name has only ASCII letters, digits, '-', '_' and '.', and at most 64 of them", f"write {meant}"
     if not field:
         why, remedy = f"the {name} is empty", f"write the name of the {name}, as {known[0] if known else meant}"
     elif field.strip() == meant and field != meant:
         why = "a blank beside the name"
+    elif field.strip(QUOTES) == meant and field != meant:
+        why = "other quotes than those of a table"
     elif len(field) > 64:
         why = f"{len(field)} letters; a name has at most 64"
     elif "/" in field:
         why, remedy = "this looks like a handle", f"put the columns in the order {','.join(spot.header)}"
-    words = Words(f"{name} {quoted(field)} isn't a name", remedy, why, kind=f"BadName {name} {field}")
+    kind = f"BadName {name} /" if "/" in field else f"BadName {name} {field}"
+    words = Words(f"{name} {quoted(field)} isn't a name", remedy, why, kind=kind)
     mended = [spot.with_field(at, meant), spot.with_field(at, slug(field) or meant), spot.without()]
     return Explained(found(spot.path, spot.place(at), words, said), mended)
 
@@ -241,6 +246,12 @@ def _too_many(spot: Spot) -> tuple[Words, str]:
     if len(without) == want:
         text = joined(without)
         return Words("", f"write {text}", "a comma twice"), text
+    number = re.match(r"([0-9]+)[A-Za-z][\w.-]*$", fields[want - 1])
+    if number and spot.kind in HEADERS and len(fields) == 2 * want - 1:
+        second = [fields[want - 1][number.end(1) :], *fields[want:]]
+        text = joined([*fields[: want - 1], number[1]])
+        remedy = f"begin a new line before {joined(second)}"
+        return Words("", remedy, "two rows in one line: a line end is lost"), f"{text}\n{joined(second)}"
     if "handle" in spot.header:
         at = spot.header.index("handle")
         behind = len(spot.header) - at - 1
@@ -291,7 +302,10 @@ def bad_fields(spot: Spot, said: str) -> Explained:
     if many and len(spans) == len(fields) and spans[len(spot.header) - 1][0] < len(line):
         start = spans[len(spot.header) - 1][0]
         place = spot.question.files[spot.kind].original.part(spot.original.first, start, len(line) - start)
-    mended = [spot.question.with_line(spot.kind, spot.row.first, text, spot.row.last)] if text else []
+    first, _, second = text.partition("\n")
+    mended = [spot.question.with_line(spot.kind, spot.row.first, first, spot.row.last)] if text else []
+    if second:  # the copy has only the first of the two rows, so that later lines keep their numbers
+        mended = [replace(it, left_out=(*it.left_out, (spot.kind, tuple(second.split(","))))) for it in mended]
     return Explained(found(spot.path, place, words, said), [*mended, spot.without()], True)
 
 

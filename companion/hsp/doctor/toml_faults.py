@@ -2,6 +2,7 @@
 
 from __future__ import annotations
 
+import json
 import re
 import tomllib
 from collections.abc import Iterator
@@ -182,6 +183,14 @@ def decoded_lines(text: Text, octet: int) -> int:
     return len(re.split(rb"\r\n|\n|\r", text.octets[:octet]))
 
 
+def _is_json(octets: bytes) -> bool:
+    """Whether the whole file is an object or a list of JSON."""
+    try:
+        return octets.lstrip()[:1] in (b"{", b"[") and isinstance(json.loads(octets), (dict, list))
+    except (ValueError, RecursionError):
+        return False
+
+
 def _other_form(question: Question, said: Said) -> Explained | None:
     """Settings in UTF-16, or with the line ends of an old Mac."""
     draft = question.files["settings"]
@@ -194,6 +203,12 @@ def _other_form(question: Question, said: Said) -> Explained | None:
         remedy = rf"tr '\r' '\n' < {path} > plain.toml"
         words = Words("the settings have line ends of an old Mac", remedy, "lone carriage returns")
         text = "\n".join(draft.text.lines)
+    elif _is_json(octets):
+        words = Words(
+            "the settings are JSON, not TOML", f"hsp sites {path} makes the blocks, if it is a proxy's answer"
+        )
+        finding = found(path, Place(1, 1, 1, draft.text.line(1)), words, said.line)
+        return Explained(finding, [replace(question.with_stand_in("settings"), lacks_site=True)])
     else:
         return None
     mended = question.with_file("settings", draft.with_text(text))

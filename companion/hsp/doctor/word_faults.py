@@ -3,6 +3,7 @@
 from __future__ import annotations
 
 from collections.abc import Iterator
+from dataclasses import replace
 
 from hsp.doctor.commands import FILES, FORMS, KINDS, Form, Line, Option, Word, shown, split
 from hsp.doctor.findings import Finding, Place, Words, found, quoted
@@ -10,7 +11,10 @@ from hsp.doctor.question import Said
 from hsp.doctor.rows import near
 
 USAGE = "Usage"
-HELP = ("-h", "--help", "help", "-V", "--version", "version", "-v")
+VERSION = ("-V", "--version", "version", "-v")
+HELP = ("-h", "--help", "help", *VERSION)
+# The commands of hsp that take a folder, and ask the doctor first.
+OF_FOLDERS = ("plan", "view", "whatif", "doctor")
 
 
 def at_word(line: Line, word: Word | None, words: Words) -> Finding:
@@ -27,9 +31,8 @@ def command_fault(line: Line) -> Finding | None:
         return at_word(line, None, Words("no command", f"write one of {', '.join(which)} behind {line.program}", ""))
     command, first = line.command, line.words[0]
     if command in HELP and line.program == "hsplan":
-        return at_word(
-            line, first, Words(f"hsplan has no {command}", "man hsplan is its help", "it takes commands only")
-        )
+        remedy = "hsplan-stream --version prints it" if command in VERSION else "man hsplan is its help"
+        return at_word(line, first, Words(f"hsplan has no {command}", remedy, "it takes commands only"))
     own = [it for it, form in FORMS.items() if form.program == line.program]
     if command in own:
         return None
@@ -43,17 +46,38 @@ def command_fault(line: Line) -> Finding | None:
             ),
         )
     if command.startswith("-"):
+        _, others = split(replace(line, words=[first, *line.words]))
+        later = next((it.text for it in others if it.text in own), "")
         words = Words(
             "an option stands where the command belongs",
-            f"write the command first: {', '.join(own)}",
+            f"write {later} first, as {line.program} {later} {command} .."
+            if later
+            else f"write the command first: {', '.join(own)}",
             "the first word is the command",
         )
         return at_word(line, first, words)
+    if command == "hsp":
+        return at_word(line, first, _of_companion(line))
     meant = near(command, own, 0.6) or near(command, FORMS, 0.6)
     remedy = f"write {meant}" if meant in own else f"write {FORMS[meant].program} {meant}" if meant else ""
     remedy = remedy or f"write one of {', '.join(own)}"
     return at_word(
         line, first, Words(f"no command {quoted(command)}", remedy, "", f"did you mean {meant}?" if meant else "")
+    )
+
+
+def _of_companion(line: Line) -> Words:
+    """What is said where the words of hsp stand behind --."""
+    second, third = ([it.text for it in line.words] + ["", ""])[1:3]
+    if second in OF_FOLDERS:
+        folder = third if third and not third.startswith("-") else "DIR"
+        return Words(
+            "hsp's own words need no --",
+            f"hsp doctor {folder}",
+            f"hsp {second} asks the doctor about its folder first",
+        )
+    return Words(
+        "hsp's own words aren't for the doctor", "hsp --help lists its commands", "behind -- stand words of hsplan"
     )
 
 
@@ -182,7 +206,7 @@ def _locate(line: Line, names: set[str]) -> Iterator[Finding]:
             )
 
 
-def _other_words(line: Line, form: Form, others: list[Word]) -> Iterator[Finding]:
+def _other_words(line: Line, form: Form, options: list[Option], others: list[Word]) -> Iterator[Finding]:
     """Words that belong to no option: the last word of some commands, and no other."""
     wanted = 1 if form.last else 0
     if len(others) < wanted:
@@ -196,17 +220,20 @@ def _other_words(line: Line, form: Form, others: list[Word]) -> Iterator[Finding
                 f"the form is {shown(line.command)}",
             ),
         )
+    given = {it.name for it in options}
     for it in others[wanted:]:
-        twice = (
-            "a handle with a blank stands in quotes"
-            if form.last == "handle"
-            else "a name with a blank stands in quotes"
-        )
-        why = twice if wanted else "each file stands behind its option"
         meant = near(it.text.split(".")[0], form.options, 0.6)
-        remedy = f"write --{meant} {it.text}" if meant else "take it out, or put its option in front"
-        if wanted:
+        why, remedy = "each file stands behind its option", "take it out, or put its option in front"
+        if form.last == "handle" and "/" in it.text:
+            why = "locate takes one handle"
+            remedy = "ask for one at a time; hsplan-stream places takes a log of them"
+        elif wanted:
+            why = f"a {'handle' if form.last == 'handle' else 'name'} with a blank stands in quotes"
             remedy = "put quotes about the whole, or take it out"
+        elif meant in given:
+            why, remedy = f"--{meant} takes one file, and has it", "take it out, or make one file of both"
+        elif meant:
+            remedy = f"write --{meant} {it.text}"
         yield at_word(line, it, Words(f"the word {quoted(it.text)} belongs to no option", remedy, why))
 
 
@@ -218,8 +245,9 @@ def usage(line: Line) -> list[Finding]:
     form = FORMS[line.command]
     options, others = split(line)
     faults = list(_option_faults(line, form, options))
-    faults += _other_words(line, form, others)
-    faults += _missing(line, form, options)
+    faults += _other_words(line, form, options, others)
+    if not {"h", "help"} & {it.name for it in options if it.name not in form.options}:
+        faults += _missing(line, form, options)
     if not faults:
         words = Words(
             "these words are no command",
@@ -241,25 +269,30 @@ def not_utf8(line: Line, word: Word) -> Finding:
 def value_fault(line: Line, word: str) -> Finding:
     """A value that its option doesn't take: `BadOption`, `BadServers`, `BadIndex`, `BadFronts`, `BadUnit`, `BadFront`."""
     advised = {
-        "BadOption": ("option", "write na, local or handle", "the hash option is one of three words"),
-        "BadServers": (
-            "servers",
-            "write the number of the site's servers, 1 to 1024",
-            "a whole number of digits only",
-        ),
-        "BadIndex": (
-            "index",
-            "write the index of the value, a whole number up to 4294967295",
-            "a whole number of digits only",
-        ),
-        "BadFronts": ("fronts", "write how many dispatchers there are, 1 to 64", "a whole number of digits only"),
-        "BadUnit": ("unit", "write a whole number from 1 to 1000000, as 1000", "a whole number of digits only"),
-        "BadFront": ("front", "write a number below that of --fronts: the first front is 0", "fronts count from 0"),
+        "BadOption": ("option", "write na, local or handle"),
+        "BadServers": ("servers", "write the number of the site's servers, 1 to 1024"),
+        "BadIndex": ("index", "write the index of the value, a whole number up to 4294967295"),
+        "BadFronts": ("fronts", "write how many dispatchers there are, 1 to 64"),
+        "BadUnit": ("unit", "write a whole number from 1 to 1000000, as 1000"),
+        "BadFront": ("front", "write a number below that of --fronts: the first front is 0"),
     }
-    name, remedy, why = advised[word]
+    name, remedy = advised[word]
     options, _ = split(line)
     it = next((it for it in options if it.name == name), None)
     value = it.value if it and it.value is not None else ""
+    why = "a whole number of digits only"
+    if word == "BadOption":
+        why = "the hash option is one of three words"
+    elif word == "BadFront" and value.isdigit():
+        why = "fronts count from 0"
+    elif value.isdigit():
+        why = (
+            "zeros before the digits"
+            if value[0] == "0" and value.strip("0")
+            else "0 is too few"
+            if not value.strip("0")
+            else "it is too large"
+        )
     finding = at_word(
         line, it.value_word if it else None, Words(f"--{name} doesn't take {quoted(value)}", remedy, why)
     )

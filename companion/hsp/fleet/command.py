@@ -6,9 +6,10 @@ import click
 
 from hsp.fleet.demand import demand
 from hsp.fleet.dispatch import dispatch
+from hsp.groups import Group
 
 
-@click.group()
+@click.group(cls=Group)
 def fleet() -> None:
     """Counts and answers the logs of many machines, on Dask's scheduler.
 

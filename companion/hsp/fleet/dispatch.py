@@ -134,9 +134,9 @@ def _in_one(engine: Engine, own: Front, options: dict[str, Any]) -> list[Reply]:
 @click.option("--unit", type=click.IntRange(1, 1_000_000), metavar="N", help="of the demand, with --any-handle")
 @with_cluster
 def dispatch(folder: str, logs: tuple[str, ...], plan: str | None, **given: Any) -> None:
-    """Answers the queries of logs by the plan of DIR, each front by its share, on many processors or machines.
+    """Answers the queries of logs by the plan of DIR, in parallel.
 
-    A front's LOG is a table region,handle. Every worker can read it, or those of its host only. The answers are in
+    Each front answers by its share, on many processors or machines. A front's LOG is a table region,handle. Every worker can read it, or those of its host only. The answers are in
     LOG.answers. One LOG of all fronts is a table front,region,handle.
     """
     place, fronts = place_of(given), fronts_of(logs, given["fronts"])
