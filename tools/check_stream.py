@@ -11,7 +11,7 @@ What has to be printed is computed by tools/stream_service.py, or stands here:
 - examples/twelve-sites, planned by rows and by kinds, at the same cost;
 - a co-process over pipes: each row is answered within a second, before the next one is written;
 - a log of a million handles: its table, its plan, and `answer` over the same log, line by line as `hsplan dispatch`
-  answers the log with each handle replaced by its row's; no run takes more than 64 MB;
+  answers the log with each handle replaced by its row's; none of its runs takes more than 64 MB;
 - each allocation, each read and each write of some runs refused or failing in turn.
 """
 from __future__ import annotations

@@ -1,4 +1,4 @@
-"""The one place that calls hsplan and hsplan-stream. No rule of theirs is written here a second time."""
+"""Calls hsplan and hsplan-stream, and reads what they print. No rule of theirs is written here a second time."""
 
 from __future__ import annotations
 
