@@ -1,5 +1,5 @@
 -- What a table of kinds holds, as rows are counted.
-use Rattle.std.proofs.Common.{◌≡◌, ◌∙◌, ◌<◌, ◌≤◌, ℕ, true, List, Some, Ok, length, map, option_map, refl, ap, sym, arith}
+use Rattle.std.proofs.Common.{◌≡◌, ◌∙◌, ◌⊎◌, ◌<◌, ◌≤◌, inl, inr, ℕ, true, List, Some, Ok, length, map, option_map, refl, ap, sym, arith}
 use Rattle.std.proofs.lemmas.List.{length-map}
 use Rattle.std.specs.List.{find, list_any, position, position_or_len}
 use Rattle.std.specs.Map.{keys_of}
@@ -11,7 +11,7 @@ use Rattle.hsp_kinds.specs.Rows.{is_same_kind, places_at, sites_for}
 use Rattle.hsp_kinds.specs.Tables.{counted}
 use Rattle.hsp_tally.specs.Keys.{Sought, key_of}
 use Rattle.hsp_tally.specs.KindMaps.{AreHeld, IsSeenAs, KindEntry, by_key, is_key, joined, keyed_in, lent_row, row_in}
-use Rattle.hsp_tally.specs.Seen.{IsPut, Seen, number_of, of_row}
+use Rattle.hsp_tally.specs.Seen.{Seen, number_of, of_row, put_in}
 use Rattle.hsp_tally.specs.Tally.{by_capped, with_counted}
 use Rattle.hsp_tally.specs.declared.keys.LentKind.{LentKind}
 use Rattle.hsp_tally.proofs.KindCounts.{all_stay, counted_regions, counted_well, joined_keyed, joined_rows, kind_there, known_region, place_within}
@@ -79,7 +79,7 @@ module _ (keys : Sought) (old new : List KindEntry) (seen : List Seen) (held : A
     -- a row is remembered by the number of its kind
     pub new_held : (more : List Seen) (number : ℕ) (next : Sought) → next.costs ≡ keys.costs → next.sites ≡ keys.sites → length next.regions ≤ MOST_REGIONS → length new ≤ MOST_DEMAND_ROWS
         → position (is_key lent) (keys_of new) ≡ Some number → is_name lent.region.now ≡ true → handle_in handle ≡ Ok handle
-        → IsPut seen more (record { region = lent.region.now; handle = handle; number = number }) → AreHeld next new more
+        → (more ≡ seen) ⊎ (more ≡ put_in seen (record { region = lent.region.now; handle = handle; number = number })) → AreHeld next new more
     new_held more number next costs sites regions few place name named put =
         let keyed = counted_keyed keys.costs keys.sites lent handle count found old held.keyed new is in
         let kept = all_stay keys.costs keys.sites (record { region = lent.region.now; handle = handle; count = count }) (map row_in old) seen held.placed in
@@ -88,11 +88,15 @@ module _ (keys : Sought) (old new : List KindEntry) (seen : List Seen) (held : A
           keyed = rw (costs, sites) keyed;
           few = few;
           few_regions = regions;
-          placed = rw (costs, sites)
-              (put_all (IsSeenAs keys.costs keys.sites (map row_in new)) seen more (record { region = lent.region.now; handle = handle; number = number }) put
-              (rw new_counted kept)
-              (record {
-                named = record { region = name; handle = named };
-                place = sym (place_of_kind keys.costs keys.sites lent (record { region = lent.region.now; handle = handle; count = count }) key new keyed) ∙ place;
-              }));
+          placed = rw (costs, sites) (elim put [
+            | inl same ↦ rw (same, new_counted) kept
+            | inr with ↦
+                rw with
+                (put_all (IsSeenAs keys.costs keys.sites (map row_in new)) seen (record { region = lent.region.now; handle = handle; number = number })
+                (rw new_counted kept)
+                (record {
+                  named = record { region = name; handle = named };
+                  place = sym (place_of_kind keys.costs keys.sites lent (record { region = lent.region.now; handle = handle; count = count }) key new keyed) ∙ place;
+                }))
+          ]);
         }

@@ -1,8 +1,8 @@
 -- The first row of each kind, found by the key of the kind.
-use Rattle.std.specs.Prelude.{◌≡◌, ◌&&◌, ◌+◌, Bool, true, ℕ, List, length, position, Option, None, Some, Vec}
+use Rattle.std.specs.Prelude.{◌≡◌, ◌&&◌, ◌+◌, Bool, true, ℕ, List, position, Option, None, Some, Vec}
 use Rattle.std.specs.Prelude.{if◌then◌else◌}
 use Rattle.std.specs.declared.alloc.Global.{Global}
-use Rattle.std.specs.List.{AllByRecursion, list_any, slice_get}
+use Rattle.std.specs.List.{AllByRecursion, list_any}
 use Rattle.std.specs.Map.{lookup}
 use Rattle.std.specs.Str.{bytes_eq}
 use Rattle.hsp_tables.specs.Costs.{CostEntry}

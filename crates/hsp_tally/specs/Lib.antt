@@ -5,5 +5,5 @@ pub mod KindKeys
 pub mod KindMaps
 pub mod LentKinds
 pub mod Seen
-pub mod SeenKeys
+pub mod SeenPairs
 pub mod Tally

@@ -1,6 +1,9 @@
 -- Rows that were seen, each with a number.
-use Rattle.std.specs.Prelude.{◌≡◌, ◌&&◌, ◌⊎◌, Bool, ℕ, List, [], ◌∷◌, if◌then◌else◌}
+use Rattle.std.specs.Prelude.{ℕ, Bool, ◌+◌, ◌≤◌, ◌&&◌, ◌||◌, ◌++◌, not, nat_lt, List, [], ◌∷◌, length, if◌then◌else◌}
+use Rattle.std.specs.List.{find}
+use Rattle.std.specs.Option.{is_some}
 use Rattle.std.specs.Str.{bytes_eq}
+use Rattle.hsp_tally.specs.declared.seen.TheConstants.{LONGEST_SEEN, MOST_SEEN}
 
 pub record Seen : Type 0 where
   pub region : List ℕ
@@ -14,13 +17,16 @@ number_of seen = seen.number
 abbrev pub of_row : List ℕ → List ℕ → Seen → Bool
 of_row region handle seen = bytes_eq region seen.region && bytes_eq handle seen.handle
 
--- the number of a row takes the place of that which was there for its region and handle, or stands last
-abbrev pub seen_with : List Seen → Seen → List Seen
-seen_with [] row = row ∷ []
-seen_with (first ∷ rest) row =
-    if of_row row.region row.handle first then record first { number = row.number } ∷ rest
-    else first ∷ seen_with rest row
+-- the names of a row are short enough to be kept
+abbrev pub IsShort : Seen → Type 0
+IsShort seen = length seen.region + length seen.handle ≤ LONGEST_SEEN
 
--- the row was put in, or left out
-abbrev pub IsPut : List Seen → List Seen → Seen → Type 0
-IsPut old new row = (new ≡ old) ⊎ (new ≡ seen_with old row)
+-- a row is left out where there are rows enough, where its names are too long, and where it has a number
+abbrev pub is_left_out : List Seen → List ℕ → List ℕ → Bool
+is_left_out rows region handle =
+    not (nat_lt (length rows) MOST_SEEN) || nat_lt LONGEST_SEEN (length region + length handle)
+    || is_some (find (of_row region handle) rows)
+
+-- the rows with a row that was seen
+abbrev pub put_in : List Seen → Seen → List Seen
+put_in rows row = if is_left_out rows row.region row.handle then rows else rows ++ row ∷ []

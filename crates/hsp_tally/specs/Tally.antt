@@ -1,14 +1,12 @@
 -- Tables of kinds, as the rows of a log are counted.
-use Rattle.std.specs.Prelude.{◌≡◌, ◌≤◌, ◌<◌, ◌+◌, ◌-◌, ◌^◌, ⊤, true, ℕ, List, [], ◌∷◌, ◌++◌, length, map, min, nat_lt}
-use Rattle.std.specs.Prelude.{position, Result, Ok, Err, Some, if◌then◌else◌}
+use Rattle.std.specs.Prelude.{◌≡◌, ◌≤◌, ◌+◌, ◌-◌, ◌^◌, ℕ, List, [], ◌∷◌, ◌++◌, length, map, min, nat_lt}
+use Rattle.std.specs.Prelude.{Result, Ok, Err, if◌then◌else◌}
 use Rattle.std.specs.List.{AllByRecursion}
 use Rattle.hsp_text.specs.declared.limits.TheConstants.{MOST_DEMAND_ROWS, MOST_REGIONS}
 use Rattle.hsp_tables.specs.Costs.{CostEntry}
-use Rattle.hsp_instance.specs.Instance.{IsNamed, Row, Site, regions_of}
+use Rattle.hsp_instance.specs.Instance.{Row, Site, regions_of}
 use Rattle.hsp_kinds.specs.Rows.{is_same_kind, kinds_of}
 use Rattle.hsp_kinds.specs.Tables.{IsKinding, Kinding, counted, table_of}
-use Rattle.hsp_tally.specs.Keys.{Sought}
-use Rattle.hsp_tally.specs.Seen.{Seen}
 use Rattle.hsp_tally.specs.declared.fault.KindsFault.{KindsFault}
 use Rattle.hsp_tally.specs.declared.fault.KindsFault.TheVariants.{TooManyKinds, TooManyRegions}
 

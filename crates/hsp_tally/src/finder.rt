@@ -63,7 +63,7 @@ impl<'a> RowFinder<'a> {
     {
         Ok(RowFinder {
             rows: KindRows::new(alloc, instance, costs)?,
-            seen: SeenRows::new(alloc),
+            seen: SeenRows::new(),
         })
     }
 

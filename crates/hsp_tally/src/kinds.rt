@@ -120,7 +120,7 @@ impl<'a> Kinds<'a> {
         Kinds {
             keys: KindKeys::new(alloc, sites, costs),
             kinds: KindMap::new(alloc),
-            seen: SeenRows::new(alloc),
+            seen: SeenRows::new(),
         }
     }
 

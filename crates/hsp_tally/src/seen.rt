@@ -1,15 +1,11 @@
 // Rows that were seen, each with a number.
 
-ghost use Rattle.std.specs.Prelude.{◌≡◌, ◌≤◌, [], IfOk, OnErr, OnOk, length, option_map};
-ghost use Rattle.std.specs.Cmp.Rules.{comparing, hashing};
-ghost use Rattle.std.specs.Hash as fed;
-ghost use Rattle.std.specs.List.{find};
-ghost use Rattle.std.proofs.Common.{rules};
-ghost use Rattle.hsp_tally.specs.Seen.{IsPut, number_of, of_row};
+ghost use Rattle.std.specs.Prelude.{◌≡◌, ◌<◌, ◌≤◌, ◌++◌, ◌∷◌, [], IfOk, None, OnErr, OnOk, false, length, option_map};
+ghost use Rattle.std.specs.List.{AllByRecursion, find};
+ghost use Rattle.hsp_tally.specs.Seen.{IsShort, is_left_out, number_of, of_row, put_in};
 
-use indexmap::{Equivalent, IndexMap};
+use hsp_pair_map::PairMap;
 use std::alloc::{AllocError, Global};
-use std::hash::{Hash, Hasher};
 use std::marker::Model;
 
 /// The greatest number of rows that are kept.
@@ -18,131 +14,102 @@ const MOST_SEEN: usize = 65_536;
 /// The greatest length of a region and a handle together that are kept, in octets.
 const LONGEST_SEEN: usize = 256;
 
-// A region and a handle. Their octets lie one after the other, so that a lookup reads one place.
+// How many buckets rows are found by: two for each of the greatest number of rows.
+const BUCKETS: u32 = 131_072;
+
+// The names of rows, and the number of each row. No row stands twice.
 #[derive(Drop)]
-struct SeenKey {
-    octets: Vec<u8>,
-    cut: usize,
+struct SeenTable {
+    pairs: PairMap,
+    numbers: Vec<u32>,
 }
 
-impl Model for SeenKey {
-    ghost use Rattle.std.specs.Prelude.{◌≤◌, length};
-    ghost use Rattle.hsp_tables.specs.Keyed.{PairName, names_cut};
+impl Model for SeenTable {
+    ghost use Rattle.std.specs.Prelude.{◌≡◌, List, length};
+    ghost use Rattle.hsp_tally.specs.Seen.{Seen};
+    ghost use Rattle.hsp_tally.specs.SeenPairs.{AreApart, seen_in};
 
-    ghost Value = { PairName };
+    ghost Value = { List Seen };
 
-    ghost view = { λ k. names_cut k.cut k.octets.items };
+    ghost view = { λ t. seen_in t.pairs t.numbers.items };
 
-    ghost invariant = { λ k. k.cut ≤ length k.octets.items };
+    ghost invariant = { λ t. (length t.pairs ≡ length t.numbers.items) × AreApart t.pairs };
 }
 
-impl SeenKey {
-    fn new(alloc: Global, region: &[u8], handle: &[u8]) -> Result<SeenKey, AllocError>
-        ensures { IfOk result
-            (λ key. key ≡ record { first = region.now; second = handle.now }) }
+impl SeenTable {
+    fn new(alloc: Global) -> Result<SeenTable, AllocError>
+        ensures { IfOk result (λ table. table ≡ []) }
     {
-        let cut = region.len();
-        let mut octets = Vec::with_capacity(alloc, cut.saturating_add(handle.len()))?;
-        octets.extend_from_slice(region)?;
-        octets.extend_from_slice(handle)?;
-        Ok(SeenKey { octets, cut })
+        Ok(SeenTable {
+            pairs: PairMap::new(alloc, BUCKETS)?,
+            numbers: Vec::new(alloc),
+        })
     }
 
-    fn region(&self) -> &[u8]
-        ensures { result.now ≡ self.now.first }
+    // The number of a row, if it was added.
+    fn find(&self, region: &[u8], handle: &[u8]) -> Option<u32>
+        ensures { result ≡ option_map number_of (find (of_row region.now handle.now) self.now) }
     {
-        &self.octets[..self.cut]
+        let place = self.pairs.find(region, handle)?;
+        Some(self.numbers[place as usize])
     }
 
-    fn handle(&self) -> &[u8]
-        ensures { result.now ≡ self.now.second }
+    // Adds a row that was not added before.
+    fn push(&mut self, region: &[u8], handle: &[u8], number: u32) -> Result<(), AllocError>
+        requires few { length self.old < MOST_SEEN }
+        requires new { find (of_row region.now handle.now) self.old ≡ None }
+        ensures added { OnOk result (self.new
+            ≡ self.old ++ record { region = region.now; handle = handle.now; number = number } ∷ []) }
+        ensures kept { OnErr result (self.new ≡ self.old) }
     {
-        &self.octets[self.cut..]
-    }
-}
-
-impl PartialEq for SeenKey {
-    ghost use Rattle.std.specs.Prelude.{◌&&◌};
-    ghost use Rattle.std.specs.Str.{bytes_eq};
-
-    ghost eq = { λ a b. bytes_eq a.first b.first && bytes_eq a.second b.second };
-
-    ghost laws = { Prim.search (comparing, rules) };
-
-    fn eq(&self, other: &SeenKey) -> bool {
-        self.region() == other.region() && self.handle() == other.handle()
-    }
-}
-
-impl Eq for SeenKey {
-    ghost laws = { Prim.search (comparing, rules) };
-}
-
-impl Hash for SeenKey {
-    ghost use Rattle.std.specs.Prelude.{◌++◌};
-
-    ghost hash_input = { λ k. fed.slice fed.u8 k.first ++ fed.slice fed.u8 k.second };
-
-    ghost respects_eq = { Prim.search (hashing, rules) };
-
-    fn hash<H: Hasher>(&self, state: &mut H) {
-        self.region().hash(state);
-        self.handle().hash(state);
-    }
-}
-
-// The same, lent.
-#[derive(Clone, Copy, PartialEq, Eq, Hash)]
-struct LentSeen<'a> {
-    region: &'a [u8],
-    handle: &'a [u8],
-}
-
-impl Equivalent<SeenKey> for LentSeen<'_> {
-    ghost use Rattle.std.specs.Prelude.{◌≡◌, ◌&&◌};
-    ghost use Rattle.std.specs.Str.{bytes_eq};
-
-    ghost equivalent = { λ q k. bytes_eq q.region.now k.first && bytes_eq q.handle.now k.second };
-
-    ghost use Rattle.hsp_tables.specs.LentKeys.{hashed_alike, compared_alike};
-
-    ghost respects_hash = { λ q k h. hashed_alike q.region.now k.first q.handle.now k.second h };
-
-    ghost respects_eq = { λ q x y h.
-        compared_alike q.region.now x.first q.handle.now x.second y.first y.second h };
-
-    fn equivalent(&self, key: &SeenKey) -> bool {
-        self.region == key.region() && self.handle == key.handle()
+        self.numbers.reserve(1)?;
+        self.pairs.push(region, handle)?;
+        self.numbers.push(number)?;
+        Ok(())
     }
 }
 
 /// Rows that were seen, by region and handle, each with a number.
 ///
-/// There are at most 65,536 rows, each of at most 256 octets, so that they never take more than 25 megabytes. Once it
-/// is full it stays as it is.
+/// There are at most 65,536 rows, whose names have at most 256 octets each, and 16,777,216 together. Once it is full it
+/// stays as it is.
 #[derive(Drop)]
 pub struct SeenRows {
-    rows: IndexMap<SeenKey, u32>,
+    table: Option<SeenTable>,
 }
 
 impl Model for SeenRows {
-    ghost use Rattle.std.specs.Prelude.{List, map};
-    ghost use Rattle.hsp_tally.specs.Seen.{Seen};
+    ghost use Rattle.std.specs.Prelude.{◌≤◌, List, length};
+    ghost use Rattle.std.specs.List.{AllByRecursion};
+    ghost use Rattle.hsp_tally.specs.Seen.{IsShort, Seen};
+    ghost use Rattle.hsp_tally.specs.SeenPairs.{rows_in};
+    ghost use Rattle.hsp_tally.specs.declared.seen.TheConstants.{MOST_SEEN};
 
     ghost Value = { List Seen };
 
-    ghost use Rattle.hsp_tally.specs.SeenKeys.{seen_entry};
+    ghost view = { λ s. rows_in s.table };
 
-    ghost view = { λ s. map seen_entry s.rows.entries };
+    ghost invariant = { λ s. (length (rows_in s.table) ≤ MOST_SEEN)
+        × AllByRecursion IsShort (rows_in s.table) };
 }
 
 impl SeenRows {
     /// No rows.
-    pub fn new(alloc: Global) -> SeenRows
+    pub fn new() -> SeenRows
         ensures { result ≡ [] }
     {
-        SeenRows {
-            rows: IndexMap::new(alloc),
+        SeenRows { table: None }
+    }
+
+    /// How many rows there are.
+    pub fn len(&self) -> usize
+        ensures count { result ≡ length self.now }
+        ensures few { length self.now ≤ MOST_SEEN }
+        ensures short { AllByRecursion IsShort self.now }
+    {
+        match &self.table {
+            Some(table) => table.numbers.len(),
+            None => 0,
         }
     }
 
@@ -150,12 +117,47 @@ impl SeenRows {
     pub fn find(&self, region: &[u8], handle: &[u8]) -> Option<u32>
         ensures { result ≡ option_map number_of (find (of_row region.now handle.now) self.now) }
     {
-        let number = self.rows.get(LentSeen { region, handle })?;
-        Some(*number)
+        match &self.table {
+            Some(table) => table.find(region, handle),
+            None => None,
+        }
     }
 
-    /// Puts in a number for a region and a handle. It is left out where there are rows enough, or where the row is too
-    /// long. Where memory runs out nothing changes.
+    // Whether a row is left out.
+    fn leaves_out(&self, region: &[u8], handle: &[u8]) -> bool
+        ensures { result ≡ is_left_out self.now region.now handle.now }
+    {
+        self.len() >= MOST_SEEN
+            || region.len().saturating_add(handle.len()) > LONGEST_SEEN
+            || self.find(region, handle).is_some()
+    }
+
+    // Adds a row that is not left out.
+    fn push(
+        &mut self,
+        alloc: Global,
+        region: &[u8],
+        handle: &[u8],
+        number: u32,
+    ) -> Result<(), AllocError>
+        requires { is_left_out self.old region.now handle.now ≡ false }
+        ensures added { OnOk result (self.new
+            ≡ self.old ++ record { region = region.now; handle = handle.now; number = number } ∷ []) }
+        ensures kept { OnErr result (self.new ≡ self.old) }
+    {
+        match &mut self.table {
+            Some(table) => table.push(region, handle, number),
+            None => {
+                let mut table = SeenTable::new(alloc)?;
+                table.push(region, handle, number)?;
+                self.table = Some(table);
+                Ok(())
+            }
+        }
+    }
+
+    /// Puts in a number for a region and a handle. It is left out where there are rows enough, where the row is too
+    /// long, and where the row has a number. Where memory runs out nothing changes.
     pub fn remember(
         &mut self,
         alloc: Global,
@@ -163,17 +165,13 @@ impl SeenRows {
         handle: &[u8],
         number: u32,
     ) -> Result<(), AllocError>
-        ensures put { IsPut self.old self.new
-            (record { region = region.now; handle = handle.now; number = number }) }
+        ensures put { OnOk result (self.new ≡ put_in self.old
+            (record { region = region.now; handle = handle.now; number = number })) }
         ensures err { OnErr result (self.new ≡ self.old) }
     {
-        if self.rows.len() >= MOST_SEEN
-            || region.len().saturating_add(handle.len()) > LONGEST_SEEN
-        {
+        if self.leaves_out(region, handle) {
             return Ok(());
         }
-        self.rows
-            .insert(SeenKey::new(alloc, region, handle)?, number)?;
-        Ok(())
+        self.push(alloc, region, handle, number)
     }
 }

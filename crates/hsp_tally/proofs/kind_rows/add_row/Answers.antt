@@ -1,4 +1,4 @@
-use Rattle.std.proofs.Common.{◌∙◌, ap, sym}
+use Rattle.std.proofs.Common.{◌∙◌, sym}
 use Rattle.hsp_tally.proofs.FirstOfKinds.{is_added_as}
 use Rattle.hsp_tally.proofs.kind_rows.add_row.Goals as goal
 

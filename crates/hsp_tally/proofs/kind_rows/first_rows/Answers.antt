@@ -1,6 +1,5 @@
 use Rattle.std.proofs.Common.{◌≡◌, ◌∙◌, ap, subst}
 use Rattle.hsp_kinds.specs.Rows.{places_at, sites_for}
-use Rattle.hsp_names.specs.Lent.{octets_of}
 use Rattle.hsp_tally.specs.FirstRows.{HasAdded}
 use Rattle.hsp_tally.proofs.FirstOfKinds.{one_first}
 use Rattle.hsp_tally.proofs.kind_rows.first_rows.Goals as goal

@@ -1,12 +1,10 @@
-use Rattle.std.proofs.Common.{◌≡◌, ◌∙◌, ap, sym, refl, inr, false, is_some, List, ℕ, arith}
+use Rattle.std.proofs.Common.{◌∙◌, ap, sym, refl, inr, is_some, arith}
 use Rattle.std.proofs.lemmas.Bool.{lt-ltb}
 use Rattle.std.proofs.lemmas.Map.Made.{is_some-lookup}
-use Rattle.std.specs.List.{list_any}
-use Rattle.std.specs.Map.{keys_of}
 use Rattle.hsp_text.specs.declared.limits.TheConstants.{MOST_DEMAND_ROWS}
 use Rattle.hsp_tally.specs.Keys.{KeyEntry}
 use Rattle.hsp_tally.specs.KindMaps.{is_key}
-use Rattle.hsp_tally.proofs.KindLists.{added_by, added_length, added_place, at_place, joined_by, joined_keys, joined_length, one_more_kind}
+use Rattle.hsp_tally.proofs.KindLists.{added_by, added_place, at_place, joined_by, joined_keys, joined_length, one_more_kind}
 use Rattle.hsp_tally.proofs.kinds.count_by.Goals as goal
 
 pub returns-in-Some-clause-counted : goal.returns-in-Some-clause-counted

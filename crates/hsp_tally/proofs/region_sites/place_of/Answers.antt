@@ -1,4 +1,4 @@
-use Rattle.std.proofs.Common.{◌∙◌, ap, sym, Some, map, List, ℕ, rules}
+use Rattle.std.proofs.Common.{◌∙◌, ap, sym, Some, map, List, ℕ}
 use Rattle.hsp_kinds.specs.Rows.{sites_for}
 use Rattle.hsp_tally.specs.Keys.{hash_of, names_of, with_region}
 use Rattle.hsp_tally.proofs.RegionMaps.{added_place, known_before, known_place, names_added, sites_added}

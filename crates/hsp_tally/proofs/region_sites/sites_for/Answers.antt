@@ -1,11 +1,8 @@
-use Rattle.std.proofs.Common.{◌≡◌, ◌∙◌, ◌++◌, ◌∷◌, [], List, ℕ, ap, sym, map, take, is_some}
+use Rattle.std.proofs.Common.{◌∙◌, ap, sym, take, is_some}
 use Rattle.std.specs.List.{slice_get}
-use Rattle.hsp_kinds.specs.Rows.{sites_for}
 use Rattle.hsp_instance.specs.Building.{cost_of}
 use Rattle.hsp_instance.specs.Instance as instance
 use Rattle.hsp_instance.specs.Instance.{Site}
-use Rattle.hsp_instance.proofs.Lists.{take_whole}
-use Rattle.hsp_tally.specs.Keys.{HasServer, hash_of}
 use Rattle.hsp_tally.proofs.RegionMaps.{all_have_servers, all_take, next_site, no_next_site, site_named, site_there}
 use Rattle.hsp_tally.proofs.region_sites.sites_for.Goals as goal
 use Rattle.hsp_tally.proofs.region_sites.sites_for.Goals.{then-is_some+in_ok-push, else-is_some}

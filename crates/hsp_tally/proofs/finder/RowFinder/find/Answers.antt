@@ -1,6 +1,4 @@
-use Rattle.std.proofs.Common.{◌≡◌, ◌∙◌, ap, subst, sym}
-use Rattle.std.specs.List.{AllByRecursion}
-use Rattle.hsp_names.specs.Lent.{octets_of}
+use Rattle.std.proofs.Common.{◌∙◌, ap, sym}
 use Rattle.hsp_tally.specs.Finding.{row_for}
 use Rattle.hsp_tally.specs.FirstRows.{IsFound, number_for}
 use Rattle.hsp_tally.proofs.SeenMaps.{found_has, put_all}
@@ -22,4 +20,4 @@ invariant_of-self-in-Continue-branch-2 c =
     let octets = c.bytes-octets.result.now in
     let row = c.in_ok-row.ensures.row ∙ ap (row_for rows.costs rows.it region) (sym c.bytes-octets.ensures.octets) in
     let is = c.in-Some-number_for.ensures ∙ ap number_for row in
-    rw c.in_ok-row.ensures.same (put_all (IsFound rows.costs rows.it) c.self.inside.seen c.remember.new.self _ c.in_ok-remember.ensures.put c.self.invariant is)
+    rw (c.in_ok-row.ensures.same, c.in_ok-remember.ensures.put) (put_all (IsFound rows.costs rows.it) c.self.inside.seen _ c.self.invariant is)

@@ -1,4 +1,4 @@
-use Rattle.std.proofs.Common.{◌≡◌, ◌∙◌, ap, sym, map}
+use Rattle.std.proofs.Common.{◌≡◌, ◌∙◌, ap, map}
 use Rattle.std.specs.List.{AllByRecursion, slice_get}
 use Rattle.hsp_instance.proofs.Lists.{all_at, map_twice}
 use Rattle.hsp_kinds.specs.Rows.{sites_for}

@@ -1,7 +1,8 @@
-use Rattle.std.proofs.Common.{◌≡◌, ◌∙◌, ◌⊎◌, ◌<◌, ◌≤◌, inl, inr, nat_lt, List, ℕ, Ok, Err, ap, sym, refl, true, length, map, arith}
+use Rattle.std.proofs.Common.{◌≡◌, ◌∙◌, ◌⊎◌, ◌<◌, ◌≤◌, inl, inr, nat_lt, List, Ok, Err, Result, ap, sym, true, length, map, arith}
 use Rattle.std.proofs.lemmas.List.{length-map}
 use Rattle.std.proofs.lemmas.Result.{err_from_is_err_and}
 use Rattle.std.specs.List.{list_any}
+use Rattle.std.specs.Result.{OnErr, OnOk}
 use Rattle.std.specs.Str.{bytes_eq}
 use Rattle.hsp_names.specs.Lent.{octets_of}
 use Rattle.hsp_text.specs.declared.limits.TheConstants.{MOST_DEMAND_ROWS, MOST_REGIONS}
@@ -53,6 +54,11 @@ module _ (c : After-count_by) where
     counts : map row_in c.count_by.new.kinds.entries ≡ counted (by_capped c.self.inside.keys.costs c.self.inside.keys.sites) rows row
     counts = new_counted c.self.inside.keys c.self.inside.kinds.entries c.count_by.new.kinds.entries c.self.inside.seen c.self.invariant lent (octets_of c.args.handle) c.args.count found is_counted
 
+-- whether there was memory or not
+either : {T E P Q : Type 0} (result : Result T E) → OnErr result P → OnOk result Q → P ⊎ Q
+either (Ok done) p q = inr q
+either (Err fault) p q = inl p
+
 pub returns-in_err-number-clause-fault : goal.returns-in_err-number-clause-fault
 returns-in_err-number-clause-fault c =
     let d = (goal.at.returns-in_err-number-clause-fault c).After-count_by in
@@ -70,7 +76,7 @@ invariant_of-self-2 c =
     new_held c.self.inside.keys c.self.inside.kinds.entries c.count_by.new.kinds.entries c.self.inside.seen c.self.invariant (lent d) (octets_of c.args.handle) c.args.count (found d)
     (is_counted d c.in_ok-number.ensures.counted) c.remember.new.self c.in_ok-number.number c.find.new.self c.in_ok-find.ensures.costs c.in_ok-find.ensures.sites
     (rw (c.in_ok-find.ensures.regions) (few d)) c.in_ok-number.ensures.few c.in_ok-number.ensures.place c.requires.named
-    (handle_is (octets_of c.args.handle) (rw (← c.bytes.ensures.octets) c.bytes.ensures.handle)) (rw (← c.bytes-2.ensures.octets) c.remember.ensures.put)
+    (handle_is (octets_of c.args.handle) (rw (← c.bytes.ensures.octets) c.bytes.ensures.handle)) (rw (← c.bytes-2.ensures.octets) (either c.remember.result c.remember.ensures.err c.remember.ensures.put))
 
 pub returns-clause-whole : goal.returns-clause-whole
 returns-clause-whole c =

@@ -1,4 +1,4 @@
-use Rattle.std.proofs.Common.{◌∙◌, sym}
+use Rattle.std.proofs.Common.{sym}
 use Rattle.hsp_tally.proofs.Held.{seen_held, seen_named, seen_regions, seen_well, seen_within}
 use Rattle.hsp_tally.proofs.kinds.Kinds.count_seen.Goals as goal
 
