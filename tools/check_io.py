@@ -91,7 +91,7 @@ def calls_of(lines):
     return calls
 
 
-def telling(tools, run):
+def kinds_held(tools, run):
     """What a run does where no call fails, and its calls."""
     with tempfile.TemporaryDirectory() as room:
         told = os.path.join(room, "told")
@@ -196,7 +196,7 @@ def has_stand_in(call, kind, calls):
 
 def check_run(pool, tools, run):
     """The faults of a case, run one way, and how many calls were made to fail."""
-    ordinary, calls = telling(tools, run)
+    ordinary, calls = kinds_held(tools, run)
     hoped = check_program.wanted_of(run.case, ordinary)
     if ordinary != hoped:
         return [f"{run.case}: wanted {hoped}, got {ordinary}"], 0
@@ -347,7 +347,7 @@ def shrunk(tools, run, call):
 
 def check_shrinking(tools, folder, room):
     run = Run("shrinking files", ENTRIES, b"", grown(tools, folder, room))
-    reads = [call for call in telling(tools, run)[1] if call.name == "read"]
+    reads = [call for call in kinds_held(tools, run)[1] if call.name == "read"]
     return [fault for call in reads for fault in shrunk(tools, run, call)], len(reads)
 
 

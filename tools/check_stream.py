@@ -359,8 +359,8 @@ ENDS = {
 def is_cut(got: Ended, ordinary: Ended, status: int) -> bool:
     """Whether a run ended as it would without the failure, or with this status after a beginning of its output."""
     printed, line, ended = got
-    is_told = line in ENDS[status] or (status == 5 and ordinary[1].startswith(line))
-    return got == ordinary or (ended == status and ordinary[0].startswith(printed) and is_told)
+    is_reported = line in ENDS[status] or (status == 5 and ordinary[1].startswith(line))
+    return got == ordinary or (ended == status and ordinary[0].startswith(printed) and is_reported)
 
 
 def check_refused(it: Programs, room: str) -> tuple[list[str], int]:

@@ -58,12 +58,12 @@ FILES = (
     ("Headline.antt", "the page"),
     ("Shown.antt", "what a certificate shows"),
     ("Logs.antt", "what logs show"),
-    ("Told.antt", "how documents and tables state their rows"),
+    ("Stated.antt", "how documents and tables state their rows"),
 )
 # What an auditor asks, the file that answers it, and the words of the answer in that file.
 QUESTIONS = (
     ("May two sites have one name?", "Headline.antt", "pub names : IsDistinct"),
-    ("May a table have two rows of one key?", "Told.antt", "pub apart : IsDistinct same_key rows"),
+    ("May a table have two rows of one key?", "Stated.antt", "pub apart : IsDistinct same_key rows"),
     ("To which sites may a region's queries go, and at what cost?", "Headline.antt", "pub cost : Contains costs"),
     ("To which server of a site does a row's handle go?", "Headline.antt", "number_at sites arc.site (server_place"),
     ("Is a site's server without a row of capacity let in?", "Headline.antt", "× Contains capacities (record {"),

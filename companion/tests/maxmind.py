@@ -1,4 +1,4 @@
-"""A writer of small MaxMind databases (MaxMind DB file format, version 2.0), for the tests alone."""
+"""A writer of small MaxMind databases (MaxMind DB file format, version 2.0), only for the tests."""
 
 from __future__ import annotations
 

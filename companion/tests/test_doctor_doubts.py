@@ -116,7 +116,7 @@ def test_strict_makes_warnings_a_status(hsp: Hsp, example: Example) -> None:
 
 
 def test_a_plan_older_than_its_inputs(hsp: Hsp, example: Example) -> None:
-    """A plan is old where an input is newer and the checker says no; a touched file alone changes nothing."""
+    """A plan is old where an input is newer and the checker says no; a file that is only touched changes nothing."""
     folder = example("two-sites")
     hsp("plan", str(folder))
     later = os.stat(folder / "plan.txt").st_mtime + 10

@@ -205,7 +205,7 @@ fn a_faulty_event_is_refused(rt: HostRuntime) {
 }
 
 #[test]
-fn failing_reads_and_writes_are_told_at_fronts(rt: HostRuntime) {
+fn failing_reads_and_writes_are_reported_at_fronts(rt: HostRuntime) {
     let cut_line = Case {
         written: Limits {
             piece: usize::MAX,

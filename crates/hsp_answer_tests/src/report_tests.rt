@@ -409,7 +409,7 @@ fn shortage_is(
 }
 
 #[test]
-fn loads_of_the_base_are_told(rt: HostRuntime) {
+fn loads_of_the_base_are_reported(rt: HostRuntime) {
     let certificate = plan_of(&rt, rt.alloc(), BEST);
     let instance = held_instance(&rt, rt.alloc(), BASE);
     loads_are(
@@ -422,7 +422,7 @@ fn loads_of_the_base_are_told(rt: HostRuntime) {
 }
 
 #[test]
-fn regions_of_the_base_are_told(rt: HostRuntime) {
+fn regions_of_the_base_are_reported(rt: HostRuntime) {
     let certificate = plan_of(&rt, rt.alloc(), BEST);
     let instance = held_instance(&rt, rt.alloc(), BASE);
     regions_are(
@@ -435,7 +435,7 @@ fn regions_of_the_base_are_told(rt: HostRuntime) {
 }
 
 #[test]
-fn a_shortage_is_told(rt: HostRuntime) {
+fn a_shortage_is_reported(rt: HostRuntime) {
     let certificate = short_set(&rt, rt.alloc());
     let instance = held_instance(&rt, rt.alloc(), SHORT);
     shortage_is(
@@ -448,7 +448,7 @@ fn a_shortage_is_told(rt: HostRuntime) {
 }
 
 #[test]
-fn nothing_is_told_of_no_demand(rt: HostRuntime) {
+fn nothing_is_reported_of_no_demand(rt: HostRuntime) {
     let certificate = plan_of(&rt, rt.alloc(), EMPTY);
     let instance = held_instance(&rt, rt.alloc(), IDLE);
     loads_are(
@@ -516,7 +516,7 @@ fn names_stand_whole(rt: HostRuntime) {
 }
 
 #[test]
-fn loads_and_regions_of_many_rows_are_told(rt: HostRuntime) {
+fn loads_and_regions_of_many_rows_are_reported(rt: HostRuntime) {
     let certificate = alike_plan(&rt, rt.alloc(), PLAN_OF_MANY);
     let instance = instance_of_many(&rt, rt.alloc(), b"site,server_id,capacity\nX,7,6000\n");
     loads_are(
@@ -548,7 +548,7 @@ fn is_long_shortage(rt: &impl Abort, text: &[u8]) {
 }
 
 #[test]
-fn a_shortage_of_many_rows_is_told(rt: HostRuntime) {
+fn a_shortage_of_many_rows_is_reported(rt: HostRuntime) {
     let certificate = short_of_one(&rt, rt.alloc());
     let instance = instance_of_many(&rt, rt.alloc(), b"site,server_id,capacity\nX,7,4999\n");
     let text = shortage_of(&rt, rt.alloc(), &instance, &certificate);

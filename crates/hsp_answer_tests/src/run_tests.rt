@@ -200,7 +200,7 @@ fn a_faulty_row_ends_the_run_after_the_others(rt: HostRuntime) {
 }
 
 #[test]
-fn failing_reads_and_writes_are_told(rt: HostRuntime) {
+fn failing_reads_and_writes_are_reported(rt: HostRuntime) {
     let cut_line = Case {
         written: Limits {
             piece: usize::MAX,

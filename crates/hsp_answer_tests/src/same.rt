@@ -5,6 +5,6 @@ use std::fmt::Debug;
 use std::process::Abort;
 
 /// Fails a test unless what was returned is what was wanted.
-pub fn is_same<T: PartialEq + Debug + Drop>(rt: &impl Abort, told: T, wanted: T) {
-    assert_eq!(rt; told, wanted);
+pub fn is_same<T: PartialEq + Debug + Drop>(rt: &impl Abort, found: T, wanted: T) {
+    assert_eq!(rt; found, wanted);
 }

@@ -142,11 +142,11 @@ pub one_spelling : HasOneSpelling
 one_spelling c d hc hd e = (whole_and_whole (text_of c ++ []) c d [] [] hc hd refl (ap (λ (x : List ℕ). x ++ []) e)).0
 
 -- a whole text is one that nothing follows
-alone : (text : List ℕ) (c : Claim) → text ≡ text_of c → text ≡ text_of c ++ []
-alone text c e = e ∙ sym (append-nil (text_of c))
+nothing_behind : (text : List ℕ) (c : Claim) → text ≡ text_of c → text ≡ text_of c ++ []
+nothing_behind text c e = e ∙ sym (append-nil (text_of c))
 
 ok_and_after : (text : List ℕ) (c : Claim) (n : ℕ) → IsCertificate c → text ≡ text_of c → IsAfterEnd text n → ⊥
-ok_and_after text c n h e p = let w = whole_and_whole text c p.0 [] p.2 h p.1 (alone text c e) p.4 in omega (arith, p.3, ap length w.1)
+ok_and_after text c n h e p = let w = whole_and_whole text c p.0 [] p.2 h p.1 (nothing_behind text c e) p.4 in omega (arith, p.3, ap length w.1)
 
 after_and_after : (text : List ℕ) (n m : ℕ) → IsAfterEnd text n → IsAfterEnd text m → n ≡ m
 after_and_after text n m p q =
@@ -163,14 +163,14 @@ pub one_answer : HasOneAnswer
 one_answer text (Err fault.OutOfMemory) other m k = tt
 one_answer text other (Err fault.OutOfMemory) m k = tt
 one_answer text (Ok c) (Ok d) m k = ap (λ (x : Claim). Ok x) (one_spelling c d m.0 k.0 (sym m.1 ∙ k.1))
-one_answer text (Ok c) (Err (fault.BadLine n)) m k = absurd (whole_and_bad text c [] n m.0 (alone text c m.1) k)
-one_answer text (Ok c) (Err fault.Ended) m k = absurd (whole_and_ended text c [] m.0 (alone text c m.1) k)
+one_answer text (Ok c) (Err (fault.BadLine n)) m k = absurd (whole_and_bad text c [] n m.0 (nothing_behind text c m.1) k)
+one_answer text (Ok c) (Err fault.Ended) m k = absurd (whole_and_ended text c [] m.0 (nothing_behind text c m.1) k)
 one_answer text (Ok c) (Err (fault.AfterEnd n)) m k = absurd (ok_and_after text c n m.0 m.1 k)
-one_answer text (Err (fault.BadLine n)) (Ok c) m k = absurd (whole_and_bad text c [] n k.0 (alone text c k.1) m)
+one_answer text (Err (fault.BadLine n)) (Ok c) m k = absurd (whole_and_bad text c [] n k.0 (nothing_behind text c k.1) m)
 one_answer text (Err (fault.BadLine n)) (Err (fault.BadLine p)) m k = ap (λ (x : ℕ). Err (fault.BadLine x)) (bad_and_bad text n p m k)
 one_answer text (Err (fault.BadLine n)) (Err fault.Ended) m k = absurd (bad_and_ended text n m k)
 one_answer text (Err (fault.BadLine n)) (Err (fault.AfterEnd p)) m k = absurd (whole_and_bad text k.0 k.2 n k.1 k.4 m)
-one_answer text (Err fault.Ended) (Ok c) m k = absurd (whole_and_ended text c [] k.0 (alone text c k.1) m)
+one_answer text (Err fault.Ended) (Ok c) m k = absurd (whole_and_ended text c [] k.0 (nothing_behind text c k.1) m)
 one_answer text (Err fault.Ended) (Err (fault.BadLine n)) m k = absurd (bad_and_ended text n k m)
 one_answer text (Err fault.Ended) (Err fault.Ended) m k = refl
 one_answer text (Err fault.Ended) (Err (fault.AfterEnd n)) m k = absurd (whole_and_ended text k.0 k.2 k.1 k.4 m)

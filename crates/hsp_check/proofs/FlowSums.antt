@@ -23,6 +23,6 @@ flow_sum g x arc_flows flows =
 pub all_of_map : {A B : Type 0} (f : A → B) (P : B → Type 0) (xs : List A) → All P (map f xs) → All (λ x. P (f x)) xs
 all_of_map f P xs all k d l = subst P (get_or-map f xs k d) (all k (f d) (rw (length-map xs f) l))
 
--- a condition on the arcs alone
+-- a condition on the arcs only
 pub on_arcs : (P : NetworkArc → Type 0) (arc_flows : List ArcFlow) → All (λ l. P l.arc) arc_flows ↔ All P (map (λ l. l.arc) arc_flows)
 on_arcs P arc_flows = (λ h. All-map P (λ (l : ArcFlow). l.arc) arc_flows h, λ h. all_of_map (λ (l : ArcFlow). l.arc) P arc_flows h)

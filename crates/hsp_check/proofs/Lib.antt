@@ -5,7 +5,7 @@ pub mod Shortages
 pub mod RowLists
 pub mod FlowSums
 pub mod PlanMet
-pub mod UsesTold
+pub mod UsesWritten
 pub mod Ranges
 pub mod PlanSummed
 pub mod InstanceNetwork

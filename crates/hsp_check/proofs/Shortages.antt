@@ -18,7 +18,7 @@ use Rattle.hsp_check.specs.Reach.{network_in}
 use Rattle.hsp_transport.proofs.Summing.{sum_below_same}
 use Rattle.hsp_check.proofs.FlowSums.{on_arcs}
 
--- a test of the arcs alone
+-- a test of the arcs only
 pub any_of_arcs : (test : NetworkArc → Bool) (arc_flows : List ArcFlow) → list_any test (map (λ l. l.arc) arc_flows) ≡ list_any (λ l. test l.arc) arc_flows
 any_of_arcs test [] = refl
 any_of_arcs test (one ∷ arc_flows) = ap (λ b. test one.arc || b) (any_of_arcs test arc_flows)

@@ -46,7 +46,7 @@ module _ (first arc_flows : List ArcFlow) (starts : List ℕ) (rows : ℕ) (uses
   next : List ArcFlow
   next = with_more arc_flows p (use_at uses i).count
 
-  -- the use's arc alone has its row and site
+  -- only the use's arc has its row and site
   told : (k : ℕ) → k < length arc_flows → (if p == k then (use_at uses i).count else 0)
       ≡ (if (use_at uses i).row == (arc_at first k).row && (use_at uses i).site == (arc_at first k).site then (use_at uses i).count else 0)
   told k m =

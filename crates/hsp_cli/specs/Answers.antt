@@ -14,26 +14,26 @@ use Rattle.hsp_cli.specs.declared.failure.Failure.{Failure}
 use Rattle.hsp_cli.specs.declared.failure.Failure.TheVariants.{Memory, Refused}
 
 -- a text, and the status to end with after it
-pub record Told : Type 0 where
+pub record Reply : Type 0 where
   pub text : List ℕ
   pub status : ℕ
 
-abbrev pub text_told : List ℕ → Told
-text_told text = record { text = text; status = 0 }
+abbrev pub text_reply : List ℕ → Reply
+text_reply text = record { text = text; status = 0 }
 
-abbrev pub fields_told : Vec ℕ Global → Told
-fields_told text = text_told text.items
+abbrev pub fields_reply : Vec ℕ Global → Reply
+fields_reply text = text_reply text.items
 
 -- 3 after a shortage
 abbrev pub plan_status : Bool → ℕ
 plan_status true = 3
 plan_status false = 0
 
-abbrev pub plan_told : Printed → Told
-plan_told plan = record { text = plan.octets; status = plan_status plan.is_short }
+abbrev pub plan_reply : Printed → Reply
+plan_reply plan = record { text = plan.octets; status = plan_status plan.is_short }
 
-abbrev pub verdict_told : Verdict → Told
-verdict_told verdict = record { text = verdict_text verdict; status = verdict_status verdict }
+abbrev pub verdict_reply : Verdict → Reply
+verdict_reply verdict = record { text = verdict_text verdict; status = verdict_status verdict }
 
 -- the plan of the inputs, which is best, or there is no feasible plan
 abbrev pub IsShownPlan : Inputs → Result Printed Fault → Type 0
@@ -44,12 +44,12 @@ abbrev pub IsShownVerdict : Inputs → List ℕ → Result Verdict Fault → Typ
 IsShownVerdict inputs octets checked =
     IsChecked inputs octets checked × IfOk checked (λ verdict. verdict ≡ Yes → ShowsOf inputs octets)
 
-abbrev pub IsTold : Told → Answer → Type 0
-IsTold told answer = (answer.text.items ≡ told.text) × (answer.status ≡ told.status)
+abbrev pub IsReply : Reply → Answer → Type 0
+IsReply reply answer = (answer.text.items ≡ reply.text) × (answer.status ≡ reply.status)
 
 -- the result of a run is one that stands, and answered so; or its fault is answered; or memory ran out
-abbrev pub IsAnswered : {X : Type 0} → (X → Told) → (Result X Fault → Type 0) → Result Answer Failure → Type 0
-IsAnswered {X} told Is (Ok answer) = (x : X) × Is (Ok x) × IsTold (told x) answer
-IsAnswered told Is (Err (Refused fault)) = (fault ≡ OutOfMemory) ⊎ Is (Err fault)
-IsAnswered told Is (Err Memory) = ⊤
-IsAnswered told Is (Err failure) = ⊥
+abbrev pub IsAnswered : {X : Type 0} → (X → Reply) → (Result X Fault → Type 0) → Result Answer Failure → Type 0
+IsAnswered {X} reply Is (Ok answer) = (x : X) × Is (Ok x) × IsReply (reply x) answer
+IsAnswered reply Is (Err (Refused fault)) = (fault ≡ OutOfMemory) ⊎ Is (Err fault)
+IsAnswered reply Is (Err Memory) = ⊤
+IsAnswered reply Is (Err failure) = ⊥

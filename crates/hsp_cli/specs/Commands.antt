@@ -19,8 +19,8 @@ use Rattle.hsp_headline.specs.declared.inputs.Inputs.{Inputs}
 use Rattle.hsp_cli.specs.declared.answer.Answer.{Answer}
 use Rattle.hsp_cli.specs.declared.answer.Completed.{Completed}
 use Rattle.hsp_cli.specs.declared.failure.Failure.{Failure}
-use Rattle.hsp_cli.specs.Answers.{IsAnswered, IsShownPlan, IsShownVerdict, fields_told, plan_told, text_told}
-use Rattle.hsp_cli.specs.Answers.{verdict_told}
+use Rattle.hsp_cli.specs.Answers.{IsAnswered, IsShownPlan, IsShownVerdict, fields_reply, plan_reply, text_reply}
+use Rattle.hsp_cli.specs.Answers.{verdict_reply}
 use Rattle.hsp_cli.specs.Dispatching.{Dispatches, Opened}
 use Rattle.hsp_cli.specs.Failing.{IsUnread, failure_of}
 use Rattle.hsp_cli.specs.Files.{Disk, HoldsRest}
@@ -59,40 +59,40 @@ abbrev pub AnswersSites : Disk → List ℕ → Option (List ℕ) → List ℕ �
 AnswersSites disk settings values handle answer =
     LacksFile (disk.fails settings ⊎ FailsNamed disk values) answer
     ⊎ ((s : List ℕ) × (v : Option (List ℕ)) × disk.holds settings s × HoldsNamed disk values v
-    × IsAnswered text_told (AreLocated s v handle) answer)
+    × IsAnswered text_reply (AreLocated s v handle) answer)
 
 abbrev pub AnswersSite : Disk → Option (List ℕ) → List ℕ → Result Answer Failure → Type 0
 AnswersSite disk index file answer =
     LacksFile (disk.fails file) answer
-    ⊎ ((octets : List ℕ) × disk.holds file octets × IsAnswered fields_told (IsSiteRun octets index) answer)
+    ⊎ ((octets : List ℕ) × disk.holds file octets × IsAnswered fields_reply (IsSiteRun octets index) answer)
 
 abbrev pub AnswersPlan : Disk → InputFiles → Result Answer Failure → Type 0
 AnswersPlan disk files answer =
     LacksFile (OneFails disk files) answer
-    ⊎ ((inputs : Inputs) × AreHeld disk files inputs × IsAnswered plan_told (IsShownPlan inputs) answer)
+    ⊎ ((inputs : Inputs) × AreHeld disk files inputs × IsAnswered plan_reply (IsShownPlan inputs) answer)
 
 abbrev pub AnswersCheck : Disk → InputFiles → List ℕ → Result Answer Failure → Type 0
 AnswersCheck disk files plan answer =
     LacksFile (OneFails disk files ⊎ disk.fails plan) answer
     ⊎ ((inputs : Inputs) × (octets : List ℕ) × AreHeld disk files inputs × disk.holds plan octets
-    × IsAnswered verdict_told (IsShownVerdict inputs octets) answer)
+    × IsAnswered verdict_reply (IsShownVerdict inputs octets) answer)
 
 -- the kind of report that is asked for
-abbrev pub told_kind : Kind → ReportKind
-told_kind kind.Load = Load
-told_kind kind.Region = Region
-told_kind kind.Shortage = Shortage
+abbrev pub kind_of_report : Kind → ReportKind
+kind_of_report kind.Load = Load
+kind_of_report kind.Region = Region
+kind_of_report kind.Shortage = Shortage
 
 abbrev pub AnswersReport : Disk → InputFiles → List ℕ → Kind → Result Answer Failure → Type 0
 AnswersReport disk files plan asked answer =
     LacksFile (OneFails disk files ⊎ disk.fails plan) answer
     ⊎ ((inputs : Inputs) × (octets : List ℕ) × AreHeld disk files inputs × disk.holds plan octets
-    × IsAnswered text_told (IsReported inputs octets (told_kind asked)) answer)
+    × IsAnswered text_reply (IsReported inputs octets (kind_of_report asked)) answer)
 
 -- the answer to an order whose text is printed as one; a log's lines are not
 abbrev pub AnswersTo : Disk → Order → Result Answer Failure → Type 0
 AnswersTo disk (order.LocatePlace option servers handle) answer =
-    IsAnswered text_told (λ text. text ≡ placed option servers handle) answer
+    IsAnswered text_reply (λ text. text ≡ placed option servers handle) answer
 AnswersTo disk (order.LocateSites settings values handle) answer = AnswersSites disk settings values handle answer
 AnswersTo disk (order.Site index file) answer = AnswersSite disk index file answer
 AnswersTo disk (order.Plan inputs) answer = AnswersPlan disk inputs answer

@@ -47,10 +47,10 @@ Completes MayFail sums written new ended =
     × ((ended ≡ Ok (record { status = 0; sums = sums })) ⊎ (MayFail × (ended ≡ Err (Refused (Log WriteFailed)))))
 
 -- the run's sums are reported, or its fault is
-abbrev pub TellsRun : {S : Type 0} → (S → Option LogSums) → Type 0 → Result S Fault → Option (List ℕ)
+abbrev pub ReportsRun : {S : Type 0} → (S → Option LogSums) → Type 0 → Result S Fault → Option (List ℕ)
     → Option (List ℕ) → Result Completed Failure → Type 0
-TellsRun sums_of MayFail (Ok sums) written new ended = Completes MayFail (sums_of sums) written new ended
-TellsRun sums_of MayFail (Err fault) written new ended =
+ReportsRun sums_of MayFail (Ok sums) written new ended = Completes MayFail (sums_of sums) written new ended
+ReportsRun sums_of MayFail (Err fault) written new ended =
     (reported : Fault) × HandsOn MayFail fault written new reported × (ended ≡ Err (Refused reported))
 
 -- the log's entries were answered on an output, and the run's end is reported
@@ -58,7 +58,7 @@ abbrev pub AnswersEntries : Type 0 → Opened → Option (List ℕ) → Option (
 AnswersEntries MayFail it old new ended =
     (written : Option (List ℕ)) × (answer : Result LogSums Fault)
     × IsDispatched it.inputs it.certificate (over it.left old written) answer
-    × TellsRun Some MayFail answer written new ended
+    × ReportsRun Some MayFail answer written new ended
 
 -- the same of its events, by as many fronts as a word spells; no sums are reported
 abbrev pub AnswersEvents : Type 0 → List ℕ → Opened → Option (List ℕ) → Option (List ℕ) → Result Completed Failure
@@ -66,7 +66,7 @@ abbrev pub AnswersEvents : Type 0 → List ℕ → Opened → Option (List ℕ) 
 AnswersEvents MayFail word it old new ended =
     (written : Option (List ℕ)) × (answer : Result FrontSums Fault)
     × IsDispatchedAt word it.inputs it.certificate (over it.left old written) answer
-    × TellsRun (λ sums. None) MayFail answer written new ended
+    × ReportsRun (λ sums. None) MayFail answer written new ended
 
 -- with a number of fronts, or without one
 abbrev pub Dispatches : Type 0 → Option (List ℕ) → Opened → Option (List ℕ) → Option (List ℕ)

@@ -40,8 +40,8 @@ last_text (Err failure) = []
 
 -- the line is written and the status is the one that goes with it; or a write failed, as it may, a beginning of the
 -- line was written, and the status is 5
-abbrev pub TellsBy : Type 0 → List ℕ → ℕ → Option (List ℕ) → Option (List ℕ) → ℕ → Type 0
-TellsBy MayFail line wanted old new status =
+abbrev pub ReportsBy : Type 0 → List ℕ → ℕ → Option (List ℕ) → Option (List ℕ) → ℕ → Type 0
+ReportsBy MayFail line wanted old new status =
     (Appends old new line × (status ≡ wanted)) ⊎ (MayFail × IsBegun old new line × (status ≡ 5))
 
 -- what the output holds was handed on; or a write failed, as it may, and the status is 5
@@ -52,23 +52,24 @@ abbrev pub Line : Type 0
 Line = Result (Vec ℕ Global) AllocError
 
 -- the line is printed; in place of one for which memory ran out, that it ran out
-abbrev pub TellsLine : Type 0 → Line → ℕ → Option (List ℕ) → Option (List ℕ) → ℕ → Type 0
-TellsLine MayFail (Ok line) wanted old new status = TellsBy MayFail line.items wanted old new status
-TellsLine MayFail (Err lacking) wanted old new status =
-    TellsBy MayFail (failure_text Memory) (failure_status Memory) old new status
+abbrev pub ReportsLine : Type 0 → Line → ℕ → Option (List ℕ) → Option (List ℕ) → ℕ → Type 0
+ReportsLine MayFail (Ok line) wanted old new status = ReportsBy MayFail line.items wanted old new status
+ReportsLine MayFail (Err lacking) wanted old new status =
+    ReportsBy MayFail (failure_text Memory) (failure_status Memory) old new status
 
 -- the failure is reported, a refused input by the line
-abbrev pub Tells : Type 0 → Failure → Line → Option (List ℕ) → Option (List ℕ) → ℕ → Type 0
-Tells MayFail (Refused fault) line old new status = TellsLine MayFail line (status_in fault) old new status
-Tells MayFail failure line old new status =
-    TellsBy MayFail (failure_text failure) (failure_status failure) old new status
+abbrev pub Reports : Type 0 → Failure → Line → Option (List ℕ) → Option (List ℕ) → ℕ → Type 0
+Reports MayFail (Refused fault) line old new status = ReportsLine MayFail line (status_in fault) old new status
+Reports MayFail failure line old new status =
+    ReportsBy MayFail (failure_text failure) (failure_status failure) old new status
 
 -- the sums of a log are printed by the line; without sums, nothing is
-abbrev pub TellsSums : Type 0 → Option LogSums → Line → ℕ → Option (List ℕ) → Option (List ℕ) → ℕ → Type 0
-TellsSums MayFail (Some sums) line wanted old new status = TellsLine MayFail line wanted old new status
-TellsSums MayFail None line wanted old new status = (new ≡ old) × (status ≡ wanted)
+abbrev pub ReportsSums : Type 0 → Option LogSums → Line → ℕ → Option (List ℕ) → Option (List ℕ) → ℕ → Type 0
+ReportsSums MayFail (Some sums) line wanted old new status = ReportsLine MayFail line wanted old new status
+ReportsSums MayFail None line wanted old new status = (new ≡ old) × (status ≡ wanted)
 
 -- after an answer its status, and the sums of a log are printed; or a failure is reported
 abbrev pub Ends : Type 0 → Result Completed Failure → Line → Option (List ℕ) → Option (List ℕ) → ℕ → Type 0
-Ends MayFail (Ok completed) line old new status = TellsSums MayFail completed.sums line completed.status old new status
-Ends MayFail (Err failure) line old new status = Tells MayFail failure line old new status
+Ends MayFail (Ok completed) line old new status =
+    ReportsSums MayFail completed.sums line completed.status old new status
+Ends MayFail (Err failure) line old new status = Reports MayFail failure line old new status

@@ -4,8 +4,8 @@ ghost use Rattle.std.specs.Prelude.{◌≡◌, option_map};
 ghost use Rattle.hsp_runs.specs.Locate.{IsLocated};
 ghost use Rattle.hsp_runs.specs.Report.{IsReported};
 ghost use Rattle.hsp_runs.specs.SiteText.{IsSiteRun};
-ghost use Rattle.hsp_cli.specs.Answers.{IsAnswered, IsShownPlan, IsShownVerdict, fields_told, plan_status, plan_told};
-ghost use Rattle.hsp_cli.specs.Answers.{text_told, verdict_told};
+ghost use Rattle.hsp_cli.specs.Answers.{IsAnswered, IsShownPlan, IsShownVerdict, fields_reply, plan_status, plan_reply};
+ghost use Rattle.hsp_cli.specs.Answers.{text_reply, verdict_reply};
 ghost use Rattle.hsp_cli.specs.Printing.{IsHandedOn, Prints};
 
 use crate::failure::Failure;
@@ -33,7 +33,7 @@ pub struct Completed {
 
 /// Where the handle is served.
 pub fn locate_answer(alloc: Global, locate: &Locate, handle: &[u8]) -> Result<Answer, Failure>
-    ensures { IsAnswered text_told (IsLocated locate.now handle.now) result }
+    ensures { IsAnswered text_reply (IsLocated locate.now handle.now) result }
 {
     let text = locate_run(alloc, locate, handle)?;
     Ok(Answer { text, status: 0 })
@@ -41,7 +41,7 @@ pub fn locate_answer(alloc: Global, locate: &Locate, handle: &[u8]) -> Result<An
 
 /// The fields of a site record or, with an index, of the record in the value with that index.
 pub fn site_answer(alloc: Global, octets: &[u8], index: Option<&[u8]>) -> Result<Answer, Failure>
-    ensures { IsAnswered fields_told
+    ensures { IsAnswered fields_reply
         (IsSiteRun octets.now (option_map (λ digits. digits.now) index.entry)) result }
 {
     let text = site_run(alloc, octets, index)?;
@@ -57,7 +57,7 @@ fn plan_status(is_short: bool) -> u8
 
 /// The text of a plan, or of a shortage with status 3.
 pub fn plan_answer(alloc: Global, inputs: &Inputs) -> Result<Answer, Failure>
-    ensures { IsAnswered plan_told (IsShownPlan inputs.now) result }
+    ensures { IsAnswered plan_reply (IsShownPlan inputs.now) result }
 {
     let plan = plan_run(alloc, inputs)?;
     let status = plan_status(plan.is_short());
@@ -69,7 +69,7 @@ pub fn plan_answer(alloc: Global, inputs: &Inputs) -> Result<Answer, Failure>
 
 /// The line of a verdict. A No has status 3.
 pub fn check_answer(alloc: Global, inputs: &Inputs, plan: &[u8]) -> Result<Answer, Failure>
-    ensures { IsAnswered verdict_told (IsShownVerdict inputs.now plan.now) result }
+    ensures { IsAnswered verdict_reply (IsShownVerdict inputs.now plan.now) result }
 {
     let verdict = check_run(alloc, inputs, plan)?;
     Ok(Answer {
@@ -85,7 +85,7 @@ pub fn report_answer(
     plan: &[u8],
     kind: ReportKind,
 ) -> Result<Answer, Failure>
-    ensures { IsAnswered text_told (IsReported inputs.now plan.now kind) result }
+    ensures { IsAnswered text_reply (IsReported inputs.now plan.now kind) result }
 {
     let text = report_run(alloc, inputs, plan, kind)?;
     Ok(Answer { text, status: 0 })

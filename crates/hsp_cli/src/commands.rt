@@ -2,9 +2,9 @@
 
 ghost use Rattle.std.specs.Prelude.{◌≡◌, map, string_bytes};
 ghost use Rattle.hsp_runs.specs.Locate.{placed};
-ghost use Rattle.hsp_cli.specs.Answers.{IsAnswered, text_told};
+ghost use Rattle.hsp_cli.specs.Answers.{IsAnswered, text_reply};
 ghost use Rattle.hsp_cli.specs.Commands.{AnswersCheck, AnswersPlan, AnswersReport, AnswersSite, AnswersSites};
-ghost use Rattle.hsp_cli.specs.Commands.{CarriesOut, Obeys, told_kind};
+ghost use Rattle.hsp_cli.specs.Commands.{CarriesOut, Obeys, kind_of_report};
 ghost use Rattle.hsp_cli.specs.Printing.{IsHandedOn};
 
 use crate::answer::{
@@ -26,7 +26,7 @@ fn locate_place(
     servers: &Word,
     handle: &Word,
 ) -> Result<Answer, Failure>
-    ensures { IsAnswered text_told (λ text.
+    ensures { IsAnswered text_reply (λ text.
         text ≡ placed option.now servers.now handle.now) result }
 {
     let option = Vec::from_slice(alloc, option.as_bytes())?;
@@ -92,8 +92,8 @@ fn check<S: FileSource>(
 }
 
 // The kind of report that is asked for.
-fn told_kind(kind: Kind) -> ReportKind
-    ensures { result ≡ told_kind kind }
+fn kind_of_report(kind: Kind) -> ReportKind
+    ensures { result ≡ kind_of_report kind }
 {
     match kind {
         Kind::Load => ReportKind::Load,
@@ -114,7 +114,7 @@ fn report<S: FileSource>(
 {
     let inputs = read_inputs(alloc, files, named)?;
     let plan = read_whole(alloc, files, plan)?;
-    report_answer(alloc, &inputs, &plan, told_kind(kind))
+    report_answer(alloc, &inputs, &plan, kind_of_report(kind))
 }
 
 // Carries out the order: prints its answer on `out`, or answers a log there, and returns what to end with.

@@ -1,7 +1,7 @@
 // How the program ends.
 
 ghost use Rattle.std.specs.Prelude.{◌≡◌, ◌⊎◌, IfOk};
-ghost use Rattle.hsp_cli.specs.Ending.{Ends, IsHandedWith, Tells, TellsBy, TellsLine, last_text};
+ghost use Rattle.hsp_cli.specs.Ending.{Ends, IsHandedWith, Reports, ReportsBy, ReportsLine, last_text};
 
 use crate::answer::Completed;
 use crate::failure::Failure;
@@ -25,7 +25,7 @@ pub fn last_line(alloc: Global, ended: &Result<Completed, Failure>) -> Result<Ve
 
 // Writes a text, and returns the status, which becomes 5 where the write failed.
 fn write_line<E: Output>(errors: &mut E, line: &[u8], status: u8) -> u8
-    ensures tells { TellsBy E.may_fail line.now status (E.contents errors.old)
+    ensures reports { ReportsBy E.may_fail line.now status (E.contents errors.old)
         (E.contents errors.new) result }
     ensures handed { IsHandedWith E.may_fail (E.contents errors.new) (E.handed errors.new) result }
 {
@@ -36,8 +36,8 @@ fn write_line<E: Output>(errors: &mut E, line: &[u8], status: u8) -> u8
 }
 
 // Writes the line or, where memory ran out for it, that it ran out, and returns the status to end with.
-fn tell_line<E: Output>(errors: &mut E, line: &Result<Vec<u8>, AllocError>, status: u8) -> u8
-    ensures tells { TellsLine E.may_fail line.now status (E.contents errors.old)
+fn report_line<E: Output>(errors: &mut E, line: &Result<Vec<u8>, AllocError>, status: u8) -> u8
+    ensures reports { ReportsLine E.may_fail line.now status (E.contents errors.old)
         (E.contents errors.new) result }
     ensures handed { IsHandedWith E.may_fail (E.contents errors.new) (E.handed errors.new) result }
 {
@@ -48,8 +48,12 @@ fn tell_line<E: Output>(errors: &mut E, line: &Result<Vec<u8>, AllocError>, stat
 }
 
 // Reports the failure, of a refused input by the line, and returns the status to end with.
-fn tell<E: Output>(errors: &mut E, failure: &Failure, line: &Result<Vec<u8>, AllocError>) -> u8
-    ensures tells { Tells E.may_fail failure.now line.now (E.contents errors.old)
+fn report_failure<E: Output>(
+    errors: &mut E,
+    failure: &Failure,
+    line: &Result<Vec<u8>, AllocError>,
+) -> u8
+    ensures reports { Reports E.may_fail failure.now line.now (E.contents errors.old)
         (E.contents errors.new) result }
     ensures handed { IsHandedWith E.may_fail (E.contents errors.new) (E.handed errors.new) result }
 {
@@ -58,7 +62,7 @@ fn tell<E: Output>(errors: &mut E, failure: &Failure, line: &Result<Vec<u8>, All
         Failure::Memory => write_line(errors, b"hsplan: OutOfMemory\n", 4),
         Failure::Read => write_line(errors, b"hsplan: read failed\n", 5),
         Failure::Write => write_line(errors, b"hsplan: write failed\n", 5),
-        Failure::Refused(fault) => tell_line(errors, line, status_of(fault)),
+        Failure::Refused(fault) => report_line(errors, line, status_of(fault)),
     }
 }
 
@@ -78,8 +82,8 @@ pub fn end_with<E: Output>(
         ⊎ IsHandedWith E.may_fail (E.contents errors.new) (E.handed errors.new) result }
 {
     match ended {
-        Ok(completed) if completed.sums.is_some() => tell_line(errors, line, completed.status),
+        Ok(completed) if completed.sums.is_some() => report_line(errors, line, completed.status),
         Ok(completed) => completed.status,
-        Err(failure) => tell(errors, failure, line),
+        Err(failure) => report_failure(errors, failure, line),
     }
 }

@@ -3,7 +3,7 @@
 ghost use Rattle.std.specs.Prelude.{◌≡◌, IfOk, false, map};
 ghost use Rattle.clap.specs.Words.{app_of, rule_of, with_subcommand};
 ghost use Rattle.hsp_cli_options.specs.Commands.{hsplan_app, stream_app, with_rules};
-ghost use Rattle.hsp_cli_options.specs.Tables.{app_told, has_globals_of, rule_told, with_subcommands};
+ghost use Rattle.hsp_cli_options.specs.Tables.{app_for, has_globals_of, rule_for, with_subcommands};
 
 use crate::tables::{Argument, COMMANDS, STREAM_COMMANDS, Subcommand};
 use clap::{Arg, Command};
@@ -11,7 +11,7 @@ use std::alloc::{AllocError, Global};
 
 // The argument as `clap` takes it.
 fn arg_of<'a>(alloc: Global, argument: Argument<'a>) -> Arg<'a>
-    ensures rule { rule_of result ≡ rule_told argument.entry }
+    ensures rule { rule_of result ≡ rule_for argument.entry }
     ensures local { result.global ≡ false }
 {
     match argument {
@@ -29,7 +29,7 @@ fn with_arguments<'a>(
 ) -> Result<Command<'a>, AllocError>
     requires { has_globals_of command ≡ false }
     ensures app { IfOk result
-        (λ c. app_of c ≡ with_rules (app_of command.entry) (map rule_told arguments.now)) }
+        (λ c. app_of c ≡ with_rules (app_of command.entry) (map rule_for arguments.now)) }
     ensures local { IfOk result (λ c. has_globals_of c ≡ false) }
 {
     for argument in arguments {
@@ -40,7 +40,7 @@ fn with_arguments<'a>(
 
 // A subcommand with its arguments.
 fn command_of<'a>(alloc: Global, subcommand: Subcommand<'a>) -> Result<Command<'a>, AllocError>
-    ensures app { IfOk result (λ c. app_of c ≡ app_told subcommand.entry) }
+    ensures app { IfOk result (λ c. app_of c ≡ app_for subcommand.entry) }
     ensures local { IfOk result (λ c. has_globals_of c ≡ false) }
 {
     let command = Command::new(alloc, subcommand.name);
@@ -55,7 +55,7 @@ fn with_subcommand<'a>(
     subcommand: Subcommand<'a>,
 ) -> Result<Command<'a>, AllocError>
     ensures { IfOk result
-        (λ c. app_of c ≡ with_subcommand (app_of command.entry) (app_told subcommand.entry).top) }
+        (λ c. app_of c ≡ with_subcommand (app_of command.entry) (app_for subcommand.entry).top) }
 {
     command.subcommand(command_of(alloc, subcommand)?)
 }

@@ -52,7 +52,7 @@ pub of_orders : {A E : Type 0} {P : Type 0} (r : Result A E) → P → OnOk r P
 of_orders (Ok x) p = p
 of_orders (Err e) p = tt
 
--- an error of another kind than want of memory is one of the kinds that the words give, so these are some
+-- an error of another kind than out of memory is one of the kinds that the words give, so these are some
 pub has_fault : (e : Error) (kinds : Kinds) → HasKind kinds e → (kind_of e ≡ kind.OutOfMemory → ⊥) → kinds ≡ [] → ⊥
 has_fault e kinds (inl memory) other none = other memory
 has_fault e kinds (inr among) other none = rw none at among

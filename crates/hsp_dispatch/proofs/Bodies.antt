@@ -5,10 +5,10 @@ use Rattle.hsp_record.specs.declared.fault.RecordFault.{RecordFault}
 use Rattle.hsp_record.specs.declared.fault.RecordFault.TheVariants.{Truncated, Trailing, TooManyServers, IndexTwice, OutOfMemory}
 
 -- a fault of the octets doesn't agree with a handle
-pub told_other : (fault : RecordFault) (handle : List ℕ) → (◌≡◌ {A = Result (List ℕ) RecordFault} (Err fault) (Err OutOfMemory) → ⊥)
+pub fault_is_another : (fault : RecordFault) (handle : List ℕ) → (◌≡◌ {A = Result (List ℕ) RecordFault} (Err fault) (Err OutOfMemory) → ⊥)
     → Agrees {A = List ℕ} (Err fault) (Ok handle) → ⊥
-told_other (Truncated at) handle not_memory agrees = cc agrees
-told_other (Trailing at) handle not_memory agrees = cc agrees
-told_other TooManyServers handle not_memory agrees = cc agrees
-told_other (IndexTwice index) handle not_memory agrees = cc agrees
-told_other OutOfMemory handle not_memory agrees = not_memory refl
+fault_is_another (Truncated at) handle not_memory agrees = cc agrees
+fault_is_another (Trailing at) handle not_memory agrees = cc agrees
+fault_is_another TooManyServers handle not_memory agrees = cc agrees
+fault_is_another (IndexTwice index) handle not_memory agrees = cc agrees
+fault_is_another OutOfMemory handle not_memory agrees = not_memory refl

@@ -27,7 +27,7 @@ times_same k s = sum_by-replicate (λ (own : ℕ). cond (own == s) 1 0) k s ∙ 
 times_other : (k s t : ℕ) → s ≢ t → times t (replicate k s) ≡ 0
 times_other k s t other = sum_by-replicate (λ (own : ℕ). cond (own == t) 1 0) k s ∙ rw (ne_eqb s t other) (omega arith)
 
--- a spread looks at the numbers of its own sites alone
+-- a spread looks only at the numbers of its own sites
 pub same_spread : (n s : ℕ) (x y : ℕ → ℕ) → ((t : ℕ) → s ≤ t → x t ≡ y t) → spread_from n s x ≡ spread_from n s y
 same_spread zero s x y same = refl
 same_spread (suc n) s x y same =

@@ -55,7 +55,7 @@ left_taken fronts front left (cell ∷ cells) =
     let whole = left_whole fronts front (left - 1) cells in
     grind (arith, whole, left_taken fronts front left cells)
 
--- who has something left of one cell alone goes to its server
+-- who has something left of only one cell goes to its server
 pub first_sole : (fronts front left server : ℕ) (cells : List Cell) → IsSole server cells → left ≢ 0
     → option_map (λ (cell : Cell). cell.server) (first_of (left_among fronts front left cells)) ≡ Some server
 first_sole fronts front left server [] sole some = absurd sole

@@ -99,9 +99,9 @@ log_words (log_fault.BadBody row) = row_words (codes "BadBody") row
 log_words (log_fault.BadFront row) = row_words (codes "BadFront") row
 
 -- a fault of a run over a log; that memory ran out is reported without a part
-abbrev pub log_told : LogFault → Fault
-log_told log_fault.OutOfMemory = OutOfMemory
-log_told e = Log e
+abbrev pub fault_of_log : LogFault → Fault
+fault_of_log log_fault.OutOfMemory = OutOfMemory
+fault_of_log e = Log e
 
 -- a fault without a part, or the part with the fault in it
 abbrev pub fault_words : Fault → List ℕ

@@ -1,7 +1,7 @@
 // Why a command is refused.
 
 ghost use Rattle.std.specs.Prelude.{◌≡◌};
-ghost use Rattle.hsp_faults.specs.FaultText.{log_told};
+ghost use Rattle.hsp_faults.specs.FaultText.{fault_of_log};
 ghost use Rattle.hsp_faults.specs.declared.fault.Fault.TheVariants.{OutOfMemory};
 
 use hsp_cert::CertFault;
@@ -85,7 +85,7 @@ impl From<AllocError> for Fault {
 }
 
 impl From<LogFault> for Fault {
-    ghost from_gives = { λ log fault. fault ≡ log_told log };
+    ghost from_gives = { λ log fault. fault ≡ fault_of_log log };
 
     fn from(fault: LogFault) -> Fault {
         match fault {

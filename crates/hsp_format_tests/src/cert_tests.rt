@@ -166,7 +166,7 @@ fn nothing_follows_the_end(rt: HostRuntime) {
 }
 
 #[test]
-fn the_first_bad_line_of_a_shortage_is_told(rt: HostRuntime) {
+fn the_first_bad_line_of_a_shortage_is_reported(rt: HostRuntime) {
     let texts: [(&[u8], u64); 9] = [
         (
             b"HSPLAN 1\nSHORTAGE\ndemand 09\ncapacity 8\nrow 2\nEND\n",
@@ -205,7 +205,7 @@ fn the_first_bad_line_of_a_shortage_is_told(rt: HostRuntime) {
 }
 
 #[test]
-fn the_first_bad_line_of_a_plan_is_told(rt: HostRuntime) {
+fn the_first_bad_line_of_a_plan_is_reported(rt: HostRuntime) {
     let texts: [(&[u8], u64); 15] = [
         (b"HSPLAN 3\nPLAN\ncost 17\nEND\n", 1),
         (b"HSPLAN 1\nplan\ncost 17\nEND\n", 2),
@@ -253,7 +253,7 @@ fn words_and_numbers_have_one_spelling(rt: HostRuntime) {
 }
 
 #[test]
-fn the_version_tells_whether_hosts_have_prices(rt: HostRuntime) {
+fn the_version_decides_whether_hosts_have_prices(rt: HostRuntime) {
     let none: &[u8] =
         b"HSPLAN 2\nPLAN\ncost 17\nuse 0 0 5\nuse 1 0 4\nuse 2 0 1\nuse 2 1 2\nrow 0 2\nrow 1 1\nrow 2 3\nserver 0 0\nserver 1 1\nserver 2 0\nserver 3 0\nserver 4 0\nEND\n";
     is_bad_line(&rt, none, fault_of(rt.alloc(), none), 16);
@@ -512,7 +512,7 @@ fn held_bad_text(rt: &impl Abort, alloc: Global) -> Vec<u8> {
 }
 
 #[test]
-fn bad_lines_are_told_at_any_length(rt: HostRuntime) {
+fn bad_lines_are_reported_at_any_length(rt: HostRuntime) {
     let text = held_bad_text(&rt, rt.alloc());
     let answer = fault_of(rt.alloc(), &text);
     is_same(&rt, answer, Some(CertFault::BadLine { line: 100_004 }));

@@ -146,7 +146,7 @@ fn a_reader_that_gives_little_or_fails(rt: HostRuntime) -> Result<(), Fail> {
 }
 
 #[test]
-fn headers_are_told(rt: HostRuntime) {
+fn headers_are_reported(rt: HostRuntime) {
     let header: [&[u8]; 2] = [b"a", b"b"];
     let cases: [(&[u8], bool); 6] = [
         (b"a,b\nc\n", true),

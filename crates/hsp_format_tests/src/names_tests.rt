@@ -10,7 +10,7 @@ fn fault_of(octets: &[u8]) -> Option<HandleFault> {
 }
 
 #[test]
-fn faults_are_told_in_their_order(rt: HostRuntime) {
+fn faults_are_reported_in_their_order(rt: HostRuntime) {
     let cases: [(&[u8], Option<HandleFault>); 9] = [
         (b"10/1", None),
         (b"10/", None),

@@ -148,7 +148,7 @@ fn fields_are_read(rt: HostRuntime) {
 }
 
 #[test]
-fn site_faults_are_told(rt: HostRuntime) {
+fn site_faults_are_reported(rt: HostRuntime) {
     let mut octets = [0; 49];
     octets[..48].copy_from_slice(&SITE);
     is_same(
@@ -182,7 +182,7 @@ fn last_field(fields: &[usize], len: usize) -> usize {
 }
 
 #[test]
-fn every_cut_is_told(rt: HostRuntime) {
+fn every_cut_is_reported(rt: HostRuntime) {
     let two_servers = [0, 2, 4, 6, 7, 8, 12, 16, 20, 24, 40, 44, 48, 52, 68, 72];
     let full = [
         0, 2, 4, 6, 7, 8, 12, 13, 17, 21, 22, 26, 28, 32, 36, 52, 56, 59, 63, 64, 65,
@@ -197,7 +197,7 @@ fn every_cut_is_told(rt: HostRuntime) {
 }
 
 #[test]
-fn every_cut_of_a_list_is_told(rt: HostRuntime) {
+fn every_cut_of_a_list_is_reported(rt: HostRuntime) {
     let fields = [0, 4, 8, 12, 19, 23, 24, 25, 29, 37, 41, 45, 49];
     for n in 0..REFERRING.len() {
         let at = last_field(&fields, n);
@@ -206,7 +206,7 @@ fn every_cut_of_a_list_is_told(rt: HostRuntime) {
 }
 
 #[test]
-fn every_cut_of_a_body_is_told(rt: HostRuntime) {
+fn every_cut_of_a_body_is_reported(rt: HostRuntime) {
     let fields = [0, 4, 8, 12, 16, 20, 24];
     for n in 0..BODY.len() {
         let at = last_field(&fields, n);
@@ -336,7 +336,7 @@ fn references_and_no_values_come_back(rt: HostRuntime) {
 }
 
 #[test]
-fn value_faults_are_told(rt: HostRuntime) {
+fn value_faults_are_reported(rt: HostRuntime) {
     let mut octets = [0; 38];
     octets[3] = 2;
     octets[7] = 1;

@@ -50,7 +50,7 @@ fn digits_are_appended(rt: HostRuntime) {
 }
 
 #[test]
-fn names_are_told(rt: HostRuntime) {
+fn names_are_reported(rt: HostRuntime) {
     let cases: [(&[u8], bool); 7] = [
         (b"r1", true),
         (b"Aa0-_.", true),

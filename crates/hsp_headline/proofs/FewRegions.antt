@@ -12,7 +12,7 @@ use Rattle.std.proofs.lemmas.Map.Made.{length-le_from_is_member}
 use Rattle.std.proofs.lemmas.Map.Views.{Contains-from_any, list_any-from_Contains}
 use Rattle.hsp_text.specs.declared.limits.TheConstants.{MOST_REGIONS}
 use Rattle.hsp_tables.specs.Table.{first_seen}
-use Rattle.hsp_headline.specs.Told.{AreFew}
+use Rattle.hsp_headline.specs.Stated.{AreFew}
 
 same : (a b : List ℕ) → bytes_eq a b ≡ true → a ≡ b
 same a b e = same_text a b (sym e)

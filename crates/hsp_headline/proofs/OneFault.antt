@@ -4,7 +4,7 @@ use Rattle.std.specs.Prelude.{option_map}
 use Rattle.hsp_names.specs.Handle.{ReadingsAreHandles}
 use Rattle.hsp_record.specs.Fields as formats
 use Rattle.hsp_record.specs.Values.{values_format}
-use Rattle.hsp_text.specs.Answers.{told_as}
+use Rattle.hsp_text.specs.Answers.{fault_as}
 use Rattle.hsp_instance.specs.Building as building
 use Rattle.hsp_instance.proofs.OneAnswer.{IsOne, then_one}
 use Rattle.hsp_headline.specs.Instance.{BuildsInstance, ReadsCapacitiesOn, ReadsCostsOn, ReadsValuesOn, ReadsDemandOn, ReadsCapacities, ReadsCosts, ReadsDemand}
@@ -14,14 +14,14 @@ use Rattle.hsp_faults.specs.declared.fault.Fault.TheVariants.{Build, Values}
 use Rattle.hsp_headline.proofs.PageRead.{accepts_the_defined}
 
 listed_one : formats.HasOneAnswer values_format → (octets : List ℕ) → IsOne (AreListed octets)
-listed_one one octets a b is also = is.3 ∙ ap (λ t. told_as Values t) (one octets is.0 also.0 is.2 also.2 is.1 also.1) ∙ sym also.3
+listed_one one octets a b is also = is.3 ∙ ap (λ t. fault_as Values t) (one octets is.0 also.0 is.2 also.2 is.1 also.1) ∙ sym also.3
 
 values_one : formats.HasOneAnswer values_format → (given : Option (List ℕ)) → IsOne (ReadsValues given)
 values_one one None a b is also = is ∙ sym also
 values_one one (Some octets) a b is also = is.2 ∙ ap some_list (listed_one one octets is.0 also.0 is.1 also.1) ∙ sym also.2
 
 built_one : building.HasOneAnswer → (read : building.Inputs) → IsOne (BuildsInstance read)
-built_one once read a b is also = is.2 ∙ ap (λ t. told_as Build t) (once read is.0 also.0 is.1 also.1) ∙ sym also.2
+built_one once read a b is also = is.2 ∙ ap (λ t. fault_as Build t) (once read is.0 also.0 is.1 also.1) ∙ sym also.2
 
 pub gives_one_answer : formats.HasOneAnswer values_format → building.HasOneAnswer → GivesOneAnswer
 gives_one_answer one once inputs =

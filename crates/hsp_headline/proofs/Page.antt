@@ -27,7 +27,7 @@ use Rattle.hsp_instance.proofs.BuiltParts.{BuiltOf, built_has_its_parts, built_o
 use Rattle.hsp_instance.proofs.Lists.{all_from, all_map, distinct_map, map_twice}
 use Rattle.hsp_headline.proofs.FewRegions.{few_names, few_seen}
 use Rattle.hsp_headline.specs.Headline.{AreCapacities, AreCosts, AreDemand, AreServers, AreSettings, Defines, IsDemand}
-use Rattle.hsp_headline.specs.Told.{AreValues}
+use Rattle.hsp_headline.specs.Stated.{AreValues}
 use Rattle.hsp_headline.specs.declared.inputs.Inputs.{Inputs}
 use Rattle.hsp_headline.proofs.PageArcs.{arcs_alone, arcs_are, servers_alone}
 use Rattle.hsp_headline.proofs.PageBuilt.{HasCapacity, capacities_have_no_fault, capacities_known, capacity_entries, cost_entries, costs_have_no_fault, costs_known, is_built, servers_built, sites_of_instance}
@@ -36,7 +36,7 @@ use Rattle.hsp_headline.proofs.PageServers.{capacity_rows, servers_are}
 use Rattle.hsp_instance.proofs.Limits.{are_instance}
 use Rattle.toml.specs.Data as toml
 use Rattle.toml.specs.Data.{Items, get_member}
-use Rattle.hsp_headline.specs.Told.{EachTells, TellsHost, TellsSite}
+use Rattle.hsp_headline.specs.Stated.{EachStates, StatesHost, StatesSite}
 use Rattle.hsp_headline.proofs.PageSettings.{host_is, host_is_read, root_keys, spelled, told}
 use Rattle.hsp_headline.proofs.PageSites.{AreListed, distinct_before, sites_are, sites_are_read}
 
@@ -102,7 +102,7 @@ settings_of_page values text read sites e are =
     let (document, is_text, parsed, keys, site_list, host_list) = lists.settings_parts text read e in
     let listed = lists.listed_is (fault.BadSite 0) MOST_SITES site_at settings.same_name site_after lists.sites_read_as_spelled (get_member (codes "site") document) read.sites site_list in
     let hosts = lists.listed_is (fault.BadHost 0) MOST_HOSTS host_at settings.same_address host_after lists.hosts_read_as_spelled (get_member (codes "host") document) read.hosts host_list in
-    let tell = told site_at (λ entry. entry) lists.TellsSite lists.site_is 0 listed.0 read.sites listed.2.spelled in
+    let tell = told site_at (λ entry. entry) lists.StatesSite lists.site_is 0 listed.0 read.sites listed.2.spelled in
     let next = sites_are values [] listed.0 read.sites sites (omega arith) (rw map-id at tell) are in
     let whole : next.sites ≡ sites = sym next.whole in
     let many = as_many read.sites next.sites next.named in
@@ -116,7 +116,7 @@ settings_of_page values text read sites e are =
       few_sites = rw whole at few;
       few_servers = next.few;
       names = rw whole at (apart_by_names read.sites next.sites next.named listed.2.apart);
-      host = (hosts.0, hosts.1, told host_at host_of_entry TellsHost host_is 0 hosts.0 read.hosts hosts.2.spelled);
+      host = (hosts.0, hosts.1, told host_at host_of_entry StatesHost host_is 0 hosts.0 read.hosts hosts.2.spelled);
       few_hosts = rw length-map hosts.2.few;
       addresses = distinct_map settings.same_address same_address host_of_entry read.hosts (λ x y. refl) hosts.2.apart;
     }
@@ -169,14 +169,14 @@ settings_read values text sites hosts listed are =
     let entries : List HostEntry = map host_entry hosts in
     let back : map host_of_entry entries ≡ hosts = map_twice host_entry host_of_entry hosts ∙ map-id hosts in
     let many = as_many from.entries sites from.named in
-    let tell : EachTells lists.TellsSite are.site.0 (map (λ entry. entry) from.entries) = rw map-id from.told in
+    let tell : EachStates lists.StatesSite are.site.0 (map (λ entry. entry) from.entries) = rw map-id from.told in
     let read_sites = lists.lists (fault.BadSite 0) MOST_SITES site_at settings.same_name site_after lists.sites_read_as_spelled _ are.site.0 from.entries are.site.1 (record {
-      spelled = spelled site_at (λ entry. entry) lists.TellsSite lists.site_is_read 0 are.site.0 from.entries tell;
+      spelled = spelled site_at (λ entry. entry) lists.StatesSite lists.site_is_read 0 are.site.0 from.entries tell;
       few = omega (arith, many, are.few_sites);
       apart = entries_apart from.entries sites from.named are.names;
     }) in
     let read_hosts = lists.lists (fault.BadHost 0) MOST_HOSTS host_at settings.same_address host_after lists.hosts_read_as_spelled _ are.host.0 entries are.host.1 (record {
-      spelled = spelled host_at host_of_entry TellsHost host_is_read 0 are.host.0 entries (rw back are.host.2);
+      spelled = spelled host_at host_of_entry StatesHost host_is_read 0 are.host.0 entries (rw back are.host.2);
       few = rw length-map are.few_hosts;
       apart = distinct_map same_address settings.same_address host_entry hosts (λ x y. refl) are.addresses;
     }) in
@@ -258,7 +258,7 @@ module _ (handles : ReadingsAreHandles) where
 
 -- ---- what is built is within its limits
 
-have_servers : (values : Option (List HandleValue)) (items : Items) (sites : List Site) → EachTells (TellsSite values) items sites → AllByRecursion HasServer sites
+have_servers : (values : Option (List HandleValue)) (items : Items) (sites : List Site) → EachStates (StatesSite values) items sites → AllByRecursion HasServer sites
 have_servers values toml.no_items [] tell = tt
 have_servers values toml.no_items (site ∷ sites) tell = absurd tell
 have_servers values (toml.item value items) [] tell = absurd tell

@@ -1,4 +1,4 @@
--- Servers and arcs are those of the page alone.
+-- Servers and arcs are those of the page only.
 use Rattle.std.proofs.Common.{◌≡◌, ◌∙◌, ◌<◌, ℕ, zero, suc, List, [], ◌∷◌, Option, Some, length, map, option_map, refl, ap, sym, subst, arith}
 use Rattle.std.proofs.lemmas.Option.{slice_get-map, slice_get_within}
 use Rattle.std.specs.List.{Contains, IsDistinct, slice_get}

@@ -15,7 +15,7 @@ use Rattle.hsp_instance.specs.Instance.{Host, Instance, IsSite, IsSiteServer, Se
 use Rattle.hsp_instance.proofs.BuiltParts.{BuiltOf}
 use Rattle.hsp_instance.proofs.Lists.{all_map}
 use Rattle.hsp_headline.specs.Headline.{IsCapacity, IsCost}
-use Rattle.hsp_headline.specs.Told.{EachTells, TellsSite}
+use Rattle.hsp_headline.specs.Stated.{EachStates, StatesSite}
 use Rattle.hsp_headline.proofs.Finding.{all_of, found, finds}
 
 -- ---- the parts of what is built
@@ -69,7 +69,7 @@ capacities_have_no_fault sites n (row ∷ rows) apart all =
 
 -- ---- sites
 
-pub sites_of_instance : (values : Option (List HandleValue)) (items : Items) (sites : List Site) → EachTells (TellsSite values) items sites → AllByRecursion IsSite sites
+pub sites_of_instance : (values : Option (List HandleValue)) (items : Items) (sites : List Site) → EachStates (StatesSite values) items sites → AllByRecursion IsSite sites
 sites_of_instance values toml.no_items [] tell = tt
 sites_of_instance values toml.no_items (site ∷ sites) tell = absurd tell
 sites_of_instance values (toml.item value items) [] tell = absurd tell

@@ -3,11 +3,11 @@ use Rattle.std.proofs.Common.{◌≡◌, ℕ, List, Option, Some, None, Result, 
 use Rattle.hsp_names.specs.Handle.{ReadingsAreHandles}
 use Rattle.hsp_record.specs.Fields.{Means}
 use Rattle.hsp_record.specs.Values.{HandleValue, values_format}
-use Rattle.hsp_text.specs.Answers.{told_as}
+use Rattle.hsp_text.specs.Answers.{fault_as}
 use Rattle.hsp_instance.specs.Building as building
 use Rattle.hsp_instance.specs.Building.{IsBuilt}
 use Rattle.hsp_instance.specs.Instance.{Instance, IsInstance}
-use Rattle.hsp_headline.specs.Told as told
+use Rattle.hsp_headline.specs.Stated as stated
 use Rattle.hsp_headline.specs.Instance.{IsInstanceOf}
 use Rattle.hsp_headline.specs.Laws.{AcceptsTheDefined, GivesTheDefined}
 use Rattle.hsp_headline.specs.Readings.{AreListed, ReadsValues}
@@ -18,19 +18,19 @@ use Rattle.hsp_headline.proofs.Steps.{built_so, went_on}
 use Rattle.hsp_headline.proofs.Page.{Holds, is_defined, is_read, is_within}
 
 -- what a part gave well is what the whole tells
-pub told_well : {A E : Type 0} (part : E → Fault) (r : Result A E) (x : A) → Ok x ≡ told_as part r → r ≡ Ok x
-told_well part r x e = grind arith
+pub stated_well : {A E : Type 0} (part : E → Fault) (r : Result A E) (x : A) → Ok x ≡ fault_as part r → r ≡ Ok x
+stated_well part r x e = grind arith
 
 pub listed : (octets : List ℕ) (values : List HandleValue) → AreListed octets (Ok values) → Means values_format octets (Ok values)
-listed octets values are = let same = told_well Values are.0 values are.3 in rw same at are.1
+listed octets values are = let same = stated_well Values are.0 values are.3 in rw same at are.1
 
-values_are : (given : Option (List ℕ)) (values : Option (List HandleValue)) → ReadsValues given (Ok values) → told.AreValues given values
+values_are : (given : Option (List ℕ)) (values : Option (List HandleValue)) → ReadsValues given (Ok values) → stated.AreValues given values
 values_are None values are = let none : values ≡ None = cc (are) in rw none tt
 values_are (Some octets) values (Ok own, is, e) =
     let same : values ≡ Some own = cc (e) in rw same (listed octets own is)
 values_are (Some octets) values (Err fault, is, e) = cc (e)
 
-values_are_read : (given : Option (List ℕ)) (values : Option (List HandleValue)) → told.AreValues given values → ReadsValues given (Ok values)
+values_are_read : (given : Option (List ℕ)) (values : Option (List HandleValue)) → stated.AreValues given values → ReadsValues given (Ok values)
 values_are_read None None are = refl
 values_are_read None (Some values) are = absurd are
 values_are_read (Some octets) None are = absurd are
@@ -48,11 +48,11 @@ hold inputs it is =
     let read : building.Inputs = record { settings = settings.0; values = values.0; demand = demand.0; costs = costs.0; capacities = capacities.0 } in (
       read,
       record {
-        settings = told_well Settings _ settings.0 settings.1;
+        settings = stated_well Settings _ settings.0 settings.1;
         values = values_are _ values.0 values.1;
-        demand = told_well Demand _ demand.0 demand.1;
-        costs = told_well Costs _ costs.0 costs.1;
-        capacities = told_well Capacity _ capacities.0 capacities.1;
+        demand = stated_well Demand _ demand.0 demand.1;
+        costs = stated_well Costs _ costs.0 costs.1;
+        capacities = stated_well Capacity _ capacities.0 capacities.1;
       },
       built_so read it capacities.2.0 capacities.2.1 capacities.2.2,
     )
@@ -63,10 +63,10 @@ gives_the_defined handles inputs it is = let read = hold inputs it is in is_defi
 pub accepts_the_defined : ReadingsAreHandles → AcceptsTheDefined
 accepts_the_defined handles inputs it page =
     let (read, holds, built) = is_read handles inputs it page in
-    let settings = sym (ap (λ r. told_as Settings r) holds.settings) in
-    let demand = sym (ap (λ r. told_as Demand r) holds.demand) in
-    let costs = sym (ap (λ r. told_as Costs r) holds.costs) in
-    let capacities = sym (ap (λ r. told_as Capacity r) holds.capacities) in (
+    let settings = sym (ap (λ r. fault_as Settings r) holds.settings) in
+    let demand = sym (ap (λ r. fault_as Demand r) holds.demand) in
+    let costs = sym (ap (λ r. fault_as Costs r) holds.costs) in
+    let capacities = sym (ap (λ r. fault_as Capacity r) holds.capacities) in (
       Ok read.settings,
       settings,
       (

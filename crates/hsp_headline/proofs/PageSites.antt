@@ -13,13 +13,13 @@ use Rattle.hsp_record.specs.Values.{HandleValue, IsValue, IsValueList}
 use Rattle.hsp_text.specs.declared.limits.TheConstants.{MOST_SERVERS}
 use Rattle.hsp_tables.specs.Fields.{greatest_of_32_bits}
 use Rattle.hsp_tables.specs.Settings.{SiteEntry, SiteSource, index, octets}
-use Rattle.hsp_tables.proofs.SettingsLists.{IsToldBy, TellsSite as TellsSiteEntry}
+use Rattle.hsp_tables.proofs.SettingsLists.{IsStatedBy, StatesSite as StatesSiteEntry}
 use Rattle.hsp_tables.proofs.TurnLaws.{result_cases}
 use Rattle.hsp_instance.specs.Building.{AreSitesAfter, IsNextSite, IsSiteOf, checked_site, has_id, has_id_twice, server_of_record, site_octets, site_value}
 use Rattle.hsp_instance.specs.Instance.{Site, SiteServer, same_id, servers_of}
 use Rattle.hsp_instance.proofs.SiteSums.{servers_of-push}
 use Rattle.hsp_instance.proofs.SitesInTurn.{site_is_checked}
-use Rattle.hsp_headline.specs.Told.{IsData, IsRecordOf, IsSource, EachTells, TellsSite}
+use Rattle.hsp_headline.specs.Stated.{IsData, IsRecordOf, IsSource, EachStates, StatesSite}
 use Rattle.hsp_headline.proofs.Finding.{all_of, found, finds}
 use Rattle.hsp_headline.proofs.PageSettings.{site_keys}
 
@@ -42,7 +42,7 @@ site_value_is n values i bytes e =
     (read.0, at.0, (Decides-eqb read.0.index i).0 at.1, (bytes_eq-Decides read.0.type_octets (codes "HS_SITE")).0 read.2, read.3)
 
 octets_are : (values : Option (List HandleValue)) (n : ℕ) (hexadecimal number : Option Data) (source : SiteSource) (bytes : List ℕ)
-    → IsToldBy hexadecimal number source → site_octets values n source ≡ Ok bytes → IsSource values hexadecimal number bytes
+    → IsStatedBy hexadecimal number source → site_octets values n source ≡ Ok bytes → IsSource values hexadecimal number bytes
 octets_are values n a b (octets own) bytes told e = let same : own ≡ bytes = cc (e) in inl (told.0, told.1, told.2, rw same at told.3)
 octets_are None n a b (index i) bytes told e = cc (e)
 octets_are (Some values) n a b (index i) bytes told e = inr (i, told.0, told.1, site_value_is n values i bytes e)
@@ -66,11 +66,11 @@ abbrev pub AreListed : Option (List HandleValue) → Type 0
 AreListed None = Unit {0}
 AreListed (Some values) = IsValueList values
 
-octets_are_told : (values : Option (List HandleValue)) (n : ℕ) (hexadecimal number : Option Data) (bytes : List ℕ) → AreListed values → IsSource values hexadecimal number bytes
-    → (source : SiteSource) × IsToldBy hexadecimal number source × (site_octets values n source ≡ Ok bytes)
-octets_are_told values n a b bytes are (inl is) = (octets bytes, (is.0, is.1, is.2, is.3), refl)
-octets_are_told None n a b bytes are (inr is) = absurd is.3
-octets_are_told (Some values) n a b bytes are (inr is) = let read = data_is_read n values is.0 bytes are is.3 in (index is.0, (is.1, is.2, read.1), read.0)
+octets_are_stated : (values : Option (List HandleValue)) (n : ℕ) (hexadecimal number : Option Data) (bytes : List ℕ) → AreListed values → IsSource values hexadecimal number bytes
+    → (source : SiteSource) × IsStatedBy hexadecimal number source × (site_octets values n source ≡ Ok bytes)
+octets_are_stated values n a b bytes are (inl is) = (octets bytes, (is.0, is.1, is.2, is.3), refl)
+octets_are_stated None n a b bytes are (inr is) = absurd is.3
+octets_are_stated (Some values) n a b bytes are (inr is) = let read = data_is_read n values is.0 bytes are is.3 in (index is.0, (is.1, is.2, read.1), read.0)
 
 -- ---- records
 
@@ -120,18 +120,18 @@ record_is_read n before bytes site is few =
 pub record AreNext (values : Option (List HandleValue)) (earlier : List Site) (items : Items) (entries : List SiteEntry) (all : List Site) : Type 0 where
   pub sites : List Site
   pub whole : all ≡ earlier ++ sites
-  pub told : EachTells (TellsSite values) items sites
+  pub told : EachStates (StatesSite values) items sites
   pub named : map (λ (entry : SiteEntry). entry.name) entries ≡ map (λ (site : Site). site.name) sites
   pub few : servers_of all ≤ MOST_SERVERS
 
-one_site : (values : Option (List HandleValue)) (earlier : List Site) (members : Members) (entry : SiteEntry) (site : Site) → TellsSiteEntry members entry
-    → IsNextSite values earlier entry (Ok site) → (site.name ≡ entry.name) × TellsSite values members site × (servers_of earlier + length site.servers ≤ MOST_SERVERS)
+one_site : (values : Option (List HandleValue)) (earlier : List Site) (members : Members) (entry : SiteEntry) (site : Site) → StatesSiteEntry members entry
+    → IsNextSite values earlier entry (Ok site) → (site.name ≡ entry.name) × StatesSite values members site × (servers_of earlier + length site.servers ≤ MOST_SERVERS)
 one_site values earlier ms entry site tells next =
     elim (result_cases (site_octets values (length earlier) entry.source)) [
       | inr (fault, is) ↦ cc (rw is at next)
       | inl (bytes, is) ↦
           let of = record_is (length earlier) (servers_of earlier) entry.name bytes site (rw is at next) in
-          let tells_site : TellsSite values ms site = record {
+          let states_site : StatesSite values ms site = record {
             keys = site_keys ms ∙ tells.keys;
             name = tells.name ∙ ap (λ t. Some (toml.string t)) (sym of.0);
             is_name = rw of.0 tells.is_name;
@@ -139,11 +139,11 @@ one_site values earlier ms entry site tells next =
             source = octets_are values (length earlier) (get_member (codes "record") ms) (get_member (codes "index") ms) entry.source bytes tells.source is;
             spelled = of.1;
           } in
-          (of.0, tells_site, of.2)
+          (of.0, states_site, of.2)
     ]
 
 pub sites_are : (values : Option (List HandleValue)) (earlier : List Site) (items : Items) (entries : List SiteEntry) (all : List Site)
-    → servers_of earlier ≤ MOST_SERVERS → EachTells TellsSiteEntry items entries → AreSitesAfter values earlier entries (Ok all) → AreNext values earlier items entries all
+    → servers_of earlier ≤ MOST_SERVERS → EachStates StatesSiteEntry items entries → AreSitesAfter values earlier entries (Ok all) → AreNext values earlier items entries all
 sites_are values earlier toml.no_items [] all few tell are =
     let same : all ≡ earlier = cc (are) in
     record { sites = []; whole = same ∙ sym (append-nil earlier); told = tt; named = refl; few = rw same few }
@@ -164,19 +164,19 @@ sites_are values earlier (toml.item value items) (entry ∷ entries) all few tel
 -- sites of the page are read, from the entries that their tables tell
 pub record AreReadFrom (values : Option (List HandleValue)) (earlier : List Site) (items : Items) (sites : List Site) : Type 0 where
   pub entries : List SiteEntry
-  pub told : EachTells TellsSiteEntry items entries
+  pub told : EachStates StatesSiteEntry items entries
   pub named : map (λ (entry : SiteEntry). entry.name) entries ≡ map (λ (site : Site). site.name) sites
   pub read : AreSitesAfter values earlier entries (Ok (earlier ++ sites))
 
 pub sites_are_read : (values : Option (List HandleValue)) (earlier : List Site) (items : Items) (sites : List Site) → AreListed values
-    → servers_of (earlier ++ sites) ≤ MOST_SERVERS → EachTells (TellsSite values) items sites → AreReadFrom values earlier items sites
+    → servers_of (earlier ++ sites) ≤ MOST_SERVERS → EachStates (StatesSite values) items sites → AreReadFrom values earlier items sites
 sites_are_read values earlier toml.no_items [] are few tell =
     record { entries = []; told = tt; named = refl; read = ap (λ (t : List Site). Ok t) (append-nil earlier) }
 sites_are_read values earlier toml.no_items (site ∷ sites) are few tell = absurd tell
 sites_are_read values earlier (toml.item value items) [] are few tell = absurd tell
 sites_are_read values earlier (toml.item value items) (site ∷ sites) are few tell =
     let tells = tell.2 in
-    let source = octets_are_told values (length earlier) (get_member (codes "record") tell.0) (get_member (codes "index") tell.0) tells.octets are tells.source in
+    let source = octets_are_stated values (length earlier) (get_member (codes "record") tell.0) (get_member (codes "index") tell.0) tells.octets are tells.source in
     let entry : SiteEntry = record { name = site.name; source = source.0 } in
     let parts : (earlier ++ site ∷ []) ++ sites ≡ earlier ++ site ∷ sites = append_assoc earlier (site ∷ []) sites in
     let more = sites_are_read values (earlier ++ site ∷ []) items sites are (rw parts few) tell.3 in

@@ -4,7 +4,7 @@
 --
 -- Read before it: handles in hsp_names/specs/Handle.antt (RFC 3651, section 2), value lists and site records in
 -- hsp_record/specs (RFC 3651, sections 3.1 and 3.2.2), the responsible server in hsp_hash/specs/Place.antt (RFC 3652,
--- section 3.1.3), how documents and tables state rows in Told.antt.
+-- section 3.1.3), how documents and tables state rows in Stated.antt.
 use Rattle.std.specs.Prelude.{◌≡◌, ◌≢◌, ◌≤◌, ◌==◌, ◌&&◌, ◌↔◌, IsUtf8, true, ℕ, List, [], ◌∷◌, codes, decimal}
 use Rattle.std.specs.Prelude.{Option, Some, None, length, map, option_map, Result, IsOkUnless}
 use Rattle.std.specs.List.{AllByRecursion, Contains, IsDistinct, slice_get}
@@ -28,7 +28,7 @@ use Rattle.hsp_faults.specs.declared.fault.Fault.{Fault}
 use Rattle.hsp_faults.specs.declared.fault.Fault.TheVariants.{OutOfMemory}
 use Rattle.hsp_headline.specs.Shown.{Shows}
 use Rattle.hsp_headline.specs.Memory.{IsOrNoMemory}
-use Rattle.hsp_headline.specs.Told.{AreFew, AreValues, HasKeys, IsTable, AreTablesAt, TellsHost, TellsSite}
+use Rattle.hsp_headline.specs.Stated.{AreFew, AreValues, HasKeys, IsTable, AreTablesAt, StatesHost, StatesSite}
 use Rattle.hsp_headline.specs.declared.inputs.Inputs.{Inputs}
 
 -- ---- settings
@@ -40,11 +40,11 @@ pub record AreSettings (values : Option (List HandleValue)) (text : List ℕ) (s
   pub document : Members
   pub read : parse_document text ≡ Some document
   pub keys : HasKeys (codes "site" ∷ codes "host" ∷ []) document
-  pub site : AreTablesAt (TellsSite values) (get_member (codes "site") document) sites
+  pub site : AreTablesAt (StatesSite values) (get_member (codes "site") document) sites
   pub few_sites : length sites ≤ MOST_SITES
   pub few_servers : servers_of sites ≤ MOST_SERVERS
   pub names : IsDistinct (λ (a b : Site). bytes_eq a.name b.name) sites
-  pub host : AreTablesAt TellsHost (get_member (codes "host") document) hosts
+  pub host : AreTablesAt StatesHost (get_member (codes "host") document) hosts
   pub few_hosts : length hosts ≤ MOST_HOSTS
   pub addresses : IsDistinct (λ (a b : Host). bytes_eq a.address b.address) hosts
 

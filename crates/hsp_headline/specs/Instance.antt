@@ -13,23 +13,23 @@ use Rattle.hsp_instance.specs.declared.fault.BuildFault.{BuildFault}
 use Rattle.hsp_faults.specs.declared.fault.Fault.{Fault}
 use Rattle.hsp_faults.specs.declared.fault.Fault.TheVariants.{Demand, Costs, Capacity, Build}
 use Rattle.hsp_headline.specs.declared.inputs.Inputs.{Inputs}
-use Rattle.hsp_text.specs.Answers.{Then, told_as}
+use Rattle.hsp_text.specs.Answers.{Then, fault_as}
 use Rattle.hsp_headline.specs.Readings.{ReadsSettings, ReadsValues}
 
 -- the tables that octets spell
 abbrev pub ReadsDemand : List ℕ → Result (List DemandEntry) Fault → Type 0
-ReadsDemand octets answer = answer ≡ told_as Demand (table_of demand_table (records_of octets))
+ReadsDemand octets answer = answer ≡ fault_as Demand (table_of demand_table (records_of octets))
 
 abbrev pub ReadsCosts : List ℕ → Result (List CostEntry) Fault → Type 0
-ReadsCosts octets answer = answer ≡ told_as Costs (table_of cost_table (records_of octets))
+ReadsCosts octets answer = answer ≡ fault_as Costs (table_of cost_table (records_of octets))
 
 abbrev pub ReadsCapacities : List ℕ → Result (List CapacityEntry) Fault → Type 0
-ReadsCapacities octets answer = answer ≡ told_as Capacity (table_of capacity_table (records_of octets))
+ReadsCapacities octets answer = answer ≡ fault_as Capacity (table_of capacity_table (records_of octets))
 
 -- the instance of what was read
 abbrev pub BuildsInstance : building.Inputs → Result Instance Fault → Type 0
 BuildsInstance read answer =
-    (built : Result Instance BuildFault) × building.IsBuilt read built × (answer ≡ told_as Build built)
+    (built : Result Instance BuildFault) × building.IsBuilt read built × (answer ≡ fault_as Build built)
 
 -- the capacities are read and the instance is built; before that the costs are read, the demand, and the values
 abbrev pub ReadsCapacitiesOn : Inputs → SettingsEntries → Option (List HandleValue) → List DemandEntry → List CostEntry

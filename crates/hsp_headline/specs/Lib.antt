@@ -1,5 +1,5 @@
 pub mod Headline
-pub mod Told
+pub mod Stated
 pub mod Shown
 pub mod Memory
 pub mod Readings

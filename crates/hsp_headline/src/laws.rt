@@ -13,7 +13,7 @@ pub fn instances_are_defined()
     ensures given { GivesTheDefined }
     ensures accepted { AcceptsTheDefined }
     ensures once { GivesOneAnswer }
-    ensures alone { GivesNothingElse }
+    ensures only { GivesNothingElse }
 {
     readings_are_handles();
     one_answer();

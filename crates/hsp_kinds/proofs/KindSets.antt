@@ -36,8 +36,8 @@ some_row rows (a ∷ rest) inside set j e = elim (or_cases (set a.row && a.serve
 
 -- what the servers that pass can take, each by itself and together on their hosts
 module _ (caps limits : List ℕ) where
-  abbrev alone : (ℕ → Option ℕ) → (ℕ → Bool) → ℕ → ℕ
-  alone host_of passes j = when (is_none (host_of j)) (when (passes j) (slice_index caps j))
+  abbrev unhosted : (ℕ → Option ℕ) → (ℕ → Bool) → ℕ → ℕ
+  unhosted host_of passes j = when (is_none (host_of j)) (when (passes j) (slice_index caps j))
 
   abbrev together_on : (ℕ → Option ℕ) → (ℕ → Bool) → ℕ → ℕ → ℕ
   together_on host_of passes h j = when (is_on (host_of j) h) (when (passes j) (slice_index caps j))
@@ -46,13 +46,13 @@ module _ (caps limits : List ℕ) where
   hosted host_of passes h = min (slice_index limits h) (sum_below (length caps) (together_on host_of passes h))
 
   more_room : (a b : ℕ → Option ℕ) (r q : ℕ → Bool) → ((j : ℕ) → a j ≡ b j) → ((j : ℕ) → r j ≡ true → q j ≡ true) →
-      sum_below (length caps) (alone a r) + sum_below (length limits) (hosted a r)
-      ≤ sum_below (length caps) (alone b q) + sum_below (length limits) (hosted b q)
+      sum_below (length caps) (unhosted a r) + sum_below (length limits) (hosted a r)
+      ≤ sum_below (length caps) (unhosted b q) + sum_below (length limits) (hosted b q)
   more_room a b r q same more =
       let on = λ (h : ℕ). sum_below_le (length caps) (together_on a r h) (together_on b q h) (λ j l. rw (same j) (less (is_on (b j) h) j)) in
       omega (
         arith,
-        sum_below_le (length caps) (alone a r) (alone b q) (λ j l. rw (same j) (less (is_none (b j)) j)),
+        sum_below_le (length caps) (unhosted a r) (unhosted b q) (λ j l. rw (same j) (less (is_none (b j)) j)),
         sum_below_le (length limits) (hosted a r) (hosted b q) (λ h l. omega (arith, on h)),
       )
     where

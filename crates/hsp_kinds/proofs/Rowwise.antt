@@ -27,7 +27,7 @@ more_arcs : (a : NetworkArc) (rest : List NetworkArc) (i : ℕ) (g : Arc → ℕ
     sum_by g (arcs_in (a ∷ rest) i) ≡ when (a.row == i) (g (without_row a)) + sum_by g (arcs_in rest i)
 more_arcs a rest i g = grind (arith, sum_by-cons g (without_row a) (arcs_in rest i))
 
--- one of many terms alone
+-- only one of many terms
 one_term : (n i : ℕ) (f : ℕ → ℕ) → i < n → sum_below n (λ k. when (i == k) (f k)) ≡ f i
 one_term n i f l =
     sum_below_one n (λ k. when (i == k) (f k)) i l (λ k m ne. when_there i k (f k) (λ q. ne (sym q))) ∙ when_here i (f i)

@@ -190,7 +190,7 @@ const WRONG_SUMS: [(Numbers, Verdict); 5] = [
 ];
 
 #[test]
-fn sums_that_are_wrong_are_told(rt: HostRuntime) {
+fn sums_that_are_wrong_are_reported(rt: HostRuntime) {
     plans_have(&rt, rt.alloc(), BASE, &WRONG_SUMS);
 }
 
@@ -212,7 +212,7 @@ const WRONG_SHAPES: [(Numbers, Verdict); 2] = [
 ];
 
 #[test]
-fn shapes_that_are_wrong_are_told(rt: HostRuntime) {
+fn shapes_that_are_wrong_are_reported(rt: HostRuntime) {
     plans_have(&rt, rt.alloc(), BASE, &WRONG_SHAPES);
 }
 
@@ -248,7 +248,7 @@ const WRONG_PRICES: [(Numbers, Verdict); 4] = [
 ];
 
 #[test]
-fn prices_that_are_wrong_are_told(rt: HostRuntime) {
+fn prices_that_are_wrong_are_reported(rt: HostRuntime) {
     plans_have(&rt, rt.alloc(), BASE, &WRONG_PRICES);
 }
 

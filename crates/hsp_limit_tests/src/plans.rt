@@ -107,7 +107,7 @@ fn the_order_of_rows_costs_nothing(rt: HostRuntime) {
 }
 
 #[test]
-fn a_shortage_is_told(rt: HostRuntime) {
+fn a_shortage_is_reported(rt: HostRuntime) {
     let texts = Texts {
         demand: b"region,handle,count\nr1,10/1,5\nr1,10/2,4\nr2,10/3,9\n",
         ..BASE

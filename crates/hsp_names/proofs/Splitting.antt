@@ -121,7 +121,7 @@ cut_is_authority n cut whole = (
 )
 
 -- what `position` tells of the first slash
-pub slash_told : (h : List ℕ) (found : Option ℕ) → found ≡ position is_slash h →
+pub slash_shown : (h : List ℕ) (found : Option ℕ) → found ≡ position is_slash h →
     IfNone found (has_slash h ≡ false) × OnSome found (has_slash h ≡ true) × IfSome found (λ slash. (slash < length h) × (slash ≡ position_or_len is_slash h))
-slash_told h None e = (no_place is_slash h e, tt, tt)
-slash_told h (Some i) e = let place = slash_found h i e in (tt, place.0, (place.2, place.3))
+slash_shown h None e = (no_place is_slash h e, tt, tt)
+slash_shown h (Some i) e = let place = slash_found h i e in (tt, place.0, (place.2, place.3))

@@ -28,7 +28,7 @@ name_mixed hash octets =
     then fold mixed hash octets
     else mixed (words_mixed hash octets (length octets / 8)) (word_at octets (length octets - 8))
 
--- the hash of a pair, in which the length of the first name tells where it ends
+-- the hash of a pair, in which the length of the first name shows where it ends
 unfoldable pub hash_of : Pair → ℕ
 hash_of pair = name_mixed (name_mixed (length pair.first) pair.first) pair.second
 

@@ -322,7 +322,7 @@ fn loads_that_wrap_are_refused(rt: HostRuntime) {
 }
 
 #[test]
-fn short_sets_are_told_from_others(rt: HostRuntime) {
+fn short_sets_are_distinguished_from_others(rt: HostRuntime) {
     let lists = NetworkLists {
         demands: &[4, 3, 2],
         capacities: &[6, 2],
@@ -361,7 +361,7 @@ fn short_sets_know_the_hosts(rt: HostRuntime) {
 }
 
 #[test]
-fn short_sets_of_large_numbers_are_told(rt: HostRuntime) {
+fn short_sets_of_large_numbers_are_reported(rt: HostRuntime) {
     let lists = NetworkLists {
         demands: &[u64::MAX, u64::MAX],
         capacities: &[u64::MAX, u64::MAX],
@@ -384,7 +384,7 @@ fn short_sets_of_large_numbers_are_told(rt: HostRuntime) {
 }
 
 #[test]
-fn lists_that_are_no_network_are_told(rt: HostRuntime) {
+fn lists_that_are_no_network_are_reported(rt: HostRuntime) {
     for lists in [
         NetworkLists {
             hosts: &[Some(0), Some(0)],

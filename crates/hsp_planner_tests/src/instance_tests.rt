@@ -483,7 +483,7 @@ fn is_fault(rt: &impl Abort, alloc: Global, tables: Tables<'_>, wanted: BuildFau
 }
 
 #[test]
-fn a_site_of_the_costs_that_is_not_there_is_told(rt: HostRuntime) {
+fn a_site_of_the_costs_that_is_not_there_is_reported(rt: HostRuntime) {
     let late: &[u8] = b"region,site,cost\nr1,E,1\nr2,X,1\n";
     for (costs, row) in [(UNKNOWN_COST, 0), (late, 1)] {
         let tables = Tables { costs, ..BASE };
@@ -492,7 +492,7 @@ fn a_site_of_the_costs_that_is_not_there_is_told(rt: HostRuntime) {
 }
 
 #[test]
-fn a_site_or_server_of_the_capacities_that_is_not_there_is_told(rt: HostRuntime) {
+fn a_site_or_server_of_the_capacities_that_is_not_there_is_reported(rt: HostRuntime) {
     let unknown_server: &[u8] =
         b"site,server_id,capacity\nE,5,1\nE,7,10\nE,3,6\nW,1,2\nW,2,10\nW,9,10\n";
     let cases = [
@@ -505,7 +505,7 @@ fn a_site_or_server_of_the_capacities_that_is_not_there_is_told(rt: HostRuntime)
 }
 
 #[test]
-fn a_server_without_capacity_is_told(rt: HostRuntime) {
+fn a_server_without_capacity_is_reported(rt: HostRuntime) {
     let fault = BuildFault::NoCapacity {
         site: 1,
         server_id: 9,

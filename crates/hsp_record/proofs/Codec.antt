@@ -26,7 +26,7 @@ IsOctets-append [] b ha hb i = hb i
 IsOctets-append (x ∷ a) b ha hb zero = ha zero
 IsOctets-append (x ∷ a) b ha hb (suc i) = IsOctets-append a b (λ k. ha (suc k)) hb i
 
--- a field alone
+-- only a field
 pub IsOctets-field : (f : List ℕ) → IsOctets f → IsOctets (joined (f ∷ []))
 IsOctets-field f h = IsOctets-append f [] h (λ i. omega arith)
 

@@ -39,7 +39,7 @@ err_is a b e = cc
 not_short : (stop : Stop) (left : ℕ) → stop ≡ Short left → (stop ≡ TooMany → ⊥) × ((index : ℕ) → stop ≡ Twice index → ⊥)
 not_short stop left e = (λ h. cc, λ index h. cc)
 
--- an answer agrees with want of memory
+-- an answer agrees with out of memory
 pub agrees_with_none : {A : Type 0} (r : Result A RecordFault) → Agrees r (Err OutOfMemory)
 agrees_with_none (Err OutOfMemory) = tt
 agrees_with_none r = tt

@@ -1,5 +1,5 @@
 use crate::held::joined;
-use crate::line_tests::{Broken, is_told};
+use crate::line_tests::{Broken, is_reported};
 use crate::run_tests::{BASE, CHEAPER_PLAN, LACKING, PLAN, SHORTAGE, Texts, inputs_of};
 use crate::same::is_same;
 use hsp_check::Reason;
@@ -193,7 +193,7 @@ fn logs_are_answered_up_to_a_fault(rt: HostRuntime) {
 }
 
 #[test]
-fn a_log_that_cannot_be_read_is_told(rt: HostRuntime) {
+fn a_log_that_cannot_be_read_is_reported(rt: HostRuntime) {
     let ended = run_twice(&rt, rt.alloc(), BASE_PLAN, Broken, 100);
     has_stopped(&rt, &ended, LogFault::ReadFailed, 0);
 }
@@ -239,7 +239,7 @@ fn long_log(rt: &impl Abort, alloc: Global) -> Vec<u8> {
 }
 
 #[test]
-fn a_bad_row_behind_many_is_told(rt: HostRuntime) {
+fn a_bad_row_behind_many_is_reported(rt: HostRuntime) {
     let log = long_log(&rt, rt.alloc());
     let ended = run_twice(&rt, rt.alloc(), BASE_PLAN, log.as_slice(), 20_000);
     let fault = LogFault::BadHandle { row: 2_000 };
@@ -289,7 +289,7 @@ fn faults_of_logs_have_their_lines(rt: HostRuntime) {
         ),
     ];
     for (fault, status, wanted) in cases {
-        is_told(&rt, rt.alloc(), &Fault::Log(fault), wanted, status);
+        is_reported(&rt, rt.alloc(), &Fault::Log(fault), wanted, status);
     }
 }
 

@@ -1,5 +1,5 @@
 use crate::dispatch_tests::{Cut, Page, page_of};
-use crate::line_tests::{Broken, is_told};
+use crate::line_tests::{Broken, is_reported};
 use crate::run_tests::{BASE, CHEAPER_PLAN, LACKING, PLAN, SHORTAGE, Texts, inputs_of};
 use crate::same::is_same;
 use hsp_check::Reason;
@@ -94,7 +94,7 @@ const NO_SUMS: FrontSums = FrontSums {
 
 #[test]
 fn fronts_answer_by_their_shares(rt: HostRuntime) {
-    let alone = FrontSums {
+    let only = FrontSums {
         assigned: 1,
         no_front: 5,
         unknown: 1,
@@ -105,7 +105,7 @@ fn fronts_answer_by_their_shares(rt: HostRuntime) {
         (
             b"1",
             LOG,
-            alone,
+            only,
             b"nofront\nassigned E 1 3\nnofront\nnofront\nnofront\nnofront\nunknown\n",
         ),
         (
@@ -197,7 +197,7 @@ fn events_are_answered_up_to_a_fault(rt: HostRuntime) {
 }
 
 #[test]
-fn events_that_cannot_be_read_are_told(rt: HostRuntime) {
+fn events_that_cannot_be_read_are_reported(rt: HostRuntime) {
     let ended = run_twice(&rt, rt.alloc(), TWO, Broken, 100);
     has_stopped(&rt, &ended, LogFault::ReadFailed, 0);
 }
@@ -241,7 +241,7 @@ fn events_are_answered_up_to_each_octet_that_cannot_be_written(rt: HostRuntime) 
 
 #[test]
 fn no_number_of_fronts_has_its_line(rt: HostRuntime) {
-    is_told(
+    is_reported(
         &rt,
         rt.alloc(),
         &Fault::BadFronts,

@@ -1,6 +1,6 @@
 // Lines of faults whose numbers are the greatest that their types hold.
 
-use crate::line_tests::is_told;
+use crate::line_tests::is_reported;
 use hsp_cert::CertFault;
 use hsp_dispatch::LogFault;
 use hsp_instance::{BuildFault, Table};
@@ -14,7 +14,7 @@ use std::process::Abort;
 // These are the lines of faults in the input.
 fn all_have_lines(rt: &impl Abort, alloc: Global, cases: &[(Fault, &[u8])]) {
     for (fault, wanted) in cases {
-        is_told(rt, alloc, fault, wanted, 1);
+        is_reported(rt, alloc, fault, wanted, 1);
     }
 }
 

@@ -46,11 +46,11 @@ type Wanted<'a> = Result<&'a [u8], &'a Fault>;
 
 // The answer is the wanted one.
 fn answers(rt: &impl Abort, answer: &Result<Vec<u8>, Fault>, wanted: Wanted<'_>) {
-    let told = match answer {
+    let reported = match answer {
         Ok(text) => Ok(text.as_slice()),
         Err(fault) => Err(fault),
     };
-    is_same(rt, told, wanted);
+    is_same(rt, reported, wanted);
 }
 
 // The answer of `locate`, from the texts of its inputs.
@@ -201,7 +201,7 @@ fn sites_are_located_by_values(rt: HostRuntime) {
 }
 
 #[test]
-fn the_first_fault_is_told(rt: HostRuntime) {
+fn the_first_fault_is_reported(rt: HostRuntime) {
     let cases: [(&[u8], &[u8], &[u8], Fault); 6] = [
         (b"x", b"0", b"10", Fault::BadOption),
         (b"local", b"0", b"10", Fault::BadServers),
@@ -222,7 +222,13 @@ fn the_first_fault_is_told(rt: HostRuntime) {
 }
 
 // The fault has this line and this status.
-pub(crate) fn is_told(rt: &impl Abort, alloc: Global, fault: &Fault, wanted: &[u8], status: u8) {
+pub(crate) fn is_reported(
+    rt: &impl Abort,
+    alloc: Global,
+    fault: &Fault,
+    wanted: &[u8],
+    status: u8,
+) {
     is_same(rt, status_of(fault), status);
     let line = match fault_line(alloc, fault) {
         Ok(line) => line,
@@ -232,8 +238,8 @@ pub(crate) fn is_told(rt: &impl Abort, alloc: Global, fault: &Fault, wanted: &[u
 }
 
 // This is the line of a fault in the input.
-fn tells(rt: &impl Abort, alloc: Global, fault: &Fault, wanted: &[u8]) {
-    is_told(rt, alloc, fault, wanted, 1);
+fn is_refused(rt: &impl Abort, alloc: Global, fault: &Fault, wanted: &[u8]) {
+    is_reported(rt, alloc, fault, wanted, 1);
 }
 
 #[test]
@@ -272,7 +278,7 @@ fn faults_have_their_lines_and_statuses(rt: HostRuntime) {
         (Fault::OutOfMemory, b"hsplan: OutOfMemory\n", 4),
     ];
     for (fault, wanted, status) in cases {
-        is_told(&rt, rt.alloc(), &fault, wanted, status);
+        is_reported(&rt, rt.alloc(), &fault, wanted, status);
     }
 }
 
@@ -308,7 +314,7 @@ fn faults_of_settings_have_their_lines(rt: HostRuntime) {
         ),
     ];
     for (fault, wanted) in cases {
-        tells(&rt, rt.alloc(), &Fault::Settings(fault), wanted);
+        is_refused(&rt, rt.alloc(), &Fault::Settings(fault), wanted);
     }
 }
 
@@ -344,7 +350,7 @@ fn faults_of_rows_have_their_lines(rt: HostRuntime) {
         ),
     ];
     for (fault, wanted) in cases {
-        tells(&rt, rt.alloc(), &Fault::Settings(fault), wanted);
+        is_refused(&rt, rt.alloc(), &Fault::Settings(fault), wanted);
     }
 }
 
@@ -385,7 +391,7 @@ fn faults_of_sites_have_their_lines(rt: HostRuntime) {
         ),
     ];
     for (fault, wanted) in cases {
-        tells(&rt, rt.alloc(), &Fault::Build(fault), wanted);
+        is_refused(&rt, rt.alloc(), &Fault::Build(fault), wanted);
     }
 }
 
@@ -415,7 +421,7 @@ fn faults_of_what_tables_name_have_their_lines(rt: HostRuntime) {
         (BuildFault::OutOfMemory, b"hsplan: build: OutOfMemory\n"),
     ];
     for (fault, wanted) in cases {
-        tells(&rt, rt.alloc(), &Fault::Build(fault), wanted);
+        is_refused(&rt, rt.alloc(), &Fault::Build(fault), wanted);
     }
 }
 

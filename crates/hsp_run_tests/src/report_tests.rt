@@ -46,7 +46,7 @@ fn reports_are_of_their_kinds(rt: HostRuntime) {
 }
 
 #[test]
-fn what_has_no_report_is_told(rt: HostRuntime) {
+fn what_has_no_report_is_reported(rt: HostRuntime) {
     let cases: [(Texts<'_>, &[u8], ReportKind, Fault); 7] = [
         (
             UNASKED,
@@ -77,7 +77,7 @@ fn what_has_no_report_is_told(rt: HostRuntime) {
         ),
     ];
     for (texts, cert, kind, wanted) in cases {
-        let told = reported(&rt, rt.alloc(), texts, cert, kind).err();
-        is_same(&rt, told, Some(wanted));
+        let found = reported(&rt, rt.alloc(), texts, cert, kind).err();
+        is_same(&rt, found, Some(wanted));
     }
 }

@@ -1,5 +1,5 @@
 use crate::held::{copied, copied_if_any, joined};
-use crate::line_tests::{is_told, list_of};
+use crate::line_tests::{is_reported, list_of};
 use crate::same::is_same;
 use hsp_cert::CertFault;
 use hsp_check::{Reason, Verdict};
@@ -202,7 +202,7 @@ fn has_fault(rt: &impl Abort, alloc: Global, texts: Texts<'_>, fault: Fault) {
 }
 
 #[test]
-fn the_first_fault_of_the_inputs_is_told(rt: HostRuntime) {
+fn the_first_fault_of_the_inputs_is_reported(rt: HostRuntime) {
     let empty: &[u8] = b"";
     let no_capacities: &[u8] = b"site,server_id,capacity\n";
     let no_capacity = BuildFault::NoCapacity {
@@ -305,7 +305,7 @@ fn faults_of_tables_and_certificates_have_their_lines(rt: HostRuntime) {
         ),
     ];
     for (fault, wanted) in cases {
-        is_told(&rt, rt.alloc(), &fault, wanted, 1);
+        is_reported(&rt, rt.alloc(), &fault, wanted, 1);
     }
 }
 
@@ -418,7 +418,7 @@ fn hosts_limit_plans(rt: HostRuntime) {
 }
 
 #[test]
-fn shortages_are_told(rt: HostRuntime) {
+fn shortages_are_reported(rt: HostRuntime) {
     let unserved = Texts {
         demand: b"region,handle,count\nr3,10/1,1\n",
         ..BASE
@@ -472,8 +472,8 @@ fn nothing_is_planned_for_inputs_with_a_fault(rt: HostRuntime) {
         costs: b"",
         ..BASE
     };
-    let told = planned(&rt, rt.alloc(), no_table).err();
-    is_same(&rt, told, Some(Fault::Demand(TableFault::Header)));
+    let found = planned(&rt, rt.alloc(), no_table).err();
+    is_same(&rt, found, Some(Fault::Demand(TableFault::Header)));
 }
 
 pub(crate) const PLAN: &[u8] =
@@ -494,6 +494,6 @@ fn certificates_that_are_not_accepted_have_their_lines(rt: HostRuntime) {
         (Fault::WrongKind, b"hsplan: WrongKind\n"),
     ];
     for (fault, wanted) in cases {
-        is_told(&rt, rt.alloc(), &fault, wanted, 3);
+        is_reported(&rt, rt.alloc(), &fault, wanted, 3);
     }
 }

@@ -21,7 +21,7 @@ use Rattle.hsp_dispatch.specs.declared.answer.FrontSums.{FrontSums}
 use Rattle.hsp_dispatch.specs.declared.answer.LogSums.{LogSums}
 use Rattle.hsp_dispatch.specs.declared.fault.LogFault.{LogFault}
 use Rattle.hsp_dispatch.specs.declared.fault.LogFault.TheVariants as log_fault
-use Rattle.hsp_faults.specs.FaultText.{log_told}
+use Rattle.hsp_faults.specs.FaultText.{fault_of_log}
 use Rattle.hsp_faults.specs.declared.fault.Fault.{Fault}
 use Rattle.hsp_faults.specs.declared.fault.Fault.TheVariants.{BadFronts, Cert, Log, OutOfMemory}
 use Rattle.hsp_runs.specs.Always.{GivesTheDefinedAlways, ReadsAlways}
@@ -49,9 +49,9 @@ handed P holds (Err e) fault is memory = rw (is ∙ memory) holds
 -- ---- what is read
 
 pub gives_always : GivesNothingElse → (inputs : Inputs) (answer : Result Instance Fault) → OrNoMemory (IsInstanceOf inputs) answer → GivesTheDefinedAlways inputs answer
-gives_always alone inputs (Ok x) is it page = let same = alone inputs it (Ok x) page is in cc (same)
-gives_always alone inputs (Err e) (inl memory) it page = memory
-gives_always alone inputs (Err e) (inr is) it page = let none = alone inputs it (Err e) page is in cc (none)
+gives_always only inputs (Ok x) is it page = let same = only inputs it (Ok x) page is in cc (same)
+gives_always only inputs (Err e) (inl memory) it page = memory
+gives_always only inputs (Err e) (inr is) it page = let none = only inputs it (Err e) page is in cc (none)
 
 -- what is read of a text whose reading this claim is
 pub reads_always : (octets : List ℕ) (given : Claim) → ((other : Result Claim CertFault) → Means octets other → Agrees (Ok given) other) → ReadsAlways octets (Ok given)
@@ -97,13 +97,13 @@ refused_always run answer refused = subst (λ r. IsOkUnlessLog r) (sym refused.1
 abbrev IsOfLog : Fault → Type 0
 IsOfLog fault = (fault ≡ OutOfMemory) ⊎ ((of : LogFault) × (fault ≡ Log of))
 
-told_always : (fault : LogFault) → IsOfLog (log_told fault)
-told_always log_fault.OutOfMemory = inl refl
-told_always fault = inr (fault, refl)
+is_of_log : (fault : LogFault) → IsOfLog (fault_of_log fault)
+is_of_log log_fault.OutOfMemory = inl refl
+is_of_log fault = inr (fault, refl)
 
 ends_always : {S : Type 0} (all : S → FrontSums) (run : Streams) (answer : Result S Fault) (desk : Desk) → EndsLog all run answer desk → IsOkUnlessLog answer
 ends_always all run (Ok sums) desk ends = tt
-ends_always all run (Err e) desk (fault, is, stops) = subst IsOfLog (sym is) (told_always fault)
+ends_always all run (Err e) desk (fault, is, stops) = subst IsOfLog (sym is) (is_of_log fault)
 
 -- whoever answers by the plan of what is accepted ends, or stops by a fault of the log
 module _ {S : Type 0} (staff : Staff S) (run : Streams) (answer : Result S Fault)

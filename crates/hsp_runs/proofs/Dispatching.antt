@@ -16,7 +16,7 @@ use Rattle.hsp_dispatch.specs.declared.fault.LogFault.{LogFault}
 use Rattle.hsp_dispatch.specs.declared.fault.LogFault.TheVariants as log_fault
 use Rattle.hsp_runs.specs.Accepted.{plan_in}
 use Rattle.hsp_runs.specs.Dispatch.{AnswersAs, EndsLog, IsBeforeLog, a_dispatcher, so_many}
-use Rattle.hsp_faults.specs.FaultText.{log_told}
+use Rattle.hsp_faults.specs.FaultText.{fault_of_log}
 use Rattle.hsp_faults.specs.declared.fault.Fault.{Fault}
 
 -- a result that is of this fault
@@ -26,7 +26,7 @@ is_fault (Err e) fault is = sym (ap (λ f. Err f) is)
 
 -- the answer is what a run over a log answers, with its fault as it is reported
 abbrev pub IsReported : {S : Type 0} → Result S LogFault → Result S Fault → Type 0
-IsReported given answer = MatchResult given (λ sums. answer ≡ Ok sums) (λ fault. IsErrAnd answer (λ e. e ≡ log_told fault))
+IsReported given answer = MatchResult given (λ sums. answer ≡ Ok sums) (λ fault. IsErrAnd answer (λ e. e ≡ fault_of_log fault))
 
 ends_log : {S : Type 0} (all : S → FrontSums) (desk : Desk) (run : Streams) (given : Result S LogFault) (answer : Result S Fault) → IsReported given answer
     → IfOk given (λ sums. EndsWhole desk run (all sums)) → IfErr given (Stops desk run) → EndsLog all run answer desk
@@ -52,7 +52,7 @@ answered_at it (short c) plan fronts old new run given answer is are told whole 
 -- ---- faults before the log
 
 module _ (P : Type 0) where
-  late : (fault : LogFault) (e : Fault) → e ≡ log_told fault → IsBeforeLog e → P
+  late : (fault : LogFault) (e : Fault) → e ≡ fault_of_log fault → IsBeforeLog e → P
   late log_fault.OutOfMemory e told before = absurd (before.memory told)
   late fault e told before = absurd (before.log fault told)
 

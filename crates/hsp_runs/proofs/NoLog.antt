@@ -1,6 +1,6 @@
 -- Faults before a log is read are not the log's.
 use Rattle.std.proofs.Common.{◌≡◌, ◌≢◌, ℕ, List, Option, Some, None, Result, Ok, Err}
-use Rattle.hsp_text.specs.Answers.{Then, told_as}
+use Rattle.hsp_text.specs.Answers.{Then, fault_as}
 use Rattle.hsp_instance.specs.Instance.{Instance}
 use Rattle.hsp_cert.specs.Certificate.{Claim}
 use Rattle.hsp_dispatch.specs.declared.fault.LogFault.{LogFault}
@@ -21,13 +21,13 @@ then_none : {A B : Type 0} (First : Result A Fault → Type 0) (Next : A → Res
 then_none First Next first next fault of (Ok a, is, after) e = next a fault of after e
 then_none First Next first next fault of (Err own, is, same) e = let own_is : own ≡ Log of = cc (same, e) in first own of is own_is
 
-told_none : {A E : Type 0} (part : E → Fault) → ((own : E) (of : LogFault) → part own ≢ Log of) → (reading : Result A E) (fault : Fault) (of : LogFault)
-    → ◌≡◌ {A = Result A Fault} (Err fault) (told_as part reading) → fault ≡ Log of → ⊥
-told_none part apart (Ok x) fault of same e = cc (same)
-told_none part apart (Err own) fault of same e = let own_is : part own ≡ Log of = cc (same, e) in apart own of own_is
+no_log_fault : {A E : Type 0} (part : E → Fault) → ((own : E) (of : LogFault) → part own ≢ Log of) → (reading : Result A E) (fault : Fault) (of : LogFault)
+    → ◌≡◌ {A = Result A Fault} (Err fault) (fault_as part reading) → fault ≡ Log of → ⊥
+no_log_fault part apart (Ok x) fault of same e = cc (same)
+no_log_fault part apart (Err own) fault of same e = let own_is : part own ≡ Log of = cc (same, e) in apart own of own_is
 
 listed_none : (octets : List ℕ) → HasNoLog (AreListed octets)
-listed_none octets fault of is e = told_none Values (λ own from same. cc (same)) is.0 fault of is.3 e
+listed_none octets fault of is e = no_log_fault Values (λ own from same. cc (same)) is.0 fault of is.3 e
 
 values_none : (octets : Option (List ℕ)) → HasNoLog (ReadsValues octets)
 values_none None fault of is e = cc (is)
@@ -36,13 +36,13 @@ values_none (Some octets) fault of (Err own, listed, same) e = listed_none octet
 
 instance_none : (inputs : Inputs) → HasNoLog (IsInstanceOf inputs)
 instance_none inputs =
-    then_none _ (ReadsValuesOn inputs) (λ fault of is e. told_none Settings (λ own from same. cc (same)) _ fault of is e) (λ settings.
+    then_none _ (ReadsValuesOn inputs) (λ fault of is e. no_log_fault Settings (λ own from same. cc (same)) _ fault of is e) (λ settings.
     then_none _ (ReadsDemandOn inputs settings) (values_none _) (λ values.
-    then_none _ (ReadsCostsOn inputs settings values) (λ fault of is e. told_none Demand (λ own from same. cc (same)) _ fault of is e) (λ demand.
-    then_none _ (ReadsCapacitiesOn inputs settings values demand) (λ fault of is e. told_none Costs (λ own from same. cc (same)) _ fault of is e) (λ costs.
+    then_none _ (ReadsCostsOn inputs settings values) (λ fault of is e. no_log_fault Demand (λ own from same. cc (same)) _ fault of is e) (λ demand.
+    then_none _ (ReadsCapacitiesOn inputs settings values demand) (λ fault of is e. no_log_fault Costs (λ own from same. cc (same)) _ fault of is e) (λ costs.
     then_none _ (λ capacities. BuildsInstance (record { settings = settings; values = values; demand = demand; costs = costs; capacities = capacities }))
-    (λ fault of is e. told_none Capacity (λ own from same. cc (same)) _ fault of is e)
-    (λ capacities fault of is e. told_none Build (λ own from same. cc (same)) is.0 fault of is.2 e)))))
+    (λ fault of is e. no_log_fault Capacity (λ own from same. cc (same)) _ fault of is e)
+    (λ capacities fault of is e. no_log_fault Build (λ own from same. cc (same)) is.0 fault of is.2 e)))))
 
 accepted_none : (it : Instance) (claim : Claim) → HasNoLog (IsAccepted it claim)
 accepted_none it claim fault of is e = rw e at is
@@ -50,4 +50,4 @@ accepted_none it claim fault of is e = rw e at is
 pub no_log : (inputs : Inputs) (octets : List ℕ) → HasNoLog (IsAcceptedOf inputs octets)
 no_log inputs octets =
     then_none (IsInstanceOf inputs) (λ instance. Then (IsCertificate octets) (IsAccepted instance)) (instance_none inputs) (λ it.
-    then_none (IsCertificate octets) (IsAccepted it) (λ fault of is e. told_none Cert (λ own from same. cc (same)) is.0 fault of is.3 e) (accepted_none it))
+    then_none (IsCertificate octets) (IsAccepted it) (λ fault of is e. no_log_fault Cert (λ own from same. cc (same)) is.0 fault of is.3 e) (accepted_none it))

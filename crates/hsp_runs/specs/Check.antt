@@ -16,13 +16,13 @@ use Rattle.hsp_faults.specs.declared.fault.Fault.{Fault}
 use Rattle.hsp_faults.specs.declared.fault.Fault.TheVariants.{Cert}
 use Rattle.hsp_headline.specs.declared.inputs.Inputs.{Inputs}
 use Rattle.hsp_headline.specs.Instance.{IsInstanceOf}
-use Rattle.hsp_text.specs.Answers.{Then, told_as}
+use Rattle.hsp_text.specs.Answers.{Then, fault_as}
 
 -- the certificate that octets spell
 abbrev pub IsCertificate : List ℕ → Result Claim Fault → Type 0
 IsCertificate octets answer =
     (reading : Result Claim CertFault) × Means octets reading × (reading ≢ Err cert_fault.OutOfMemory)
-    × (answer ≡ told_as Cert reading)
+    × (answer ≡ fault_as Cert reading)
 
 -- the verdict on a claim, which is Yes exactly where the claim is valid for the instance
 abbrev pub IsVerdict : Instance → Claim → Result Verdict Fault → Type 0

@@ -17,7 +17,7 @@ use Rattle.hsp_text.specs.declared.limits.TheConstants.{MOST_FRONTS}
 use Rattle.hsp_runs.specs.Accepted.{IsAcceptedOf}
 use Rattle.hsp_runs.specs.Counts.{count_at}
 use Rattle.hsp_runs.specs.declared.accepted.Accepted.{Accepted}
-use Rattle.hsp_faults.specs.FaultText.{log_told}
+use Rattle.hsp_faults.specs.FaultText.{fault_of_log}
 use Rattle.hsp_faults.specs.declared.fault.Fault.{Fault}
 use Rattle.hsp_faults.specs.declared.fault.Fault.TheVariants.{BadFronts, Log, OutOfMemory, WrongKind}
 use Rattle.hsp_headline.specs.declared.inputs.Inputs.{Inputs}
@@ -54,7 +54,7 @@ over octets before after = streams (option_map records_of octets) before after
 -- unless memory ran out.
 abbrev pub EndsLog : {S : Type 0} → (S → FrontSums) → Streams → Result S Fault → Desk → Type 0
 EndsLog all run (Ok sums) desk = EndsWhole desk run (all sums)
-EndsLog all run (Err e) desk = (fault : LogFault) × (e ≡ log_told fault) × Stops desk run fault
+EndsLog all run (Err e) desk = (fault : LogFault) × (e ≡ fault_of_log fault) × Stops desk run fault
 
 -- there is a fault, and nothing was written
 abbrev pub Refuses : {S : Type 0} → Streams → Fault → Result S Fault → Type 0

@@ -21,7 +21,7 @@ use Rattle.hsp_dispatch.specs.declared.answer.LogSums.{LogSums}
 use Rattle.hsp_dispatch.specs.declared.fault.LogFault.{LogFault}
 use Rattle.hsp_headline.specs.Headline.{Defines}
 use Rattle.hsp_headline.specs.Shown.{ShowsPlan, Spells}
-use Rattle.hsp_faults.specs.FaultText.{log_told}
+use Rattle.hsp_faults.specs.FaultText.{fault_of_log}
 use Rattle.hsp_faults.specs.declared.fault.Fault.{Fault}
 use Rattle.hsp_faults.specs.declared.fault.Fault.TheVariants.{Log, OutOfMemory}
 use Rattle.hsp_headline.specs.declared.inputs.Inputs.{Inputs}
@@ -33,7 +33,7 @@ use Rattle.hsp_headline.specs.declared.inputs.Inputs.{Inputs}
 abbrev pub Ends : {S : Type 0} → (S → FrontSums) → Streams → Result S Fault → Desk → Type 0
 Ends all run (Ok sums) desk = EndsWhole desk run (all sums)
 Ends all run (Err e) desk =
-    (fault : LogFault) × (e ≡ log_told fault) × (StopsSomewhere desk run ⊎ StopsInLine desk run)
+    (fault : LogFault) × (e ≡ fault_of_log fault) × (StopsSomewhere desk run ⊎ StopsInLine desk run)
 
 -- The plan answered the log, or its beginning. Of any entries no more of a row are assigned to a site than
 -- the plan sends there, each to the server that is responsible for its handle by the site's hash option.

@@ -86,7 +86,7 @@ module _ (net : Transport) (whole : IsNetwork net) (small : IsSmall net) (n : Ar
       ∙ only_shift (1 + hosts_of net) (slice_index net.servers k) j (slice_index f.flows.now (base_of net + k)) ∙ ap (λ m. only (slice_index net.servers k) j m) (sym (flow-is k l))) in
       omega (arith, parts n.heads.now (1 + hosts_of net + j), load_numbers net flow j)
 
-  -- the arc of a server or a host has its tail alone
+  -- the arc of a server or a host has only its tail
   out_node : (v k : ℕ) → v ≡ 1 + k → k < base_of net → through n.tails.now f.flows.now v ≡ slice_index f.flows.now k
   out_node v k is l =
       through_is n.tails.now f.flows.now v

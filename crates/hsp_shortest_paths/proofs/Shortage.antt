@@ -75,7 +75,7 @@ module _ (net : Transport) (whole : IsNetwork net) (small : IsSmall net) (n : Ar
       ]) in
       omega (arith, less, load_numbers net part j, load_numbers net flow j)
 
-  -- a reached server serves the set alone
+  -- a reached server serves only the set
   load_same : (j : ℕ) → slice_index t.distance.now (1 + hosts_of net + j) < top → load (numbered net) part j ≡ load (numbered net) flow j
   load_same j near = load_numbers net part j ∙ sum_below_same (length net.sources) _ _ (λ k l. elim (cases_eq (slice_index net.servers k) j) [
     | inl e ↦
@@ -113,7 +113,7 @@ module _ (net : Transport) (whole : IsNetwork net) (small : IsSmall net) (n : Ar
     | inr outside ↦ rw outside (omega arith)
   ]
 
-  -- a reached host is full, and serves the set alone
+  -- a reached host is full, and serves only the set
   host_near : (h : ℕ) → h < hosts_of net → slice_index t.distance.now (1 + h) < top → slice_index net.limits h ≤ on_host (numbered net) (λ j. load (numbered net) part j) h
   host_near h l near =
       let in' : h < length n.tails.now = omega (arith, arcs.tails.many) in
@@ -150,7 +150,7 @@ module _ (net : Transport) (whole : IsNetwork net) (small : IsSmall net) (n : Ar
   -- what the set's servers can take, it sends
   capacity_sent : capacity_of (numbered net) set ≤ sum_below (length net.sources) part
   capacity_sent =
-      let alone : sum_below (servers_of net) (λ j. if is_none (host_of net j) then reached_capacity (numbered net) set j else 0) ≤ sum_below (servers_of net) (λ j. if is_none (host_of net j) then load (numbered net) part j else 0) =
+      let unhosted : sum_below (servers_of net) (λ j. if is_none (host_of net j) then reached_capacity (numbered net) set j else 0) ≤ sum_below (servers_of net) (λ j. if is_none (host_of net j) then load (numbered net) part j else 0) =
       sum_below_le (servers_of net) _ _ (λ j l. elim (cases_Bool (is_none (host_of net j))) [
         | inl none ↦
             let q : slice_index t.distance.now (host_node (host_of net j)) ≡ slice_index t.distance.now 0 = ap (λ m. slice_index t.distance.now m) (none_of (host_of net j) none) in

@@ -1,4 +1,4 @@
--- What is accepted, and the costs by which kinds are told apart.
+-- What is accepted, and the costs that distinguish kinds.
 use Rattle.std.proofs.Common.{◌≡◌, ℕ, List, Ok, Err}
 use Rattle.hsp_text.specs.Answers.{Then}
 use Rattle.hsp_tables.specs.Costs.{CostEntry}
@@ -19,7 +19,7 @@ use Rattle.hsp_runs.specs.declared.accepted.Accepted.{Accepted}
 use Rattle.hsp_headline.specs.declared.inputs.Inputs.{Inputs}
 use Rattle.hsp_headline.proofs.Steps.{went_on}
 use Rattle.hsp_stream.specs.AnswerRun.{AnswersAs, EndsLog, HasCosts, Refuses, Run}
-use Rattle.hsp_stream.specs.Faults.{input_told}
+use Rattle.hsp_stream.specs.Faults.{fault_of_input}
 
 pub has_costs : (inputs : Inputs) (octets : List ℕ) (accepted : Accepted) → IsAcceptedOf inputs octets (Ok accepted) → HasCosts inputs
 has_costs inputs octets accepted is =
@@ -40,6 +40,6 @@ by_plan portion costs it (best c) plan run kind ends = ends
 by_plan portion costs it (short c) plan run kind ends = absurd (cc kind)
 
 pub by_shortage : (portion : Portion) (costs : List CostEntry) (it : Instance) (claim : Claim) (fault : Fault) (run : Run) → plan_in claim ≡ Err fault
-    → Refuses (input_told fault) run → AnswersAs portion costs it claim run
+    → Refuses (fault_of_input fault) run → AnswersAs portion costs it claim run
 by_shortage portion costs it (best c) fault run kind refuses = absurd (cc kind)
 by_shortage portion costs it (short c) fault run kind refuses = let same : WrongKind ≡ fault = cc kind in rw (← same) at refuses

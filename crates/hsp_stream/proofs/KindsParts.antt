@@ -8,7 +8,7 @@ use Rattle.hsp_instance.specs.Instance.{IsNamed, Row, Site, regions_of}
 use Rattle.hsp_instance.proofs.Lists.{all_append}
 use Rattle.hsp_kinds.specs.Tables.{LogInParts, counted, counted_all}
 use Rattle.hsp_tables.specs.Costs.{CostEntry}
-use Rattle.hsp_text.specs.Answers.{◌>>=◌, or_fault, told_as}
+use Rattle.hsp_text.specs.Answers.{◌>>=◌, or_fault, fault_as}
 use Rattle.hsp_text.specs.Whole.{DigitsSpellTheirNumber}
 use Rattle.hsp_text.specs.declared.limits.TheConstants.{MOST_DEMAND_ROWS, MOST_REGIONS}
 use Rattle.hsp_names.specs.Handle as names
@@ -19,7 +19,7 @@ use Rattle.hsp_tally.proofs.Capped.{capped_kinds_are_classes, tables_are_capped}
 use Rattle.hsp_tally.proofs.KindCounts.{counted_regions, counted_well, longer}
 use Rattle.hsp_tally.proofs.KindTables.{counted_is, no_kinds}
 use Rattle.hsp_stream.specs.KindsLaws.{IsLogCount, PartsMakeTheTable, SpellRows, Spells, TableIsOfKinds}
-use Rattle.hsp_stream.specs.KindsLog.{Parts, count_in, handle_or, kinds_told, name_in, parts_in, row_of, rows_from, with_parts, with_record}
+use Rattle.hsp_stream.specs.KindsLog.{Parts, count_in, handle_or, fault_of_kinds, name_in, parts_in, row_of, rows_from, with_parts, with_record}
 use Rattle.hsp_stream.specs.KindsTable.{fields_of_row, records_of_rows}
 use Rattle.hsp_stream.specs.declared.fault.RowFault.TheVariants as fault
 use Rattle.hsp_stream.specs.declared.fault.RowFault.{RowFault}
@@ -81,11 +81,11 @@ module _ (costs : List CostEntry) (sites : List Site) where
       → (row : Row) × Spells form fields row × (next ≡ counted (by_capped costs sites) table row)
   record_reads form n table next fields e =
       let parts = step (or_fault (Log (fault.Fields n)) (parts_in form fields)) (with_parts costs sites n table) next e in
-      let read = step (told_as Log (row_of n parts.0)) (λ read. told_as (kinds_told n) (with_counted costs sites table read)) next parts.2 in
+      let read = step (fault_as Log (row_of n parts.0)) (λ read. fault_as (fault_of_kinds n) (with_counted costs sites table read)) next parts.2 in
       let is = told Log (row_of n parts.0) read.0 read.1 in (
         read.0,
         record { parts = parts.0; are = some_is (parts_in form fields) parts.0 parts.1; row_is = λ m. row_any n m parts.0 read.0 is },
-        (counted_is costs sites table read.0 next (told (kinds_told n) (with_counted costs sites table read.0) next read.2)).0,
+        (counted_is costs sites table read.0 next (told (fault_of_kinds n) (with_counted costs sites table read.0) next read.2)).0,
       )
     where
       some_is : (o : Option Parts) (x : Parts) → or_fault (Log (fault.Fields n)) o ≡ Ok x → Some x ≡ o

@@ -3,7 +3,7 @@ use Rattle.std.proofs.Common.{◌≡◌, ℕ, List, Option, Some, None, Ok, Err,
 use Rattle.std.specs.Prelude.{IfSome, Result}
 use Rattle.hsp_csv.specs.Records.{Fields}
 use Rattle.hsp_faults.specs.declared.fault.Fault.{Fault}
-use Rattle.hsp_stream.specs.Faults.{input_told}
+use Rattle.hsp_stream.specs.Faults.{fault_of_input}
 use Rattle.hsp_stream.specs.KindsFiles.{AreFilesIn}
 use Rattle.hsp_stream.specs.KindsRun.{IsKindsText, kinds_text, unit_at}
 use Rattle.hsp_stream.specs.declared.fault.StreamFault.{StreamFault}
@@ -12,8 +12,8 @@ use Rattle.hsp_stream.specs.declared.kinds_files.KindsInputs.{KindsInputs}
 
 module _ (inputs : KindsInputs) (word : Option (List ℕ)) (records : List Fields) where
   -- a file is at fault
-  pub files_stop : (unit : ℕ) (fault : Fault) → unit_at word ≡ Ok unit → AreFilesIn inputs (Err fault) → IsKindsText inputs word records (Err (input_told fault))
-  files_stop unit fault is files = (Ok unit, sym is, (Err (input_told fault), (Err fault, files, refl), refl))
+  pub files_stop : (unit : ℕ) (fault : Fault) → unit_at word ≡ Ok unit → AreFilesIn inputs (Err fault) → IsKindsText inputs word records (Err (fault_of_input fault))
+  files_stop unit fault is files = (Ok unit, sym is, (Err (fault_of_input fault), (Err fault, files, refl), refl))
 
   -- the log has a table, or is at fault
   pub text_is : (unit : ℕ) (files : Files) (answer : Result (List ℕ) StreamFault) → unit_at word ≡ Ok unit → AreFilesIn inputs (Ok files) → kinds_text files.costs files.sites unit records ≡ answer

@@ -10,12 +10,12 @@ use Rattle.hsp_kinds.specs.Rows.{is_same_kind}
 use Rattle.hsp_names.specs.Handle as names
 use Rattle.hsp_tables.specs.Costs.{CostEntry}
 use Rattle.hsp_tables.specs.Table.{first_seen}
-use Rattle.hsp_text.specs.Answers.{◌>>=◌, or_fault, told_as}
+use Rattle.hsp_text.specs.Answers.{◌>>=◌, or_fault, fault_as}
 use Rattle.hsp_text.specs.Name.{is_name}
 use Rattle.hsp_text.specs.declared.limits.TheConstants.{GREATEST_COUNT}
 use Rattle.hsp_tally.specs.Tally.{with_counted}
 use Rattle.hsp_tally.proofs.KindTables.{IsKindTable, kinds_more, no_kinds}
-use Rattle.hsp_stream.specs.KindsLog.{Parts, count_in, form_of, handle_or, kinds_told, name_in, parts_in, row_of, rows_from, table_of, with_parts, with_record}
+use Rattle.hsp_stream.specs.KindsLog.{Parts, count_in, form_of, handle_or, fault_of_kinds, name_in, parts_in, row_of, rows_from, table_of, with_parts, with_record}
 use Rattle.hsp_stream.specs.KindsTable.{in_unit, rows_in_units, table_in_units, table_text, with_count}
 use Rattle.hsp_stream.specs.declared.fault.RowFault.TheVariants as fault
 use Rattle.hsp_stream.specs.declared.fault.StreamFault.{StreamFault}
@@ -33,7 +33,7 @@ pub step : {A B E : Type 0} (r : Result A E) (f : A → Result B E) (y : B) → 
 step (Ok x) f y e = (x, refl, e)
 step {B = B} {E = E} (Err fault) f y e = let bad : ◌≡◌ {A = Result B E} (Err fault) (Ok y) = e in cc
 
-pub told : {A E F : Type 0} (part : E → F) (r : Result A E) (x : A) → told_as part r ≡ Ok x → r ≡ Ok x
+pub told : {A E F : Type 0} (part : E → F) (r : Result A E) (x : A) → fault_as part r ≡ Ok x → r ≡ Ok x
 told part r x e = grind arith
 
 name_is : (row : ℕ) (octets name : List ℕ) → name_in row octets ≡ Ok name → is_name name ≡ true
@@ -58,8 +58,8 @@ module _ (costs : List CostEntry) (sites : List Site) where
   record_kept : (form : CountForm) (row : ℕ) (table next : List Row) (fields : Fields) → IsKindTable costs sites table → with_record costs sites form row table fields ≡ Ok next → IsKindTable costs sites next
   record_kept form row table next fields are e =
       let parts = step (or_fault (Log (fault.Fields row)) (parts_in form fields)) (with_parts costs sites row table) next e in
-      let read = step (told_as Log (row_of row parts.0)) (λ read. told_as (kinds_told row) (with_counted costs sites table read)) next parts.2 in
-      kinds_more costs sites read.0 table next are (row_named row parts.0 read.0 (told Log (row_of row parts.0) read.0 read.1)) (told (kinds_told row) (with_counted costs sites table read.0) next read.2)
+      let read = step (fault_as Log (row_of row parts.0)) (λ read. fault_as (fault_of_kinds row) (with_counted costs sites table read)) next parts.2 in
+      kinds_more costs sites read.0 table next are (row_named row parts.0 read.0 (told Log (row_of row parts.0) read.0 read.1)) (told (fault_of_kinds row) (with_counted costs sites table read.0) next read.2)
 
   pub rows_kept : (form : CountForm) (row : ℕ) (table all : List Row) (records : List Fields) → IsKindTable costs sites table → rows_from costs sites form row table records ≡ Ok all → IsKindTable costs sites all
   rows_kept form row table all [] are e = let same : table ≡ all = cc (e) in rw (← same) are

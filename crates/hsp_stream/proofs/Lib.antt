@@ -4,7 +4,7 @@ pub mod KindsRows
 pub mod KindsRuns
 pub mod KindsText
 pub mod KindsWhole
-mod Tellings
+mod KindAnswers
 pub mod PlacePrinting
 pub mod PlaceTalks
 mod RowsAnswered

@@ -24,8 +24,8 @@ use Rattle.hsp_dispatch.proofs.SharedOut.{found_so, has_arc}
 use Rattle.hsp_dispatch.proofs.Spreads.{is_sent}
 use Rattle.hsp_dispatch.proofs.Taking.{row_found}
 use Rattle.hsp_stream.specs.AnswerLaws.{GoesByOwnHash}
-use Rattle.hsp_stream.specs.Telling.{entry_at, row_at}
-use Rattle.hsp_stream.proofs.Tellings.{keys_of}
+use Rattle.hsp_stream.specs.KindAnswers.{entry_at, row_at}
+use Rattle.hsp_stream.proofs.KindAnswers.{keys_of}
 
 -- ---- rows that were found
 

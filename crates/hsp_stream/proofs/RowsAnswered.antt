@@ -21,7 +21,7 @@ use Rattle.hsp_tally.specs.Tally.{capped}
 use Rattle.hsp_stream.specs.Saying.{IsAmong, Said, is_answered, is_refused, none_said, said, said_line, said_of, sums_said, with_given}
 use Rattle.hsp_tally.specs.Tally.{capped}
 use Rattle.hsp_stream.specs.Saying.Said.{answered}
-use Rattle.hsp_stream.specs.Telling.{Answering, AreAnswered, IsGiven, TakesRow, Telling, entries_in, entry_for, said_by}
+use Rattle.hsp_stream.specs.KindAnswers.{Answering, AreAnswered, IsGiven, TakesRow, KindsHeld, entries_in, entry_for, said_by}
 use Rattle.hsp_stream.specs.declared.given.Given.{Given}
 use Rattle.hsp_stream.specs.declared.given.Given.TheVariants as given
 use Rattle.hsp_stream.specs.declared.given.StreamSums.{StreamSums}
@@ -129,9 +129,9 @@ given_sums it all (given.Refused refusal) among = grind arith
 
 -- a desk has answered rows since it was `first`
 pub record HasAnswered (first last : Answering) (rows lines : List (List ℕ)) : Type 0 where
-  pub costs : last.teller.costs ≡ first.teller.costs
-  pub instance : last.teller.held.instance ≡ first.teller.held.instance
-  pub answered : AreAnswered first.teller.costs first.teller.held.instance (left_of first.teller.held) (left_of last.teller.held) first.form last.form rows lines last.sums
+  pub costs : last.kind_dispatcher.costs ≡ first.kind_dispatcher.costs
+  pub instance : last.kind_dispatcher.held.instance ≡ first.kind_dispatcher.held.instance
+  pub answered : AreAnswered first.kind_dispatcher.costs first.kind_dispatcher.held.instance (left_of first.kind_dispatcher.held) (left_of last.kind_dispatcher.held) first.form last.form rows lines last.sums
 
 pub answers_none : (first : Answering) → first.sums ≡ none_said → HasAnswered first first [] []
 unfolding answers_after
@@ -143,12 +143,12 @@ answers_none first none = record {
     asks = refl;
     lines_are = refl;
     sums_are = none;
-    left_is = rest_none first.teller.held.instance (left_of first.teller.held);
+    left_is = rest_none first.kind_dispatcher.held.instance (left_of first.kind_dispatcher.held);
   };
 }
 
 -- a row more is answered
-row_more : (t new : Telling) (x : Plan) (first form last : Option Form) (rows lines : List (List ℕ)) (sums : StreamSums) (row : List ℕ) (one : Asked) (how : Given)
+row_more : (t new : KindsHeld) (x : Plan) (first form last : Option Form) (rows lines : List (List ℕ)) (sums : StreamSums) (row : List ℕ) (one : Asked) (how : Given)
     → AsksAt form row one last → IsGiven t one new how → AreAnswered t.costs t.held.instance x (left_of t.held) first form rows lines sums
     → AreAnswered t.costs t.held.instance x (left_of new.held) first last (rows ++ row ∷ []) (lines ++ said_line t.held.instance (said_of t.held.instance how) ∷ []) (with_given sums how)
 row_more t new x first form last rows lines sums row one how asks is so =
@@ -172,9 +172,9 @@ row_more t new x first form last rows lines sums row one how asks is so =
 answers_row : (first old new : Answering) (rows lines : List (List ℕ)) (row answer : List ℕ) → HasAnswered first old rows lines → TakesRow old row new answer
     → HasAnswered first new (rows ++ row ∷ []) (lines ++ answer ∷ [])
 answers_row first old new rows lines row answer so takes =
-    let x = left_of first.teller.held in
-    let inner : AreAnswered old.teller.costs old.teller.held.instance x (left_of old.teller.held) first.form old.form rows lines old.sums = rw (so.costs, so.instance) so.answered in
-    let more = row_more old.teller new.teller x first.form old.form new.form rows lines old.sums row takes.asked takes.given takes.asks takes.is inner in
+    let x = left_of first.kind_dispatcher.held in
+    let inner : AreAnswered old.kind_dispatcher.costs old.kind_dispatcher.held.instance x (left_of old.kind_dispatcher.held) first.form old.form rows lines old.sums = rw (so.costs, so.instance) so.answered in
+    let more = row_more old.kind_dispatcher new.kind_dispatcher x first.form old.form new.form rows lines old.sums row takes.asked takes.given takes.asks takes.is inner in
     record {
       costs = takes.is.costs ∙ so.costs;
       instance = takes.is.instance ∙ so.instance;

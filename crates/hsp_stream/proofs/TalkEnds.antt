@@ -17,7 +17,7 @@ use Rattle.hsp_stream.specs.AnswerTalk.{Answered, EndsBy, LacksHeader, StopsBy}
 use Rattle.hsp_stream.specs.Asking.{IsNoHeader}
 use Rattle.hsp_stream.specs.Saying.{none_said, said, said_line, sums_said}
 use Rattle.hsp_stream.specs.TalkFaults.{IsBeforeLog, fault_of}
-use Rattle.hsp_stream.specs.Telling.{Answering, AreAnswered, TakesRow, entries_in}
+use Rattle.hsp_stream.specs.KindAnswers.{Answering, AreAnswered, TakesRow, entries_in}
 use Rattle.hsp_stream.specs.declared.answerer.NoHeader.{NoHeader}
 use Rattle.hsp_stream.specs.declared.fault.RowFault.TheVariants.{Header, ReadFailed, WriteFailed}
 use Rattle.hsp_stream.specs.declared.fault.StreamFault.{StreamFault}
@@ -31,19 +31,19 @@ RefusesRow desk row next fault = IsNoHeader desk.form row
 module _ (first : Answering) (form : first.form ≡ None) (none : first.sums ≡ none_said) where
   -- what was taken was answered
   abbrev so_far : (last : Answering) (events : List Event) (stated : Option Form) (sums : StreamSums) → last.form ≡ stated → sums ≡ last.sums
-      → Took TakesRow first last events → Answered first.teller.costs first.teller.held.instance (left_of first.teller.held) stated sums events
+      → Took TakesRow first last events → Answered first.kind_dispatcher.costs first.kind_dispatcher.held.instance (left_of first.kind_dispatcher.held) stated sums events
   so_far last events stated sums is same took = record {
     rows = took.rows;
     lines = took.answers;
     later = took.later;
-    left = left_of last.teller.held;
+    left = left_of last.kind_dispatcher.held;
     came = took.came;
     answered = rw (← is, same) (rw form at (answers_all first first last [] [] took.rows took.answers (answers_none first none) took.taken).answered);
     prompt = took.prompt;
   }
 
   abbrev Ends : List Event → Result StreamSums StreamFault → Type 0
-  Ends events answer = EndsBy first.teller.costs first.teller.held.instance (left_of first.teller.held) events answer
+  Ends events answer = EndsBy first.kind_dispatcher.costs first.kind_dispatcher.held.instance (left_of first.kind_dispatcher.held) events answer
 
   -- the talk ended behind a header
   pub ended : (last : Answering) (sums : StreamSums) (old new : Known) → last.form ≢ None → sums ≡ last.sums

@@ -7,7 +7,7 @@ use Rattle.hsp_check.specs.Plan.{Plan}
 use Rattle.hsp_dispatch.specs.Dispatch.{Entry, answer_to, assigned_in}
 use Rattle.hsp_dispatch.specs.Laws.{IsByHash, KeepsToArcs}
 use Rattle.hsp_stream.specs.Asking.{Asked}
-use Rattle.hsp_stream.specs.Telling.{entries_in, entry_for}
+use Rattle.hsp_stream.specs.KindAnswers.{entries_in, entry_for}
 
 -- no more is assigned of a row to a site than the plan sends there
 abbrev pub AnswersKeepWithin : Type 0

@@ -16,7 +16,7 @@ use Rattle.hsp_runs.specs.declared.accepted.Accepted.{Accepted}
 use Rattle.hsp_headline.specs.declared.inputs.Inputs.{Inputs}
 use Rattle.hsp_talk.specs.Known.{Known, Went}
 use Rattle.hsp_stream.specs.AnswerTalk.{EndsBy}
-use Rattle.hsp_stream.specs.Faults.{input_told}
+use Rattle.hsp_stream.specs.Faults.{fault_of_input}
 use Rattle.hsp_stream.specs.Words.{portion_at}
 use Rattle.hsp_stream.specs.declared.fault.StreamFault.{StreamFault}
 use Rattle.hsp_stream.specs.declared.fault.StreamFault.TheVariants.{Input, OutOfMemory}
@@ -55,7 +55,7 @@ abbrev pub AnswersWhere : Portion → Inputs → Result Accepted Fault → Run �
 AnswersWhere portion inputs (Ok accepted) run =
     (costs : List CostEntry) × ReadsCosts inputs.costs.items (Ok costs)
     × AnswersAs portion costs accepted.instance accepted.certificate run
-AnswersWhere portion inputs (Err e) run = Refuses (input_told e) run
+AnswersWhere portion inputs (Err e) run = Refuses (fault_of_input e) run
 
 -- First the inputs are read, then the certificate, and then it is judged; where it is accepted, the log is answered. Or
 -- memory ran out before that.

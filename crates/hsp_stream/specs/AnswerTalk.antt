@@ -7,7 +7,7 @@ use Rattle.hsp_check.specs.Plan.{Plan}
 use Rattle.hsp_dispatch.specs.declared.form.Form.{Form}
 use Rattle.hsp_talk.specs.Talk.{Event, IsPrompt, has_ended, rows_in, sent_in}
 use Rattle.hsp_stream.specs.Asking.{IsHeader}
-use Rattle.hsp_stream.specs.Telling.{AreAnswered}
+use Rattle.hsp_stream.specs.KindAnswers.{AreAnswered}
 use Rattle.hsp_stream.specs.declared.fault.RowFault.TheVariants as row_fault
 use Rattle.hsp_stream.specs.declared.fault.StreamFault.{StreamFault}
 use Rattle.hsp_stream.specs.declared.fault.StreamFault.TheVariants as fault

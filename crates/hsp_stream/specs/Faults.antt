@@ -5,6 +5,6 @@ use Rattle.hsp_stream.specs.declared.fault.StreamFault.{StreamFault}
 use Rattle.hsp_stream.specs.declared.fault.StreamFault.TheVariants.{Input, OutOfMemory}
 
 -- a fault of the files; that memory ran out is reported without a part
-abbrev pub input_told : Fault → StreamFault
-input_told fault.OutOfMemory = OutOfMemory
-input_told other = Input other
+abbrev pub fault_of_input : Fault → StreamFault
+fault_of_input fault.OutOfMemory = OutOfMemory
+fault_of_input other = Input other

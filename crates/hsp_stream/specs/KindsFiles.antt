@@ -9,14 +9,14 @@ use Rattle.hsp_faults.specs.declared.fault.Fault.{Fault}
 use Rattle.hsp_faults.specs.declared.fault.Fault.TheVariants.{Build}
 use Rattle.hsp_runs.specs.Instance.{ReadsCosts}
 use Rattle.hsp_runs.specs.Readings.{AreSites, ReadsSettings, ReadsValues}
-use Rattle.hsp_text.specs.Answers.{◌>>=◌, Then, told_as}
+use Rattle.hsp_text.specs.Answers.{◌>>=◌, Then, fault_as}
 use Rattle.hsp_stream.specs.declared.kinds_files.Files.{Files}
 use Rattle.hsp_stream.specs.declared.kinds_files.KindsInputs.{KindsInputs}
 
 -- the sites and the costs, where the sites of all costs are there
 abbrev pub are_checked : List Site → List CostEntry → Result Files Fault
 are_checked sites costs =
-    told_as Build (unless (cost_fault sites 0 costs)) >>= λ _. Ok (record { sites = sites; costs = costs })
+    fault_as Build (unless (cost_fault sites 0 costs)) >>= λ _. Ok (record { sites = sites; costs = costs })
 
 -- the sites are built and the costs checked; before that the costs are read, and the values
 abbrev pub ReadsSitesOn : SettingsEntries → Option (List HandleValue) → List CostEntry → Result Files Fault → Type 0

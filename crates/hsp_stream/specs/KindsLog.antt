@@ -8,7 +8,7 @@ use Rattle.hsp_csv.specs.declared.fault.RecordsFault.TheVariants as records
 use Rattle.hsp_names.specs.Handle as names
 use Rattle.hsp_names.specs.declared.fault.HandleFault.{HandleFault}
 use Rattle.hsp_tables.specs.Costs.{CostEntry}
-use Rattle.hsp_text.specs.Answers.{◌>>=◌, or_fault, told_as}
+use Rattle.hsp_text.specs.Answers.{◌>>=◌, or_fault, fault_as}
 use Rattle.hsp_text.specs.Name.{is_name}
 use Rattle.hsp_text.specs.Whole.{whole_within}
 use Rattle.hsp_text.specs.declared.whole.WholeFault.{WholeFault}
@@ -77,15 +77,15 @@ row_of row parts =
 
 -- ---- the table
 
-abbrev pub kinds_told : ℕ → KindsFault → StreamFault
-kinds_told row kinds.TooManyRegions = Log (fault.TooManyRegions row)
-kinds_told row kinds.TooManyKinds = Log (fault.TooManyKinds row)
-kinds_told row kinds.OutOfMemory = OutOfMemory
+abbrev pub fault_of_kinds : ℕ → KindsFault → StreamFault
+fault_of_kinds row kinds.TooManyRegions = Log (fault.TooManyRegions row)
+fault_of_kinds row kinds.TooManyKinds = Log (fault.TooManyKinds row)
+fault_of_kinds row kinds.OutOfMemory = OutOfMemory
 
 -- the table with the row that fields spell, or their first fault
 abbrev pub with_parts : List CostEntry → List Site → ℕ → List Row → Parts → Result (List Row) StreamFault
 with_parts costs sites row table parts =
-    told_as Log (row_of row parts) >>= λ read. told_as (kinds_told row) (with_counted costs sites table read)
+    fault_as Log (row_of row parts) >>= λ read. fault_as (fault_of_kinds row) (with_counted costs sites table read)
 
 -- the same of a record
 abbrev pub with_record : List CostEntry → List Site → CountForm → ℕ → List Row → Fields → Result (List Row) StreamFault
@@ -120,9 +120,9 @@ log_joined kinds records = table_of kinds.costs kinds.sites kinds.rows records
 
 -- ---- reading
 
-abbrev pub records_told : RecordsFault → StreamFault
-records_told records.ReadFailed = Log fault.ReadFailed
-records_told records.OutOfMemory = OutOfMemory
+abbrev pub fault_of_records : RecordsFault → StreamFault
+fault_of_records records.ReadFailed = Log fault.ReadFailed
+fault_of_records records.OutOfMemory = OutOfMemory
 
 -- a read failed, or memory ran out
 abbrev pub IsReadFault : StreamFault → Type 0

@@ -4,10 +4,10 @@ use Rattle.hsp_csv.specs.Records.{Fields}
 use Rattle.hsp_faults.specs.declared.fault.Fault.{Fault}
 use Rattle.hsp_faults.specs.declared.fault.Fault.TheVariants.{BadServers}
 use Rattle.hsp_tables.specs.Costs.{CostEntry}
-use Rattle.hsp_text.specs.Answers.{◌>>=◌, Then, told_as}
+use Rattle.hsp_text.specs.Answers.{◌>>=◌, Then, fault_as}
 use Rattle.hsp_instance.specs.Instance.{Site}
 use Rattle.hsp_runs.specs.Counts.{count_at}
-use Rattle.hsp_stream.specs.Faults.{input_told}
+use Rattle.hsp_stream.specs.Faults.{fault_of_input}
 use Rattle.hsp_stream.specs.KindsFiles.{AreFilesIn}
 use Rattle.hsp_stream.specs.KindsLog.{table_of}
 use Rattle.hsp_stream.specs.KindsTable.{text_in_units}
@@ -32,7 +32,7 @@ kinds_text costs sites unit records = table_of costs sites [] records >>= text_i
 
 -- what the files define, with their faults as those of the run
 abbrev pub AreFiles : KindsInputs → Result Files StreamFault → Type 0
-AreFiles inputs answer = (files : Result Files Fault) × AreFilesIn inputs files × (answer ≡ told_as input_told files)
+AreFiles inputs answer = (files : Result Files Fault) × AreFilesIn inputs files × (answer ≡ fault_as fault_of_input files)
 
 -- the text of the table of a log, or the first fault of the unit, the files, the log and the table
 abbrev pub IsKindsText : KindsInputs → Option (List ℕ) → List Fields → Result (List ℕ) StreamFault → Type 0

@@ -8,7 +8,7 @@ pub mod KindsShown
 pub mod KindsTable
 pub mod Asking
 pub mod Saying
-pub mod Telling
+pub mod KindAnswers
 pub mod PlaceLines
 pub mod Places
 pub mod PlacesRun

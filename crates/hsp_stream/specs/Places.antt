@@ -3,7 +3,7 @@ use Rattle.std.specs.Prelude.{◌≡◌, ◌+◌, ◌-◌, ◌^◌, ◌&&◌, �
 use Rattle.std.specs.Prelude.{Result, Ok, Err, if◌then◌else◌}
 use Rattle.std.specs.Str.{bytes_eq}
 use Rattle.csv.specs.Reading.{strip_bom}
-use Rattle.hsp_text.specs.Answers.{◌>>=◌, or_fault, told_as}
+use Rattle.hsp_text.specs.Answers.{◌>>=◌, or_fault, fault_as}
 use Rattle.hsp_names.specs.Handle.{handle_in}
 use Rattle.hsp_names.specs.declared.fault.HandleFault.TheVariants.{TooLong}
 use Rattle.hsp_instance.specs.Instance.{Site}
@@ -52,7 +52,7 @@ handle_field RegionAndHandle other = None
 -- the handle of the row of a number, or its fault
 abbrev pub handle_at : ℕ → Option (List ℕ) → Result (Option (List ℕ)) RowFault
 handle_at number field =
-    or_fault (Fields number) field >>= λ octets. told_as (BadHandle number) (handle_in octets) >>= λ handle.
+    or_fault (Fields number) field >>= λ octets. fault_as (BadHandle number) (handle_in octets) >>= λ handle.
     Ok (Some handle)
 
 -- the same of a row of any shape: a blank row has none

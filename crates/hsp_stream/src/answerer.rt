@@ -7,10 +7,10 @@ ghost use Rattle.hsp_dispatch.specs.Log.{header_of};
 ghost use Rattle.hsp_dispatch.specs.declared.form.Form.{Form};
 ghost use Rattle.hsp_stream.specs.Asking.{IsHeader, IsNoHeader, States};
 ghost use Rattle.hsp_stream.specs.Saying.{none_said};
-ghost use Rattle.hsp_stream.specs.Telling.{TakesRow};
+ghost use Rattle.hsp_stream.specs.KindAnswers.{TakesRow};
 
 use crate::given::{StreamSums, push_given};
-use crate::teller::Teller;
+use crate::kind_dispatcher::KindDispatcher;
 use hsp_dispatch::{Dispatcher, Form, ServerLines};
 use hsp_row::{RowFields, RowReader, without_mark};
 use hsp_tables::Costs;
@@ -28,7 +28,7 @@ pub(crate) struct Answerer<'a> {
     alloc: Global,
     reader: RowReader,
     lines: ServerLines,
-    teller: Teller<'a>,
+    kind_dispatcher: KindDispatcher<'a>,
     form: Option<Form>,
     sums: StreamSums,
 }
@@ -36,13 +36,13 @@ pub(crate) struct Answerer<'a> {
 impl<'a> Model for Answerer<'a> {
     ghost use Rattle.std.specs.Prelude.{◌≡◌};
     ghost use Rattle.hsp_dispatch.specs.Lines.{lines_of};
-    ghost use Rattle.hsp_stream.specs.Telling.{Answering};
+    ghost use Rattle.hsp_stream.specs.KindAnswers.{Answering};
 
     ghost Value = { Answering };
 
-    ghost view = { λ a. record { form = a.form; teller = a.teller; sums = a.sums } };
+    ghost view = { λ a. record { form = a.form; kind_dispatcher = a.kind_dispatcher; sums = a.sums } };
 
-    ghost invariant = { λ a. a.lines ≡ lines_of a.teller.held.instance };
+    ghost invariant = { λ a. a.lines ≡ lines_of a.kind_dispatcher.held.instance };
 }
 
 // The form of a log whose header has these two fields, or None where they are no header.
@@ -99,7 +99,7 @@ fn form_in(
 }
 
 impl<'a> Answerer<'a> {
-    /// A desk that has taken no row, and answers by what the dispatcher holds. Kinds are told apart by the costs.
+    /// A desk that has taken no row, and answers by what the dispatcher holds. The costs distinguish kinds.
     pub(crate) fn new(
         alloc: Global,
         costs: &'a Costs,
@@ -107,17 +107,17 @@ impl<'a> Answerer<'a> {
     ) -> Result<Answerer<'a>, AllocError>
         ensures { IfOk result (λ desk. desk ≡ record {
           form = None;
-          teller = record { costs = costs.now; held = dispatcher.entry };
+          kind_dispatcher = record { costs = costs.now; held = dispatcher.entry };
           sums = none_said;
         }) }
     {
         let lines = ServerLines::of(alloc, dispatcher.instance())?;
-        let teller = Teller::new(alloc, costs, dispatcher)?;
+        let kind_dispatcher = KindDispatcher::new(alloc, costs, dispatcher)?;
         Ok(Answerer {
             alloc,
             reader: RowReader::new(alloc),
             lines,
-            teller,
+            kind_dispatcher,
             form: None,
             sums: StreamSums::none(),
         })
@@ -151,7 +151,7 @@ impl<'a> Desk for Answerer<'a> {
             return Ok(());
         };
         let Ok(given) = self
-            .teller
+            .kind_dispatcher
             .answer_row(self.alloc, &mut self.reader, form, row)
         else {
             return Err(Refusal::OutOfMemory);

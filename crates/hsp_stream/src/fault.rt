@@ -1,7 +1,7 @@
 // Why a run over a log of any length has no answer.
 
 ghost use Rattle.std.specs.Prelude.{◌≡◌};
-ghost use Rattle.hsp_stream.specs.Faults.{input_told};
+ghost use Rattle.hsp_stream.specs.Faults.{fault_of_input};
 ghost use Rattle.hsp_stream.specs.declared.fault.StreamFault.TheVariants.{OutOfMemory};
 
 use hsp_faults::Fault;
@@ -63,7 +63,7 @@ impl From<AllocError> for StreamFault {
 }
 
 impl From<Fault> for StreamFault {
-    ghost from_gives = { λ input fault. fault ≡ input_told input };
+    ghost from_gives = { λ input fault. fault ≡ fault_of_input input };
 
     fn from(fault: Fault) -> StreamFault {
         match fault {

@@ -23,7 +23,7 @@ pub struct KindsInputs {
     pub costs: Vec<u8>,
 }
 
-// What tells kinds apart.
+// What distinguishes kinds.
 #[derive(Drop)]
 pub(crate) struct Files {
     pub(crate) sites: Sites,

@@ -6,7 +6,7 @@ ghost use Rattle.hsp_csv.specs.Records.{IsKnown, IsReading, records_left, record
 ghost use Rattle.hsp_text.specs.Answers.{Gives};
 ghost use Rattle.hsp_text.specs.Name.{is_name};
 ghost use Rattle.hsp_tally.specs.Tally.{IsWhole};
-ghost use Rattle.hsp_stream.specs.KindsLog.{IsReadFault, count_in, form_of, kinds_told, log_joined, parts_in};
+ghost use Rattle.hsp_stream.specs.KindsLog.{IsReadFault, count_in, form_of, fault_of_kinds, log_joined, parts_in};
 ghost use Rattle.hsp_stream.specs.KindsLog.{parts_joined, record_joined, row_of, rows_joined};
 ghost use Rattle.hsp_stream.specs.KindsShown.{parts_shown, row_shown};
 ghost use Rattle.hsp_stream.specs.declared.fault.StreamFault.TheVariants.{OutOfMemory};
@@ -50,9 +50,9 @@ pub(crate) struct LogRow<'a> {
 }
 
 impl From<RecordsFault> for StreamFault {
-    ghost use Rattle.hsp_stream.specs.KindsLog.{records_told};
+    ghost use Rattle.hsp_stream.specs.KindsLog.{fault_of_records};
 
-    ghost from_gives = { λ records fault. fault ≡ records_told records };
+    ghost from_gives = { λ records fault. fault ≡ fault_of_records records };
 
     fn from(fault: RecordsFault) -> StreamFault {
         match fault {
@@ -145,8 +145,8 @@ fn row_of(row: u64, parts: Parts<'_>) -> Result<LogRow<'_>, RowFault>
 }
 
 // The fault of a row that can't be counted.
-fn kinds_told(row: u64, fault: KindsFault) -> StreamFault
-    ensures { result ≡ kinds_told row fault }
+fn fault_of_kinds(row: u64, fault: KindsFault) -> StreamFault
+    ensures { result ≡ fault_of_kinds row fault }
 {
     match fault {
         KindsFault::TooManyRegions => StreamFault::Log(RowFault::TooManyRegions { row }),
@@ -177,7 +177,7 @@ fn count_row(
     };
     match kinds.count_new(alloc, read.region, read.handle, read.count) {
         Ok(()) => Ok(()),
-        Err(fault) => Err(kinds_told(row, fault)),
+        Err(fault) => Err(fault_of_kinds(row, fault)),
     }
 }
 

@@ -11,6 +11,7 @@ mod fault;
 mod fault_text;
 mod given;
 mod handle_rows;
+mod kind_dispatcher;
 mod kinds;
 mod kinds_files;
 pub mod kinds_laws;
@@ -23,7 +24,6 @@ mod portions;
 mod row_refusal;
 mod speaking;
 mod sums;
-mod teller;
 
 pub use answering::answer_run;
 pub use fault::{RowFault, StreamFault};

@@ -35,8 +35,8 @@ pub(crate) fn answer_rows<P: Peer>(
     requires form { desk.old.form ≡ None }
     requires sums { desk.old.sums ≡ none_said }
     ensures answered { Went (P.known peer.old) (P.known peer.new) (λ events.
-        EndsBy desk.old.teller.costs desk.old.teller.held.instance
-        (left_of desk.old.teller.held) events result) }
+        EndsBy desk.old.kind_dispatcher.costs desk.old.kind_dispatcher.held.instance
+        (left_of desk.old.kind_dispatcher.held) events result) }
     ensures log { IfErr result (λ e. IsBeforeLog e → ⊥) }
 {
     match talk(alloc, desk, peer) {

@@ -1,6 +1,6 @@
 -- How the program ends: its last line, and its status.
 use Rattle.std.specs.Prelude.{◌≡◌, ◌⊎◌, ◌++◌, ◌∷◌, [], ℕ, List, codes, Option, Some, None, Result, Ok, Err}
-use Rattle.hsp_cli.specs.Ending.{IsHandedWith, Line, TellsBy}
+use Rattle.hsp_cli.specs.Ending.{IsHandedWith, Line, ReportsBy}
 use Rattle.hsp_stream.specs.Lines.{fault_text, status_in, sums_text}
 use Rattle.hsp_stream.specs.declared.given.StreamSums.{StreamSums}
 use Rattle.hsp_stream_cli.specs.declared.failure.StreamFailure.{StreamFailure}
@@ -37,14 +37,14 @@ status_after (Ok sums) = 0
 status_after (Err failure) = failure_status failure
 
 -- the line is printed, or nothing is done where it is empty
-abbrev pub TellsAny : Type 0 → List ℕ → ℕ → Option (List ℕ) → Option (List ℕ) → ℕ → Type 0
-TellsAny MayFail [] wanted old new status = (new ≡ old) × (status ≡ wanted)
-TellsAny MayFail (octet ∷ octets) wanted old new status = TellsBy MayFail (octet ∷ octets) wanted old new status
+abbrev pub ReportsAny : Type 0 → List ℕ → ℕ → Option (List ℕ) → Option (List ℕ) → ℕ → Type 0
+ReportsAny MayFail [] wanted old new status = (new ≡ old) × (status ≡ wanted)
+ReportsAny MayFail (octet ∷ octets) wanted old new status = ReportsBy MayFail (octet ∷ octets) wanted old new status
 
 -- in place of a line for which memory ran out, it is printed that it ran out
 abbrev pub Ends : Type 0 → Line → ℕ → Option (List ℕ) → Option (List ℕ) → ℕ → Type 0
-Ends MayFail (Ok line) wanted old new status = TellsAny MayFail line.items wanted old new status
-Ends MayFail (Err lacking) wanted old new status = TellsBy MayFail (failure_text Memory) 4 old new status
+Ends MayFail (Ok line) wanted old new status = ReportsAny MayFail line.items wanted old new status
+Ends MayFail (Err lacking) wanted old new status = ReportsBy MayFail (failure_text Memory) 4 old new status
 
 -- the output is as it was, or what it holds was handed on, or a write failed, as it may
 abbrev pub IsHandedOrUntouched : {E : Type 0} → Type 0 → E → E → Option (List ℕ) → Option (List ℕ) → ℕ → Type 0

@@ -3,7 +3,7 @@ use Rattle.hsp_cli_orders.specs.declared.fault.CommandFault.{CommandFault}
 use Rattle.hsp_cli_orders.specs.declared.fault.CommandFault.TheVariants as command_fault
 use Rattle.hsp_cli.specs.declared.failure.Failure.{Failure}
 use Rattle.hsp_cli.specs.declared.failure.Failure.TheVariants as file
-use Rattle.hsp_stream.specs.Faults.{input_told}
+use Rattle.hsp_stream.specs.Faults.{fault_of_input}
 use Rattle.hsp_stream_cli.specs.declared.failure.StreamFailure.{StreamFailure}
 use Rattle.hsp_stream_cli.specs.declared.failure.StreamFailure.TheVariants.{Usage, Memory, Read, Write, Refused}
 
@@ -18,4 +18,4 @@ file_failure file.Usage = Usage
 file_failure file.Memory = Memory
 file_failure file.Read = Read
 file_failure file.Write = Write
-file_failure (file.Refused fault) = Refused (input_told fault)
+file_failure (file.Refused fault) = Refused (fault_of_input fault)

@@ -1,7 +1,7 @@
 // How the program ends: its last line, and its status.
 
 ghost use Rattle.std.specs.Prelude.{◌≡◌, IfOk};
-ghost use Rattle.hsp_cli.specs.Ending.{IsHandedWith, TellsBy};
+ghost use Rattle.hsp_cli.specs.Ending.{IsHandedWith, ReportsBy};
 ghost use Rattle.hsp_stream_cli.specs.Ending.{Ends, IsHandedOrUntouched, failure_text, last_text, status_after};
 
 use crate::failure::StreamFailure;
@@ -51,7 +51,7 @@ pub fn status_after(ended: &Result<Option<StreamSums>, StreamFailure>) -> u8
 
 // Writes a text, and returns the status, which becomes 5 where the write failed.
 fn write_line<E: Output>(errors: &mut E, line: &[u8], status: u8) -> u8
-    ensures tells { TellsBy E.may_fail line.now status (E.contents errors.old)
+    ensures reports { ReportsBy E.may_fail line.now status (E.contents errors.old)
         (E.contents errors.new) result }
     ensures handed { IsHandedWith E.may_fail (E.contents errors.new) (E.handed errors.new) result }
 {

@@ -24,32 +24,32 @@ use Rattle.hsp_tables.proofs.TurnLaws.{all_spelled, two_steps}
 -- ---- sites
 
 -- what a table tells of a site's octets
-abbrev pub IsToldBy : Option Data → Option Data → SiteSource → Type 0
-IsToldBy hexadecimal number (octets bytes) = (digits : List ℕ) × (hexadecimal ≡ Some (toml.string digits)) × (number ≡ None) × (decode_of digits ≡ Ok bytes)
-IsToldBy hexadecimal number (index i) = (hexadecimal ≡ None) × (number ≡ Some (toml.integer (pos i))) × (i ≤ greatest_of_32_bits)
+abbrev pub IsStatedBy : Option Data → Option Data → SiteSource → Type 0
+IsStatedBy hexadecimal number (octets bytes) = (digits : List ℕ) × (hexadecimal ≡ Some (toml.string digits)) × (number ≡ None) × (decode_of digits ≡ Ok bytes)
+IsStatedBy hexadecimal number (index i) = (hexadecimal ≡ None) × (number ≡ Some (toml.integer (pos i))) × (i ≤ greatest_of_32_bits)
 
-pub record TellsSite (members : Members) (site : SiteEntry) : Type 0 where
+pub record StatesSite (members : Members) (site : SiteEntry) : Type 0 where
   pub keys : list_all is_site_key (keys_in members) ≡ true
   pub name : get_member (codes "name") members ≡ Some (toml.string site.name)
   pub is_name : is_name site.name ≡ true
-  pub source : IsToldBy (get_member (codes "record") members) (get_member (codes "index") members) site.source
+  pub source : IsStatedBy (get_member (codes "record") members) (get_member (codes "index") members) site.source
 
 name_is : (n : ℕ) (value : Option Data) (name : List ℕ) → site_name n value ≡ Ok name → (value ≡ Some (toml.string name)) × (is_name name ≡ true)
 name_is n value name e = grind arith
 
-source_is : (n : ℕ) (a b : Option Data) (source : SiteSource) → site_source n a b ≡ Ok source → IsToldBy a b source
+source_is : (n : ℕ) (a b : Option Data) (source : SiteSource) → site_source n a b ≡ Ok source → IsStatedBy a b source
 source_is n a b (octets bytes) e = grind (arith, nat_tests)
 source_is n a b (index i) e = grind (arith, nat_tests)
 
-source_is_read : (n : ℕ) (a b : Option Data) (source : SiteSource) → IsToldBy a b source → site_source n a b ≡ Ok source
+source_is_read : (n : ℕ) (a b : Option Data) (source : SiteSource) → IsStatedBy a b source → site_source n a b ≡ Ok source
 source_is_read n a b (octets bytes) told = rw (told.1, told.2, told.3) refl
 source_is_read n a b (index i) told = rw (told.0, told.1, le-leb i greatest_of_32_bits told.2) refl
 
-source_within : (a b : Option Data) (source : SiteSource) → IsToldBy a b source → IsSource source
+source_within : (a b : Option Data) (source : SiteSource) → IsStatedBy a b source → IsSource source
 source_within a b (octets bytes) told = tt
 source_within a b (index i) told = told.2
 
-pub site_is : (n : ℕ) (value : Data) (site : SiteEntry) → site_at n value ≡ Ok site → (members : Members) × (value ≡ toml.table members) × TellsSite members site
+pub site_is : (n : ℕ) (value : Data) (site : SiteEntry) → site_at n value ≡ Ok site → (members : Members) × (value ≡ toml.table members) × StatesSite members site
 site_is n value site e =
     let table : (members : Members) × (value ≡ toml.table members) × (site_in n members ≡ Ok site) = grind arith in
     let ms = table.0 in
@@ -61,7 +61,7 @@ site_is n value site e =
     let of = source_is n (get_member (codes "record") ms) (get_member (codes "index") ms) source sourced in
     (ms, table.1, rw (← same) (record { keys = tests; name = is.0; is_name = is.1; source = of }))
 
-pub site_is_read : (n : ℕ) (members : Members) (site : SiteEntry) → TellsSite members site → site_at n (toml.table members) ≡ Ok site
+pub site_is_read : (n : ℕ) (members : Members) (site : SiteEntry) → StatesSite members site → site_at n (toml.table members) ≡ Ok site
 site_is_read n ms site tells =
     let source = source_is_read n (get_member (codes "record") ms) (get_member (codes "index") ms) site.source tells.source in
     rw (tells.keys, tells.name, tells.is_name, source) refl
@@ -73,7 +73,7 @@ site_entry n value site e =
 
 -- ---- hosts
 
-pub record TellsHost (members : Members) (host : HostEntry) : Type 0 where
+pub record StatesHost (members : Members) (host : HostEntry) : Type 0 where
   pub keys : list_all is_host_key (keys_in members) ≡ true
   pub digits : List ℕ
   pub address : get_member (codes "address") members ≡ Some (toml.string digits)
@@ -81,14 +81,14 @@ pub record TellsHost (members : Members) (host : HostEntry) : Type 0 where
   pub limit : get_member (codes "limit") members ≡ Some (toml.integer (pos host.limit))
   pub limited : host.limit ≤ GREATEST_LIMIT
 
-pub host_is : (n : ℕ) (value : Data) (host : HostEntry) → host_at n value ≡ Ok host → (members : Members) × (value ≡ toml.table members) × TellsHost members host
+pub host_is : (n : ℕ) (value : Data) (host : HostEntry) → host_at n value ≡ Ok host → (members : Members) × (value ≡ toml.table members) × StatesHost members host
 host_is n value host e =
     let read : (ms : Members) × (value ≡ toml.table ms) × (list_all is_host_key (keys_in ms) ≡ true)
     × (digits : List ℕ) × (get_member (codes "address") ms ≡ Some (toml.string digits)) × (decode_sized digits 16 ≡ Ok host.address)
     × (get_member (codes "limit") ms ≡ Some (toml.integer (pos host.limit))) × (host.limit ≤ GREATEST_LIMIT) = grind (arith, nat_tests) in
     (read.0, read.1, record { keys = read.2; digits = read.3; address = read.4; decoded = read.5; limit = read.6; limited = read.7 })
 
-pub host_is_read : (n : ℕ) (members : Members) (host : HostEntry) → TellsHost members host → host_at n (toml.table members) ≡ Ok host
+pub host_is_read : (n : ℕ) (members : Members) (host : HostEntry) → StatesHost members host → host_at n (toml.table members) ≡ Ok host
 host_is_read n ms host tells = rw (tells.keys, tells.address, tells.decoded, tells.limit, le-leb host.limit GREATEST_LIMIT tells.limited) refl
 
 -- sixteen octets are decoded where there is room for sixteen

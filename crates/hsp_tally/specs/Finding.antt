@@ -5,7 +5,7 @@ use Rattle.hsp_instance.specs.Building.{or_else}
 use Rattle.hsp_instance.specs.Instance.{Instance, Row, Site, has_keys}
 use Rattle.hsp_kinds.specs.Rows.{is_same_kind}
 
--- an instance, and the costs by which kinds are told apart
+-- an instance, and the costs that distinguish kinds
 pub record Finding : Type 0 where
   pub costs : List CostEntry
   pub it : Instance

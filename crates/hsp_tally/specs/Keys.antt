@@ -44,7 +44,7 @@ HasSites costs sites known =
 abbrev pub with_region : List (List ℕ) → List ℕ → List (List ℕ)
 with_region regions region = insert_key bytes_eq regions region
 
--- the costs and sites by which kinds are told apart, the regions that were sought, and the places that were found last
+-- the costs and sites that distinguish kinds, the regions that were sought, and the places that were found last
 pub record Sought : Type 0 where
   pub costs : List CostEntry
   pub sites : List Site

@@ -22,7 +22,7 @@ with_more row more = record { region = row.region; handle = row.handle; count = 
 abbrev pub by_capped : List CostEntry → List Site → Kinding Row
 by_capped costs sites = record { same = is_same_kind costs sites; with_count_of = λ a b. with_more a b.count }
 
--- a table of kinds: the costs and sites by which kinds are told apart, the regions that were sought, and a row for each
+-- a table of kinds: the costs and sites that distinguish kinds, the regions that were sought, and a row for each
 -- kind
 pub record KindTable : Type 0 where
   pub costs : List CostEntry

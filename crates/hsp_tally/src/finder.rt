@@ -53,7 +53,7 @@ impl<'a> Model for RowFinder<'a> {
 }
 
 impl<'a> RowFinder<'a> {
-    /// A finder of the rows of an instance. Kinds are told apart by the costs.
+    /// A finder of the rows of an instance. The costs distinguish kinds.
     pub fn new(
         alloc: Global,
         instance: &'a Instance,

@@ -18,9 +18,9 @@ or_fault fault None = Err fault
 or_fault fault (Some x) = Ok x
 
 -- a part's answer in the terms of the whole
-abbrev pub told_as : {A E F : Type 0} → (E → F) → Result A E → Result A F
-told_as part (Ok x) = Ok x
-told_as part (Err e) = Err (part e)
+abbrev pub fault_as : {A E F : Type 0} → (E → F) → Result A E → Result A F
+fault_as part (Ok x) = Ok x
+fault_as part (Err e) = Err (part e)
 
 -- what follows a step: the next one with what it gave, or its fault
 abbrev pub Follows : {A B E : Type 0} → Result A E → (A → Result B E → Type 0) → Result B E → Type 0

@@ -20,7 +20,7 @@ at_one (Some k) m w x in' =
     (λ h l ne. let e : at h ≡ 0 = rw (ne_eqb k h (λ q. ne (sym q))) in ap (λ v. w h * v) e ∙ mul-zero (w h))
     ∙ ap (λ v. w k * v) here
 
--- a weight that depends on the host alone: the sum over the servers is the sum over the hosts
+-- a weight that depends only on the host: the sum over the servers is the sum over the hosts
 by_host : (host_of : ℕ → Option ℕ) (w g : ℕ → ℕ) (n m : ℕ) → ((j h : ℕ) → j < n → host_of j ≡ Some h → h < m) →
     sum_below n (λ j. at_host (host_of j) w * g j) ≡ sum_below m (λ h. w h * sum_below n (λ j. if is_on (host_of j) h then g j else 0))
 by_host host_of w g zero m in' = sym (sum_below_zero m (λ h. w h * 0) (λ h l. mul-zero (w h)))
@@ -133,7 +133,7 @@ module _ {A : Type 0} (n : Network A) (is : IsNetwork n) where
       let c : sum_by (λ a. reached (n.server a) * x a) n.arcs ≡ sum_below (length n.capacities) gets =
       by_key n.server x reached (length n.capacities) n.arcs is.servers in
       let s = split_host n.host_of gets (length n.capacities) (length n.limits) is.hosts in
-      let alone : sum_below (length n.capacities) (λ j. if is_none (n.host_of j) then gets j else 0) ≤ sum_below (length n.capacities) (λ j. if is_none (n.host_of j) then reached_capacity n set j else 0) =
+      let unhosted : sum_below (length n.capacities) (λ j. if is_none (n.host_of j) then gets j else 0) ≤ sum_below (length n.capacities) (λ j. if is_none (n.host_of j) then reached_capacity n set j else 0) =
       sum_below_le (length n.capacities) _ _ (λ j l. kept (is_none (n.host_of j)) _ _ (has (reaches n set j) _ _ (feasible.within j l))) in
       let hosted : sum_below (length n.limits) (λ h. on_host n gets h) ≤ sum_below (length n.limits) (λ h. min (slice_index n.limits h) (on_host n (reached_capacity n set) h)) =
       sum_below_le (length n.limits) _ _ (λ h l.

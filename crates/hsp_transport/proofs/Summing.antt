@@ -32,7 +32,7 @@ sum_below_add (suc n) f g =
     let a : sum_below n (λ k. f k + g k) ≡ sum_below n f + sum_below n g = sum_below_add n f g in
     omega arith
 
--- one term alone
+-- only one term
 pub sum_below_one : (n : ℕ) (f : ℕ → ℕ) (i : ℕ) → i < n → ((k : ℕ) → k < n → (k ≡ i → ⊥) → f k ≡ 0) → sum_below n f ≡ f i
 sum_below_one zero f i l h = absurd (omega arith)
 sum_below_one (suc n) f i l h = elim (cases_eq n i) [
@@ -67,7 +67,7 @@ module _ {A : Type 0} where
       let b : sum_by (λ a. f a + g a) xs ≡ sum_by f xs + sum_by g xs = sum_by_add f g xs in
       omega (arith, sum_by-cons f x xs, sum_by-cons g x xs, sum_by-cons (λ a. f a + g a) x xs)
 
-  -- a weight that depends on a key alone: the sum over the elements is the sum over the keys
+  -- a weight that depends only on a key: the sum over the elements is the sum over the keys
   pub by_key : (key : A → ℕ) (f : A → ℕ) (w : ℕ → ℕ) (n : ℕ) (xs : List A) → All (λ a. key a < n) xs →
       sum_by (λ a. w (key a) * f a) xs ≡ sum_below n (λ k. w k * sum_by (λ a. if key a == k then f a else 0) xs)
   by_key key f w n [] h = sym (sum_below_zero n (λ k. w k * 0) (λ k l. mul-zero (w k)))

@@ -1,5 +1,5 @@
 use Rattle.std.proofs.Common.{◌≡◌, ◌∙◌, length, ap}
-use Rattle.hsp_check.proofs.UsesTold.{written, arc_flows_made, all_tested, one_lost}
+use Rattle.hsp_check.proofs.UsesWritten.{written, arc_flows_made, all_tested, one_lost}
 use Rattle.hsp_check.proofs.arc_flows.flows_by_uses.Goals as goal
 
 pub returns-then-add_uses-clause-arc_flows : goal.returns-then-add_uses-clause-arc_flows

@@ -1,10 +1,10 @@
 use Rattle.std.proofs.Common.{◌≡◌, drop, false, map}
 use Rattle.clap.specs.Words.{app_of}
 use Rattle.hsp_cli_options.specs.Commands.{with_rules}
-use Rattle.hsp_cli_options.specs.Tables.{has_globals_of, rule_told}
+use Rattle.hsp_cli_options.specs.Tables.{has_globals_of, rule_for}
 use Rattle.hsp_cli_options.proofs.commands.with_arguments.Given as goal
 
 abbrev pub invariant-loop-argument : goal.invariant-loop-argument
 invariant-loop-argument l =
-    (with_rules (app_of l.command) (map rule_told (drop l.argument-index l.arguments)) ≡ with_rules (app_of l.fn.command) (map rule_told l.arguments))
+    (with_rules (app_of l.command) (map rule_for (drop l.argument-index l.arguments)) ≡ with_rules (app_of l.fn.command) (map rule_for l.arguments))
     × (has_globals_of l.command ≡ false)

@@ -1,5 +1,5 @@
 use Rattle.hsp_dispatch.proofs.Dispatching.{never_exceeds}
-use Rattle.hsp_stream.specs.Telling.{entries_in}
+use Rattle.hsp_stream.specs.KindAnswers.{entries_in}
 use Rattle.hsp_stream.proofs.answer_laws.answers_keep_within.Goals as goal
 
 pub returns : goal.returns

@@ -2,7 +2,7 @@ use Rattle.std.proofs.Common.{◌≡◌, ◌⊎◌, inl, inr, List, ℕ, Ok, Err
 use Rattle.std.proofs.lemmas.Result.{IfErr-weaker, IfOk-weaker, err_from_is_err_and}
 use Rattle.std.specs.Prelude.{IfSome}
 use Rattle.hsp_csv.specs.Records.{records_of}
-use Rattle.hsp_stream.specs.Faults.{input_told}
+use Rattle.hsp_stream.specs.Faults.{fault_of_input}
 use Rattle.hsp_stream.specs.KindsLog.{IsReadFault}
 use Rattle.hsp_stream.specs.KindsRun.{IsKindsText, kinds_text}
 use Rattle.hsp_stream.specs.declared.fault.StreamFault.{StreamFault}
@@ -14,9 +14,9 @@ returns-in_err-files-clause-fault g c =
     let word = option_map (λ (o : Bor (List ℕ)). o.now) c.args.unit in
     let told = err_from_is_err_and c.from_residual-in_err-files.result c.from_residual-in_err-files.ensures.1 in
     rw (told.1, told.2) (elim c.in_err-files.ensures [
-      | inl memory ↦ inl (inl (ap input_told memory))
+      | inl memory ↦ inl (inl (ap fault_of_input memory))
       | inr files ↦
-          inr (some_all (λ (octets : List ℕ). IsKindsText c.args.inputs.now word (records_of octets) (Err (input_told c.in_err-files.field-0.0))) (g.R.Read.remaining c.args.log)
+          inr (some_all (λ (octets : List ℕ). IsKindsText c.args.inputs.now word (records_of octets) (Err (fault_of_input c.in_err-files.field-0.0))) (g.R.Read.remaining c.args.log)
           (λ octets. files_stop c.args.inputs.now word (records_of octets) c.in_ok-unit.unit c.in_err-files.field-0.0 c.in_ok-unit.ensures.unit files))
     ])
 

@@ -45,17 +45,17 @@ abbrev pub HasKeys : List (List ℕ) → Members → Type 0
 HasKeys keys members = list_all (λ key. list_any (bytes_eq key) keys) (keys_in members) ≡ true
 
 -- the tables of an array state the rows, one each
-abbrev pub EachTells : {Row : Type 0} → (Members → Row → Type 0) → Items → List Row → Type 0
-EachTells Tells toml.no_items [] = ⊤
-EachTells Tells (toml.item value items) (row ∷ rows) =
-    (members : Members) × (value ≡ toml.table members) × Tells members row × EachTells Tells items rows
-EachTells Tells items rows = ⊥
+abbrev pub EachStates : {Row : Type 0} → (Members → Row → Type 0) → Items → List Row → Type 0
+EachStates States toml.no_items [] = ⊤
+EachStates States (toml.item value items) (row ∷ rows) =
+    (members : Members) × (value ≡ toml.table members) × States members row × EachStates States items rows
+EachStates States items rows = ⊥
 
 -- those of the array at a key, or none where there is no such key
 abbrev pub AreTablesAt : {Row : Type 0} → (Members → Row → Type 0) → Option Data → List Row → Type 0
-AreTablesAt Tells value rows =
+AreTablesAt States value rows =
     (items : Items) × ((value ≡ Some (toml.array items)) ⊎ ((value ≡ None) × (items ≡ toml.no_items)))
-    × EachTells Tells items rows
+    × EachStates States items rows
 
 -- the data of the value of an index, of type HS_SITE
 abbrev pub IsData : Option (List HandleValue) → ℕ → List ℕ → Type 0
@@ -82,7 +82,7 @@ pub record IsRecordOf (site : Site) (octets : List ℕ) : Type 0 where
   pub some : 0 < length site.servers
   pub apart : IsDistinct (λ (a b : SiteServer). b.id == a.id) site.servers
 
-pub record TellsSite (values : Option (List HandleValue)) (members : Members) (site : Site) : Type 0 where
+pub record StatesSite (values : Option (List HandleValue)) (members : Members) (site : Site) : Type 0 where
   pub keys : HasKeys (codes "name" ∷ codes "record" ∷ codes "index" ∷ []) members
   pub name : get_member (codes "name") members ≡ Some (toml.string site.name)
   pub is_name : is_name site.name ≡ true
@@ -92,7 +92,7 @@ pub record TellsSite (values : Option (List HandleValue)) (members : Members) (s
   pub spelled : IsRecordOf site octets
 
 -- an address of 16 octets, in hexadecimal digits, and a limit
-pub record TellsHost (members : Members) (host : Host) : Type 0 where
+pub record StatesHost (members : Members) (host : Host) : Type 0 where
   pub keys : HasKeys (codes "address" ∷ codes "limit" ∷ []) members
   pub digits : List ℕ
   pub address : get_member (codes "address") members ≡ Some (toml.string digits)

@@ -1,10 +1,10 @@
 use Rattle.std.proofs.Common.{inl, inr, refl}
 use Rattle.hsp_row.specs.Row.{row_shown}
-use Rattle.hsp_stream.proofs.Tellings.{refused_so}
+use Rattle.hsp_stream.proofs.KindAnswers.{refused_so}
 use Rattle.hsp_stream.specs.Asking.{AsksByFields}
 use Rattle.hsp_stream.specs.Asking.Asked.{bad}
 use Rattle.hsp_stream.specs.declared.row_refusal.RowRefusal.TheVariants.{Fields}
-use Rattle.hsp_stream.proofs.teller.Teller.answer_fields.Goals as goal
+use Rattle.hsp_stream.proofs.kind_dispatcher.KindDispatcher.answer_fields.Goals as goal
 
 pub returns-in-One-clause-given : goal.returns-in-One-clause-given
 returns-in-One-clause-given c =

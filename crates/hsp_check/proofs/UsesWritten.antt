@@ -1,4 +1,4 @@
--- What laying the uses tells of the arcs and the uses.
+-- What is known of the arcs once the uses are written.
 use Rattle.std.proofs.Common.{◌≡◌, ℕ, ◌<◌, ◌==◌, ◌∙◌, true, List, length, take, drop, map, All, ◌++◌, ap, sym, arith, eq-eqb, eqb-true, take_all}
 use Rattle.std.specs.Prelude.{◌&&◌}
 use Rattle.std.proofs.Math.ListN.{get_or-map as get_or_of_map}

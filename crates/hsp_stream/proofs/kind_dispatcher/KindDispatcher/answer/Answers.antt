@@ -1,8 +1,8 @@
 use Rattle.std.proofs.Common.{◌≡◌, ◌∙◌, ◌<◌, length, None, Some, sym}
 use Rattle.hsp_dispatch.specs.Shares.{query}
 use Rattle.hsp_tally.specs.Finding.{row_found}
-use Rattle.hsp_stream.proofs.Tellings.{row_within, taken_so, unknown_so}
-use Rattle.hsp_stream.proofs.teller.Teller.answer.Goals as goal
+use Rattle.hsp_stream.proofs.KindAnswers.{row_within, taken_so, unknown_so}
+use Rattle.hsp_stream.proofs.kind_dispatcher.KindDispatcher.answer.Goals as goal
 
 pub returns-in_default-clause-given : goal.returns-in_default-clause-given
 returns-in_default-clause-given c =

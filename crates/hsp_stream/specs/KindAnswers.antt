@@ -1,4 +1,4 @@
--- Who answers the queries of rows: by the rows of their kinds, and by what is left of a plan for these.
+-- How the queries of rows are answered: by the rows of their kinds, and by what is left of a plan for these.
 use Rattle.std.specs.Prelude.{◌≡◌, ℕ, List, [], ◌∷◌, length, map, Option, None, Some}
 use Rattle.std.specs.List.{slice_get}
 use Rattle.hsp_tables.specs.Costs.{CostEntry}
@@ -51,19 +51,19 @@ pub record AreAnswered (costs : List CostEntry) (it : Instance) (x left : Plan) 
 
 -- ---- one row
 
--- who answers: the costs by which kinds are told apart, and what is held of a plan
-pub record Telling : Type 0 where
+-- what a dispatcher by kinds holds: the costs that distinguish kinds, and what is left of a plan
+pub record KindsHeld : Type 0 where
   pub costs : List CostEntry
   pub held : Held
 
 -- what is said by what is held
-abbrev pub said_by : Telling → Asked → Said
-said_by teller nothing = silent
-said_by teller (query entry) = answered (answer_by teller.held (entry_for teller.costs teller.held.instance entry))
-said_by teller (bad refusal) = refused refusal
+abbrev pub said_by : KindsHeld → Asked → Said
+said_by own nothing = silent
+said_by own (query entry) = answered (answer_by own.held (entry_for own.costs own.held.instance entry))
+said_by own (bad refusal) = refused refusal
 
 -- what a row asks is answered so
-pub record IsGiven (old : Telling) (asked : Asked) (new : Telling) (given : Given) : Type 0 where
+pub record IsGiven (old : KindsHeld) (asked : Asked) (new : KindsHeld) (given : Given) : Type 0 where
   pub costs : new.costs ≡ old.costs
   pub instance : new.held.instance ≡ old.held.instance
   pub among : IsAmong (length old.held.instance.servers) given
@@ -72,10 +72,10 @@ pub record IsGiven (old : Telling) (asked : Asked) (new : Telling) (given : Give
       IsSame (left_of new.held)
       (rest old.held.instance (left_of old.held) (entries_in old.costs old.held.instance (asked ∷ [])))
 
--- a desk: the form of the log, once its header was taken, who answers, and the sums so far
+-- a desk: the form of the log, once its header was taken, what its dispatcher holds, and the sums so far
 pub record Answering : Type 0 where
   pub form : Option Form
-  pub teller : Telling
+  pub kind_dispatcher : KindsHeld
   pub sums : StreamSums
 
 -- a desk takes a row with this answer
@@ -83,6 +83,6 @@ pub record TakesRow (old : Answering) (row : List ℕ) (new : Answering) (answer
   pub asked : Asked
   pub given : Given
   pub asks : AsksAt old.form row asked new.form
-  pub is : IsGiven old.teller asked new.teller given
-  pub line : answer ≡ said_line old.teller.held.instance (said_of old.teller.held.instance given)
+  pub is : IsGiven old.kind_dispatcher asked new.kind_dispatcher given
+  pub line : answer ≡ said_line old.kind_dispatcher.held.instance (said_of old.kind_dispatcher.held.instance given)
   pub sums : new.sums ≡ with_given old.sums given

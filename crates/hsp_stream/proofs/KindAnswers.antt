@@ -19,7 +19,7 @@ use Rattle.hsp_dispatch.proofs.Resting.{rest_none, rest_unknown}
 use Rattle.hsp_stream.specs.Asking.Asked.{bad, query}
 use Rattle.hsp_stream.specs.Saying.{IsAmong, given_of, said_of}
 use Rattle.hsp_stream.specs.Saying.Said.{answered}
-use Rattle.hsp_stream.specs.Telling.{IsGiven, Telling, entry_for}
+use Rattle.hsp_stream.specs.KindAnswers.{IsGiven, KindsHeld, entry_for}
 use Rattle.hsp_stream.specs.declared.given.Given.TheVariants as given
 use Rattle.hsp_stream.specs.declared.row_refusal.RowRefusal.{RowRefusal}
 
@@ -87,17 +87,17 @@ no_entry costs it entry found = rw found (by (position (has_keys entry.region en
 
 -- ---- who answers
 
-abbrev pub telling : Finding → Held → Telling
-telling finder held = record { costs = finder.costs; held = held }
+abbrev pub kinds_held : Finding → Held → KindsHeld
+kinds_held finder held = record { costs = finder.costs; held = held }
 
-nothing_left : (teller : Telling) → IsSame (left_of teller.held) (rest teller.held.instance (left_of teller.held) [])
-nothing_left teller = rest_none teller.held.instance (left_of teller.held)
+nothing_left : (kind_dispatcher : KindsHeld) → IsSame (left_of kind_dispatcher.held) (rest kind_dispatcher.held.instance (left_of kind_dispatcher.held) [])
+nothing_left kind_dispatcher = rest_none kind_dispatcher.held.instance (left_of kind_dispatcher.held)
 
-pub refused_so : (teller : Telling) (refusal : RowRefusal) → IsGiven teller (bad refusal) teller (given.Refused refusal)
-refused_so teller refusal = record { costs = refl; instance = refl; among = tt; said_is = refl; left = nothing_left teller }
+pub refused_so : (kind_dispatcher : KindsHeld) (refusal : RowRefusal) → IsGiven kind_dispatcher (bad refusal) kind_dispatcher (given.Refused refusal)
+refused_so kind_dispatcher refusal = record { costs = refl; instance = refl; among = tt; said_is = refl; left = nothing_left kind_dispatcher }
 
 pub unknown_so : (finder new_finder : Finding) (held : Held) (entry : Entry) → finder.it ≡ held.instance → new_finder ≡ finder
-    → row_found finder entry.region entry.handle ≡ None → IsGiven (telling finder held) (query entry) (telling new_finder held) given.Unknown
+    → row_found finder entry.region entry.handle ≡ None → IsGiven (kinds_held finder held) (query entry) (kinds_held new_finder held) given.Unknown
 unknown_so finder new_finder held entry same new found =
     let none = no_entry finder.costs held.instance entry (rw same at found) in
     record {
@@ -119,7 +119,7 @@ among_taken servers (Some server) within = within
 pub taken_so : (finder new_finder : Finding) (held new : Held) (entry : Entry) (k : ℕ) (taken : Option ℕ) → IsInstance held.instance → finder.it ≡ held.instance
     → new_finder ≡ finder → row_found finder entry.region entry.handle ≡ Some k → new.instance ≡ held.instance
     → taken_answer held.instance taken ≡ first_answer held k → IfSome taken (λ server. server < length held.instance.servers) → IsRestOf held k new
-    → IsGiven (telling finder held) (query entry) (telling new_finder new) (given_of taken)
+    → IsGiven (kinds_held finder held) (query entry) (kinds_held new_finder new) (given_of taken)
 taken_so finder new_finder held new entry k taken is same same_finder found instance answer within left =
     let own = entry_row finder.costs held.instance entry k is (rw same at found) in
     record {

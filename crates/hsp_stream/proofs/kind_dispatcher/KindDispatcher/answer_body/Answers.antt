@@ -2,8 +2,8 @@ use Rattle.std.proofs.Common.{inr, refl, ◌≡◌, Ok}
 use Rattle.hex.specs.Hex.{decode_of}
 use Rattle.hsp_stream.specs.Asking.Asked.{bad}
 use Rattle.hsp_stream.specs.declared.row_refusal.RowRefusal.TheVariants.{BadBody}
-use Rattle.hsp_stream.proofs.Tellings.{refused_so}
-use Rattle.hsp_stream.proofs.teller.Teller.answer_body.Goals as goal
+use Rattle.hsp_stream.proofs.KindAnswers.{refused_so}
+use Rattle.hsp_stream.proofs.kind_dispatcher.KindDispatcher.answer_body.Goals as goal
 
 pub returns-in_default-clause-given : goal.returns-in_default-clause-given
 returns-in_default-clause-given c =

@@ -1,4 +1,4 @@
-// Who answers the queries of rows, by the rows of their kinds and by what is left of a plan.
+// A dispatcher of the queries of rows, by the rows of their kinds and by what is left of a plan.
 
 ghost use Rattle.std.specs.Prelude.{◌≡◌, ◌≤◌, IfOk};
 ghost use Rattle.hsp_names.specs.Handle.{handle_in};
@@ -7,7 +7,7 @@ ghost use Rattle.hsp_dispatch.specs.Shares.{query};
 ghost use Rattle.hsp_row.specs.Row.{row_shown};
 ghost use Rattle.hsp_stream.specs.Asking.{Asked, Asks, AsksByField, AsksByFields, asked_with};
 ghost use Rattle.hsp_stream.specs.Asking.Asked.{query as asked_for};
-ghost use Rattle.hsp_stream.specs.Telling.{IsGiven};
+ghost use Rattle.hsp_stream.specs.KindAnswers.{IsGiven};
 ghost use Rattle.hsp_dispatch.specs.declared.form.Form.TheVariants.{Bodies};
 
 use crate::bodies::{octets_in, request_in};
@@ -23,19 +23,19 @@ use hsp_tally::RowFinder;
 use std::alloc::{AllocError, Global};
 use std::marker::Model;
 
-/// Who answers queries: each by the row of its kind, and by what is left of a plan for this row.
+/// A dispatcher by kinds: it answers each query by the row of its kind, and by what is left of a plan for this row.
 #[derive(Drop)]
-pub(crate) struct Teller<'a> {
+pub(crate) struct KindDispatcher<'a> {
     finder: RowFinder<'a>,
     dispatcher: Dispatcher<'a>,
 }
 
-impl<'a> Model for Teller<'a> {
+impl<'a> Model for KindDispatcher<'a> {
     ghost use Rattle.std.specs.Prelude.{◌≡◌};
     ghost use Rattle.hsp_instance.specs.Instance.{IsInstance};
-    ghost use Rattle.hsp_stream.specs.Telling.{Telling};
+    ghost use Rattle.hsp_stream.specs.KindAnswers.{KindsHeld};
 
-    ghost Value = { Telling };
+    ghost Value = { KindsHeld };
 
     ghost view = { λ t. record { costs = t.finder.costs; held = t.dispatcher } };
 
@@ -43,18 +43,18 @@ impl<'a> Model for Teller<'a> {
         × IsInstance t.dispatcher.instance };
 }
 
-impl<'a> Teller<'a> {
-    /// Who answers by what the dispatcher holds. Kinds are told apart by the costs.
+impl<'a> KindDispatcher<'a> {
+    /// A dispatcher by kinds, over what the dispatcher holds. The costs distinguish kinds.
     pub(crate) fn new(
         alloc: Global,
         costs: &'a Costs,
         dispatcher: Dispatcher<'a>,
-    ) -> Result<Teller<'a>, AllocError>
+    ) -> Result<KindDispatcher<'a>, AllocError>
         ensures { IfOk result
-            (λ teller. teller ≡ record { costs = costs.now; held = dispatcher.entry }) }
+            (λ own. own ≡ record { costs = costs.now; held = dispatcher.entry }) }
     {
         let finder = RowFinder::new(alloc, dispatcher.instance(), costs)?;
-        Ok(Teller { finder, dispatcher })
+        Ok(KindDispatcher { finder, dispatcher })
     }
 
     // Answers a query for a handle from a region.
