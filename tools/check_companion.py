@@ -1,6 +1,6 @@
 #!/usr/bin/env python3
 """Tests the companion `hsp` with Debian's Python: its types, its tests over the built programs and in headless
-Chromium, and the pages that lie in examples.
+Chromium, and the pages that lie in examples. The tests run side by side, one for each processor.
 
     tools/check_companion.py [PYTEST ARGUMENTS]..
 
@@ -12,6 +12,7 @@ import os
 import subprocess
 import sys
 
+import lanes
 import packages
 import programs
 
@@ -24,7 +25,18 @@ def main() -> int:
         return 1
     steps = [
         [PYTHON, "-m", "mypy", "--strict", "--no-incremental", "hsp"],
-        [PYTHON, "-m", "pytest", "-q", "-p", "no:cacheprovider", "tests", *sys.argv[1:]],
+        [
+            PYTHON,
+            "-m",
+            "pytest",
+            "-q",
+            "-p",
+            "no:cacheprovider",
+            "-n",
+            str(lanes.processors()),
+            "tests",
+            *sys.argv[1:],
+        ],
         [PYTHON, os.path.join(programs.TOP, "tools", "shoot_page.py"), "--check"],
     ]
     environment = {**os.environ, "PYTHONDONTWRITEBYTECODE": "1", "MYPY_CACHE_DIR": os.devnull}

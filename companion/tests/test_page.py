@@ -6,7 +6,6 @@ import json
 import random
 import re
 import shutil
-import time
 from collections.abc import Callable, Iterator
 from pathlib import Path
 from typing import Any
@@ -22,6 +21,7 @@ from hsp.service import read_service
 
 from conftest import TOP, Hsp
 
+import check_growth
 import measure_dispatch
 
 Example = Callable[[str], Path]
@@ -240,11 +240,11 @@ def test_sizes_of_pages(pages: dict[str, Path]) -> None:
 
 
 def test_the_largest_service(hsp: Hsp, browser: Any, tmp_path: Path) -> None:
-    """1,024 servers of 32 sites and 8,192 rows: within 15 seconds and 1.5 megabytes, with sites folded."""
+    """1,024 servers of 32 sites and 8,192 rows: within 15 seconds of a processor and 1.5 megabytes, with sites folded."""
     measure_dispatch.inputs(str(tmp_path), random.Random(1), factor=1.2)
-    begun = time.monotonic()
+    before = check_growth.spent_below()
     hsp("view", str(tmp_path))
-    gone = time.monotonic() - begun
+    gone = check_growth.spent_below() - before
     path = tmp_path / "plan.html"
     assert path.stat().st_size <= 1_500_000 and gone <= 15, f"{path.stat().st_size} octets, {gone:.1f} seconds"
     page = Page(browser, path, 420, "light")
