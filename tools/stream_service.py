@@ -31,13 +31,18 @@ class Use(NamedTuple):
     number: int
 
 
-def place_of(site: int, handle: str) -> int:
-    """The place of the responsible server at a site."""
-    _, option, servers = SITES[site]
+def hash_of(option: int, handle: str) -> int:
+    """The number by which a hash option finds the responsible server: its remainder by their count is the place."""
     authority, local = handle.split("/", 1)
     octets = (authority, local, handle)[option].encode()
     upper = bytes(it - 32 if 97 <= it <= 122 else it for it in octets)
-    return abs(int.from_bytes(hashlib.md5(upper).digest()[12:], "big", signed=True)) % len(servers)
+    return abs(int.from_bytes(hashlib.md5(upper).digest()[12:], "big", signed=True))
+
+
+def place_of(site: int, handle: str) -> int:
+    """The place of the responsible server at a site."""
+    _, option, servers = SITES[site]
+    return hash_of(option, handle) % len(servers)
 
 
 def sites_of(region: str) -> list[int]:
