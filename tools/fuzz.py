@@ -1,21 +1,25 @@
 #!/usr/bin/env python3
-"""Gives the built program inputs that are changed at random, and judges its answers without a second implementation.
+"""Gives the built programs inputs that are changed at random, and judges their answers without a second implementation.
 
     tools/fuzz.py [--cases N] [--first N] [--jobs N] [--seconds N] [--seed S] [--kinds KIND,..] [--only NUMBER]
-                  [--program FILE]
+                  [--program FILE] [--stream FILE]
 
 A case is one input of one kind. It is changed at random, or written from fields that are drawn. Only the seed, the
 kind and the number of the case decide it, and a fault names all three. `--only` judges the case of one number. With
 `--seconds N` the fuzz stops after N seconds, and prints how many cases were judged.
 
-tools/fuzz_*.c are preloaded before the program. They run it repeatedly in one process on files in memory. So no time
-is spent on processes, and little on drawing.
+Some kinds are of hsplan, which is `--program`, and the others of hsplan-stream, which is `--stream`. tools/fuzz_*.c are
+preloaded before the program. They run it repeatedly in one process on words and files in memory. So no time is spent on
+processes, and little on drawing. A job has one process at a time, of each program in turn.
 
-It judges of each case:
+It judges of each case of either program:
 
   always          the line on standard error, if there is one, is one of the program's own, and the status suits it
                   the program gives back all its memory, and never reports out of memory
                   time and memory are within a bound that is linear in the octets of the input
+
+Of each case of hsplan:
+
   settings,       `check` says yes to what `plan` printed
   tables
   log, events     the sums are those of the lines; no more queries are assigned than the plan has
@@ -23,6 +27,24 @@ It judges of each case:
   written_record, `site` prints the written fields, of the record or of the value with the sought index, or reports
   written_values  that there is none
   written_log     rows are answered alike as handles, as bodies, and as events at the only front
+
+Of each case of hsplan-stream, with a drawn service:
+
+  stream_words    words of letters are taken alike as arguments and from standard input
+  stream_settings `kinds` and `places` refuse settings alike
+  stream_plan     the sums of `answer` are those of its lines
+  kinds           the table of a table is the same; in a plain log its sum is that of the rows, in units at most one
+                  unit more for each row of the table
+  places          each row of a plain log has a line for each site, with the row's handle, the site, a place and the
+                  identifier of the server there; at a fault exactly the rows before it have lines
+  answer          the sums are those of the lines; each row of a plain log has a line; a server is named by its place
+                  and identifier; no more answers name a site than the front's share of the plan, in units, sends there
+  written_kinds,  what is printed follows from the written rows, the service, the plan, the unit and the front, with
+  written_places, hashes of the handles by Python's MD5; `written_answer` has faulty rows and bodies among the others
+  written_answer
+
+A log is plain where each line is a row: it has no quotes, no carriage returns, no byte order mark, and an end of the
+last line.
 
 It judges of one case in eight also:
 
@@ -40,6 +62,22 @@ It judges of one case in eight also:
   body            a beginning of a body is not a body
   written_record, a beginning is Truncated at the field of which it lacks octets
   written_values  a continuation is Trailing at the end
+  stream_settings a comment behind settings that are TOML changes nothing
+  stream_costs    costs in another order make the same table; rows behind a row with a fault change nothing
+  stream_plan     a beginning of an accepted certificate is Ended
+  kinds,          of a plain log: rows in another order make kinds of the same regions and counts
+  written_kinds   each row twice, by twice the unit, makes the same table
+                  the tables of two parts, joined, have the table of the log
+                  the unit that CountTooLarge names is the least that will do for its row
+  places,         of a plain log: each row twice has its lines twice
+  written_places
+  answer,         of a plain log: all fronts together name a site no more often than the plan
+  written_answer  each row twice, by twice the unit, has its line twice
+                  a row that is refused changes no other line
+  all six of      a log that is read in small pieces, with output written in small pieces, is answered alike
+  these           at a read every row that had come was answered, by `kinds` none
+                  of a plain log: rows behind a fault change nothing, and more rows change no line, by `kinds` excepted
+  written_kinds   with the sites in the reverse order the table is the same
 """
 import argparse
 import glob
@@ -52,9 +90,15 @@ import tempfile
 import time
 
 import check_growth
+import check_stream
+import programs
+import stream_service
 
 TOP = check_growth.TOP
-KINDS = "settings,values,record,body,demand,costs,capacity,plan,log,events,words,written_record,written_values,written_log"
+KINDS = ["settings", "values", "record", "body", "demand", "costs", "capacity", "plan", "log", "events", "words",
+         "written_record", "written_values", "written_log"]
+STREAM_KINDS = ["stream_words", "stream_settings", "stream_costs", "stream_plan", "kinds", "places", "answer",
+                "written_kinds", "written_places", "written_answer"]
 
 NAMED = {"settings": "settings.toml", "values": "list.values", "record": "two_servers.site", "demand": "demand.csv", "costs": "costs.csv",
          "capacity": "capacity.csv", "plan": "plan.txt", "log": "log.csv", "events": "events.csv"}
@@ -64,6 +108,9 @@ HANDLES = [b"10/3", b"10/1", b"10.1/a/b", b"10/"]
 
 # A case that takes longer, in seconds, counts as one without an end.
 SECONDS = 60
+
+# How many cases a job judges of one program before it turns to the other.
+TURN = 50_000
 
 
 def build(folder):
@@ -100,56 +147,108 @@ def seeds_of(kind, files):
     return [files[name]] + [files[more] for more in MORE.get(kind, [])] + texts_in_cases("files", name)
 
 
-def write_seeds(path):
-    """Writes the files that the program may open, and the texts of each kind. Each has three parts, and a part is a
-    length and that many octets."""
-    files = example_files()
-    parts = [("file", name, text) for name, text in files.items()]
-    parts += [(kind, "", text) for kind in list(NAMED) + ["words", "body"] for text in seeds_of(kind, files)]
+def write_parts(path, parts):
+    """Writes parts, each of three texts: a kind, a name and what it holds. A text is a length and that many octets."""
     with open(path, "wb") as file:
-        for kind, name, text in parts:
-            for octets in (kind.encode(), name.encode(), text):
+        for part in parts:
+            for octets in part:
                 file.write(struct.pack("<I", len(octets)) + octets)
 
 
+def seeds():
+    """The files that hsplan may open, and the texts of each of its kinds."""
+    files = example_files()
+    parts = [(b"file", name.encode(), text) for name, text in files.items()]
+    kinds = list(NAMED) + ["words", "body"]
+    return parts + [(kind.encode(), b"", text) for kind in kinds for text in seeds_of(kind, files)]
+
+
+def handles():
+    """Handles that differ in a part, in the case of letters, or in octets that CSV has to quote, and long ones."""
+    odd = ['10.7/a,"b"', "10/\u00e9", "10/\u00c9", "10/two\rlines", "10/two\nlines", "10/", "10//", "10/ "]
+    long = ["10/" + "x" * 300, "10/" + "y" * 4093]
+    segments = [f"10.{at % 5}/h{at % 11}" for at in range(55)] + [f"10.1/H{at}" for at in range(11)]
+    return odd + long + segments + [f"{at}/same" for at in range(20)] + [f"11/item{at}" for at in range(40)]
+
+
+def hashes_of(handle):
+    return struct.pack("<III", *(stream_service.hash_of(option, handle) for option in range(3)))
+
+
+def stream_seeds():
+    """Handles with their hashes, and the words and the logs of the worked cases of hsplan-stream."""
+    parts = [(b"handle", it.encode(), hashes_of(it)) for it in handles()]
+    for words, log, *_ in check_stream.CASES:
+        parts.append((b"stream_words", b"", words.replace("/dev/stdin", "log.csv").encode()))
+        if len(log) < 10_000:
+            parts.append((words.split(" ")[0].encode(), b"", log))
+    return parts
+
+
+class Program:
+    """A program, the texts for its cases, and those of its kinds that are wanted."""
+
+    def __init__(self, path, parts, kinds, wanted):
+        self.path, self.parts, self.kinds = os.path.abspath(path), parts, [it for it in kinds if it in wanted]
+        self.name = os.path.basename(path)
+
+
 class Job:
-    """A process that judges every `step`-th case from `first` on. If it dies at a case, it begins anew behind it."""
+    """Processes that judge every `step`-th case from `first` on, one at a time. Each judges the cases of one program
+    among TURN. If it dies at a case, another one goes on behind that."""
 
     def __init__(self, given, folder, first, step):
-        self.given, self.folder, self.first, self.step = given, folder, first, step
-        self.progress, self.said = os.path.join(folder, f"progress{first}"), os.path.join(folder, f"said{first}")
-        with open(self.progress, "wb") as file:
-            file.write(bytes(32))
-        self.seen, self.since = None, time.monotonic()
-        self.begin(first)
+        self.given, self.folder, self.step = given, folder, step
+        self.said = os.path.join(folder, f"said{first}")
+        self.progress = [os.path.join(folder, f"progress{first}.{at}") for at in range(len(given.programs))]
+        for path in self.progress:
+            with open(path, "wb") as file:
+                file.write(bytes(32))
+        self.turns = self.turns_from(first)
+        self.begin(*next(self.turns))
 
-    def begin(self, first):
+    def turns_from(self, first):
+        """The number of a program, and the first and the last case, without that, of each turn."""
         cases = self.given.only + 1 if self.given.only is not None else self.given.cases
-        means = dict(os.environ, LD_PRELOAD=os.path.join(self.folder, "fuzz.so"), FUZZ_SEEDS=os.path.join(self.folder, "seeds"),
-                     FUZZ_PROGRESS=self.progress, FUZZ_KINDS=self.given.kinds, FUZZ_SEED=str(self.given.seed), FUZZ_CASES=str(cases),
+        for begun in range(first, max(cases, first + 1), TURN * self.step):
+            for at in range(len(self.given.programs)):
+                yield at, begun, min(cases, begun + TURN * self.step)
+
+    def begin(self, program, first, last):
+        self.program, self.last, self.seen, self.since = program, last, None, time.monotonic()
+        it = self.given.programs[program]
+        means = dict(os.environ, LD_PRELOAD=os.path.join(self.folder, "fuzz.so"),
+                     FUZZ_SEEDS=os.path.join(self.folder, f"seeds{program}"), FUZZ_PROGRESS=self.progress[program],
+                     FUZZ_KINDS=",".join(it.kinds), FUZZ_SEED=str(self.given.seed), FUZZ_CASES=str(last),
                      FUZZ_FIRST=str(first), FUZZ_STEP=str(self.step))
         with open(self.said, "ab") as said:
-            self.process = subprocess.Popen([os.path.abspath(self.given.program)], env=means, stdin=subprocess.DEVNULL, stdout=said, stderr=said)
+            self.process = subprocess.Popen([it.path], env=means, stdin=subprocess.DEVNULL, stdout=said, stderr=said)
 
-    def at(self):
+    def at(self, program):
         """The number of the current case, and how many cases, runs, and runs in which the program reported no fault
         there were."""
-        return struct.unpack("<QQQQ", read(self.progress))
+        return struct.unpack("<QQQQ", read(self.progress[program]))
 
     def is_ended(self):
         """Whether all is judged. Reports a death or a case without an end, and goes on behind that case."""
         status = self.process.poll()
-        if status is None and self.at() != self.seen:
-            self.seen, self.since = self.at(), time.monotonic()
+        if status is None and self.at(self.program) != self.seen:
+            self.seen, self.since = self.at(self.program), time.monotonic()
         if status is None and time.monotonic() - self.since > SECONDS:
             self.process.send_signal(signal.SIGKILL)
             status = self.process.wait()
-        if not status:
-            return status == 0
-        number = self.at()[0]
+        if status is None:
+            return False
+        if status == 0:
+            turn = next(self.turns, None)
+            if turn:
+                self.begin(*turn)
+            return turn is None
+        number = self.at(self.program)[0]
         with open(self.said, "a") as said:
-            said.write(f"--seed {self.given.seed}: case {number}: the program ended its process, or gave no answer: {status}\n")
-        self.begin(number + self.step)
+            end = f"the program ended its process, or gave no answer: {status}"
+            said.write(f"--seed {self.given.seed}: case {number}: {end}\n")
+        self.begin(self.program, number + self.step, self.last)
         return False
 
     def faults(self):
@@ -157,47 +256,60 @@ class Job:
 
 
 def judge(given, folder):
-    """The faults, and how many cases, runs, and runs in which the program reported no fault there were."""
+    """The faults, and of each program how many cases, runs, and runs in which it reported no fault there were."""
     jobs = 1 if given.only is not None else given.jobs
     first = given.first if given.only is None else given.only
     working = [Job(given, folder, first + at, jobs) for at in range(jobs)]
     last = time.monotonic() + given.seconds
     while not all([job.is_ended() for job in working]):
-        time.sleep(0.2)
+        time.sleep(0.05)
         if time.monotonic() > last or sum(len(job.faults()) for job in working) > 100:
             for job in working:
                 job.process.kill()
                 job.process.wait()
             break
-    counts = [job.at() for job in working]
-    return [fault for job in working for fault in job.faults()], [sum(it[at] for it in counts) for at in (1, 2, 3)]
+    counts = [[job.at(at)[1:] for job in working] for at in range(len(given.programs))]
+    return [fault for job in working for fault in job.faults()], [[sum(it) for it in zip(*each)] for each in counts]
+
+
+def counted(cases, runs, plain):
+    return f"{cases} cases, {runs} runs, {plain} of them with no fault reported by the program"
 
 
 def main():
-    words = argparse.ArgumentParser(description="Gives the built program inputs that are changed at random.")
+    words = argparse.ArgumentParser(description="Gives the built programs inputs that are changed at random.")
     words.add_argument("--cases", type=int, default=100_000)
     words.add_argument("--first", type=int, default=0, metavar="N", help="the number of the first case (0)")
     words.add_argument("--jobs", type=int, default=os.cpu_count() or 1)
     words.add_argument("--seconds", type=int, default=1 << 40, metavar="N", help="stop after N seconds")
     words.add_argument("--seed", type=int, default=1)
-    words.add_argument("--kinds", default=KINDS)
+    words.add_argument("--kinds", default=",".join(KINDS + STREAM_KINDS))
     words.add_argument("--only", type=int, metavar="NUMBER", help="judge only the case of this number")
-    words.add_argument("--program", default=os.path.join(TOP, "crates", "hsplan", "out", "hsplan"))
+    words.add_argument("--program", default=programs.built_path("hsplan"))
+    words.add_argument("--stream", default=programs.built_path("hsplan-stream"))
     given = words.parse_args()
-    if not os.access(given.program, os.X_OK):
-        print(f"no program {given.program}: run rt ci or make prove first")
-        return 1
+    wanted = given.kinds.split(",")
+    both = [Program(given.program, seeds, KINDS, wanted), Program(given.stream, stream_seeds, STREAM_KINDS, wanted)]
+    given.programs = [it for it in both if it.kinds]
+    for it in given.programs:
+        if not os.access(it.path, os.X_OK):
+            print(f"no program {it.path}: run rt ci or make prove first")
+            return 1
     with tempfile.TemporaryDirectory() as folder:
         build(folder)
-        write_seeds(os.path.join(folder, "seeds"))
+        for at, it in enumerate(given.programs):
+            write_parts(os.path.join(folder, f"seeds{at}"), it.parts())
         begun, below = time.monotonic(), check_growth.spent_below()
-        faults, (cases, runs, plain) = judge(given, folder)
-        spent, spent_by_jobs = time.monotonic() - begun, check_growth.spent_below() - below
+        faults, counts = judge(given, folder)
+        spent, by_jobs = time.monotonic() - begun, check_growth.spent_below() - below
     for fault in faults:
         print(fault[:2000])
-    print(f"fuzz: {cases} cases from seed {given.seed}, {runs} runs, {plain} of them with no fault reported by the program, in {spent:.0f} seconds "
-          f"and {spent_by_jobs:.1f} of the processor, {len(faults)} faults")
-    return 1 if faults or not cases else 0
+    for it, each in zip(given.programs, counts):
+        print(f"{it.name}: {counted(*each)}")
+    sums = [sum(it) for it in zip(*counts)]
+    print(f"fuzz: seed {given.seed}: {counted(*sums)}, in {spent:.0f} seconds and {by_jobs:.1f} of the processor, "
+          f"{len(faults)} faults")
+    return 1 if faults or not sums[0] else 0
 
 
 if __name__ == "__main__":

@@ -1,144 +1,15 @@
-/* Judges the program's answers, without a second implementation. */
+/* Judges the answers of `hsplan`, without a second implementation. */
 #define _GNU_SOURCE
 #include "fuzz.h"
 
-#include <fcntl.h>
 #include <stdio.h>
-#include <stdlib.h>
 #include <string.h>
-#include <sys/mman.h>
-#include <sys/stat.h>
-#include <unistd.h>
-
-/* The bounds of a run's memory and time: a least bound, and what is added to it for each octet of the input. */
-static const uint64_t LEAST_OCTETS = 1 << 19, OCTETS_EACH = 200, LEAST_NANOSECONDS = 100000000, NANOSECONDS_EACH = 20000;
-
-/* One case in DEEP is judged by all that is known, with more runs. */
-enum { DEEP = 8, MOST_SEEDS = 512, MOST_FAULTS = 20, LONG_SEED = 20000, SHOWN = 200 };
 
 #define INPUTS "--settings settings.toml --demand demand.csv --costs costs.csv --capacity capacity.csv"
 #define PLANNED INPUTS " --plan plan.txt"
 
 static const struct text PLAN = TEXT("plan " INPUTS), CHECK = TEXT("check " PLANNED), DISPATCH = TEXT("dispatch " PLANNED " --log log.csv");
 static const struct text LOCATE = TEXT("locate --settings settings.toml --values list.values 10/3");
-
-static struct files base;
-static struct text seed_kinds[MOST_SEEDS], seeds[MOST_SEEDS];
-static int seed_count;
-
-/* The number of the current case, and how many cases, runs, and runs in which the program reported no fault there
- * were. */
-struct progress {
-    uint64_t number, cases, runs, plain_runs;
-};
-
-/* The case, and what was found. */
-static const char *kind;
-static unsigned long seed, number;
-static int is_deep, faults;
-static volatile struct progress *progress;
-
-static void show(struct text text)
-{
-    struct text some = front(text, SHOWN);
-    printf(" '");
-    for (size_t at = 0; at < some.length; at++)
-        printf(some.octets[at] >= ' ' && some.octets[at] < 127 ? "%c" : "\\x%02x", (unsigned char)some.octets[at]);
-    printf(text.length > some.length ? "'.. of %zu" : "'", text.length);
-}
-
-static void tell(const char *fault, struct text first, struct text second, struct text third)
-{
-    faults++;
-    printf("--seed %lu: %s %lu: %s:", seed, kind, number, fault);
-    show(first), show(second), show(third);
-    printf("\n");
-}
-
-static void want(int holds, const char *fault, struct text first, struct text second, struct text third)
-{
-    if (!holds)
-        tell(fault, first, second, third);
-}
-
-static int is_same(const struct answer *one, const struct answer *other)
-{
-    return one->status == other->status && is_equal(one->printed, other->printed) && is_equal(one->told, other->told);
-}
-
-/* Whether the program printed these texts on its two streams, and ended with this status. */
-static int is_answer(const struct answer *answer, struct text printed, struct text told, int status)
-{
-    return answer->status == status && is_equal(answer->printed, printed) && is_equal(answer->told, told);
-}
-
-static void wants_same(const char *fault, struct text words, const struct answer *one, const struct answer *other)
-{
-    want(is_same(one, other), fault, words, glued(one->told, one->printed, TEXT("")), glued(other->told, other->printed, TEXT("")));
-}
-
-static struct answer run_counted(struct text words, const struct files *files)
-{
-    struct answer answer = run(words, files);
-    progress->runs++;
-    progress->plain_runs += !begins(answer.told, TEXT("hsplan: "));
-    return answer;
-}
-
-/* The answer to these words with these files, after the checks that hold for every input. */
-static struct answer answered(struct text words, const struct files *files)
-{
-    struct answer first = run_counted(words, files);
-    uint64_t size = words.length;
-    for (int at = 0; at < files->count; at++)
-        size += files->holds[at].length;
-    if (is_deep) {
-        struct answer second = run_counted(words, files);
-        wants_same("two answers", words, &first, &second);
-        first.spent = second.spent < first.spent ? second.spent : first.spent;
-    }
-    uint64_t bound = LEAST_NANOSECONDS + NANOSECONDS_EACH * size;
-    /* The machine may have stood still meanwhile, so what took too long is run again. */
-    if (first.spent > bound)
-        first.spent = run_counted(words, files).spent;
-    struct text sums = numbered("status %lu, at most %lu octets, %lu nanoseconds", first.status, first.most, first.spent);
-    want(is_suiting(words, &first), "status or line", words, first.told, glued(sums, TEXT(" "), first.printed));
-    want(!first.held, "memory kept", words, first.told, sums);
-    want(first.most <= LEAST_OCTETS + OCTETS_EACH * size, "memory", words, first.told, sums);
-    want(first.spent <= bound, "time", words, first.told, sums);
-    return first;
-}
-
-static struct text *held_by(struct files *files, struct text name)
-{
-    for (int at = 0; at < files->count; at++)
-        if (is_equal(files->names[at], name))
-            return &files->holds[at];
-    files->names[files->count] = name;
-    return &files->holds[files->count++];
-}
-
-static struct files with(const struct files *files, struct text name, struct text holds)
-{
-    struct files others = *files;
-    *held_by(&others, name) = holds;
-    return others;
-}
-
-static struct answer answered_with(struct text words, struct text name, struct text holds)
-{
-    struct files files = with(&base, name, holds);
-    return answered(words, &files);
-}
-
-/* Whether a table has no quotes and its last line has an end, so that what comes behind it are further rows. */
-static int ends_plainly(struct text text)
-{
-    size_t blank = 0;
-    while (blank < text.length && strchr("\n\xef\xbb\xbf", text.octets[blank]) && text.octets[blank])
-        blank++;
-    return blank < text.length && !holds_octet(text, '"') && !holds_octet(text, '\r') && ends(text, TEXT("\n"));
-}
 
 /* ---- plans */
 
@@ -370,15 +241,6 @@ static void judge_certificate(struct text text)
 
 /* ---- logs */
 
-/* How many lines of an answer have this beginning. */
-static uint64_t lines_of(struct text answers, struct text beginning)
-{
-    uint64_t count = 0;
-    for (; answers.length; answers = behind_line(answers))
-        count += begins(answers, beginning);
-    return count;
-}
-
 /* The lines of an answer have their forms, and its sums are those of its lines. No more queries are assigned than the
  * plan has. */
 static void judge_lines(struct text log, const struct answer *answer, int is_of_fronts)
@@ -426,20 +288,6 @@ static struct answer of_log(struct text header, struct text rows)
     return answered_with(DISPATCH, TEXT("log.csv"), glued(header, TEXT("\n"), rows));
 }
 
-/* The field that holds these octets, with each quote written twice (RFC 4180, section 2). */
-static struct text in_quotes(struct text text)
-{
-    char *octets = room(2 * text.length + 2), *to = octets;
-    *to++ = '"';
-    for (size_t at = 0; at < text.length; at++) {
-        *to++ = text.octets[at];
-        if (text.octets[at] == '"')
-            *to++ = '"';
-    }
-    *to++ = '"';
-    return (struct text){octets, to - octets};
-}
-
 /* The row of a body is answered as that of its handle, and a beginning of a body is not a body. */
 static void judge_body(struct text text)
 {
@@ -480,119 +328,11 @@ static void judge_words(struct text text)
     answered(first_line(text), &base);
 }
 
-/* ---- all cases */
-
-/* The kinds in turn, each `times` times. The kinds whose runs take least come more often. */
-static const struct {
-    const char *kind;
-    void (*judge)(struct text);
-    int times;
-} JUDGES[] = {
+/* The kinds whose runs take least come more often. */
+const struct judge HSPLAN_JUDGES[] = {
     {"settings", judge_settings, 3}, {"values", judge_values, 5}, {"record", judge_record, 5}, {"words", judge_words, 3}, {"body", judge_body, 1},
     {"demand", judge_table, 1}, {"costs", judge_table, 1}, {"capacity", judge_table, 1}, {"plan", judge_certificate, 1}, {"log", judge_log, 1},
     {"events", judge_events, 1}, {"written_record", judge_written_record, 5}, {"written_values", judge_written_values, 5}, {"written_log", judge_written_log, 1},
 };
 
-enum { TURN = 34 };
-
-/* Which judge the case of this number has. */
-static int judge_of(unsigned long of)
-{
-    int at = 0;
-    for (int left = of % TURN; left >= JUDGES[at].times; at++)
-        left -= JUDGES[at].times;
-    return at;
-}
-
-/* A seed of the kind. The long ones are drawn rarely. */
-static struct text drawn_seed(void)
-{
-    struct text name = {kind, strlen(kind)}, found[MOST_SEEDS], drawn;
-    uint32_t count = 0;
-    for (int at = 0; at < seed_count; at++)
-        if (is_equal(seed_kinds[at], name))
-            found[count++] = seeds[at];
-    if (!count)
-        return TEXT("");
-    do
-        drawn = found[below(count)];
-    while (drawn.length > LONG_SEED && below(256));
-    return drawn;
-}
-
-static void judge_case(int at)
-{
-    kind = JUDGES[at].kind;
-    begin_draws(seed, at, number);
-    is_deep = number / TURN % DEEP == 0;
-    JUDGES[at].judge(changed(drawn_seed()));
-}
-
-static struct text taken(struct text *rest)
-{
-    uint32_t length;
-    memcpy(&length, rest->octets, 4);
-    struct text part = {rest->octets + 4, length};
-    *rest = (struct text){part.octets + length, rest->length - 4 - length};
-    return part;
-}
-
-/* Takes what the file holds: for the kind `file`, files that the program may open; for each other kind, texts to be
- * changed. */
-static void take_seeds(const char *path)
-{
-    struct stat status;
-    int file = open(path, O_RDONLY);
-    if (file < 0 || fstat(file, &status))
-        exit(1);
-    struct text rest = {mmap(NULL, status.st_size, PROT_READ, MAP_PRIVATE, file, 0), status.st_size};
-    while (rest.length) {
-        struct text of = taken(&rest), name = taken(&rest), holds = taken(&rest);
-        if (is_equal(of, TEXT("file")) && base.count < MOST_FILES - 4)
-            *held_by(&base, name) = holds;
-        else if (seed_count < MOST_SEEDS) {
-            seed_kinds[seed_count] = of;
-            seeds[seed_count++] = holds;
-        }
-    }
-}
-
-static volatile struct progress *progress_at(const char *path)
-{
-    int file = open(path, O_RDWR);
-    void *place = mmap(NULL, sizeof(struct progress), PROT_READ | PROT_WRITE, MAP_SHARED, file, 0);
-    if (place == MAP_FAILED)
-        exit(1);
-    return place;
-}
-
-static unsigned long means(const char *name)
-{
-    const char *text = getenv(name);
-    return text ? strtoul(text, NULL, 10) : 0;
-}
-
-static int is_wanted(const char *name)
-{
-    const char *names = getenv("FUZZ_KINDS"), *found = names ? strstr(names, name) : NULL;
-    size_t length = strlen(name);
-    while (found && ((found > names && found[-1] != ',') || (found[length] && found[length] != ',')))
-        found = strstr(found + 1, name);
-    return !names || found;
-}
-
-int judge_all(void)
-{
-    unsigned long cases = means("FUZZ_CASES"), step = means("FUZZ_STEP");
-    progress = progress_at(getenv("FUZZ_PROGRESS"));
-    seed = means("FUZZ_SEED");
-    take_seeds(getenv("FUZZ_SEEDS"));
-    for (number = means("FUZZ_FIRST"); number < cases && faults < MOST_FAULTS; number += step)
-        if (is_wanted(JUDGES[judge_of(number)].kind)) {
-            progress->number = number;
-            judge_case(judge_of(number));
-            fflush(stdout);
-            progress->cases++;
-        }
-    return 0;
-}
+const int HSPLAN_JUDGE_COUNT = sizeof HSPLAN_JUDGES / sizeof *HSPLAN_JUDGES;

@@ -10,10 +10,9 @@ struct form {
     int status;
 };
 
+/* The lines of both programs. */
 static const struct form FORMS[] = {
-    {TEXT("Usage"), 2}, {TEXT("WrongKind"), 3}, {TEXT("read failed"), 5},
-    {TEXT("BadOption"), 1}, {TEXT("BadServers"), 1}, {TEXT("BadIndex"), 1}, {TEXT("BadFronts"), 1}, {TEXT("NoValue"), 1}, {TEXT("NotSiteValue"), 1},
-    {TEXT("handle: TooLong"), 1}, {TEXT("handle: NotUtf8"), 1}, {TEXT("handle: NoSlash"), 1}, {TEXT("handle: EmptySegment"), 1},
+    {TEXT("Usage"), 2}, {TEXT("WrongKind"), 3}, {TEXT("read failed"), 5}, {TEXT("BadFronts"), 1}, {TEXT("log: Header"), 1},
     {TEXT("settings: NotToml"), 1}, {TEXT("settings: UnknownKey"), 1}, {TEXT("settings: BadSite site #"), 1}, {TEXT("settings: SiteTwice site #"), 1},
     {TEXT("settings: TooManySites"), 1}, {TEXT("settings: BadHost host #"), 1}, {TEXT("settings: HostTwice host #"), 1},
     {TEXT("settings: TooManyHosts"), 1},
@@ -26,10 +25,25 @@ static const struct form FORMS[] = {
     {TEXT("check: Shape"), 3}, {TEXT("check: NoSuchUse"), 3}, {TEXT("check: RowSum"), 3}, {TEXT("check: Load"), 3}, {TEXT("check: Cost"), 3},
     {TEXT("check: ArcPrice"), 3}, {TEXT("check: UsedArcPrice"), 3}, {TEXT("check: IdlePrice"), 3}, {TEXT("check: DemandSum"), 3},
     {TEXT("check: CapacitySum"), 3}, {TEXT("check: NotShort"), 3},
-    {TEXT("log: Header"), 1}, {TEXT("log: Fields row #"), 1}, {TEXT("log: BadHandle row #"), 1}, {TEXT("log: BadBody row #"), 1},
-    {TEXT("log: BadFront row #"), 1},
+    {TEXT("log: Fields row #"), 1},
 };
 
+/* The further lines of hsplan. */
+static const struct form HSPLAN_FORMS[] = {
+    {TEXT("BadOption"), 1}, {TEXT("BadServers"), 1}, {TEXT("BadIndex"), 1}, {TEXT("NoValue"), 1}, {TEXT("NotSiteValue"), 1},
+    {TEXT("handle: TooLong"), 1}, {TEXT("handle: NotUtf8"), 1}, {TEXT("handle: NoSlash"), 1}, {TEXT("handle: EmptySegment"), 1},
+    {TEXT("log: BadHandle row #"), 1}, {TEXT("log: BadBody row #"), 1}, {TEXT("log: BadFront row #"), 1},
+};
+
+/* The further lines of hsplan-stream. */
+static const struct form STREAM_FORMS[] = {
+    {TEXT("BadUnit"), 1}, {TEXT("BadFront"), 1}, {TEXT("log: BadName row #"), 1}, {TEXT("log: BadNumber row #"), 1},
+    {TEXT("log: TooManyRegions row #"), 1}, {TEXT("log: TooManyKinds row #"), 1}, {TEXT("log: CountTooLarge row # unit #"), 1},
+    {TEXT("log: BadHandle row # TooLong"), 1}, {TEXT("log: BadHandle row # NotUtf8"), 1}, {TEXT("log: BadHandle row # NoSlash"), 1},
+    {TEXT("log: BadHandle row # EmptySegment"), 1},
+};
+
+/* The parts of which only hsplan reads the first. */
 static const struct text RECORD_PARTS[] = {TEXT("site: "), TEXT("values: ")};
 static const struct text RECORD_FORMS[] = {TEXT("Truncated at #"), TEXT("Trailing at #"), TEXT("TooManyServers"), TEXT("IndexTwice index #")};
 static const struct text TABLE_PARTS[] = {TEXT("demand: "), TEXT("costs: "), TEXT("capacity: ")};
@@ -66,14 +80,33 @@ static int is_of_part(struct text line, const struct text *parts, int count, con
     return 0;
 }
 
-/* The status of a fault, by the text behind `hsplan: `, or -1 where no fault has this text. */
-static int status_of(struct text fault)
+/* The status of a fault by a list of forms, or -1 where none has this text. */
+static int status_in(struct text fault, const struct form *forms, int count)
 {
-    for (int at = 0; at < COUNT(FORMS); at++)
-        if (is_of_form(fault, FORMS[at].line))
-            return FORMS[at].status;
-    int is_record = is_of_part(fault, RECORD_PARTS, COUNT(RECORD_PARTS), RECORD_FORMS, COUNT(RECORD_FORMS));
+    for (int at = 0; at < count; at++)
+        if (is_of_form(fault, forms[at].line))
+            return forms[at].status;
+    return -1;
+}
+
+/* The status of a fault, by the text behind the name of the program, or -1 where no fault has this text. */
+static int status_of(struct text fault, int is_stream)
+{
+    int status = status_in(fault, FORMS, COUNT(FORMS));
+    if (status < 0 && is_stream)
+        status = status_in(fault, STREAM_FORMS, COUNT(STREAM_FORMS));
+    else if (status < 0)
+        status = status_in(fault, HSPLAN_FORMS, COUNT(HSPLAN_FORMS));
+    if (status >= 0)
+        return status;
+    const struct text *parts = RECORD_PARTS + is_stream;
+    int is_record = is_of_part(fault, parts, COUNT(RECORD_PARTS) - is_stream, RECORD_FORMS, COUNT(RECORD_FORMS));
     return is_record || is_of_part(fault, TABLE_PARTS, COUNT(TABLE_PARTS), TABLE_FORMS, COUNT(TABLE_FORMS)) ? 1 : -1;
+}
+
+struct text name_of(const struct manner *by)
+{
+    return by->is_stream ? TEXT("hsplan-stream: ") : TEXT("hsplan: ");
 }
 
 struct text line_of(const struct answer *answer)
@@ -89,9 +122,26 @@ int is_suiting(struct text words, const struct answer *answer)
     if (answer->told.length && (line.length == answer->told.length || holds_octet(line, '\n')))
         return 0;
     if (begins(line, begin))
-        return answer->status == status_of((struct text){line.octets + begin.length, line.length - begin.length}) && (!answer->printed.length || is_log);
+        return answer->status == status_of((struct text){line.octets + begin.length, line.length - begin.length}, 0) && (!answer->printed.length || is_log);
     int is_short = answer->status == 3 && (begins(answer->printed, TEXT("no ")) || begins(answer->printed, TEXT("HSPLAN 1\nSHORTAGE\n")));
     return (answer->status == 0 || is_short) && (!line.length || (is_log && is_of_form(line, TEXT("assigned # spent # unknown #"))));
+}
+
+int is_stream_suiting(struct text words, const struct answer *answer)
+{
+    static const struct text begin = TEXT("hsplan-stream: ");
+    struct text line = line_of(answer);
+    if (answer->told.length && (line.length == answer->told.length || holds_octet(line, '\n')))
+        return 0;
+    int is_answer = memmem(words.octets, words.length, "answer", 6) != NULL;
+    if (!begins(line, begin)) {
+        int has_sums = is_of_form(line, TEXT("assigned # spent # unknown # refused #"));
+        return answer->status == 0 && (!line.length || (is_answer && has_sums));
+    }
+    /* Only `places` prints something before it meets a fault: its header, and the rows before that of the fault. */
+    int is_begun = begins(line, TEXT("hsplan-stream: log: ")) && begins(answer->printed, TEXT("handle,site,"));
+    struct text fault = {line.octets + begin.length, line.length - begin.length};
+    return answer->status == status_of(fault, 1) && (!answer->printed.length || is_begun);
 }
 
 int place_in(struct text line, struct text part, uint64_t *place)

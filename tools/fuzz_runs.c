@@ -1,10 +1,11 @@
-/* Runs the program again and again in one process, each time on files and a standard input that are held in memory.
- * The program gets no arguments. */
+/* Runs the program again and again in one process, each time on words, files and a standard input that are held in
+ * memory. */
 #define _GNU_SOURCE
 #include "fuzz.h"
 
 #include <dlfcn.h>
 #include <errno.h>
+#include <link.h>
 #include <malloc.h>
 #include <stdlib.h>
 #include <string.h>
@@ -21,6 +22,8 @@ struct stream {
 
 static int is_running;
 static const struct files *lent;
+static struct manner manner;
+static struct turn turn;
 static struct text input;
 static size_t input_at, file_at[MOST_FILES];
 static struct stream printed, told;
@@ -84,12 +87,25 @@ int open(const char *path, int flags, ...)
     return -1;
 }
 
+static size_t least(size_t one, size_t other)
+{
+    return one < other ? one : other;
+}
+
 static ssize_t give(struct text text, size_t *at, char *octets, size_t length)
 {
-    size_t left = text.length - *at, count = length < left ? length : left;
+    size_t count = least(least(length, manner.piece), text.length - *at);
     memcpy(octets, text.octets + *at, count);
     *at += count;
     return count;
+}
+
+/* Keeps what is wanted of a read of the log. */
+static void note_read(int at)
+{
+    if (turn.is_there || !is_equal(lent->names[at], TEXT("log.csv")) || file_at[at] < manner.watched)
+        return;
+    turn = (struct turn){1, file_at[at], printed.length};
 }
 
 ssize_t read(int descriptor, void *octets, size_t length)
@@ -97,6 +113,8 @@ ssize_t read(int descriptor, void *octets, size_t length)
     if (!is_running)
         return syscall(SYS_read, descriptor, octets, length);
     int at = descriptor - FIRST_DESCRIPTOR;
+    if (at >= 0)
+        note_read(at);
     return at < 0 ? give(input, &input_at, octets, length) : give(lent->holds[at], &file_at[at], octets, length);
 }
 
@@ -107,6 +125,7 @@ ssize_t write(int descriptor, const void *octets, size_t length)
         return syscall(SYS_write, descriptor, octets, length);
     if (length > MOST_TEXT - stream->length)
         abort();
+    length = least(length, manner.piece);
     memcpy(stream->octets + stream->length, octets, length);
     stream->length += length;
     return length;
@@ -125,7 +144,44 @@ static uint64_t now(void)
 }
 
 static int (*program)(int, char **, char **);
-static char *no_words[] = {"hsplan", NULL};
+
+enum { MOST_WORDS = 64 };
+
+/* The words between spaces, behind the name of the program. Returns how many they are together. */
+static int split(struct text words, char **arguments)
+{
+    char *octets = room(words.length + 1);
+    int count = 1;
+    memcpy(octets, words.octets, words.length);
+    octets[words.length] = '\0';
+    for (char *word = strtok(octets, " "); word && count < MOST_WORDS; word = strtok(NULL, " "))
+        arguments[count++] = word;
+    arguments[count] = NULL;
+    return count;
+}
+
+typedef void first_function(int, char **, char **);
+
+/* The functions that the C library calls before `main`. They get the arguments too, and one of the program keeps them
+ * for later. */
+static first_function **first_functions;
+static size_t first_count;
+
+static void find_first_functions(void)
+{
+    const struct link_map *map = dlopen(NULL, RTLD_LAZY);
+    for (const ElfW(Dyn) *entry = map->l_ld; entry->d_tag != DT_NULL; entry++)
+        if (entry->d_tag == DT_INIT_ARRAY)
+            first_functions = (first_function **)(map->l_addr + entry->d_un.d_ptr);
+        else if (entry->d_tag == DT_INIT_ARRAYSZ)
+            first_count = entry->d_un.d_val / sizeof *first_functions;
+}
+
+static void keep_arguments(int count, char **arguments)
+{
+    for (size_t at = 0; at < first_count; at++)
+        first_functions[at](count, arguments, arguments + count);
+}
 
 static struct text kept(struct stream *stream)
 {
@@ -134,19 +190,25 @@ static struct text kept(struct stream *stream)
     return (struct text){octets, stream->length};
 }
 
-struct answer run(struct text words, const struct files *files)
+struct answer run(struct manner by, struct text words, const struct files *files)
 {
     struct answer answer;
+    char *arguments[MOST_WORDS + 1] = {by.is_stream ? "hsplan-stream" : "hsplan", NULL};
+    int count = by.has_arguments ? split(words, arguments) : 1;
+    manner = by;
     lent = files;
-    input = glued(words, TEXT("\n"), TEXT(""));
+    turn.is_there = 0;
+    input = by.has_arguments ? TEXT("") : glued(words, TEXT("\n"), TEXT(""));
     input_at = printed.length = told.length = held = most_held = 0;
+    keep_arguments(count, arguments);
     uint64_t begun = now();
     is_running = 1;
-    answer.status = program(1, no_words, no_words + 1);
+    answer.status = program(count, arguments, arguments + count);
     is_running = 0;
     answer.spent = now() - begun;
     answer.most = most_held;
     answer.held = held;
+    answer.turn = turn;
     answer.printed = kept(&printed);
     answer.told = kept(&told);
     return answer;
@@ -157,6 +219,7 @@ static int run_all(int count, char **words, char **means)
     (void)count, (void)words, (void)means;
     printed.octets = malloc(MOST_TEXT);
     told.octets = malloc(MOST_TEXT);
+    find_first_functions();
     return printed.octets && told.octets ? judge_all() : 1;
 }
 
