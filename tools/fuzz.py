@@ -186,11 +186,10 @@ def stream_seeds():
 
 
 class Program:
-    """A program, the texts for its cases, and those of its kinds that are wanted."""
+    """A program, its path, what gives the texts for its cases, and those of its kinds that are wanted."""
 
-    def __init__(self, path, parts, kinds, wanted):
-        self.path, self.parts, self.kinds = os.path.abspath(path), parts, [it for it in kinds if it in wanted]
-        self.name = os.path.basename(path)
+    def __init__(self, name, path, parts, kinds):
+        self.name, self.path, self.parts, self.kinds = name, os.path.abspath(path), parts, kinds
 
 
 class Job:
@@ -276,7 +275,14 @@ def counted(cases, runs, plain):
     return f"{cases} cases, {runs} runs, {plain} of them with no fault reported by the program"
 
 
-def main():
+def wanted_programs(given, wanted):
+    """The programs of the wanted kinds, each with those that are its own."""
+    both = [("hsplan", given.program, seeds, KINDS), ("hsplan-stream", given.stream, stream_seeds, STREAM_KINDS)]
+    owned = [(name, path, parts, [it for it in kinds if it in wanted]) for name, path, parts, kinds in both]
+    return [Program(*it) for it in owned if it[3]]
+
+
+def given_words():
     words = argparse.ArgumentParser(description="Gives the built programs inputs that are changed at random.")
     words.add_argument("--cases", type=int, default=100_000)
     words.add_argument("--first", type=int, default=0, metavar="N", help="the number of the first case (0)")
@@ -285,12 +291,19 @@ def main():
     words.add_argument("--seed", type=int, default=1)
     words.add_argument("--kinds", default=",".join(KINDS + STREAM_KINDS))
     words.add_argument("--only", type=int, metavar="NUMBER", help="judge only the case of this number")
-    words.add_argument("--program", default=programs.built_path("hsplan"))
-    words.add_argument("--stream", default=programs.built_path("hsplan-stream"))
+    words.add_argument("--program", default=programs.built_path("hsplan"), metavar="FILE", help="hsplan")
+    words.add_argument("--stream", default=programs.built_path("hsplan-stream"), metavar="FILE", help="hsplan-stream")
     given = words.parse_args()
     wanted = given.kinds.split(",")
-    both = [Program(given.program, seeds, KINDS, wanted), Program(given.stream, stream_seeds, STREAM_KINDS, wanted)]
-    given.programs = [it for it in both if it.kinds]
+    unknown = [it for it in wanted if it not in KINDS + STREAM_KINDS]
+    if unknown:
+        words.error(f"no kind {unknown[0]}")
+    given.programs = wanted_programs(given, wanted)
+    return given
+
+
+def main():
+    given = given_words()
     for it in given.programs:
         if not os.access(it.path, os.X_OK):
             print(f"no program {it.path}: run rt ci or make prove first")
