@@ -619,12 +619,31 @@ static void judge_stream_settings(struct text text)
     wants_same("a comment behind", *settings, &of_kinds, &more);
 }
 
-/* Costs in another order make the same kinds, and rows behind a row with a fault change nothing. */
-static void judge_stream_costs(struct text text)
+/* Other costs to the same sites, in another order, make the same table. */
+static void judge_other_costs(void)
 {
     struct asked asked = drawn_question(KINDS);
     struct text *costs = held_by(&asked.files, TEXT("costs.csv")), log = drawn_log(&asked);
+    struct answer answer = answer_to(&asked, log);
+    for (int region = 0; region < REGIONS; region++)
+        for (int at = 0; at < asked.service.count; at++)
+            if (asked.service.costs[region][at] >= 0)
+                asked.service.costs[region][at] = below(1000001);
+    *costs = reordered(costs_of(&asked.service));
+    struct answer other = answer_to(&asked, log);
+    wants_same("other costs", *costs, &answer, &other);
+}
+
+/* Costs in another order make the same table, and rows behind a row with a fault change nothing. */
+static void judge_stream_costs(struct text text)
+{
     (void)text;
+    if (below(2)) {
+        judge_other_costs();
+        return;
+    }
+    struct asked asked = drawn_question(KINDS);
+    struct text *costs = held_by(&asked.files, TEXT("costs.csv")), log = drawn_log(&asked);
     *costs = changed(*costs);
     struct answer answer = answer_to(&asked, log);
     if (!is_deep || !ends_plainly(*costs) || !begins(*costs, TEXT("region,")))
