@@ -197,10 +197,11 @@ struct site {
 };
 
 /* Sites, named in the settings with their records or with indices of values, and the costs of regions to sites, each
- * -1 where there is none. The last region has none. Each server has room for all queries. */
+ * -1 where there is none. The last region has none. Each server has room for all queries, and so has each host, which
+ * is the address of the servers of a place. */
 struct service {
     struct site sites[MOST_SITES];
-    int count, has_values, costs[REGIONS][MOST_SITES];
+    int count, has_values, hosts, costs[REGIONS][MOST_SITES];
 };
 
 /* A row of the demand, and how much of it a plan sends to each site. */
@@ -223,7 +224,7 @@ struct service drawn_service(void);
 struct service reversed(const struct service *service);
 struct text settings_of(const struct service *service);
 
-/* The same settings spelt in other ways of TOML, with a host or without one. */
+/* The same sites spelt in other ways of TOML, without the hosts. */
 struct text respelt_settings(const struct service *service);
 struct text values_of(const struct service *service);
 struct text costs_of(const struct service *service);

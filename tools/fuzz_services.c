@@ -41,6 +41,7 @@ struct service drawn_service(void)
     };
     static const uint32_t most_servers[] = {2, 3, 4, MOST_SERVERS};
     struct service service = {.count = 1 + below(MOST_SITES), .has_values = !below(4)};
+    service.hosts = below(3) ? 0 : 1 + below(3);
     uint32_t first = below(MOST_SITES);
     for (int at = 0; at < service.count; at++) {
         struct text name = names[(first + at) % MOST_SITES];
@@ -112,6 +113,14 @@ static struct text index_line(int at)
     return numbered("index = %lu\n", FIRST_INDEX + at, 0, 0);
 }
 
+static struct text text_of_hosts(const struct service *service)
+{
+    struct text all = TEXT("");
+    for (int at = 0; at < service->hosts; at++)
+        all = glued(all, numbered("[[host]]\naddress = \"%032lx\"\nlimit = 1000000000000\n", at + 1, 0, 0), TEXT(""));
+    return all;
+}
+
 struct text settings_of(const struct service *service)
 {
     struct text all = TEXT("");
@@ -121,7 +130,7 @@ struct text settings_of(const struct service *service)
         all = glued(all, TEXT("[[site]]\nname = \""), site->name);
         all = glued(all, TEXT("\"\n"), service->has_values ? index_line(at) : record);
     }
-    return all;
+    return glued(all, text_of_hosts(service), TEXT(""));
 }
 
 /* A key with a text, spelt in a drawn way. */
@@ -137,7 +146,6 @@ static struct text respelt(struct text key, struct text text)
 
 struct text respelt_settings(const struct service *service)
 {
-    static const struct text host = TEXT("[[host]]\naddress = \"00000000000000000000000000000001\"\nlimit = 0\n");
     struct text all = below(2) ? TEXT("") : TEXT("# site = 1\n");
     for (int at = 0; at < service->count; at++) {
         const struct site *site = &service->sites[at];
@@ -147,7 +155,7 @@ struct text respelt_settings(const struct service *service)
         struct text octets = service->has_values ? index_line(at) : record;
         all = glued(all, head, below(2) ? glued(name, octets, TEXT("")) : glued(octets, name, TEXT("")));
     }
-    return below(2) ? all : glued(all, host, TEXT(""));
+    return all;
 }
 
 struct text values_of(const struct service *service)
@@ -277,7 +285,7 @@ static struct text text_of_uses(const struct service *service, const struct dema
     return all;
 }
 
-/* The certificate. Since no server is full, each server's price is 0, and that of a row is its least cost. */
+/* The certificate. Since no server and no host is full, their prices are 0, and that of a row is its least cost. */
 struct text text_of_plan(const struct service *service, const struct demand *demand)
 {
     struct text uses = TEXT(""), rows = TEXT(""), servers = TEXT("");
@@ -290,6 +298,9 @@ struct text text_of_plan(const struct service *service, const struct demand *dem
     for (int at = 0; at < service->count; at++)
         for (uint32_t place = 0; place < service->sites[at].servers; place++)
             servers = glued(servers, numbered("server %lu 0\n", server++, 0, 0), TEXT(""));
-    struct text head = glued(TEXT("HSPLAN 1\nPLAN\n"), numbered("cost %lu\n", cost, 0, 0), uses);
+    for (int at = 0; at < service->hosts; at++)
+        servers = glued(servers, numbered("host %lu 0\n", at, 0, 0), TEXT(""));
+    struct text version = service->hosts ? TEXT("HSPLAN 2\n") : TEXT("HSPLAN 1\n");
+    struct text head = glued(version, numbered("PLAN\ncost %lu\n", cost, 0, 0), uses);
     return glued(head, rows, glued(servers, TEXT("END\n"), TEXT("")));
 }

@@ -581,7 +581,7 @@ static void judge_written_answer(struct text text)
 
 static const struct text SHORT_LOG = TEXT("region,handle\neu,10/1\nus,10.1/a\nmars,10/2\n");
 
-/* Settings spelt in another way have the same answer. Neither `kinds` nor `places` regards hosts. */
+/* Settings spelt in another way have the same answer. Neither `kinds` nor `places` regards the hosts. */
 static void judge_respelt(enum order order)
 {
     struct asked asked = drawn_question(order);

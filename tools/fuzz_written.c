@@ -4,7 +4,7 @@
 
 #include <string.h>
 
-enum { MOST_ENTRIES = 40, GREATEST_COUNT = 1000000 };
+enum { MOST_ENTRIES = 40, GREATEST_COUNT = 1000000, LONGEST_ROW = 1048576 };
 
 /* A row of a log: its region, handle and count, or a row that is refused, with the words of its fault. A row of a table
  * has a sum, which is its count before it is divided. */
@@ -45,7 +45,25 @@ static const struct refused REFUSED_BODIES[] = {
     {TEXT("eu,0000000231300000000000000000"), TEXT("BadHandle NoSlash")}, {TEXT("eu,"), TEXT("BadBody")},
 };
 
-/* A row that is answered alike, most often one of the demand. */
+/* A row of a body or a handle that is too long, or a row that is too long itself. */
+static struct refused drawn_long_row(const struct log *log)
+{
+    size_t length = below(2) ? LONGEST_ROW - 1 : LONGEST_ROW + 1;
+    char *octets = room(length);
+    memset(octets, 'x', length);
+    memcpy(octets, "eu,10/", strlen("eu,10/"));
+    struct text refusal = log->has_bodies ? TEXT("BadBody") : TEXT("BadHandle TooLong");
+    return (struct refused){{octets, length}, length > LONGEST_ROW ? TEXT("TooLong") : refusal};
+}
+
+static struct refused drawn_refused(const struct log *log)
+{
+    if (!below(1024))
+        return drawn_long_row(log);
+    return log->has_bodies ? REFUSED_BODIES[below(5)] : REFUSED_HANDLES[below(5)];
+}
+
+/* A row that has an answer, most often one of the demand. */
 static struct entry drawn_entry(const struct asked *asked)
 {
     static const uint64_t counts[] = {0, 1, 7, 900};
@@ -67,12 +85,13 @@ static void draw_entries(const struct asked *asked, struct log *log)
     log->count = below(MOST_ENTRIES + 1);
     for (int at = 0; at < log->count; at++) {
         struct entry *entry = &log->entries[at];
-        const struct refused *refused = &(log->has_bodies ? REFUSED_BODIES : REFUSED_HANDLES)[below(5)];
         *entry = at && !below(3) ? log->entries[below(at)] : drawn_entry(asked);
         if (few == 1 && asked->order == KINDS)
             entry->region = 0;
-        if (asked->order == ANSWER && !below(16))
-            *entry = (struct entry){0, NULL, 0, 0, refused->row, refused->refusal};
+        if (asked->order != ANSWER || below(16))
+            continue;
+        struct refused refused = drawn_refused(log);
+        *entry = (struct entry){0, NULL, 0, 0, refused.row, refused.refusal};
     }
 }
 
