@@ -8,7 +8,7 @@
 # make test        runs the whole gate: the checks of documents and examples, every proof from nothing,
 #                  every test and every must-fail edit
 # make mutants     checks that each wrong body of mutants/ is refused by its test or case; outside the gate
-# make fuzz N=..   gives the built program N inputs that are changed at random; outside the gate
+# make fuzz N=..   gives the built programs N inputs that are changed at random; outside the gate
 
 MAKEFLAGS += --no-print-directory
 PREFIX ?= /usr/local

@@ -8,17 +8,15 @@ A case is one input of one kind. It is changed at random, or written from fields
 kind and the number of the case decide it, and a fault names all three. `--only` judges the case of one number. With
 `--seconds N` the fuzz stops after N seconds, and prints how many cases were judged.
 
-Some kinds are of hsplan, which is `--program`, and the others of hsplan-stream, which is `--stream`. tools/fuzz_*.c are
-preloaded before the program. They run it repeatedly in one process on words and files in memory. So no time is spent on
-processes, and little on drawing. A job has one process at a time, of each program in turn.
+Each kind is of hsplan (`--program`) or of hsplan-stream (`--stream`). tools/fuzz_*.c are preloaded before the program.
+They run it repeatedly in one process on words and files in memory. So no time is spent on processes, and little on
+drawing. A job has one process at a time, of each program in turn.
 
-It judges of each case of either program:
+It judges of each case:
 
   always          the line on standard error, if there is one, is one of the program's own, and the status suits it
                   the program gives back all its memory, and never reports out of memory
                   time and memory are within a bound that is linear in the octets of the input
-
-Of each case of hsplan:
 
   settings,       `check` says yes to what `plan` printed
   tables
@@ -28,27 +26,10 @@ Of each case of hsplan:
   written_values  that there is none
   written_log     rows are answered alike as handles, as bodies, and as events at the only front
 
-Of each case of hsplan-stream, with a drawn service:
-
-  stream_words    words of letters are taken alike as arguments and from standard input
-  stream_settings `kinds` and `places` refuse settings alike
-  stream_plan     the sums of `answer` are those of its lines
-  kinds           the table of a table is the same; in a plain log its sum is that of the rows, in units at most one
-                  unit more for each row of the table
-  places          each row of a plain log has a line for each site, with the row's handle, the site, a place and the
-                  identifier of the server there; at a fault exactly the rows before it have lines
-  answer          the sums are those of the lines; each row of a plain log has a line; a server is named by its place
-                  and identifier; no more answers name a site than the front's share of the plan, in units, sends there
-  written_kinds,  what is printed follows from the written rows, the service, the plan, the unit and the front, with
-  written_places, hashes of the handles by Python's MD5; `written_answer` has faulty rows and bodies among the others
-  written_answer
-
-A log is plain where each line is a row: it has no quotes, no carriage returns, no byte order mark, and an end of the
-last line.
-
 It judges of one case in eight also:
 
   always          two runs agree
+
   settings,       reports that suit the plan have status 0
   tables          with costs and capacities in another order the cost is the same
                   a comment behind settings that are TOML changes nothing
@@ -62,22 +43,48 @@ It judges of one case in eight also:
   body            a beginning of a body is not a body
   written_record, a beginning is Truncated at the field of which it lacks octets
   written_values  a continuation is Trailing at the end
+
+Each case of hsplan-stream has a drawn service, with its demand and a cheapest plan. A log is plain where each line is a
+row: it has no quotes, no carriage returns, no byte order mark, and an end of its last line. Of each case it judges:
+
+  stream_words    words in ASCII are taken alike as arguments and from standard input, those of a command also with its
+                  options in another order
+  stream_settings settings spelt in another way, or without their hosts, have the same answer
+                  `kinds` and `places` refuse settings alike
+  stream_costs    other costs to the same sites, in another order, make the same table
+  stream_plan     costs and capacities in another order change no answer; the sums are those of the lines
+  kinds           the table of the table is the table
+                  of a plain log: the table's sum, times the unit, is that of the rows, or at most by a unit less 1 for
+                  each of its rows larger
+  places          at a fault exactly the rows before it have lines
+                  of a plain log: each row has a line for each site, with its handle, and with a server of the site
+  answer          the sums are those of the lines; a server that is named is one of its site
+                  a site is named no more often than the front's share of the plan, in units, sends queries there
+                  of a plain log: each row has a line
+  written_kinds,  as kinds, places and answer; and what is printed follows from the written rows, the service, the plan,
+  written_places, the unit and the front, with hashes of the handles by Python's MD5
+  written_answer
+
+Of one case of hsplan-stream in eight it judges also:
+
   stream_settings a comment behind settings that are TOML changes nothing
   stream_costs    costs in another order make the same table; rows behind a row with a fault change nothing
   stream_plan     a beginning of an accepted certificate is Ended
+  these six:      a log that is read in small pieces is answered alike, in small pieces
+                  at a read every row that had come is answered, by `kinds` none
+                  of a plain log: rows behind a row with a fault change nothing
   kinds,          of a plain log: rows in another order make kinds of the same regions and counts
   written_kinds   each row twice, by twice the unit, makes the same table
                   the tables of two parts, joined, have the table of the log
                   the unit that CountTooLarge names is the least that will do for its row
+  written_kinds   with the sites in the reverse order the table is the same
+                  by a plan of the table each row of the log is assigned, where its region has a cost
   places,         of a plain log: each row twice has its lines twice
-  written_places
-  answer,         of a plain log: all fronts together name a site no more often than the plan
+  written_places  a longer log has the same lines and more, and a shorter one fewer
+  answer,         of a plain log: all fronts together name a site no more often than the plan sends queries there
   written_answer  each row twice, by twice the unit, has its line twice
                   a row that is refused changes no other line
-  all six of      a log that is read in small pieces, with output written in small pieces, is answered alike
-  these           at a read every row that had come was answered, by `kinds` none
-                  of a plain log: rows behind a fault change nothing, and more rows change no line, by `kinds` excepted
-  written_kinds   with the sites in the reverse order the table is the same
+                  a longer log has the same lines and more, and a shorter one fewer
 """
 import argparse
 import glob

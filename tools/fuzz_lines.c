@@ -30,16 +30,18 @@ static const struct form FORMS[] = {
 
 /* The further lines of hsplan. */
 static const struct form HSPLAN_FORMS[] = {
-    {TEXT("BadOption"), 1}, {TEXT("BadServers"), 1}, {TEXT("BadIndex"), 1}, {TEXT("NoValue"), 1}, {TEXT("NotSiteValue"), 1},
-    {TEXT("handle: TooLong"), 1}, {TEXT("handle: NotUtf8"), 1}, {TEXT("handle: NoSlash"), 1}, {TEXT("handle: EmptySegment"), 1},
-    {TEXT("log: BadHandle row #"), 1}, {TEXT("log: BadBody row #"), 1}, {TEXT("log: BadFront row #"), 1},
+    {TEXT("BadOption"), 1}, {TEXT("BadServers"), 1}, {TEXT("BadIndex"), 1}, {TEXT("NoValue"), 1},
+    {TEXT("NotSiteValue"), 1}, {TEXT("handle: TooLong"), 1}, {TEXT("handle: NotUtf8"), 1},
+    {TEXT("handle: NoSlash"), 1}, {TEXT("handle: EmptySegment"), 1}, {TEXT("log: BadHandle row #"), 1},
+    {TEXT("log: BadBody row #"), 1}, {TEXT("log: BadFront row #"), 1},
 };
 
 /* The further lines of hsplan-stream. */
 static const struct form STREAM_FORMS[] = {
     {TEXT("BadUnit"), 1}, {TEXT("BadFront"), 1}, {TEXT("log: BadName row #"), 1}, {TEXT("log: BadNumber row #"), 1},
-    {TEXT("log: TooManyRegions row #"), 1}, {TEXT("log: TooManyKinds row #"), 1}, {TEXT("log: CountTooLarge row # unit #"), 1},
-    {TEXT("log: BadHandle row # TooLong"), 1}, {TEXT("log: BadHandle row # NotUtf8"), 1}, {TEXT("log: BadHandle row # NoSlash"), 1},
+    {TEXT("log: TooManyRegions row #"), 1}, {TEXT("log: TooManyKinds row #"), 1},
+    {TEXT("log: CountTooLarge row # unit #"), 1}, {TEXT("log: BadHandle row # TooLong"), 1},
+    {TEXT("log: BadHandle row # NotUtf8"), 1}, {TEXT("log: BadHandle row # NoSlash"), 1},
     {TEXT("log: BadHandle row # EmptySegment"), 1},
 };
 
@@ -114,6 +116,11 @@ struct text line_of(const struct answer *answer)
     return front(answer->told, answer->told.length - ends(answer->told, TEXT("\n")));
 }
 
+static struct text behind(struct text line, struct text beginning)
+{
+    return (struct text){line.octets + beginning.length, line.length - beginning.length};
+}
+
 int is_suiting(struct text words, const struct answer *answer)
 {
     static const struct text begin = TEXT("hsplan: ");
@@ -122,7 +129,7 @@ int is_suiting(struct text words, const struct answer *answer)
     if (answer->told.length && (line.length == answer->told.length || holds_octet(line, '\n')))
         return 0;
     if (begins(line, begin))
-        return answer->status == status_of((struct text){line.octets + begin.length, line.length - begin.length}, 0) && (!answer->printed.length || is_log);
+        return answer->status == status_of(behind(line, begin), 0) && (!answer->printed.length || is_log);
     int is_short = answer->status == 3 && (begins(answer->printed, TEXT("no ")) || begins(answer->printed, TEXT("HSPLAN 1\nSHORTAGE\n")));
     return (answer->status == 0 || is_short) && (!line.length || (is_log && is_of_form(line, TEXT("assigned # spent # unknown #"))));
 }
@@ -140,8 +147,7 @@ int is_stream_suiting(struct text words, const struct answer *answer)
     }
     /* Only `places` prints something before it meets a fault: its header, and the rows before that of the fault. */
     int is_begun = begins(line, TEXT("hsplan-stream: log: ")) && begins(answer->printed, TEXT("handle,site,"));
-    struct text fault = {line.octets + begin.length, line.length - begin.length};
-    return answer->status == status_of(fault, 1) && (!answer->printed.length || is_begun);
+    return answer->status == status_of(behind(line, begin), 1) && (!answer->printed.length || is_begun);
 }
 
 int place_in(struct text line, struct text part, uint64_t *place)

@@ -509,13 +509,18 @@ static void judge_answers(const struct asked *asked, struct text log, const stru
 
 /* ---- all orders */
 
-/* A longer log has the same lines, and more. */
+/* A longer log has the same lines, and more. A shorter one has those of its rows. */
 static void judge_longer(const struct asked *asked, struct text log, const struct answer *answer)
 {
-    struct text beginning = glued(header_of(log), some_rows(behind_header(log)), TEXT(""));
+    struct text rows = some_rows(behind_header(log)), beginning = glued(header_of(log), rows, TEXT(""));
     struct answer more = answer_to(asked, continued(log)), less = answer_to(asked, beginning);
     want(begins(more.printed, answer->printed), "a longer log", log, answer->printed, more.printed);
     want(begins(answer->printed, less.printed), "a shorter log", log, less.printed, answer->printed);
+    uint64_t lines = lines_of(less.printed, TEXT("")), sites = asked->service.count;
+    if (!begins(less.told, FAULT)) {
+        uint64_t wanted = asked->order == PLACES ? 1 + sites * rows_of(rows) : rows_of(rows);
+        want(lines == wanted, "lines of a shorter log", beginning, less.printed, TEXT(""));
+    }
 }
 
 struct answer judge_stream_log(const struct asked *asked, struct text log)
