@@ -337,7 +337,7 @@ static struct text handle_in(struct text row, int has_regions)
 /* Each row of a plain log has a line for each site, in their order. */
 static void judge_row_lines(const struct asked *asked, struct text log, struct text lines)
 {
-    int has_regions = begins(header_of(log), TEXT("region,"));
+    int has_regions = ends(header_of(log), TEXT("region,handle\n"));
     for (struct text rows = behind_header(log); rows.length && lines.length; rows = behind_line(rows)) {
         struct text handle = handle_in(first_line(rows), has_regions);
         if (begins(rows, TEXT("\n")))
