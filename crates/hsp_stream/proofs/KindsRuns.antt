@@ -5,7 +5,8 @@ use Rattle.hsp_csv.specs.Records.{Fields}
 use Rattle.hsp_faults.specs.declared.fault.Fault.{Fault}
 use Rattle.hsp_stream.specs.Faults.{fault_of_input}
 use Rattle.hsp_stream.specs.KindsFiles.{AreFilesIn}
-use Rattle.hsp_stream.specs.KindsRun.{IsKindsText, kinds_text, unit_at}
+use Rattle.hsp_stream.specs.KindsRun.{IsKindsText, kinds_text}
+use Rattle.hsp_stream.specs.Words.{unit_at}
 use Rattle.hsp_stream.specs.declared.fault.StreamFault.{StreamFault}
 use Rattle.hsp_stream.specs.declared.kinds_files.Files.{Files}
 use Rattle.hsp_stream.specs.declared.kinds_files.KindsInputs.{KindsInputs}

@@ -1,30 +1,18 @@
 -- What the run `kinds` prints: the table of the kinds of a log, or the first fault.
-use Rattle.std.specs.Prelude.{◌≡◌, ℕ, List, [], Option, None, Some, Result, Ok, Err}
+use Rattle.std.specs.Prelude.{◌≡◌, ℕ, List, [], Option, Result}
 use Rattle.hsp_csv.specs.Records.{Fields}
 use Rattle.hsp_faults.specs.declared.fault.Fault.{Fault}
-use Rattle.hsp_faults.specs.declared.fault.Fault.TheVariants.{BadServers}
 use Rattle.hsp_tables.specs.Costs.{CostEntry}
 use Rattle.hsp_text.specs.Answers.{◌>>=◌, Then, fault_as}
 use Rattle.hsp_instance.specs.Instance.{Site}
-use Rattle.hsp_runs.specs.Counts.{count_at}
 use Rattle.hsp_stream.specs.Faults.{fault_of_input}
 use Rattle.hsp_stream.specs.KindsFiles.{AreFilesIn}
 use Rattle.hsp_stream.specs.KindsLog.{table_of}
 use Rattle.hsp_stream.specs.KindsTable.{text_in_units}
+use Rattle.hsp_stream.specs.Words.{unit_at}
 use Rattle.hsp_stream.specs.declared.fault.StreamFault.{StreamFault}
-use Rattle.hsp_stream.specs.declared.fault.StreamFault.TheVariants.{BadUnit}
 use Rattle.hsp_stream.specs.declared.kinds_files.Files.{Files}
 use Rattle.hsp_stream.specs.declared.kinds_files.KindsInputs.{KindsInputs}
-use Rattle.hsp_stream.specs.declared.kinds.TheConstants.{MOST_UNIT}
-
-abbrev pub unit_or : Result ℕ Fault → Result ℕ StreamFault
-unit_or (Ok unit) = Ok unit
-unit_or (Err e) = Err BadUnit
-
--- the unit that a word spells, from 1 to the greatest; without a word it is 1
-abbrev pub unit_at : Option (List ℕ) → Result ℕ StreamFault
-unit_at None = Ok 1
-unit_at (Some word) = unit_or (count_at BadServers MOST_UNIT word)
 
 -- the text of the table of the records of a log
 abbrev pub kinds_text : List CostEntry → List Site → ℕ → List Fields → Result (List ℕ) StreamFault

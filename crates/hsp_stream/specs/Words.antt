@@ -28,8 +28,12 @@ abbrev pub word_or : Option (List ℕ) → ℕ → (List ℕ → Result ℕ Stre
 word_or None number spelled = Ok number
 word_or (Some word) number spelled = spelled word
 
-abbrev pub unit_at : List ℕ → Result ℕ StreamFault
-unit_at word = or_else_fault BadUnit (count_at BadFronts GREATEST_UNIT word)
+-- the unit that a word spells, from 1 to the greatest, and 1 where there is no word
+abbrev pub spelled_unit : List ℕ → Result ℕ StreamFault
+spelled_unit word = or_else_fault BadUnit (count_at BadFronts GREATEST_UNIT word)
+
+abbrev pub unit_at : Option (List ℕ) → Result ℕ StreamFault
+unit_at word = word_or word 1 spelled_unit
 
 abbrev pub fronts_at : List ℕ → Result ℕ StreamFault
 fronts_at word = or_else_fault (Input BadFronts) (count_at BadFronts MOST_FRONTS word)
@@ -53,4 +57,4 @@ portion_with words unit = word_or (option_map (λ v. v.items) words.fronts) 1 fr
 
 -- a unit of one, one front, and its number 0, where words do not spell others
 abbrev pub portion_at : PortionWords → Result Portion StreamFault
-portion_at words = word_or (option_map (λ v. v.items) words.unit) 1 unit_at >>= portion_with words
+portion_at words = unit_at (option_map (λ v. v.items) words.unit) >>= portion_with words

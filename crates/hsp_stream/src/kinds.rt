@@ -2,38 +2,19 @@
 
 ghost use Rattle.std.specs.Prelude.{◌≡◌, ◌<◌, ◌≤◌, ◌⊎◌, Err, IfErr, IfOk, IfSome, Ok, option_map};
 ghost use Rattle.hsp_csv.specs.Records.{records_of};
-ghost use Rattle.hsp_text.specs.Answers.{Gives};
 ghost use Rattle.hsp_stream.specs.KindsLog.{IsReadFault};
-ghost use Rattle.hsp_stream.specs.KindsRun.{IsKindsText, kinds_text, unit_at};
+ghost use Rattle.hsp_stream.specs.KindsRun.{IsKindsText, kinds_text};
 
 use crate::fault::StreamFault;
 use crate::kinds_files::{KindsInputs, files_in};
 use crate::kinds_log::count_log;
 use crate::kinds_table::text_of_kinds;
-use hsp_faults::Fault;
+use crate::portions::unit_at;
 use hsp_instance::Sites;
-use hsp_runs::count_at;
 use hsp_tables::Costs;
 use hsp_tally::Kinds;
 use std::alloc::Global;
 use std::io::Read;
-
-/// The greatest unit of counts.
-const MOST_UNIT: u32 = 1_000_000;
-
-// The unit that a word spells; without a word it is 1.
-fn unit_at(unit: Option<&[u8]>) -> Result<u32, StreamFault>
-    ensures unit { Gives (λ unit. unit) result (unit_at (option_map (λ o. o.now) unit.entry)) }
-    ensures some { IfOk result (λ unit. 0 < unit) }
-{
-    let Some(word) = unit else {
-        return Ok(1);
-    };
-    match count_at(word, MOST_UNIT, Fault::BadServers) {
-        Ok(unit) => Ok(unit),
-        Err(_) => Err(StreamFault::BadUnit),
-    }
-}
 
 // The table of a log, by sites and costs.
 fn text_of_log<R: Read + Drop>(

@@ -23,10 +23,9 @@ pub struct PortionWords {
     pub front: Option<Vec<u8>>,
 }
 
-// The unit that a word spells, or 1 where there is no word.
-fn unit_at(word: Option<&[u8]>) -> Result<u32, StreamFault>
-    ensures given { Gives (λ unit. unit) result
-        (word_or (option_map (λ w. w.now) word.entry) 1 unit_at) }
+/// The unit that a word spells, or 1 where there is no word. A word that spells none is `BadUnit`.
+pub(crate) fn unit_at(word: Option<&[u8]>) -> Result<u32, StreamFault>
+    ensures given { Gives (λ unit. unit) result (unit_at (option_map (λ w. w.now) word.entry)) }
     ensures some { IfOk result (λ unit. 1 ≤ unit) }
     ensures most { IfOk result (λ unit. unit ≤ GREATEST_UNIT) }
 {

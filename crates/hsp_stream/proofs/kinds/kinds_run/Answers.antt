@@ -17,7 +17,7 @@ returns-in_err-files-clause-fault g c =
       | inl memory ↦ inl (inl (ap fault_of_input memory))
       | inr files ↦
           inr (some_all (λ (octets : List ℕ). IsKindsText c.args.inputs.now word (records_of octets) (Err (fault_of_input c.in_err-files.field-0.0))) (g.R.Read.remaining c.args.log)
-          (λ octets. files_stop c.args.inputs.now word (records_of octets) c.in_ok-unit.unit c.in_err-files.field-0.0 c.in_ok-unit.ensures.unit files))
+          (λ octets. files_stop c.args.inputs.now word (records_of octets) c.in_ok-unit.unit c.in_err-files.field-0.0 c.in_ok-unit.ensures.given files))
     ])
 
 pub returns-clause-text : goal.returns-clause-text
@@ -27,7 +27,7 @@ returns-clause-text g c =
     IfOk-weaker c.text_of_log.result (λ (text : Vec ℕ Global). IfSome (g.R.Read.remaining c.args.log) (λ octets. is octets ≡ Ok text.items))
     (λ (text : Vec ℕ Global). IfSome (g.R.Read.remaining c.args.log) (λ octets. IsKindsText c.args.inputs.now word (records_of octets) (Ok text.items)))
     (λ text. some_more (λ (octets : List ℕ). is octets ≡ Ok text.items) (λ octets. IsKindsText c.args.inputs.now word (records_of octets) (Ok text.items)) (g.R.Read.remaining c.args.log)
-    (λ octets e. text_is c.args.inputs.now word (records_of octets) c.in_ok-unit.unit c.in_ok-files.files (Ok text.items) c.in_ok-unit.ensures.unit c.in_ok-files.ensures e))
+    (λ octets e. text_is c.args.inputs.now word (records_of octets) c.in_ok-unit.unit c.in_ok-files.files (Ok text.items) c.in_ok-unit.ensures.given c.in_ok-files.ensures e))
     c.text_of_log.ensures.text
 
 pub returns-clause-fault : goal.returns-clause-fault
@@ -40,5 +40,5 @@ returns-clause-fault g c =
       | inl read ↦ inl read
       | inr known ↦
           inr (some_more (λ (octets : List ℕ). is octets ≡ Err fault) (λ octets. IsKindsText c.args.inputs.now word (records_of octets) (Err fault)) (g.R.Read.remaining c.args.log)
-          (λ octets e. text_is c.args.inputs.now word (records_of octets) c.in_ok-unit.unit c.in_ok-files.files (Err fault) c.in_ok-unit.ensures.unit c.in_ok-files.ensures e) known)
+          (λ octets e. text_is c.args.inputs.now word (records_of octets) c.in_ok-unit.unit c.in_ok-files.files (Err fault) c.in_ok-unit.ensures.given c.in_ok-files.ensures e) known)
     ]) c.text_of_log.ensures.fault
