@@ -474,3 +474,34 @@ def test_files_are_written_together_or_not_at_all(tmp_path: Path) -> None:
         file.write(b"new" if file else b"")
         raise ZeroDivisionError
     assert [(it.name, it.read_bytes()) for it in tmp_path.iterdir()] == [("a", b"old")]
+
+
+def test_a_pipe_is_written_and_stays_a_pipe(tmp_path: Path) -> None:
+    """So is a device such as /dev/null, which a superuser could replace by a file."""
+    path = tmp_path / "pipe"
+    os.mkfifo(path)
+    reader = os.open(path, os.O_RDONLY | os.O_NONBLOCK)
+    files.replace_all({str(path): b"whole"})
+    with files.growing(str(path)) as file:
+        file.write(b" grown")
+    assert (path.is_fifo(), os.read(reader, 99)) == (True, b"whole grown")
+    os.close(reader)
+    assert os.listdir(tmp_path) == ["pipe"]
+
+
+def test_a_link_stays_a_link_and_rights_stay_as_they_are(tmp_path: Path) -> None:
+    (tmp_path / "own").write_bytes(b"old")
+    os.chmod(tmp_path / "own", 0o640)
+    (tmp_path / "link").symlink_to("own")
+    files.replace_all({f"{tmp_path}/link": b"new"})
+    assert ((tmp_path / "link").is_symlink(), (tmp_path / "own").read_bytes()) == (True, b"new")
+    with files.growing(f"{tmp_path}/link") as file:
+        file.write(b"newer")
+    assert ((tmp_path / "own").read_bytes(), (tmp_path / "own").stat().st_mode & 0o777) == (b"newer", 0o640)
+    assert sorted(os.listdir(tmp_path)) == ["link", "own"]
+
+
+def test_standard_output_may_be_the_file(hsp: Hsp, tmp_path: Path) -> None:
+    folder = tmp_path / "example"
+    hsp("new", str(folder), "--example")
+    assert hsp("plan", str(folder), "-o", "/dev/stdout").stdout.startswith("HSPLAN 1\nPLAN\n")
