@@ -60,10 +60,23 @@ class Commands(Group):
             ended(5, *str(fault).splitlines())
         except Refused as fault:
             ended(fault.status, f"hsplan refuses these files: {fault.line}")
-        except BrokenPipeError:
-            raise  # click ends without a word where nobody reads on
         except OSError as fault:
-            ended(5, f"{fault.filename}: {fault.strerror}")
+            lost(fault)
+
+    def main(self, *words: Any, **more: Any) -> Any:
+        try:
+            return super().main(*words, **more)
+        except OSError as fault:  # of the words that --help and --version print
+            lost(fault)
+
+
+def lost(fault: OSError) -> None:
+    """Ends where a file, or standard output, can't be read or written. Nothing is said where nobody reads on."""
+    if fault.filename is None:
+        # What is still to be printed goes nowhere, so that Python doesn't try it once more at the end.
+        os.dup2(os.open(os.devnull, os.O_WRONLY), 1)
+    name = "standard output" if fault.filename is None else fault.filename
+    ended(5, *([] if isinstance(fault, BrokenPipeError) else [f"{name}: {fault.strerror}"]))
 
 
 def ended(status: int, *lines: str) -> None:

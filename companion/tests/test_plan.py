@@ -7,6 +7,7 @@ import io
 import json
 import os
 import subprocess
+import sys
 from collections.abc import Callable
 from pathlib import Path
 from typing import Any
@@ -17,7 +18,7 @@ from hsp.plans import capacity_file, cheapest, least_purchase, planned, shortage
 from hsp.programs import BOUNDLESS, Desk
 from hsp.service import Service, read_service
 
-from conftest import Hsp
+from conftest import TOP, Hsp
 
 Example = Callable[[str], Path]
 
@@ -218,3 +219,33 @@ def test_a_file_that_cannot_be_written(hsp: Hsp, example: Example) -> None:
 def test_the_help_has_whole_sentences(hsp: Hsp) -> None:
     for words in ((), ("fleet",)):
         assert "..." not in hsp(*words, "--help").stdout.partition("Commands:")[2]
+
+
+LOST = [["--version"], ["--help"], ["plan", "--no-save"], ["plan", "--no-save", "--json"], ["doctor"], ["whatif", "--csv"]]
+
+
+@pytest.mark.parametrize("words", LOST, ids=" ".join)
+def test_a_full_disk_behind_standard_output_is_one_line(example: Example, words: list[str]) -> None:
+    environment = {**os.environ, "PYTHONPATH": str(TOP / "companion")}
+    with open("/dev/full", "wb") as full:
+        done = subprocess.run(
+            [sys.executable, "-m", "hsp", *words],
+            stdout=full,
+            stderr=subprocess.PIPE,
+            text=True,
+            env=environment,
+            cwd=example("two-sites"),
+        )
+    assert (done.returncode, done.stderr) == (5, "hsp: standard output: No space left on device\n")
+
+
+def test_a_reader_that_goes_away_is_no_refused_input(example: Example) -> None:
+    environment = {**os.environ, "PYTHONPATH": str(TOP / "companion")}
+    reader, writer = os.pipe()
+    os.close(reader)
+    words = [sys.executable, "-m", "hsp", "plan", "--no-save"]
+    done = subprocess.run(
+        words, stdout=writer, stderr=subprocess.PIPE, text=True, env=environment, cwd=example("two-sites")
+    )
+    os.close(writer)
+    assert (done.returncode, done.stderr) == (5, "")
