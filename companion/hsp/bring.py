@@ -45,6 +45,13 @@ def new(folder: str, example: bool) -> None:
     click.echo(printable(f"next: hsp plan {folder}" if example else f"next: hsp sites FILE.. --into {folder}"))
 
 
+def once(_: click.Context, __: click.Parameter, paths: tuple[str, ...]) -> tuple[str, ...]:
+    """The paths, of which one at most is standard input."""
+    if paths.count("-") > 1:
+        raise click.BadParameter("- stands twice, and standard input is read once")
+    return paths
+
+
 def octets_of(path: str) -> bytes:
     """The octets of a file, or of standard input where it is `-`."""
     if path == "-":
@@ -74,7 +81,7 @@ def gathered(paths: tuple[str, ...], names: tuple[str, ...], files: Files) -> li
 
 
 @click.command()
-@click.argument("paths", metavar="FILE..", nargs=-1, required=True)
+@click.argument("paths", metavar="FILE..", nargs=-1, required=True, callback=once)
 @click.option("--into", metavar="DIR", type=FOLDER, help="the folder that they are added to")
 @click.option("--name", "names", metavar="NAME", multiple=True, help="of the first site, the second, and so on")
 @click.option(
@@ -238,7 +245,14 @@ def output_of(given: dict[str, Any], into: str | None) -> str | None:
 
 
 @click.command()
-@click.argument("logs", metavar="LOG..", nargs=-1, required=True, type=click.Path(dir_okay=False, allow_dash=True))
+@click.argument(
+    "logs",
+    metavar="LOG..",
+    nargs=-1,
+    required=True,
+    type=click.Path(dir_okay=False, allow_dash=True),
+    callback=once,
+)
 @click.option("--regions", metavar="FILE", required=True, help="a table network,region, or a MaxMind database")
 @click.option("--into", metavar="DIR", type=FOLDER, help="the folder whose demand.csv is written")
 @click.option("-o", "--output", metavar="FILE", help="the table, in place of DIR/demand.csv")

@@ -674,3 +674,9 @@ def test_standard_input_is_a_log(tmp_path: Path) -> None:
     for octets in (text, gzip.compress(text)):
         done = subprocess.run(words, input=octets, capture_output=True, env=environment)
         assert counts_of(done.stdout.decode()) == wanted(rows), done.stderr
+
+
+@pytest.mark.parametrize("words", [["demand", "-", "-", "--regions", "networks.csv"], ["sites", "-", "-"]], ids=" ".join)
+def test_standard_input_is_read_once(hsp: Hsp, words: list[str]) -> None:
+    said = hsp(*words, status=2).stderr.splitlines()[-1]
+    assert said.endswith("- stands twice, and standard input is read once")
