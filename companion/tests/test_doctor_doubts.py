@@ -131,6 +131,20 @@ def test_a_plan_older_than_its_inputs(hsp: Hsp, example: Example) -> None:
     assert examined(str(folder), Desk(), {}).warnings == []
 
 
+def test_a_plan_that_was_cut_or_is_of_other_files(hsp: Hsp, example: Example) -> None:
+    """Such a plan may be newer than the inputs beside it."""
+    folder = example("two-sites")
+    hsp("plan", str(folder))
+    whole = (folder / "plan.txt").read_text()
+    for text in (whole[:99], whole.replace("cost 307216", "cost 307215")):
+        (folder / "plan.txt").write_text(text)
+        (found,) = examined(str(folder), Desk(), {}).warnings
+        assert found.message == "the plan isn't one of these files" and found.remedy == f"hsp plan {folder}"
+        assert "plan.txt isn't a plan of these files" in at_a_terminal(folder)
+    assert hsp("plan", str(folder)).stderr == ""
+    assert examined(str(folder), Desk(), {}).warnings == []
+
+
 @pytest.mark.parametrize("command", ["plan", "view", "whatif"])
 def test_commands_show_the_faults(hsp: Hsp, example: Example, command: str) -> None:
     folder = example("two-sites")

@@ -18,7 +18,7 @@ from hsp.doctor.commands import line_of
 from hsp.doctor.printing import json_of
 from hsp.programs import Desk
 
-from conftest import Hsp
+from conftest import TOP, Hsp
 
 Example = Callable[[str], Path]
 FILES = "--settings settings.toml --demand demand.csv --costs costs.csv --capacity capacity.csv"
@@ -407,3 +407,36 @@ def test_long_logs(folder: Path) -> None:
 def test_a_log_that_is_a_folder(folder: Path) -> None:
     (first,) = told(f"dispatch {FILES} --plan plan.txt --log .", 5)
     assert first["file"] == "." and "folder" in first["message"] + first["why"]
+
+
+def test_a_pipe_that_stands_for_two_files(folder: Path) -> None:
+    files = FILES.replace("demand.csv", "/dev/stdin").replace("costs.csv", "/dev/stdin")
+    done = subprocess.run(
+        [sys.executable, "-m", "hsp", "doctor", "--", "plan", *files.split()],
+        input=(folder / "demand.csv").read_text(),
+        capture_output=True,
+        text=True,
+        env={**os.environ, "PYTHONPATH": str(TOP / "companion")},
+    )
+    assert done.returncode == 1
+    assert "a pipe is read once, and --demand has it too" in done.stdout
+    assert "give a file behind --demand or --costs" in done.stdout
+
+
+def test_a_log_where_the_demand_belongs(folder: Path) -> None:
+    (first,) = told("plan " + FILES.replace("demand.csv", "log.csv"), 1)
+    assert first["why"] == "this is a log, whose rows aren't counted yet"
+    assert "hsplan-stream kinds" in first["remedy"]
+
+
+def test_a_handle_that_is_not_utf8(folder: Path) -> None:
+    """It is no file, so no file has to be renamed."""
+    (first,) = told("locate --settings settings.toml 20.500.1234/caf\udce9", 2)
+    assert first["hsplan"] == "Usage" and "iconv" in first["remedy"]
+
+
+@pytest.mark.parametrize("prefix", ["20.500.1234", "21.T11998"])
+def test_only_a_prefix(folder: Path, prefix: str) -> None:
+    edited(folder / "demand.csv", b"20.500.1234/report-2024", prefix.encode())
+    (first,) = told("plan " + FILES, 1)
+    assert first["remedy"] == f"write the suffix too, as {prefix}/report-2024"

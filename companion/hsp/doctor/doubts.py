@@ -22,7 +22,7 @@ from hsp.service import NAMES, TITLE_KEYS, TITLES, VALUES, Service, dotted
 FAR_ABOVE, FAR_BELOW = 10, 1000
 # A capacity from here on stands for no limit, as in a what-if.
 NO_LIMIT = 1_000_000_000
-# The kind of the doubt about a plan that is older than its inputs.
+# The kind of the doubt about a plan that isn't one of its inputs.
 OLD_PLAN = "old plan"
 ADDRESS = re.compile(
     r"\s*(?:https?://(?:(?:dx\.)?doi\.org|(?:www\.)?hdl\.handle\.net)/(?:api/handles/)?|https?://[^/]+/|hdl:(?://)?|doi:|info:hdl/)",
@@ -330,37 +330,34 @@ def sites(it: Read) -> None:
         seen.setdefault(key, site["name"])
 
 
-def stale_plan(service: Service, desk: Desk, path: str) -> list[str]:
-    """The inputs that are newer than a plan which the checker refuses for them; none where the plan still holds.
+def stale_plan(service: Service, desk: Desk, path: str) -> list[str] | None:
+    """The inputs that are newer than a plan which the checker refuses for them; None where the plan still holds.
 
     A plan of the folder isn't one of other files that were given.
     """
     inputs = service.inputs
     own = {os.path.normpath(os.path.join(service.folder, name)) for name in (*NAMES.values(), VALUES)}
     if not {inputs.settings, inputs.demand, inputs.costs, inputs.capacity} <= own:
-        return []
+        return None
+    if desk.verdict(inputs, path) == "yes":
+        return None
     files = [own for own in (inputs.settings, inputs.values, inputs.demand, inputs.costs, inputs.capacity) if own]
     time = os.stat(path).st_mtime
-    newer = [own for own in files if os.stat(own).st_mtime > time]
-    return newer if newer and desk.verdict(inputs, path) != "yes" else []
+    return [os.path.basename(own) for own in files if os.stat(own).st_mtime > time]
 
 
 def old_plan(it: Read, desk: Desk) -> None:
-    """A plan that is older than its inputs, and isn't theirs any more."""
+    """A plan in the folder that isn't one of its inputs, or isn't one of them any more."""
     path = os.path.normpath(os.path.join(it.service.folder, "plan.txt"))
-    if not os.path.isfile(path):
+    newer = stale_plan(it.service, desk, path) if os.path.isfile(path) else None
+    if newer is None:
         return
-    newer = stale_plan(it.service, desk, path)
+    message, why = "the plan isn't one of these files", "it was cut, edited, or made of other files"
     if newer:
-        names = listed(map(os.path.basename, newer))
-        verb = "is" if len(newer) == 1 else "are"
-        words = Words(
-            f"the plan is older than {names}",
-            f"hsp plan {it.service.folder}",
-            f"{names} {verb} newer, and hsplan check says no to the plan",
-            kind=OLD_PLAN,
-        )
-        it.findings.append(found(path, Place(), words, "", WARNING))
+        message = f"the plan is older than {listed(newer)}"
+        why = f"{listed(newer)} {'is' if len(newer) == 1 else 'are'} newer, and hsplan check says no to the plan"
+    words = Words(message, f"hsp plan {it.service.folder}", why, kind=OLD_PLAN)
+    it.findings.append(found(path, Place(), words, "", WARNING))
 
 
 def titles(it: Read) -> None:

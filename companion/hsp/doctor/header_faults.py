@@ -8,7 +8,7 @@ import zlib
 from typing import NamedTuple
 
 from hsp.doctor.findings import Finding, Place, Text, Words, decoded, found
-from hsp.doctor.question import Question, Said
+from hsp.doctor.question import ORDER, Question, Said
 from hsp.doctor.rows import HEADERS, near, table_of
 from hsp.doctor.table_faults import Explained
 from hsp.numbers import listed
@@ -83,6 +83,9 @@ def _of_names(text: Text, wanted: list[str]) -> Cause | None:
     first, want = text.line(1), wanted[0]
     names = [it.strip().strip('"') for it in first.split(",")]
     mended = "\n".join([want, *text.lines[1:]])
+    if first == "region,handle" and want == "region,handle,count":
+        remedy = f"count it: hsplan-stream kinds --settings FILE --costs FILE --log {text.path} > counted.csv"
+        return Cause("this is a log, whose rows aren't counted yet", remedy)
     if first.casefold() in wanted or ",".join(names).casefold() in wanted:
         return Cause("another case of letters", f"write {want}", mended)
     for other in wanted:
@@ -155,11 +158,21 @@ def cause_of(text: Text, wanted: list[str]) -> Cause:
     return Cause("other columns, or another file", f"write {want} as the first line, and such rows below it", None)
 
 
+def _of_pipes(question: Question, kind: str) -> Cause | None:
+    """A pipe that stands for two files, and was read to its end for the first."""
+    draft = question.files[kind]
+    others = [it for it in ORDER if it in question.files and it != kind]
+    same = next((it for it in others if question.files[it].original.path == draft.original.path), "")
+    if not same or not draft.copy or draft.original.octets:
+        return None
+    return Cause(f"a pipe is read once, and --{same} has it too", f"give a file behind --{same} or --{kind}")
+
+
 def header_fault(question: Question, kind: str, said: Said) -> Explained:
     """A first line that is no header."""
     draft = question.files[kind]
     text, wanted = draft.text, headers_of(question, kind)
-    cause = cause_of(text, wanted)
+    cause = _of_pipes(question, kind) or cause_of(text, wanted)
     what = "a log for this command" if kind == "log" else kind
     first = text.line(1)
     place = Place(1, 1, max(1, len(first)), first) if first.replace("\t", "").isprintable() else Place(1, 1, 1, "")

@@ -184,7 +184,8 @@ def handle_words(handle: str, detail: str, path: str) -> Words:
         return Words("the handle is empty", "write a handle, or take the row out", "an empty field", kind=kind)
     why = "a handle is a prefix, '/' and a suffix; here is no '/'"
     remedy = f"write the suffix too, as {handle.strip()}/report-2024"
-    if not re.fullmatch(r"\s*[0-9.]+\s*", handle):
+    # A prefix begins with a number, as 20.500.1234 and 21.T11998 do.
+    if not re.fullmatch(r"\s*[0-9]+(\.[0-9A-Za-z]+)*\s*", handle):
         remedy = f"write the prefix too, as 20.500.1234/{handle.strip()[:40]}; or are the columns in another order?"
     return Words(f"{shown} isn't a handle", remedy, why, kind=kind)
 

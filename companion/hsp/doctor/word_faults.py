@@ -260,10 +260,9 @@ def usage(line: Line) -> list[Finding]:
 
 def not_utf8(line: Line, word: Word) -> Finding:
     """A word that hsplan doesn't take, since it isn't UTF-8."""
-    words = Words(
-        f"{quoted(word.text)} isn't UTF-8", "rename the file, or go into its folder", "hsplan takes words in UTF-8"
-    )
-    return at_word(line, word, words)
+    is_handle = FORMS[line.command].last == "handle" and word in split(line)[1]
+    remedy = "write it in UTF-8: iconv -f latin1 -t utf-8" if is_handle else "rename the file, or go into its folder"
+    return at_word(line, word, Words(f"{quoted(word.text)} isn't UTF-8", remedy, "hsplan takes words in UTF-8"))
 
 
 def value_fault(line: Line, word: str) -> Finding:
