@@ -440,3 +440,37 @@ def test_only_a_prefix(folder: Path, prefix: str) -> None:
     edited(folder / "demand.csv", b"20.500.1234/report-2024", prefix.encode())
     (first,) = told("plan " + FILES, 1)
     assert first["remedy"] == f"write the suffix too, as {prefix}/report-2024"
+
+
+def doubtful(words: str) -> list[dict[str, Any]]:
+    """The warnings for words that hsplan takes."""
+    found = told(words, 0)
+    assert all((it["severity"], it["hsplan"]) == ("warning", "") for it in found)
+    return found
+
+
+def test_rows_of_a_log_that_are_unknown(folder: Path) -> None:
+    edited(folder / "log.csv", b"region,handle\n", b"region,handle\nEU,20.500.1234/film-5\nmars,20.500.1234/x\n")
+    first, second = doubtful(COMMANDS["dispatch"])
+    assert (first["file"], first["line"], first["column"], first["remedy"]) == ("log.csv", 2, 1, "write eu")
+    assert first["why"] == "1 of the first 602 rows can only be answered 'unknown'"
+    assert (second["line"], second["message"]) == (3, "the demand has no region 'mars'")
+    assert doubtful(f"answer {FILES} --plan plan.txt --log log.csv") == [first, second]
+
+
+@pytest.mark.parametrize("handle", ["20.500.1234/FILM-5", "hdl:20.500.1234/film-5", "20.500.1234/film-5 "])
+def test_handles_of_a_log_that_are_spelt_otherwise(folder: Path, handle: str) -> None:
+    """dispatch answers by the spelling, and hsplan-stream answer by the kind."""
+    edited(folder / "log.csv", b"region,handle\n", b"region,handle\neu," + handle.encode() + b"\n")
+    (first,) = doubtful(COMMANDS["dispatch"])
+    assert (first["line"], first["column"], first["remedy"]) == (2, 4, "write 20.500.1234/film-5")
+    assert doubtful(f"answer {FILES} --plan plan.txt --log log.csv") == []
+
+
+def test_doubts_of_words_are_those_of_a_folder(hsp: Hsp, folder: Path) -> None:
+    edited(folder / "demand.csv", b"20.500.1234/report-2024", b"hdl:20.500.1234/report-2024")
+    (first,) = doubtful("plan " + FILES)
+    assert (first["file"], first["line"], first["remedy"]) == ("demand.csv", 2, "write 20.500.1234/report-2024")
+    hsp("doctor", "--strict", "--", "plan", *FILES.split(), status=1)
+    (word,) = doubtful("locate --settings settings.toml https://doi.org/10.1000/1")
+    assert (word["file"], word["column"], word["remedy"]) == ("", 40, "write 10.1000/1")

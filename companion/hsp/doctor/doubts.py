@@ -57,7 +57,7 @@ def bare(handle: str) -> str:
     )
 
 
-def _handle_words(handle: str) -> tuple[str, str]:
+def handle_words(handle: str) -> tuple[str, str]:
     """What is odd about a handle: the message, and its kind."""
     if ADDRESS.match(handle):
         what = "a URL" if "://" in handle else f"written with {handle.strip().split(':')[0]}:"
@@ -78,7 +78,7 @@ def handles(it: Read) -> None:
     """Handles that aren't bare."""
     for row in it.demand.rows:
         handle = row.fields[1]
-        message, kind = _handle_words(handle)
+        message, kind = handle_words(handle)
         if message:
             meant = bare(handle).strip("\"'<>") if kind == "quotes" else bare(handle)
             shown = f"write {meant}" + (
@@ -380,12 +380,14 @@ def titles(it: Read) -> None:
         )
 
 
-def doubts(service: Service, desk: Desk) -> Iterator[Finding]:
-    """All that is accepted and seldom meant, in the order of the files."""
+def doubts(service: Service, desk: Desk, of_folder: bool = True) -> Iterator[Finding]:
+    """All that is accepted and seldom meant, in the order of the files; of a folder, its titles and its plan too."""
     inputs = service.inputs
     demand, costs, capacity = (table_of(read_text(own)) for own in (inputs.demand, inputs.costs, inputs.capacity))
     it = Read(service, demand, costs, capacity, read_text(inputs.settings))
-    for look in (sites, hosts, handles, twins, priceless, idle, pairs, zeros, units, unused, titles):
+    for look in (sites, hosts, handles, twins, priceless, idle, pairs, zeros, units, unused):
         look(it)
-    old_plan(it, desk)
+    if of_folder:
+        titles(it)
+        old_plan(it, desk)
     yield from it.findings

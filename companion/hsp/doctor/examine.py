@@ -35,7 +35,7 @@ class Examined:
 
 def status_of(result: Diagnosis) -> int:
     """hsplan's status for faults; 1 in place of a verdict on a certificate."""
-    if not result.findings:
+    if not [it for it in result.findings if it.severity == ERROR]:
         return 0
     return result.status if result.status in (1, 2, 4, 5) else 1
 
@@ -113,7 +113,7 @@ def titles_faults(folder: str) -> list[Finding]:
 
 
 def examined_words(words: list[str], desk: Desk) -> Examined:
-    """What is wrong with the words of a command, and with its files."""
+    """What is wrong with the words of a command, and with its files, or what is doubtful where nothing is wrong."""
     from hsp.doctor.faults import of_words
 
     result = of_words(desk, words)

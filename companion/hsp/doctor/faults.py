@@ -21,6 +21,7 @@ from hsp.doctor.file_faults import file_finding
 from hsp.doctor.findings import Finding, Place, Words, found
 from hsp.doctor.question import ORDER, Diagnosis, Question, Said, draft_of, is_utf8
 from hsp.doctor.table_faults import Explained, row_fault
+from hsp.doctor.word_doubts import word_doubts
 from hsp.programs import Desk, program, run
 
 # How often hsplan is asked about copies that were mended, and how many octets these may have together.
@@ -233,7 +234,7 @@ def question_of(desk: Desk, line: Line) -> Question:
 
 
 def of_words(desk: Desk, words: list[str]) -> Diagnosis:
-    """All faults of the words of a command, and of its files."""
+    """All faults of the words of a command, and of its files; or what is doubtful where nothing is wrong."""
     line = line_of(words)
     if word_faults.command_fault(line):
         return Diagnosis(word_faults.usage(line), run(line.program, *[it.text for it in line.words]).status)
@@ -244,7 +245,8 @@ def of_words(desk: Desk, words: list[str]) -> Diagnosis:
     status = _status(line, question)
     if status == USAGE_STATUS:
         return Diagnosis(word_faults.usage(line) + _of_files(question), status)
-    return diagnosed(question, line)
+    result = diagnosed(question, line)
+    return result if result.findings else Diagnosis(word_doubts(question, line), 0)
 
 
 def _status(line: Line, question: Question) -> int:
