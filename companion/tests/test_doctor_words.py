@@ -474,3 +474,17 @@ def test_doubts_of_words_are_those_of_a_folder(hsp: Hsp, folder: Path) -> None:
     hsp("doctor", "--strict", "--", "plan", *FILES.split(), status=1)
     (word,) = doubtful("locate --settings settings.toml https://doi.org/10.1000/1")
     assert (word["file"], word["column"], word["remedy"]) == ("", 40, "write 10.1000/1")
+
+
+@pytest.mark.parametrize("count, remedy", [(1_000_001, "give --unit 2,"), (10**12, "give --unit 1000000,")])
+def test_a_sum_that_needs_a_unit(folder: Path, count: int, remedy: str) -> None:
+    (folder / "log.csv").write_text(f"region,handle,count\neu,20.500.1234/x,{count}\n")
+    (first,) = told(COMMANDS["kinds"], 1)
+    assert first["remedy"].startswith(remedy)
+
+
+def test_a_sum_that_no_unit_helps(folder: Path) -> None:
+    (folder / "log.csv").write_text("region,handle,count\n" + f"eu,20.500.1234/x,{10**12}\n" * 2)
+    (first,) = told(COMMANDS["kinds"], 1)
+    assert first["hsplan"] == "log: CountTooLarge row 0 unit 2000000"
+    assert first["remedy"].startswith("cut the log in parts")

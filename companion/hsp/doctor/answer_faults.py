@@ -182,9 +182,12 @@ def far_row(question: Question, said: Said) -> Explained:
 def count_too_large(question: Question, said: Said) -> Explained:
     unit = said.numbers.get("unit", 1000)
     log = question.files["log"].original.path
+    remedy = f"give --unit {unit}, and divide capacities and limits by {unit:,}"
+    if unit > 1_000_000:
+        remedy = "cut the log in parts, and plan each by itself: a unit is at most 1,000,000"
     words = Words(
         "a row of the table is above 1,000,000",
-        f"give --unit {unit}, and divide capacities and limits by {unit:,}",
+        remedy,
         f"row {said.numbers.get('row', 0)} of the table that kinds makes: a long log",
     )
     return Explained(found(log, Place(), words, said.line), [])

@@ -332,6 +332,25 @@ def row_twice(spot: Spot, said: str) -> Explained:
     return Explained(found(spot.path, spot.place(0, 1), words, said), [spot.without()])
 
 
+def open_quote(spot: Spot, said: str) -> Explained | None:
+    """A quote that isn't closed in its line, so that the lines below it belong to its row."""
+    first, draft = spot.row.first, spot.question.files[spot.kind]
+    line = draft.text.line(first)
+    if spot.row.last == first or line.count('"') % 2 == 0:
+        return None
+    start = spans_of(line)[-1][0]
+    at = line.index('"', start)
+    words = Words(
+        "a quote isn't closed in its line",
+        "take the quote out, or close it behind its field",
+        f"it makes one row of the lines {draft.number(first)} to {draft.number(spot.row.last)}",
+        kind="open quote",
+    )
+    place = draft.original.part(draft.number(first), at, 1)
+    mended = spot.question.with_line(spot.kind, first, line[:at] + line[at + 1 :])
+    return Explained(found(spot.path, place, words, said), [mended, spot.without()])
+
+
 def row_fault(question: Question, kind: str, said: Said) -> Explained | None:
     """The fault of a row of a table or a log."""
     spot = spot_of(question, kind, said.numbers["row"])
@@ -341,6 +360,9 @@ def row_fault(question: Question, kind: str, said: Said) -> Explained | None:
     if spot.row.fields == spot.header:
         words = Words("the header stands among the rows", "take the line out", "two tables joined")
         return Explained(found(spot.path, spot.line(), words, line), [spot.without()])
+    quote = open_quote(spot, line)
+    if quote:
+        return quote
     if said.word == "BadNumber":
         it = bad_number(spot, said.line)
         return Explained(it.finding and _saying(it.finding, line), it.mended)
