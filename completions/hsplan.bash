@@ -21,6 +21,11 @@ _hsplan_values() {
 
 _hsplan() {
     local current=${COMP_WORDS[COMP_CWORD]} before=${COMP_WORDS[COMP_CWORD - 1]} values
+    if [[ $current == = ]]; then
+        current=
+    elif [[ $before == = ]]; then
+        before=${COMP_WORDS[COMP_CWORD - 2]}
+    fi
     COMPREPLY=()
     values=$(_hsplan_values "$before")
     if [ "$COMP_CWORD" -eq 1 ]; then

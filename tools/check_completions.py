@@ -64,6 +64,12 @@ CASES = [
     ("hsp fleet dispatch --reg", []),
     ("hsp fleet demand --ke", ["--keep"]),
     ("hsp fleet demand --regions dem", ["demand.csv"]),
+    ("hsp plan s", ["service/"]),
+    ("hsp plan --settings s", ["service/", "settings.toml"]),
+    ("hsp view --before s", ["service/"]),
+    ("hsp sites --into s", ["service/"]),
+    ("hsp doctor -- loc", ["locate"]),
+    ("hsp doctor -- plan --settings set", ["settings.toml"]),
 ]
 
 
@@ -127,8 +133,10 @@ def ask_zsh(line, folder):
 
 
 def shown(shell, line, wanted):
-    """What a shell shows of the wanted completions: fish shows options only after a hyphen."""
-    return [it for it in wanted if shell != "fish" or line.split(" ")[-1] or not it.startswith("-")]
+    """What a shell shows of the wanted completions: fish shows options only after a hyphen, and bash puts the slash
+    behind a folder itself."""
+    own = [it.rstrip("/") if shell == "bash" else it for it in wanted]
+    return [it for it in own if shell != "fish" or line.split(" ")[-1] or not it.startswith("-")]
 
 
 def tried(shell, ask):
@@ -137,6 +145,7 @@ def tried(shell, ask):
     with tempfile.TemporaryDirectory() as folder:
         for name in ("demand.csv", "settings.toml"):
             open(os.path.join(folder, name), "w").close()
+        os.mkdir(os.path.join(folder, "service"))
         got = [(line, shown(shell, line, wanted), ask(line, folder)) for line, wanted in cases]
     return [f"{shell}: {line!r}: wanted {wanted}, got {found}" for line, wanted, found in got if wanted != found], len(cases)
 
