@@ -351,7 +351,7 @@ def test_few_pairs_have_the_table_of_one_run(tmp_path: Path) -> None:
         lines = [server_line(it) for it in asked(500, 80 + number)] + ["nonsense"] * number
         paths.append(tmp_path / f"{number}.log")
         paths[-1].write_text("\n".join(lines))
-    options = ["--networks", regions_file(tmp_path)]
+    options = ["--regions", regions_file(tmp_path)]
     one = invoke("demand", *paths, "--regions", options[1])
     run = started("demand", *paths, *options, "--workers", 1)
     out, said = run.communicate(timeout=60)

@@ -82,9 +82,7 @@ def _checked(logs: list[Log], regions: str, output: str | None) -> None:
 
 @click.command()
 @click.argument("logs", metavar="LOG..", nargs=-1, required=True)
-@click.option(
-    "--regions", "--networks", "regions", metavar="FILE", required=True, help="network,region, or a MaxMind database"
-)
+@click.option("--regions", metavar="FILE", required=True, help="a table network,region, or a MaxMind database")
 @click.option("--into", metavar="DIR", type=FOLDER, help="the folder whose demand.csv is written")
 @click.option("-o", "--output", metavar="FILE", help="the table, in place of DIR/demand.csv")
 @click.option("--keep", metavar="SUFFIX", help="also the queries of each LOG, in LOG with this suffix")
