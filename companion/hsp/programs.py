@@ -171,8 +171,10 @@ class Desk:
     def plan(self, inputs: Inputs) -> tuple[Certificate, str]:
         """The certificate of a plan or of a shortage, and the path of its file."""
         printed = run("hsplan", "plan", *inputs.words())
-        if printed.status not in (0, 3) or not printed.out:
+        if printed.status not in (0, 3):
             raise Refused(printed.status, printed.line.removeprefix("hsplan: "))
+        if not printed.out.startswith("HSPLAN "):
+            raise Missing(f"{program('hsplan')} printed no plan: is it hsplan?")
         return Certificate(printed.out), self.put(printed.out)
 
     def verdict(self, inputs: Inputs, plan: str) -> str:

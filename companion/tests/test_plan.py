@@ -249,3 +249,9 @@ def test_a_reader_that_goes_away_is_no_refused_input(example: Example) -> None:
     )
     os.close(writer)
     assert (done.returncode, done.stderr) == (5, "")
+
+
+@pytest.mark.parametrize("other", ["/bin/true", "/bin/echo"])
+def test_another_program_in_the_place_of_hsplan(hsp: Hsp, example: Example, other: str) -> None:
+    said = hsp("plan", str(example("two-sites")), "--no-save", status=5, HSPLAN=other).stderr
+    assert said == f"hsp: {other} printed no plan: is it hsplan?\n"
