@@ -488,3 +488,13 @@ def test_a_sum_that_no_unit_helps(folder: Path) -> None:
     (first,) = told(COMMANDS["kinds"], 1)
     assert first["hsplan"] == "log: CountTooLarge row 0 unit 2000000"
     assert first["remedy"].startswith("cut the log in parts")
+
+
+def test_a_log_of_handles_that_the_demand_joins(folder: Path) -> None:
+    """dispatch finds a row by its handle, and a demand by kinds has one handle of many."""
+    rows = "".join(f"eu,20.500.1234/new-{number}\n" for number in range(600))
+    edited(folder / "log.csv", b"region,handle\n", b"region,handle\n" + rows.encode())
+    (first,) = doubtful(COMMANDS["dispatch"])
+    assert first["message"] == "600 of the first 1,200 rows of the log are in no row of the demand"
+    assert (first["line"], first["column"]) == (2, 4) and "hsplan-stream answer" in first["remedy"]
+    assert doubtful(f"answer {FILES} --plan plan.txt --log log.csv") == []

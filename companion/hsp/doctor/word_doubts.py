@@ -51,6 +51,7 @@ def of_log(question: Question) -> Iterator[Finding]:
         yield from _of_regions(log, log.header.index("region"), set(demand.column("region")))
     if "handle" in log.header and question.command == "dispatch":
         yield from _of_handles(log, log.header.index("handle"), demand.column("handle"))
+        yield from _of_pairs(log, log.header.index("handle"), {(it.fields[0], it.fields[1]) for it in demand.rows})
 
 
 def _of_regions(log: Table, at: int, regions: set[str]) -> Iterator[Finding]:
@@ -82,6 +83,23 @@ def _of_handles(log: Table, at: int, handles: list[str]) -> Iterator[Finding]:
             why = "to dispatch these are two handles, and the row of the log is 'unknown'"
             words = Words(f"the demand spells {quoted(handle)} otherwise", f"write {meant}", why, "", "log handle")
             yield found(log.text.path, log.place(row, at), words, "", WARNING)
+
+
+def _of_pairs(log: Table, at: int, pairs: set[tuple[str, str]]) -> Iterator[Finding]:
+    """A log of which half or more is in no row of the demand, though its regions are."""
+    regions = {region for region, _ in pairs}
+    absent = [
+        it
+        for it in log.rows
+        if len(it.fields) > at and it.fields[at - 1] in regions and (it.fields[at - 1], it.fields[at]) not in pairs
+    ]
+    if len(absent) * 2 >= len(log.rows) > 0:
+        words = Words(
+            f"{len(absent):,} of the first {some(len(log.rows), 'row')} of the log are in no row of the demand",
+            "hsplan-stream answer goes by the kind of a handle; or count the demand from this log, and plan again",
+            "a demand joined by kinds, or of another log: dispatch finds a row by its region and its handle",
+        )
+        yield found(log.text.path, log.place(absent[0], at), words, "", WARNING)
 
 
 def word_doubts(question: Question, line: Line) -> list[Finding]:
