@@ -621,6 +621,7 @@ def test_words_that_are_no_run(million: Million, monkeypatch: pytest.MonkeyPatch
         ("0=a", "1=a"): "a log is given twice",
         ("--unit", "3", "0=a"): "--unit needs --any-handle",
         ("--scheduler", "tls://h:1", "0=a"): "a scheduler at tls:// needs --tls-ca, --tls-cert and --tls-key",
+        ("--scheduler", "h:1", "0=a"): "a scheduler is tcp://HOST:PORT or tls://HOST:PORT, not h:1",
         ("--tls-ca", "f", "0=a"): "are for a --scheduler",
         ("--scheduler", "tcp://h:1", "--workers", "2", "0=a"): "--workers is for this machine",
     }

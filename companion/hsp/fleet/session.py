@@ -46,6 +46,8 @@ def place_of(given: dict[str, Any]) -> Place:
         raise click.UsageError("--workers is for this machine, --scheduler for workers that run already")
     if not scheduler and any(keys):
         raise click.UsageError("--tls-ca, --tls-cert and --tls-key are for a --scheduler")
+    if scheduler and not scheduler.startswith(("tcp://", "tls://")):
+        raise click.UsageError(f"a scheduler is tcp://HOST:PORT or tls://HOST:PORT, not {printable(scheduler)}")
     if scheduler and scheduler.startswith("tls:") != all(keys) or any(keys) != all(keys):
         raise click.UsageError("a scheduler at tls:// needs --tls-ca, --tls-cert and --tls-key, another one none")
     return Place(scheduler, workers, keys, given["patience"])
