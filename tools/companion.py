@@ -19,6 +19,8 @@ PACKAGE = os.path.join(programs.TOP, "companion", "hsp")
 TIME = (1980, 1, 1, 0, 0, 0)
 MAIN = """import sys
 
+if sys.version_info < (3, 11):
+    sys.exit("hsp: this is Python %d.%d, and hsp needs 3.11 or later" % sys.version_info[:2])
 try:
     import click, jinja2
 except ImportError as error:

@@ -20,6 +20,8 @@ from hsp.service import Service, read_service
 
 from conftest import TOP, Hsp
 
+import companion
+
 Example = Callable[[str], Path]
 
 TWO_SITES = """\
@@ -255,3 +257,12 @@ def test_a_reader_that_goes_away_is_no_refused_input(example: Example) -> None:
 def test_another_program_in_the_place_of_hsplan(hsp: Hsp, example: Example, other: str) -> None:
     said = hsp("plan", str(example("two-sites")), "--no-save", status=5, HSPLAN=other).stderr
     assert said == f"hsp: {other} printed no plan: is it hsplan?\n"
+
+
+def test_an_older_python_is_named(tmp_path: Path) -> None:
+    """Ubuntu 22.04 has a new enough C library and Python 3.10."""
+    file = tmp_path / "hsp"
+    file.write_bytes(companion.archive())
+    script = f"import sys, runpy; sys.version_info = (3, 10, 12); runpy.run_path({str(file)!r}, run_name='__main__')"
+    done = subprocess.run([sys.executable, "-c", script], capture_output=True, text=True)
+    assert (done.returncode, done.stderr) == (1, "hsp: this is Python 3.10, and hsp needs 3.11 or later\n")
