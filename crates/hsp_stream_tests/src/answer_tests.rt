@@ -2,12 +2,16 @@
 //
 // For r1 the handles 10/7 and 10/1 are one kind, and 10/4 and 10/9 are one; for r2 10/4 and 10/2 are one.
 
+use crate::fakes::{Cut, Full, Rows};
 use crate::same::is_same;
-use crate::worked::{PLAN, inputs_of, owned_word};
+use crate::worked::{PLAN, inputs_of, owned, owned_word};
+use hsp_cert::CertFault;
+use hsp_check::Reason;
 use hsp_faults::Fault;
 use hsp_stream::{PortionWords, RowFault, StreamFault, StreamSums, answer_run};
-use hsp_talk::Joined;
+use hsp_talk::{Joined, LONGEST_ROW};
 use std::alloc::{AllocError, Global};
+use std::io::Read;
 use std::process::Abort;
 
 // The words of a portion: the unit, and the number of fronts with that of one of them.
@@ -38,7 +42,7 @@ fn portion_of(alloc: Global, words: Words<'_>) -> Result<PortionWords, AllocErro
 // How the run ends, and what it sends.
 type Ended = (Result<StreamSums, StreamFault>, Vec<u8>);
 
-fn answer_once(alloc: Global, plan: &[u8], words: Words<'_>, log: &[u8]) -> Ended {
+fn answer_once<R: Read + Drop>(alloc: Global, plan: &[u8], words: Words<'_>, log: R) -> Ended {
     let mut sent = Vec::new(alloc);
     let (Ok(inputs), Ok(portion)) = (inputs_of(alloc), portion_of(alloc, words)) else {
         return (Err(StreamFault::OutOfMemory), sent);
@@ -52,7 +56,7 @@ fn answer_once(alloc: Global, plan: &[u8], words: Words<'_>, log: &[u8]) -> Ende
 }
 
 // The same, once more where memory ran out: a writer without memory fails.
-fn answer_of(alloc: Global, plan: &[u8], words: Words<'_>, log: &[u8]) -> Ended {
+fn answer_of<R: Read + Copy + Drop>(alloc: Global, plan: &[u8], words: Words<'_>, log: R) -> Ended {
     let (ended, sent) = answer_once(alloc, plan, words, log);
     match ended {
         Err(StreamFault::OutOfMemory) | Err(StreamFault::Log(RowFault::WriteFailed)) => {
@@ -72,19 +76,22 @@ fn answers(
 ) {
     let (ended, sent) = answer_of(alloc, PLAN, words, log);
     is_same(rt, sent.as_slice(), wanted.0);
-    let [assigned, spent, unknown, refused] = wanted.1;
-    let sums = StreamSums {
+    is_same(rt, ended, Ok(sums_of(wanted.1)));
+}
+
+fn sums_of(sums: [u64; 4]) -> StreamSums {
+    let [assigned, spent, unknown, refused] = sums;
+    StreamSums {
         assigned,
         spent,
         unknown,
         refused,
-    };
-    is_same(rt, ended, Ok(sums));
+    }
 }
 
 // The run has the fault, and sends nothing.
 fn has_fault(rt: &impl Abort, alloc: Global, plan: &[u8], words: Words<'_>, wanted: StreamFault) {
-    let (ended, sent) = answer_of(alloc, plan, words, b"bad\n");
+    let (ended, sent) = answer_of(alloc, plan, words, b"bad\n".as_slice());
     is_same(rt, sent.as_slice(), b"".as_slice());
     is_same(rt, ended, Err(wanted));
 }
@@ -184,13 +191,173 @@ fn the_first_fault_of_the_words_and_the_plan_is_found(rt: HostRuntime) {
         unit: None,
         front: Some((b"2", b"2")),
     };
-    let cases: [(Words<'_>, StreamFault); 4] = [
-        (bad_unit, StreamFault::BadUnit),
-        (bad_fronts, StreamFault::Input(Fault::BadFronts)),
-        (bad_front, StreamFault::BadFront),
-        (WHOLE, StreamFault::Log(RowFault::Header)),
+    let short: &[u8] = b"HSPLAN 1\nSHORTAGE\ndemand 1\ncapacity 0\nrow 0\nEND\n";
+    let cases: [(&[u8], Words<'_>, StreamFault); 6] = [
+        (b"", bad_unit, StreamFault::BadUnit),
+        (b"", bad_fronts, StreamFault::Input(Fault::BadFronts)),
+        (b"", bad_front, StreamFault::BadFront),
+        (
+            b"",
+            WHOLE,
+            StreamFault::Input(Fault::Cert(CertFault::Ended)),
+        ),
+        (
+            short,
+            WHOLE,
+            StreamFault::Input(Fault::Refused(Reason::DemandSum)),
+        ),
+        (PLAN, WHOLE, StreamFault::Log(RowFault::Header)),
     ];
-    for (words, wanted) in cases {
-        has_fault(&rt, rt.alloc(), PLAN, words, wanted);
+    for (plan, words, wanted) in cases {
+        has_fault(&rt, rt.alloc(), plan, words, wanted);
     }
+}
+
+// How the run ends by a shortage: the server 7 of E takes nothing, and the last row may use no other.
+fn ended_by_shortage(alloc: Global) -> Result<StreamSums, StreamFault> {
+    let mut inputs = inputs_of(alloc)?;
+    inputs.capacity = owned(
+        alloc,
+        b"site,server_id,capacity\nE,7,0\nE,3,5\nW,1,5\nW,2,5\nW,9,5\n",
+    )?;
+    let portion = portion_of(alloc, WHOLE)?;
+    let mut sent = Vec::new(alloc);
+    let mut peer = Joined {
+        reader: LOG,
+        writer: &mut sent,
+    };
+    let shortage = b"HSPLAN 1\nSHORTAGE\ndemand 1\ncapacity 0\nrow 2\nEND\n";
+    answer_run(alloc, &inputs, shortage, &portion, &mut peer)
+}
+
+#[test]
+fn no_row_is_answered_by_a_shortage(rt: HostRuntime) {
+    let ended = match ended_by_shortage(rt.alloc()) {
+        Err(StreamFault::OutOfMemory) => ended_by_shortage(rt.alloc()),
+        ended => ended,
+    };
+    is_same(&rt, ended, Err(StreamFault::Input(Fault::WrongKind)));
+}
+
+// The bodies ask for 10/1, for 10/1 with digits in upper case, and for 10. The others are none: their digits are odd in
+// number, or end within a body.
+#[test]
+fn bodies_are_answered(rt: HostRuntime) {
+    answers(
+        &rt,
+        rt.alloc(),
+        WHOLE,
+        b"region,body\nr1,0000000431302f310000000000000000\nr1,0000000431302F310000000000000000\nr1,0000000231300000000000000000\nr1,000\nr1,00000004\n",
+        (
+            b"assigned E 1 3\nassigned E 1 3\nrefused BadHandle NoSlash\nrefused BadBody\nrefused BadBody\n",
+            [2, 0, 0, 3],
+        ),
+    );
+}
+
+// The first of 64 fronts has each query that is one of its row's first at a site, and the last front has none.
+#[test]
+fn portions_may_be_the_greatest(rt: HostRuntime) {
+    let cases: [(&[u8], &[u8], [u64; 4]); 2] = [
+        (
+            b"0",
+            b"assigned E 1 3\nassigned E 1 3\nassigned E 1 3\nassigned E 1 3\nassigned E 0 7\nassigned E 0 7\n",
+            [6, 0, 0, 0],
+        ),
+        (
+            b"63",
+            b"spent\nspent\nspent\nspent\nspent\nspent\n",
+            [0, 6, 0, 0],
+        ),
+    ];
+    for (front, sent, sums) in cases {
+        let words = Words {
+            unit: Some(b"1000000"),
+            front: Some((b"64", front)),
+        };
+        answers(&rt, rt.alloc(), words, LOG, (sent, sums));
+    }
+}
+
+// The header and the first row come before the reader fails.
+#[test]
+fn answers_stop_where_a_read_fails(rt: HostRuntime) {
+    let log = Cut {
+        text: b"region,handle\nr1,10/1\nr1",
+    };
+    let (ended, sent) = answer_of(rt.alloc(), PLAN, WHOLE, log);
+    is_same(&rt, sent.as_slice(), b"assigned E 1 3\n".as_slice());
+    is_same(&rt, ended, Err(StreamFault::Log(RowFault::ReadFailed)));
+}
+
+// How the run ends where nothing can be written.
+fn ended_unwritten(alloc: Global) -> Result<StreamSums, StreamFault> {
+    let inputs = inputs_of(alloc)?;
+    let portion = portion_of(alloc, WHOLE)?;
+    let mut peer = Joined {
+        reader: LOG,
+        writer: &mut Full,
+    };
+    answer_run(alloc, &inputs, PLAN, &portion, &mut peer)
+}
+
+#[test]
+fn answers_stop_where_a_write_fails(rt: HostRuntime) {
+    let ended = match ended_unwritten(rt.alloc()) {
+        Err(StreamFault::OutOfMemory) => ended_unwritten(rt.alloc()),
+        ended => ended,
+    };
+    is_same(&rt, ended, Err(StreamFault::Log(RowFault::WriteFailed)));
+}
+
+#[test]
+fn many_rows_are_answered(rt: HostRuntime) {
+    let log = Rows {
+        head: b"region,handle\n",
+        row: b"r3,10/1\n",
+        times: 70_000,
+        end: b"",
+    };
+    let (ended, sent) = answer_of(rt.alloc(), PLAN, WHOLE, log);
+    is_same(&rt, sent.len(), 560_000);
+    is_same(&rt, ended, Ok(sums_of([0, 0, 70_000, 0])));
+}
+
+// Adds a row of so many octets: a beginning, and the letter e.
+fn push_row(text: &mut Vec<u8>, begins: &[u8], octets: usize) -> Result<(), AllocError> {
+    text.extend_from_slice(begins)?;
+    for _more in begins.len()..octets {
+        text.push(b'e')?;
+    }
+    text.extend_from_slice(b"\n")
+}
+
+// Two rows with handles of 4,096 and 4,097 octets, two of as many octets as a row may have, and one of one more.
+fn longest_rows(alloc: Global) -> Result<Vec<u8>, AllocError> {
+    let mut log = Vec::from_slice(alloc, b"region,handle\n")?;
+    push_row(&mut log, b"r1,10/", 4_099)?;
+    push_row(&mut log, b"r1,10/", 4_100)?;
+    push_row(&mut log, b"r1,10/", LONGEST_ROW)?;
+    push_row(&mut log, b"\"r1\",10/", LONGEST_ROW)?;
+    push_row(&mut log, b"r1,10/", LONGEST_ROW + 1)?;
+    Ok(log)
+}
+
+// The local name of 4,093 letters is at place 1 of two servers, and at place 2 of three, as 1 is.
+#[test]
+fn longest_rows_are_answered(rt: HostRuntime) {
+    let log = match longest_rows(rt.alloc()) {
+        Ok(log) => log,
+        Err(AllocError) => longest_rows(rt.alloc()).expect(&rt, "there is memory"),
+    };
+    answers(
+        &rt,
+        rt.alloc(),
+        WHOLE,
+        &log,
+        (
+            b"assigned E 1 3\nrefused BadHandle TooLong\nrefused BadHandle TooLong\nrefused BadHandle TooLong\nrefused TooLong\n",
+            [1, 0, 0, 4],
+        ),
+    );
 }

@@ -1,7 +1,8 @@
 // The run that joins the rows of a log to kinds, from the octets of its files and its log to the table.
 
+use crate::fakes::{Cut, Rows};
 use crate::same::is_same;
-use crate::worked::{COSTS, owned};
+use crate::worked::{BY_INDEX, COSTS, VALUES, owned};
 use hsp_faults::Fault;
 use hsp_instance::BuildFault;
 use hsp_names::HandleFault;
@@ -9,6 +10,7 @@ use hsp_stream::{KindsInputs, RowFault, StreamFault, kinds_run};
 use hsp_tables::TableFault;
 use hsp_test_support::service::SETTINGS;
 use std::alloc::{AllocError, Global};
+use std::io::Read;
 use std::process::Abort;
 
 // The inputs of the service by these costs.
@@ -21,11 +23,11 @@ fn inputs_of(alloc: Global, costs: &[u8]) -> Result<KindsInputs, AllocError> {
 }
 
 // What the run gives.
-fn kinds_once(
+fn kinds_once<R: Read + Drop>(
     alloc: Global,
     costs: &[u8],
     unit: Option<&[u8]>,
-    log: &[u8],
+    log: R,
 ) -> Result<Vec<u8>, StreamFault> {
     let Ok(inputs) = inputs_of(alloc, costs) else {
         return Err(StreamFault::OutOfMemory);
@@ -34,11 +36,11 @@ fn kinds_once(
 }
 
 // The same, once more where memory ran out.
-fn kinds_of(
+fn kinds_of<R: Read + Copy + Drop>(
     alloc: Global,
     costs: &[u8],
     unit: Option<&[u8]>,
-    log: &[u8],
+    log: R,
 ) -> Result<Vec<u8>, StreamFault> {
     match kinds_once(alloc, costs, unit, log) {
         Err(StreamFault::OutOfMemory) => kinds_once(alloc, costs, unit, log),
@@ -47,7 +49,13 @@ fn kinds_of(
 }
 
 // The run prints the table.
-fn has_table(rt: &impl Abort, alloc: Global, unit: Option<&[u8]>, log: &[u8], wanted: &[u8]) {
+fn has_table<R: Read + Copy + Drop>(
+    rt: &impl Abort,
+    alloc: Global,
+    unit: Option<&[u8]>,
+    log: R,
+    wanted: &[u8],
+) {
     match kinds_of(alloc, COSTS, unit, log) {
         Ok(table) => is_same(rt, table.as_slice(), wanted),
         Err(_) => is_same(rt, true, false),
@@ -55,12 +63,12 @@ fn has_table(rt: &impl Abort, alloc: Global, unit: Option<&[u8]>, log: &[u8], wa
 }
 
 // The run has the fault.
-fn has_fault(
+fn has_fault<R: Read + Copy + Drop>(
     rt: &impl Abort,
     alloc: Global,
     costs: &[u8],
     unit: Option<&[u8]>,
-    log: &[u8],
+    log: R,
     wanted: StreamFault,
 ) {
     match kinds_of(alloc, costs, unit, log) {
@@ -127,7 +135,7 @@ fn the_first_fault_of_the_files_is_found(rt: HostRuntime) {
         ),
     ];
     for (costs, unit, wanted) in cases {
-        has_fault(&rt, rt.alloc(), costs, unit, b"bad\n", wanted);
+        has_fault(&rt, rt.alloc(), costs, unit, b"bad\n".as_slice(), wanted);
     }
 }
 
@@ -179,5 +187,71 @@ fn a_count_may_be_too_large(rt: HostRuntime) {
         Some(b"7"),
         log,
         b"region,handle,count\nr2,10/1,1\nr1,10/1,857143\n",
+    );
+}
+
+// What the run gives by a site whose record is a value.
+fn by_values(alloc: Global) -> Result<Vec<u8>, StreamFault> {
+    let inputs = KindsInputs {
+        settings: owned(alloc, BY_INDEX)?,
+        values: Some(owned(alloc, VALUES)?),
+        costs: owned(alloc, b"region,site,cost\nr1,X,1\n")?,
+    };
+    let log: &[u8] = b"region,handle\nr1,10/1\nr1,10/2\n";
+    kinds_run(alloc, &inputs, None, log)
+}
+
+#[test]
+fn sites_of_values_join_rows(rt: HostRuntime) {
+    let table = match by_values(rt.alloc()) {
+        Err(StreamFault::OutOfMemory) => by_values(rt.alloc()),
+        ended => ended,
+    };
+    match table {
+        Ok(table) => is_same(
+            &rt,
+            table.as_slice(),
+            b"region,handle,count\nr1,10/1,2\n".as_slice(),
+        ),
+        Err(_) => is_same(&rt, true, false),
+    }
+}
+
+#[test]
+fn a_table_needs_the_whole_log(rt: HostRuntime) {
+    let log = Cut {
+        text: b"region,handle\nr1,10/1\n",
+    };
+    has_fault(
+        &rt,
+        rt.alloc(),
+        COSTS,
+        None,
+        log,
+        StreamFault::Log(RowFault::ReadFailed),
+    );
+}
+
+#[test]
+fn many_rows_are_one_row(rt: HostRuntime) {
+    let log = Rows {
+        head: b"region,handle\n",
+        row: b"r1,10/1\n",
+        times: 70_000,
+        end: b"",
+    };
+    let bad = Rows {
+        end: b"r1\n",
+        ..log
+    };
+    let wanted: &[u8] = b"region,handle,count\nr1,10/1,70000\n";
+    has_table(&rt, rt.alloc(), None, log, wanted);
+    has_fault(
+        &rt,
+        rt.alloc(),
+        COSTS,
+        None,
+        bad,
+        StreamFault::Log(RowFault::Fields { row: 70_000 }),
     );
 }

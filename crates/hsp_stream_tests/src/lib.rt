@@ -5,7 +5,11 @@
 #[cfg(test)]
 mod answer_tests;
 #[cfg(test)]
+mod fakes;
+#[cfg(test)]
 mod kinds_tests;
+#[cfg(test)]
+mod limit_tests;
 #[cfg(test)]
 mod line_tests;
 #[cfg(test)]

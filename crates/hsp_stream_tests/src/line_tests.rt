@@ -140,3 +140,29 @@ fn sums_have_their_line(rt: HostRuntime) {
         Err(_) => is_same(&rt, true, false),
     }
 }
+
+// The fault is displayed so.
+fn is_displayed(rt: &impl Abort, alloc: Global, fault: &StreamFault, wanted: &str) {
+    let text = match fault.to_string(alloc) {
+        Ok(text) => text,
+        Err(AllocError) => fault.to_string(alloc).expect(rt, "there is memory"),
+    };
+    is_same(rt, text.as_str(), wanted);
+}
+
+#[test]
+fn faults_are_displayed(rt: HostRuntime) {
+    let cases: [(StreamFault, &str); 5] = [
+        (StreamFault::BadUnit, "bad unit"),
+        (StreamFault::BadFront, "bad front"),
+        (StreamFault::Input(Fault::BadFronts), "bad fronts"),
+        (
+            StreamFault::Log(RowFault::Fields { row: 3 }),
+            "log: Fields { row: 3 }",
+        ),
+        (StreamFault::OutOfMemory, "out of memory"),
+    ];
+    for (fault, wanted) in cases {
+        is_displayed(&rt, rt.alloc(), &fault, wanted);
+    }
+}

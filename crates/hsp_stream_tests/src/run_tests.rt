@@ -1,6 +1,8 @@
 // The run that states places, from the octets of its files and logs to what it prints.
 
+use crate::fakes::{Cut, Rows};
 use crate::same::is_same;
+use crate::worked::{BY_INDEX, VALUES};
 use hsp_faults::Fault;
 use hsp_names::HandleFault;
 use hsp_stream::{RowFault, StreamFault, places_run};
@@ -8,33 +10,54 @@ use hsp_tables::TableFault;
 use hsp_talk::Joined;
 use hsp_test_support::service::SETTINGS;
 use std::alloc::Global;
+use std::io::Read;
 use std::process::Abort;
 
-// What the run over places sends, and how it ends.
-fn places_once(alloc: Global, settings: &[u8], log: &[u8]) -> (Result<(), StreamFault>, Vec<u8>) {
+// Settings, and the values that they may refer to.
+#[derive(Clone, Copy)]
+struct Sites<'a> {
+    settings: &'a [u8],
+    values: Option<&'a [u8]>,
+}
+
+/// The sites of the service.
+const SITES: Sites<'static> = Sites {
+    settings: SETTINGS,
+    values: None,
+};
+
+// How the run ends, and what it sends.
+type Ended = (Result<(), StreamFault>, Vec<u8>);
+
+fn places_once<R: Read + Drop>(alloc: Global, sites: Sites<'_>, log: R) -> Ended {
     let mut sent = Vec::new(alloc);
     let mut peer = Joined {
         reader: log,
         writer: &mut sent,
     };
-    let ended = places_run(alloc, settings, None, &mut peer);
+    let ended = places_run(alloc, sites.settings, sites.values, &mut peer);
     (ended, sent)
 }
 
-// Where a growth is refused, the second run finds memory.
-fn has_places(
+// The same, once more where memory ran out: a writer without memory fails.
+fn places_of<R: Read + Copy + Drop>(alloc: Global, sites: Sites<'_>, log: R) -> Ended {
+    let (ended, sent) = places_once(alloc, sites, log);
+    match ended {
+        Err(StreamFault::OutOfMemory) | Err(StreamFault::Log(RowFault::WriteFailed)) => {
+            places_once(alloc, sites, log)
+        }
+        _ => (ended, sent),
+    }
+}
+
+fn has_places<R: Read + Copy + Drop>(
     rt: &impl Abort,
     alloc: Global,
-    settings: &[u8],
-    log: &[u8],
+    sites: Sites<'_>,
+    log: R,
     wanted: (Result<(), StreamFault>, &[u8]),
 ) {
-    let (mut ended, mut sent) = places_once(alloc, settings, log);
-    if ended == Err(StreamFault::OutOfMemory)
-        || ended == Err(StreamFault::Log(RowFault::WriteFailed))
-    {
-        (ended, sent) = places_once(alloc, settings, log);
-    }
+    let (ended, sent) = places_of(alloc, sites, log);
     is_same(rt, sent.as_slice(), wanted.1);
     is_same(rt, ended, wanted.0);
 }
@@ -64,22 +87,66 @@ fn handles_have_places(rt: HostRuntime) {
         ),
     ];
     for (log, ended, sent) in cases {
-        has_places(&rt, rt.alloc(), SETTINGS, log, (ended, sent));
+        has_places(&rt, rt.alloc(), SITES, log, (ended, sent));
     }
 }
 
 #[test]
 fn places_have_their_first_fault(rt: HostRuntime) {
-    let cases: [(&[u8], &[u8], StreamFault); 3] = [
+    let no_settings = Sites {
+        settings: b"=",
+        values: None,
+    };
+    let cases: [(Sites<'_>, &[u8], StreamFault); 3] = [
         (
-            b"=",
+            no_settings,
             b"x",
             StreamFault::Input(Fault::Settings(TableFault::NotToml)),
         ),
-        (SETTINGS, b"x\n", StreamFault::Log(RowFault::Header)),
-        (SETTINGS, b"", StreamFault::Log(RowFault::Header)),
+        (SITES, b"x\n", StreamFault::Log(RowFault::Header)),
+        (SITES, b"", StreamFault::Log(RowFault::Header)),
     ];
-    for (settings, log, fault) in cases {
-        has_places(&rt, rt.alloc(), settings, log, (Err(fault), b""));
+    for (sites, log, fault) in cases {
+        has_places(&rt, rt.alloc(), sites, log, (Err(fault), b""));
     }
+}
+
+#[test]
+fn sites_of_values_have_places(rt: HostRuntime) {
+    let sites = Sites {
+        settings: BY_INDEX,
+        values: Some(VALUES),
+    };
+    let wanted: &[u8] = b"handle,site,place,server_id\n10/1,X,0,7\n";
+    let log: &[u8] = b"handle\n10/1\n";
+    has_places(&rt, rt.alloc(), sites, log, (Ok(()), wanted));
+}
+
+// The header and the first row come before the reader fails.
+#[test]
+fn places_stop_where_a_read_fails(rt: HostRuntime) {
+    let log = Cut {
+        text: b"handle\n10/3\n10",
+    };
+    let ended = Err(StreamFault::Log(RowFault::ReadFailed));
+    let sent: &[u8] = b"handle,site,place,server_id\n10/3,E,1,3\n10/3,W,0,1\n";
+    has_places(&rt, rt.alloc(), SITES, log, (ended, sent));
+}
+
+// The last row is not a handle. The header has 28 octets, and each row before the last is answered by 22.
+#[test]
+fn many_handles_have_places(rt: HostRuntime) {
+    let log = Rows {
+        head: b"handle\n",
+        row: b"10/3\n",
+        times: 70_000,
+        end: b"10\n",
+    };
+    let fault = RowFault::BadHandle {
+        row: 70_000,
+        fault: HandleFault::NoSlash,
+    };
+    let (ended, sent) = places_of(rt.alloc(), SITES, log);
+    is_same(&rt, sent.len(), 1_540_028);
+    is_same(&rt, ended, Err(StreamFault::Log(fault)));
 }

@@ -16,6 +16,15 @@ pub(crate) const DEMAND: &[u8] = b"region,handle,count\nr1,10/1,3\nr1,10/4,1\nr2
 /// What each server takes.
 pub(crate) const CAPACITY: &[u8] = b"site,server_id,capacity\nE,7,5\nE,3,2\nW,1,5\nW,2,5\nW,9,5\n";
 
+/// Settings of a site X whose record is the value of the index 1.
+pub(crate) const BY_INDEX: &[u8] = b"[[site]]\nname = \"X\"\nindex = 1\n";
+
+/// That value: a site of one server, 7.
+pub(crate) const VALUES: &[u8] = b"\0\0\0\x01\0\0\0\x01\0\0\0\x07HS_SITE\0\0\0\x30\
+\0\x01\x02\0\0\x01\0\x01\0\0\0\0\0\0\0\0\0\0\0\x01\0\0\0\x07\
+\0\0\0\0\0\0\0\0\0\0\0\0\0\0\0\x01\0\0\0\0\0\0\0\0\
+\0\0\0\0\0\0\0\0\0\0\0\0\0\0\0\0\0\0";
+
 /// Two queries of the first row go to the server 3 of E and one to the server 9 of W, and one of each other row goes to
 /// the server 7 of E.
 pub(crate) const PLAN: &[u8] =

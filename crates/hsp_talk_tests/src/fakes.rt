@@ -1,11 +1,11 @@
-// A peer that gives pieces and notes what happens, a reader that is interrupted, and a desk that counts.
+// Peers that give pieces and note what happens, a reader and a writer whose first calls fail, and a desk that counts.
 
 ghost use Rattle.std.specs.Prelude.{⊤};
 
 use hsp_talk::{Desk, Failed, Peer, Refusal};
 use std::alloc::AllocError;
 use std::io;
-use std::io::{ErrorKind, Read};
+use std::io::{ErrorKind, Read, Write};
 
 /// How many octets a note has room for.
 const ROOM: usize = 200;
@@ -89,24 +89,105 @@ impl<'a> Peer for FakePeer<'a> {
     }
 }
 
-/// Gives a text, after a first read that a signal interrupts.
+/// Gives a piece so many times, and counts what is sent.
 #[derive(Drop)]
-pub struct InterruptedReader<'a> {
-    pub text: &'a [u8],
-    pub interrupted: bool,
+pub struct RepeatingPeer<'a> {
+    pub piece: &'a [u8],
+    pub times: u32,
+    pub sends: u32,
+    pub octets: usize,
 }
 
-impl<'a> Read for InterruptedReader<'a> {
+impl<'a> Peer for RepeatingPeer<'a> {
+    fn receive(&mut self, piece: &mut [u8]) -> Result<usize, Failed> {
+        if self.times == 0 {
+            return Ok(0);
+        }
+        self.times -= 1;
+        let count = self.piece.len().min(piece.len());
+        piece[..count].copy_from_slice(&self.piece[..count]);
+        Ok(count)
+    }
+
+    fn send(&mut self, octets: &[u8]) -> Result<(), Failed> {
+        self.sends = self.sends.saturating_add(1);
+        self.octets = self.octets.saturating_add(octets.len());
+        Ok(())
+    }
+}
+
+/// What happens in place of a first call. The later calls go well.
+#[derive(Clone, Copy, Debug, PartialEq, Eq)]
+pub enum First {
+    /// It goes well too.
+    Well,
+    /// A read that a signal interrupts, and one that fails.
+    ReadInterrupted,
+    ReadFails,
+    /// A write that a signal interrupts, one that fails, and one that takes no octets.
+    WriteInterrupted,
+    WriteFails,
+    WriteTakesNone,
+    /// A flush that fails.
+    FlushFails,
+}
+
+/// Gives a text.
+#[derive(Drop)]
+pub struct FakeReader<'a> {
+    pub text: &'a [u8],
+    pub first: First,
+}
+
+impl<'a> Read for FakeReader<'a> {
     fn read(&mut self, buf: &mut [u8]) -> io::Result<usize> {
-        if !self.interrupted {
-            self.interrupted = true;
-            return Err(io::Error::from(ErrorKind::Interrupted));
+        let first = self.first;
+        self.first = First::Well;
+        match first {
+            First::ReadInterrupted => return Err(io::Error::from(ErrorKind::Interrupted)),
+            First::ReadFails => return Err(io::Error::from(ErrorKind::Other)),
+            _ => {}
         }
         let count = self.text.len().min(buf.len());
         let (first, rest) = self.text.split_at(count);
         buf[..count].copy_from_slice(first);
         self.text = rest;
         Ok(count)
+    }
+}
+
+/// Takes three octets a write at most. Notes `>` and the octets for each write, and `|` for each flush.
+#[derive(Drop)]
+pub struct FakeWriter {
+    pub note: Note,
+    pub first: First,
+}
+
+impl Write for FakeWriter {
+    fn write(&mut self, buf: &[u8]) -> io::Result<usize> {
+        let first = self.first;
+        if first != First::FlushFails {
+            self.first = First::Well;
+        }
+        match first {
+            First::WriteInterrupted => return Err(io::Error::from(ErrorKind::Interrupted)),
+            First::WriteFails => return Err(io::Error::from(ErrorKind::Other)),
+            First::WriteTakesNone => return Ok(0),
+            _ => {}
+        }
+        let count = buf.len().min(3);
+        self.note.add(b'>', &buf[..count]);
+        Ok(count)
+    }
+
+    fn flush(&mut self) -> io::Result<()> {
+        let first = self.first;
+        self.first = First::Well;
+        if first == First::FlushFails {
+            return Err(io::Error::from(ErrorKind::Other));
+        }
+        self.note.add(b'|', b"");
+        Ok(())
     }
 }
 

@@ -1,8 +1,10 @@
 // Talks that were held, and how they ended. They are held by functions of their own, since a test that does so in
 // place is expensive to prove.
 
-use crate::fakes::{BadRow, CountingDesk, FakePeer, Note};
-use hsp_talk::{Stop, talk};
+use crate::fakes::{
+    BadRow, CountingDesk, FakePeer, FakeReader, FakeWriter, First, Note, RepeatingPeer,
+};
+use hsp_talk::{Joined, Stop, talk};
 use std::alloc::Global;
 use std::process::Abort;
 
@@ -53,4 +55,57 @@ pub fn goes(rt: &impl Abort, alloc: Global, pieces: &[&[u8]], limits: Limits, wa
     }
     let second = note_of(alloc, pieces, limits);
     assert_eq!(rt; second.text(), wanted);
+}
+
+// Holds a talk with a reader and a writer over the rows `a` and `b`, and notes how it ended.
+fn note_joined(alloc: Global, first: First) -> Note {
+    let mut desk = CountingDesk { taken: 0 };
+    let mut writer = FakeWriter {
+        note: Note::none(),
+        first,
+    };
+    let mut peer = Joined {
+        reader: FakeReader {
+            text: b"a\nb",
+            first,
+        },
+        writer: &mut writer,
+    };
+    let held = talk(alloc, &mut desk, &mut peer);
+    writer.note.add(b'.', ending(held));
+    writer.note
+}
+
+/// Fails a test unless a talk with a reader and a writer goes as was wanted.
+pub fn goes_joined(rt: &impl Abort, alloc: Global, first: First, wanted: &[u8]) {
+    let note = note_joined(alloc, first);
+    if note.text() == wanted {
+        return;
+    }
+    let second = note_joined(alloc, first);
+    assert_eq!(rt; second.text(), wanted);
+}
+
+// Holds a talk in which a piece comes so many times. How it ended, and how many sends there were, and octets in them.
+fn sums_of(alloc: Global, piece: &[u8], times: u32) -> (&'static [u8], u32, usize) {
+    let mut desk = CountingDesk { taken: 0 };
+    let mut peer = RepeatingPeer {
+        piece,
+        times,
+        sends: 0,
+        octets: 0,
+    };
+    let held = talk(alloc, &mut desk, &mut peer);
+    (ending(held), peer.sends, peer.octets)
+}
+
+/// Fails a test unless a talk in which a piece comes so many times ends well, with so many sends of so many octets.
+pub fn repeats(rt: &impl Abort, alloc: Global, piece: &[u8], times: u32, wanted: (u32, usize)) {
+    let (sends, octets) = wanted;
+    let wanted = (b"ended".as_slice(), sends, octets);
+    let first = sums_of(alloc, piece, times);
+    if first == wanted {
+        return;
+    }
+    assert_eq!(rt; sums_of(alloc, piece, times), wanted);
 }

@@ -1,8 +1,7 @@
-use crate::fakes::{CountingDesk, InterruptedReader, Note};
-use crate::held::{ALL, Limits, goes};
+use crate::fakes::{CountingDesk, First, Note};
+use crate::held::{ALL, Limits, goes, goes_joined, repeats};
 use crate::known::{KnownPeer, Turn, hold};
-use hsp_talk::{Joined, talk};
-use std::alloc::Global;
+use hsp_talk::LONGEST_ROW;
 
 #[test]
 fn each_row_is_answered_before_the_next_read(rt: HostRuntime) {
@@ -66,35 +65,36 @@ fn reads_and_writes_fail(rt: HostRuntime) {
     }
 }
 
-// What is written in a talk with a reader that is interrupted, or None where memory runs out.
-fn answers_written(alloc: Global) -> Option<Vec<u8>> {
-    let mut desk = CountingDesk { taken: 0 };
-    let mut written = Vec::new(alloc);
-    let mut peer = Joined {
-        reader: InterruptedReader {
-            text: b"a\nb",
-            interrupted: false,
-        },
-        writer: &mut written,
-    };
-    match talk(alloc, &mut desk, &mut peer) {
-        Ok(()) => Some(written),
-        Err(_) => None,
+#[test]
+fn a_reader_and_a_writer_are_a_peer(rt: HostRuntime) {
+    let whole: &[u8] = b">1 a>\n|>2 b>\n|.ended";
+    let cases: [(First, &[u8]); 7] = [
+        (First::Well, whole),
+        (First::ReadInterrupted, whole),
+        (First::WriteInterrupted, whole),
+        (First::ReadFails, b".read"),
+        (First::WriteFails, b".write"),
+        (First::WriteTakesNone, b".write"),
+        (First::FlushFails, b">1 a>\n.write"),
+    ];
+    for (first, wanted) in cases {
+        goes_joined(&rt, rt.alloc(), first, wanted);
     }
 }
 
+// Pieces that are a row each, a row of more octets than may reach a desk, and a piece of rows that have two lines each.
 #[test]
-fn a_reader_and_a_writer_are_a_peer(rt: HostRuntime) {
-    // Where memory ran out once, it is there again.
-    let written = match answers_written(rt.alloc()) {
-        Some(written) => Some(written),
-        None => answers_written(rt.alloc()),
-    };
-    let written = match &written {
-        Some(written) => written.as_slice(),
-        None => b"none".as_slice(),
-    };
-    assert_eq!(&rt; written, b"1 a\n2 b\n".as_slice());
+fn long_rows_and_many_rows_are_answered(rt: HostRuntime) {
+    let long = [b'x'; 8192];
+    let mut rows = [b'='; 8192];
+    for (place, octet) in rows.iter_mut().enumerate() {
+        if place % 2 == 1 {
+            *octet = b'\n';
+        }
+    }
+    repeats(&rt, rt.alloc(), b"a\n", 70_000, (70_000, 280_000));
+    repeats(&rt, rt.alloc(), &long, 129, (1, LONGEST_ROW + 4));
+    repeats(&rt, rt.alloc(), &rows, 1, (1, 32_768));
 }
 
 #[test]
