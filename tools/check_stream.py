@@ -22,6 +22,7 @@ import errno
 import io
 import os
 import random
+import re
 import subprocess
 import sys
 import tempfile
@@ -39,7 +40,9 @@ FILES = "--settings settings.toml --costs costs.csv"
 INPUTS = "--settings settings.toml --demand demand.csv --costs costs.csv --capacity capacity.csv"
 ANSWER = f"answer {INPUTS} --plan plan.txt --log /dev/stdin"
 LIMIT_KB = 64 * 1024
-HELP_BEGINS = b"hsplan-stream: tables, places and answers for logs of any length\n"
+HELP_BEGINS = "hsplan-stream: tables, places and answers for logs of any length\n"
+
+COMMANDS = ("kinds", "places", "answer")
 
 Ended = tuple[bytes, bytes, int]
 
@@ -84,6 +87,7 @@ def fault(what: str, got: object, wanted: object) -> list[str]:
 # ---- worked cases
 
 PLACES = "places --settings settings.toml --log /dev/stdin"
+INDEXED = "places --settings indexed.toml --values values --log /dev/stdin"
 KINDS = f"kinds {FILES} --log /dev/stdin"
 # Words, the log, the wanted standard output (or None), the line on standard error, and the status.
 Case = tuple[str, bytes, Optional[bytes], bytes, int]
@@ -100,6 +104,8 @@ def many_regions(number: int) -> bytes:
 
 CASES: list[Case] = [
     ("--version", b"", f"hsplan-stream {programs.version()}\n".encode(), b"", 0),
+    # Words on standard input.
+    ("", b"--version\n", f"hsplan-stream {programs.version()}\n".encode(), b"", 0),
     refused("", b"", "Usage", 2),
     refused("kinds", b"", "Usage", 2),
     refused(f"{KINDS} --unit 2 --unit 2", b"", "Usage", 2),
@@ -148,11 +154,26 @@ CASES: list[Case] = [
     refused(PLACES, b"handle\n10\n", "log: BadHandle row 0 NoSlash", printed=b"handle,site,place,server_id\n"),
     refused(PLACES, b"handle\n\n,\n", "log: Fields row 0", printed=b"handle,site,place,server_id\n"),
     (PLACES, b"handle", b"handle,site,place,server_id\n", b"", 0),
+    (
+        INDEXED,
+        b"handle\n10/1\n",
+        service.csv_of("handle,site,place,server_id", list(service.places_of("10/1"))[:1]),
+        b"",
+        0,
+    ),
     refused(ANSWER, b"", "log: Header"),
     refused(ANSWER, b"region,handle,count\n", "log: Header"),
     refused(ANSWER.replace("plan.txt", "cut.txt"), b"bad\n", "certificate: Ended"),
     refused(ANSWER.replace("plan.txt", "short.txt"), b"bad\n", "check: DemandSum", 3),
     (ANSWER, b"region,handle", b"", b"assigned 0 spent 0 unknown 0 refused 0\n", 0),
+    # As many words as there may be.
+    (
+        f"{ANSWER} --values values --unit 2 --fronts 2 --front 1",
+        b"region,handle\n",
+        b"",
+        b"assigned 0 spent 0 unknown 0 refused 0\n",
+        0,
+    ),
     (
         ANSWER,
         b"region,handle\n\neu\neu,10\neu,/x\neu,10/1,\neu," + b"x" * 1_048_576 + b"\neu,10/\xff",
@@ -171,18 +192,51 @@ CASES: list[Case] = [
 ]
 
 
+def put_files(folder: str) -> None:
+    """Writes the files of the cases that are not the service's."""
+    files = {
+        "unknown.csv": b"region,site,cost\neu,delta,1\n",
+        "indexed.toml": f'[[site]]\nname = "{service.SITES[0][0]}"\nindex = 1\n'.encode(),
+        "values": service.list_of(0),
+        "cut.txt": b"HSPLAN 1\n",
+        "short.txt": b"HSPLAN 1\nSHORTAGE\ndemand 1\ncapacity 0\nrow 0\nEND\n",
+    }
+    for name, octets in files.items():
+        with open(os.path.join(folder, name), "wb") as file:
+            file.write(octets)
+
+
 def check_cases(it: Programs) -> list[str]:
-    it.put("unknown.csv", b"region,site,cost\neu,delta,1\n")
-    it.put("cut.txt", b"HSPLAN 1\n")
-    it.put("short.txt", b"HSPLAN 1\nSHORTAGE\ndemand 1\ncapacity 0\nrow 0\nEND\n")
+    put_files(it.folder)
     found = []
     for words, log, printed, line, status in CASES:
         got = it.run(words, log)
         found += fault(f"{words} < {log[:80]!r}", got, (got[0] if printed is None else printed, line, status))
     for words in ("--help", "kinds --help"):
         out, line, status = it.run(words)
-        found += fault(words, (out.startswith(HELP_BEGINS), line, status), (True, b"", 0))
+        found += fault(words, (out.decode().startswith(HELP_BEGINS), line, status), (True, b"", 0))
+        found += fault(f"the options of {words}", options_in_help(out.decode()), options_in_manual())
     return found
+
+
+def options_in_help(text: str) -> dict[str, list[str]]:
+    """The options of each command, in their order, in the lines of the help that begin with the program's name, and
+    in the lines below these that don't explain."""
+    found: dict[str, list[str]] = {}
+    for part in text.split("\n\n")[1:]:
+        usage = re.split(r"^    [a-z]", part, maxsplit=1, flags=re.M)[0]
+        if usage.startswith("hsplan-stream ") and usage.split()[1] in COMMANDS:
+            found[usage.split()[1]] = re.findall(r"--([a-z]+)", usage)
+    return found
+
+
+def options_in_manual() -> dict[str, list[str]]:
+    """The same in the synopsis of the manual page."""
+    page = programs.text_of("docs", "use", "hsplan-stream.1").replace("\\-", "-")
+    synopsis, inputs = page.split(".SH SYNOPSIS\n")[1].split(".SH DESCRIPTION\n")[0].split(".I inputs\nare\n")
+    parts = (it.replace(".I inputs\n", inputs) for it in synopsis.split(".SY hsplan-stream\n.B ")[1:])
+    named = {part.split()[0]: re.findall(r"--([a-z]+)", part) for part in parts}
+    return {command: named[command] for command in COMMANDS}
 
 
 # ---- random logs

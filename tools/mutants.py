@@ -9,14 +9,16 @@ edit, and one that names the test or the case that has to refuse it:
 
   file: src/FILE.rt     the file of crates/CRATE that is changed
   test: CRATE NAME      a test, by its own name, of this crate or of one above it
-  case: NAME            or a case of checks/program, run on the unproved program
+  case: NAME            or a case of checks/program, run on the unproved hsplan
+  stream: TEXT          or the cases of tools/check_stream.py that have the text in their words, their log or their
+                        last line, and that need no plan, run on the unproved hsplan-stream
   refused: N            optional: the allocation of the test, counted from 1, that is refused while it runs
   old: TEXT             a text that stands in the file once
   new: TEXT             what stands in its place
 
-Nothing is proved: `rt try` runs the tests and the program with checks. First each test and each case that an edit
-names has to pass on the sources as they stand. An edit is refused where its test fails, or where its case has another
-output or another end. Sources that do not compile, and a run without an end, refuse nothing. If crates or edits are
+Nothing is proved: `rt try` runs the tests and the programs with checks. First each test and each case that an edit
+names has to pass on the sources as they stand. An edit is refused where its test fails, or where a case that it names
+has another output or another end. Sources that do not compile, and a run without an end, refuse nothing. If crates or edits are
 named, only these are tried.
 """
 import argparse
@@ -33,6 +35,8 @@ import tempfile
 import time
 
 import check_program
+import check_stream
+import stream_service
 
 TOP = os.path.dirname(os.path.dirname(os.path.abspath(__file__)))
 FOLDER = os.path.join(TOP, "mutants")
@@ -43,9 +47,9 @@ BASE = os.path.join("examples", "base")
 # of the crate are run at once.
 FEW = 3
 
-# A wrong body: its crate, its name, the file that is changed, the pairs of texts, the crate and test, or the case,
-# that has to refuse it, and the allocation that is refused.
-Mutant = collections.namedtuple("Mutant", "crate name file pairs test case refused")
+# A wrong body: its crate, its name, the file that is changed, the pairs of texts, the crate and test, the case, or the
+# text of cases of hsplan-stream, that has to refuse it, and the allocation that is refused.
+Mutant = collections.namedtuple("Mutant", "crate name file pairs test case stream refused")
 
 
 def read_mutant(path):
@@ -59,18 +63,18 @@ def read_mutant(path):
                 pairs.append((text, None))
             elif key == "new" and pairs and pairs[-1][1] is None:
                 pairs[-1] = (pairs[-1][0], text)
-            elif key in ("file", "test", "case", "refused") and key not in found:
+            elif key in ("file", "test", "case", "stream", "refused") and key not in found:
                 found[key] = text.strip()
             else:
                 raise ValueError(f"{path}: this is not a line of an edit: {line}")
-    if "file" not in found or ("test" in found) == ("case" in found) or not pairs or pairs[-1][1] is None:
+    if "file" not in found or len({"test", "case", "stream"} & set(found)) != 1 or not pairs or pairs[-1][1] is None:
         raise ValueError(f"{path}: a line is missing, or there is one too many")
     test = tuple(found["test"].split()) if "test" in found else None
     if test and len(test) != 2:
         raise ValueError(f"{path}: a test has a crate and a name")
     if "refused" in found and not test:
         raise ValueError(f"{path}: only a test can have an allocation refused")
-    return Mutant(crate, name, found["file"], pairs, test, found.get("case"), found.get("refused"))
+    return Mutant(crate, name, found["file"], pairs, test, found.get("case"), found.get("stream"), found.get("refused"))
 
 
 def read_mutants(wanted):
@@ -171,6 +175,30 @@ def run_cases(folder, names, own, seconds):
     return {name: worst(judged(os.path.join(cases, name), it, said) for it in runs[name]) for name in names}, said
 
 
+def stream_cases(text):
+    """The cases of hsplan-stream with this text that need no plan."""
+    shown = [(case, " ".join((case[0], case[1].decode(errors="replace"), case[3].decode()))) for case in check_stream.CASES]
+    return [case for case, it in shown if text in it and "--plan" not in case[0]]
+
+
+def run_stream(folder, texts, seconds):
+    """The outcome of the cases of each of these texts together. The second result is what was printed."""
+    cases = {f"case_{number}_{at}": (text, case) for number, text in enumerate(texts) for at, case in enumerate(stream_cases(text))}
+    with tempfile.TemporaryDirectory() as room, tempfile.TemporaryDirectory() as service:
+        stream_service.put_service(service, [])
+        check_stream.put_files(service)
+        words = ["rt", "try", "--cases", room, "--seconds", str(seconds)]
+        for name, (_, case) in cases.items():
+            put_run(room, name, case[1].decode(errors="surrogateescape"), "".join(it + "\n" for it in case[0].split()) or None)
+        for name in sorted(os.listdir(service)):
+            words += ["--data", f"{name}={os.path.join(service, name)}"]
+        said = run(words, os.path.join(folder, "crates", "hsplan_stream"))
+    found = collections.defaultdict(list)
+    for name, (text, case) in cases.items():
+        found[text].append(judged_by(name, said, lambda got, case=case: got in both_ways(case[2].decode(), case[3].decode()), case[4]))
+    return {text: worst(outcomes) for text, outcomes in found.items()}, said
+
+
 def worst(outcomes):
     """The worst outcome of the runs of a case."""
     return min(outcomes, key=["not run", "no answer", "FAILED", "ok"].index)
@@ -178,20 +206,30 @@ def worst(outcomes):
 
 def judged(case, name, said):
     """The outcome of a run of a case, by its output, both streams in one, and by its status."""
+    begins, told = octets(case, "begins", None), octets(case, "stderr").strip("\n")
+
+    def is_right(got):
+        if begins is None:
+            return got in both_ways(octets(case, "stdout"), told)
+        return got.startswith(begins.strip("\n")) and got.endswith(octets(case, "ends").strip("\n"))
+
+    return judged_by(name, said, is_right, int(octets(case, "status", "0")))
+
+
+def judged_by(name, said, is_right, status):
+    """The outcome of a run: whether its output is right, and its status is this."""
     name = re.escape(name)
     found = re.search(rf"^== {name}\n(.*?)^case={name} run=(\S+)(?: status=(\d+))?", said, re.M | re.S)
     if not found:
         return "not run"
     if found[2] == "no-answer":
         return "no answer"
-    got, status = found[1].strip("\n"), int(found[3] or -1)
-    begins, told = octets(case, "begins", None), octets(case, "stderr").strip("\n")
-    if begins is None:
-        printed = octets(case, "stdout")
-        is_right = got in (put(printed, told), put(told, printed))
-    else:
-        is_right = got.startswith(begins.strip("\n")) and got.endswith(octets(case, "ends").strip("\n"))
-    return "ok" if is_right and status == int(octets(case, "status", "0")) else "FAILED"
+    return "ok" if is_right(found[1].strip("\n")) and int(found[3] or -1) == status else "FAILED"
+
+
+def both_ways(printed, told):
+    """Both orders of what a run prints on its two streams."""
+    return put(printed, told), put(told, printed)
 
 
 def put(first, second):
@@ -223,15 +261,15 @@ class Copies:
 
 
 def unchanged(mutants):
-    """The runs over the sources as they stand: the named tests of each crate and refused allocation, and the named
-    cases of each set of files."""
+    """The runs over the sources as they stand: the named tests of each crate and refused allocation, the named cases
+    of each set of files, and the texts of cases of hsplan-stream."""
     tests, cases = collections.defaultdict(set), collections.defaultdict(set)
     for it in mutants:
         if it.test:
             tests[it.test[0], it.refused or ""].add(it.test[1])
-        else:
+        elif it.case:
             cases[own_files(it.case)].add(it.case)
-    return tests, cases
+    return tests, cases, {it.stream for it in mutants if it.stream}
 
 
 def faults_of_unchanged(folder, tested, own, names, seconds):
@@ -261,6 +299,9 @@ def outcome_of(folder, mutant, seconds):
         if mutant.test:
             found, said = run_tests(folder, mutant.test[0], seconds, mutant.test[1], mutant.refused)
             outcome = found.get(mutant.test[1], "not compiled or not run")
+        elif mutant.stream:
+            found, said = run_stream(folder, [mutant.stream], seconds)
+            outcome = found[mutant.stream]
         else:
             found, said = run_cases(folder, [mutant.case], own_files(mutant.case), seconds)
             outcome = found[mutant.case]
@@ -274,7 +315,7 @@ def tried(folder, mutant, seconds):
     """Whether a wrong body is refused, and the line that reports it."""
     begun = time.monotonic()
     outcome, said = outcome_of(folder, mutant, seconds)
-    by = f"test {mutant.test[0]} {mutant.test[1]}" if mutant.test else f"case {mutant.case}"
+    by = f"test {mutant.test[0]} {mutant.test[1]}" if mutant.test else f"case {mutant.case}" if mutant.case else f"cases of {mutant.stream}"
     spent = f"{time.monotonic() - begun:.0f} s"
     if outcome == "FAILED":
         return True, f"refused: {mutant.crate}/{mutant.name} by {by}, {spent}"
@@ -289,6 +330,8 @@ def check_forms(mutants):
             changed(it, file.read())
         if it.case and not os.path.isdir(os.path.join(TOP, CASES, it.case)):
             raise ValueError(f"mutants/{it.crate}/{it.name}.edit: no case {it.case}")
+        if it.stream and not stream_cases(it.stream):
+            raise ValueError(f"mutants/{it.crate}/{it.name}.edit: no case of hsplan-stream has {it.stream}")
 
 
 def told_each(pool, calls):
@@ -306,6 +349,12 @@ def try_unchanged(copies, tested, own, names, seconds):
     return not faults, "\n".join(faults) or f"as they stand: {tested[0] if tested else 'program'}, {len(names)} {'tests' if tested else 'cases'} pass"
 
 
+def try_stream(copies, texts, seconds):
+    found, said = copies.use(lambda folder: run_stream(folder, sorted(texts), seconds))
+    faults = [f"hsplan-stream {it}: {outcome} on the sources as they stand" for it, outcome in found.items() if outcome != "ok"]
+    return not faults, "\n".join(faults + [said]) if faults else f"as they stand: hsplan-stream, the cases of {len(texts)} texts pass"
+
+
 def main():
     words = argparse.ArgumentParser(description="Checks that each wrong body of mutants/ is refused by its test or case.")
     words.add_argument("--jobs", type=int, default=max(1, (os.cpu_count() or 1) // 2), help="number of runs side by side (half of the processors)")
@@ -315,11 +364,12 @@ def main():
     begun = time.monotonic()
     mutants = read_mutants(given.names)
     check_forms(mutants)
-    tests, cases = unchanged(mutants)
+    tests, cases, texts = unchanged(mutants)
     with tempfile.TemporaryDirectory() as room, concurrent.futures.ThreadPoolExecutor(given.jobs) as pool:
         copies = Copies(room, given.jobs)
         first = [lambda c=c, n=n: try_unchanged(copies, c, None, n, given.seconds) for c, n in sorted(tests.items())]
         first += [lambda o=o, n=n: try_unchanged(copies, None, o, n, given.seconds) for o, n in cases.items()]
+        first += [lambda: try_stream(copies, texts, given.seconds)] if texts else []
         stands = told_each(pool, first)
         calls = [lambda it=it: copies.use(lambda folder: tried(folder, it, given.seconds)) for it in mutants]
         refused = told_each(pool, calls)

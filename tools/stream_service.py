@@ -83,6 +83,13 @@ def record_of(site: int) -> str:
     return f"000102000001" + f"00{option:02x}" + f"{0:08x}{0:08x}{len(servers):08x}" + parts
 
 
+def list_of(site: int) -> bytes:
+    """A value list whose only value, of the index 1, is the record of a site."""
+    record = bytes.fromhex(record_of(site))
+    numbers = [number.to_bytes(4, "big") for number in (1, 1, 7, len(record))]
+    return b"".join(numbers[:3]) + b"HS_SITE" + numbers[3] + record + bytes(18)
+
+
 def put_service(folder: str, demand: Iterable[Row], capacity: int = CAPACITY) -> None:
     """Writes the files of the service with this demand."""
     settings = "".join(

@@ -343,6 +343,16 @@ fn longest_rows(alloc: Global) -> Result<Vec<u8>, AllocError> {
     Ok(log)
 }
 
+// A row with the body of a request for a handle of 4,096 octets.
+fn longest_body(alloc: Global) -> Result<Vec<u8>, AllocError> {
+    let mut log = Vec::from_slice(alloc, b"region,body\nr1,0000100031302f")?;
+    for _letter in 0..4_093 {
+        log.extend_from_slice(b"65")?;
+    }
+    log.extend_from_slice(b"0000000000000000\n")?;
+    Ok(log)
+}
+
 // The local name of 4,093 letters is at place 1 of two servers, and at place 2 of three, as 1 is.
 #[test]
 fn longest_rows_are_answered(rt: HostRuntime) {
@@ -350,6 +360,12 @@ fn longest_rows_are_answered(rt: HostRuntime) {
         Ok(log) => log,
         Err(AllocError) => longest_rows(rt.alloc()).expect(&rt, "there is memory"),
     };
+    let body = match longest_body(rt.alloc()) {
+        Ok(log) => log,
+        Err(AllocError) => longest_body(rt.alloc()).expect(&rt, "there is memory"),
+    };
+    let one: (&[u8], [u64; 4]) = (b"assigned E 1 3\n", [1, 0, 0, 0]);
+    answers(&rt, rt.alloc(), WHOLE, &body, one);
     answers(
         &rt,
         rt.alloc(),

@@ -91,6 +91,17 @@ fn log_of(alloc: Global, last: &[u8]) -> Result<Vec<u8>, AllocError> {
     Ok(text)
 }
 
+// How many lines a text has.
+fn lines_in(text: &[u8]) -> usize {
+    let mut lines: usize = 0;
+    for octet in text {
+        if *octet == b'\n' {
+            lines = lines.saturating_add(1);
+        }
+    }
+    lines
+}
+
 // How many lines the table of a log with this last row has.
 fn lines_once(alloc: Global, last: &[u8]) -> Result<usize, StreamFault> {
     let inputs = KindsInputs {
@@ -100,7 +111,7 @@ fn lines_once(alloc: Global, last: &[u8]) -> Result<usize, StreamFault> {
     };
     let log = log_of(alloc, last)?;
     let table = kinds_run(alloc, &inputs, None, log.as_slice())?;
-    Ok(table.iter().filter(|octet| **octet == b'\n').count())
+    Ok(lines_in(&table))
 }
 
 // The local names 0 to 143 have 128 places of 500, and 144 has another one.

@@ -133,6 +133,29 @@ fn places_stop_where_a_read_fails(rt: HostRuntime) {
     has_places(&rt, rt.alloc(), SITES, log, (ended, sent));
 }
 
+// The second row has three octets more than a row may have.
+#[test]
+fn a_handle_may_be_too_long(rt: HostRuntime) {
+    let log = Rows {
+        head: b"handle\n10/3\n10/",
+        row: b"eeeeeeee",
+        times: 131_072,
+        end: b"\n10/1\n",
+    };
+    let fault = RowFault::BadHandle {
+        row: 1,
+        fault: HandleFault::TooLong,
+    };
+    let sent: &[u8] = b"handle,site,place,server_id\n10/3,E,1,3\n10/3,W,0,1\n";
+    has_places(
+        &rt,
+        rt.alloc(),
+        SITES,
+        log,
+        (Err(StreamFault::Log(fault)), sent),
+    );
+}
+
 // The last row is not a handle. The header has 28 octets, and each row before the last is answered by 22.
 #[test]
 fn many_handles_have_places(rt: HostRuntime) {

@@ -65,7 +65,11 @@ fn rows_are_kept_until_there_are_65536(rt: HostRuntime) {
         || put_many(&mut seen, rt.alloc(), 65_537).is_ok();
     is_same(&rt, is_put, true);
     is_same(&rt, seen.len(), 65_536);
-    let found = [0, 65_535, 65_536].map(|number| number_in(&seen, number));
+    let found = [
+        number_in(&seen, 0),
+        number_in(&seen, 65_535),
+        number_in(&seen, 65_536),
+    ];
     is_same(&rt, found, [Some(0), Some(65_535), None]);
 }
 
