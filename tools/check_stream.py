@@ -5,7 +5,7 @@
 
 What has to be printed is computed by tools/stream_service.py, or stands here:
 
-- worked cases of each command, and each fault with its status;
+- worked cases of each command, each fault with its status, and the options that the help names;
 - random logs: the table of kinds with and without units, places, and answers by a plan, by each front and in units;
 - a log in parts, whose tables are joined;
 - examples/twelve-sites, planned by rows and by kinds, at the same cost;
@@ -398,22 +398,22 @@ FAILING = [
     (f"{ANSWER.replace('/dev/stdin', 'log.csv')} --unit 2", b""),
     ("--help", b""),
 ]
+READ_FAILED = b"hsplan-stream: read failed\n"
+# The status of a run in which a call of this name is refused or fails, and the lines that may report it.
 ENDS = {
-    4: [b"hsplan-stream: OutOfMemory\n"],
-    5: [
-        b"hsplan-stream: read failed\n",
-        b"hsplan-stream: write failed\n",
-        b"hsplan-stream: log: ReadFailed\n",
-        b"hsplan-stream: log: WriteFailed\n",
-        b"",
-    ],
+    "growth": (4, [b"hsplan-stream: OutOfMemory\n"]),
+    "open": (5, [READ_FAILED]),
+    "read": (5, [READ_FAILED, b"hsplan-stream: log: ReadFailed\n"]),
+    "write": (5, [b"hsplan-stream: write failed\n", b"hsplan-stream: log: WriteFailed\n"]),
 }
 
 
-def is_cut(got: Ended, ordinary: Ended, status: int) -> bool:
-    """Whether a run ended as it would without the failure, or with this status after a beginning of its output."""
+def is_cut(got: Ended, ordinary: Ended, name: str) -> bool:
+    """Whether a run ended as it would without the failure of a call of this name, or, after a beginning of its output,
+    with the status and the line of the failure. Of a line that can't be written, a beginning is printed."""
     printed, line, ended = got
-    is_reported = line in ENDS[status] or (status == 5 and ordinary[1].startswith(line))
+    status, lines = ENDS[name]
+    is_reported = line in lines or (name == "write" and ordinary[1].startswith(line))
     return got == ordinary or (ended == status and ordinary[0].startswith(printed) and is_reported)
 
 
@@ -427,7 +427,7 @@ def check_refused(it: Programs, room: str) -> tuple[list[str], int]:
         found += [] if count else [f"{words}: no count of allocations"]
         for number in check_growth.numbers(count or 0, 400):
             got = it.run(words, given, LD_PRELOAD=preloaded, REFUSE_GROWTH=str(number), COUNT_GROWTH=told)
-            found += [] if is_cut(got, ordinary, 4) else [f"{words}: allocation {number} refused: {got}"]
+            found += [] if is_cut(got, ordinary, "growth") else [f"{words}: allocation {number} refused: {got}"]
             tried += 1
     return found, tried
 
@@ -443,12 +443,12 @@ def check_failing(it: Programs, room: str) -> tuple[list[str], int]:
         for call in calls:
             for kind in (errno.EIO, errno.ENOSPC) if call.name in ("open", "read", "write") else ():
                 got = it.run(words, given, LD_PRELOAD=preloaded, FAIL_IO=f"{call.name} {call.number} {kind}")
-                fine = got != ordinary and is_cut(got, ordinary, 5)
+                fine = got != ordinary and is_cut(got, ordinary, call.name)
                 found += [] if fine else [f"{words}: {call.name} {call.number} of {call.path} fails: {got}"]
                 tried += 1
             if call.name == "read":
                 got = it.run(words, given, LD_PRELOAD=preloaded, FAIL_IO=f"read {call.number} {errno.EINTR}")
-                found += [] if is_cut(got, ordinary, 5) else [f"{words}: read {call.number} is interrupted: {got}"]
+                found += [] if is_cut(got, ordinary, "read") else [f"{words}: read {call.number} is interrupted: {got}"]
                 tried += 1
     return found, tried
 

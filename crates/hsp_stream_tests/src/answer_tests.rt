@@ -2,7 +2,7 @@
 //
 // For r1 the handles 10/7 and 10/1 are one kind, and 10/4 and 10/9 are one; for r2 10/4 and 10/2 are one.
 
-use crate::fakes::{Cut, Full, Rows};
+use crate::fakes::{Full, Rows};
 use crate::same::is_same;
 use crate::worked::{PLAN, inputs_of, owned, owned_word};
 use hsp_cert::CertFault;
@@ -113,7 +113,9 @@ fn rows_are_answered_by_their_kinds(rt: HostRuntime) {
     );
 }
 
-// The region r3 has no row, and for r2 no row has the place of 10/1. A faulty row ends nothing.
+// The region r3 has no row, and for r2 no row has the place of 10/1. A faulty row ends nothing. The bodies ask for 10/1,
+// for 10/1 with digits in upper case, and for 10. The others are none: digits that are no octets or odd in number, and a
+// body that is cut.
 #[test]
 fn other_rows_are_unknown_or_refused(rt: HostRuntime) {
     let cases: [(&[u8], &[u8], [u64; 4]); 2] = [
@@ -123,9 +125,9 @@ fn other_rows_are_unknown_or_refused(rt: HostRuntime) {
             [1, 0, 2, 2],
         ),
         (
-            b"\n\nregion,body\nr1,zz\n",
-            b"refused BadBody\n",
-            [0, 0, 0, 1],
+            b"\n\nregion,body\nr1,0000000431302f310000000000000000\nr1,0000000431302F310000000000000000\nr1,0000000231300000000000000000\nr1,zz\nr1,000\nr1,00000004\n",
+            b"assigned E 1 3\nassigned E 1 3\nrefused BadHandle NoSlash\nrefused BadBody\nrefused BadBody\nrefused BadBody\n",
+            [2, 0, 0, 4],
         ),
     ];
     for (log, sent, sums) in cases {
@@ -153,25 +155,44 @@ fn a_query_of_the_plan_stands_for_a_unit(rt: HostRuntime) {
     );
 }
 
-// Of two queries each front has one; of one query the first front has it.
+// Of two queries each of two fronts has one; of one query the first front has it. Of 64 fronts the first has one query of
+// each row at each site, and the last has none.
 #[test]
 fn a_front_answers_by_its_share(rt: HostRuntime) {
-    let cases: [(&[u8], &[u8], [u64; 4]); 2] = [
+    let cases: [(&[u8], &[u8], &[u8], &[u8], [u64; 4]); 4] = [
         (
+            b"1",
+            b"2",
             b"0",
             b"assigned E 1 3\nassigned W 2 9\nspent\nspent\nassigned E 0 7\nassigned E 0 7\n",
             [4, 2, 0, 0],
         ),
         (
             b"1",
+            b"2",
+            b"1",
             b"assigned E 1 3\nspent\nspent\nspent\nspent\nspent\n",
             [1, 5, 0, 0],
         ),
+        (
+            b"1000000",
+            b"64",
+            b"0",
+            b"assigned E 1 3\nassigned E 1 3\nassigned E 1 3\nassigned E 1 3\nassigned E 0 7\nassigned E 0 7\n",
+            [6, 0, 0, 0],
+        ),
+        (
+            b"1000000",
+            b"64",
+            b"63",
+            b"spent\nspent\nspent\nspent\nspent\nspent\n",
+            [0, 6, 0, 0],
+        ),
     ];
-    for (front, sent, sums) in cases {
+    for (unit, fronts, front, sent, sums) in cases {
         let words = Words {
-            unit: None,
-            front: Some((b"2", front)),
+            unit: Some(unit),
+            front: Some((fronts, front)),
         };
         answers(&rt, rt.alloc(), words, LOG, (sent, sums));
     }
@@ -239,57 +260,6 @@ fn no_row_is_answered_by_a_shortage(rt: HostRuntime) {
     is_same(&rt, ended, Err(StreamFault::Input(Fault::WrongKind)));
 }
 
-// The bodies ask for 10/1, for 10/1 with digits in upper case, and for 10. The others are none: their digits are odd in
-// number, or end within a body.
-#[test]
-fn bodies_are_answered(rt: HostRuntime) {
-    answers(
-        &rt,
-        rt.alloc(),
-        WHOLE,
-        b"region,body\nr1,0000000431302f310000000000000000\nr1,0000000431302F310000000000000000\nr1,0000000231300000000000000000\nr1,000\nr1,00000004\n",
-        (
-            b"assigned E 1 3\nassigned E 1 3\nrefused BadHandle NoSlash\nrefused BadBody\nrefused BadBody\n",
-            [2, 0, 0, 3],
-        ),
-    );
-}
-
-// The first of 64 fronts has each query that is one of its row's first at a site, and the last front has none.
-#[test]
-fn portions_may_be_the_greatest(rt: HostRuntime) {
-    let cases: [(&[u8], &[u8], [u64; 4]); 2] = [
-        (
-            b"0",
-            b"assigned E 1 3\nassigned E 1 3\nassigned E 1 3\nassigned E 1 3\nassigned E 0 7\nassigned E 0 7\n",
-            [6, 0, 0, 0],
-        ),
-        (
-            b"63",
-            b"spent\nspent\nspent\nspent\nspent\nspent\n",
-            [0, 6, 0, 0],
-        ),
-    ];
-    for (front, sent, sums) in cases {
-        let words = Words {
-            unit: Some(b"1000000"),
-            front: Some((b"64", front)),
-        };
-        answers(&rt, rt.alloc(), words, LOG, (sent, sums));
-    }
-}
-
-// The header and the first row come before the reader fails.
-#[test]
-fn answers_stop_where_a_read_fails(rt: HostRuntime) {
-    let log = Cut {
-        text: b"region,handle\nr1,10/1\nr1",
-    };
-    let (ended, sent) = answer_of(rt.alloc(), PLAN, WHOLE, log);
-    is_same(&rt, sent.as_slice(), b"assigned E 1 3\n".as_slice());
-    is_same(&rt, ended, Err(StreamFault::Log(RowFault::ReadFailed)));
-}
-
 // How the run ends where nothing can be written.
 fn ended_unwritten(alloc: Global) -> Result<StreamSums, StreamFault> {
     let inputs = inputs_of(alloc)?;
@@ -310,6 +280,7 @@ fn answers_stop_where_a_write_fails(rt: HostRuntime) {
     is_same(&rt, ended, Err(StreamFault::Log(RowFault::WriteFailed)));
 }
 
+// So are those before a failed read.
 #[test]
 fn many_rows_are_answered(rt: HostRuntime) {
     let log = Rows {
@@ -317,10 +288,16 @@ fn many_rows_are_answered(rt: HostRuntime) {
         row: b"r3,10/1\n",
         times: 70_000,
         end: b"",
+        fails: false,
     };
-    let (ended, sent) = answer_of(rt.alloc(), PLAN, WHOLE, log);
-    is_same(&rt, sent.len(), 560_000);
-    is_same(&rt, ended, Ok(sums_of([0, 0, 70_000, 0])));
+    let failing = Rows { fails: true, ..log };
+    let all = Ok(sums_of([0, 0, 70_000, 0]));
+    let failed = Err(StreamFault::Log(RowFault::ReadFailed));
+    for (log, wanted) in [(log, all), (failing, failed)] {
+        let (ended, sent) = answer_of(rt.alloc(), PLAN, WHOLE, log);
+        is_same(&rt, sent.len(), 560_000);
+        is_same(&rt, ended, wanted);
+    }
 }
 
 // Adds a row of so many octets: a beginning, and the letter e.

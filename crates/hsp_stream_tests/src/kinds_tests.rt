@@ -1,6 +1,6 @@
 // The run that joins the rows of a log to kinds, from the octets of its files and its log to the table.
 
-use crate::fakes::{Cut, Rows};
+use crate::fakes::Rows;
 use crate::same::is_same;
 use crate::worked::{BY_INDEX, COSTS, VALUES, owned};
 use hsp_faults::Fault;
@@ -217,21 +217,7 @@ fn sites_of_values_join_rows(rt: HostRuntime) {
     }
 }
 
-#[test]
-fn a_table_needs_the_whole_log(rt: HostRuntime) {
-    let log = Cut {
-        text: b"region,handle\nr1,10/1\n",
-    };
-    has_fault(
-        &rt,
-        rt.alloc(),
-        COSTS,
-        None,
-        log,
-        StreamFault::Log(RowFault::ReadFailed),
-    );
-}
-
+// The table needs each row, and the whole log.
 #[test]
 fn many_rows_are_one_row(rt: HostRuntime) {
     let log = Rows {
@@ -239,19 +225,19 @@ fn many_rows_are_one_row(rt: HostRuntime) {
         row: b"r1,10/1\n",
         times: 70_000,
         end: b"",
+        fails: false,
     };
+    let wanted: &[u8] = b"region,handle,count\nr1,10/1,70000\n";
+    has_table(&rt, rt.alloc(), None, log, wanted);
     let bad = Rows {
         end: b"r1\n",
         ..log
     };
-    let wanted: &[u8] = b"region,handle,count\nr1,10/1,70000\n";
-    has_table(&rt, rt.alloc(), None, log, wanted);
-    has_fault(
-        &rt,
-        rt.alloc(),
-        COSTS,
-        None,
-        bad,
-        StreamFault::Log(RowFault::Fields { row: 70_000 }),
-    );
+    let failing = Rows { fails: true, ..log };
+    for (log, fault) in [
+        (bad, RowFault::Fields { row: 70_000 }),
+        (failing, RowFault::ReadFailed),
+    ] {
+        has_fault(&rt, rt.alloc(), COSTS, None, log, StreamFault::Log(fault));
+    }
 }

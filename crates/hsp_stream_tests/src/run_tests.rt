@@ -1,6 +1,6 @@
 // The run that states places, from the octets of its files and logs to what it prints.
 
-use crate::fakes::{Cut, Rows};
+use crate::fakes::Rows;
 use crate::same::is_same;
 use crate::worked::{BY_INDEX, VALUES};
 use hsp_faults::Fault;
@@ -65,14 +65,26 @@ fn has_places<R: Read + Copy + Drop>(
 #[test]
 fn handles_have_places(rt: HostRuntime) {
     let head: &[u8] = b"handle,site,place,server_id\n";
-    let cases: [(&[u8], Result<(), StreamFault>, &[u8]); 4] = [
-        (b"handle\n", Ok(()), head),
+    let by_values = Sites {
+        settings: BY_INDEX,
+        values: Some(VALUES),
+    };
+    let cases: [(Sites<'_>, &[u8], Result<(), StreamFault>, &[u8]); 5] = [
+        (SITES, b"handle\n", Ok(()), head),
         (
+            by_values,
+            b"handle\n10/1\n",
+            Ok(()),
+            b"handle,site,place,server_id\n10/1,X,0,7\n",
+        ),
+        (
+            SITES,
             b"region,handle\nr1,10/1\n\nr9,10/2",
             Ok(()),
             b"handle,site,place,server_id\n10/1,E,1,3\n10/1,W,2,9\n10/2,E,0,7\n10/2,W,1,2\n",
         ),
         (
+            SITES,
             b"handle\n10/3\n10\n10/1\n",
             Err(StreamFault::Log(RowFault::BadHandle {
                 row: 1,
@@ -81,13 +93,14 @@ fn handles_have_places(rt: HostRuntime) {
             b"handle,site,place,server_id\n10/3,E,1,3\n10/3,W,0,1\n",
         ),
         (
+            SITES,
             b"\"handle\"\n\"10/a,b\"\n",
             Ok(()),
             b"handle,site,place,server_id\n\"10/a,b\",E,0,7\n\"10/a,b\",W,2,9\n",
         ),
     ];
-    for (log, ended, sent) in cases {
-        has_places(&rt, rt.alloc(), SITES, log, (ended, sent));
+    for (sites, log, ended, sent) in cases {
+        has_places(&rt, rt.alloc(), sites, log, (ended, sent));
     }
 }
 
@@ -111,49 +124,31 @@ fn places_have_their_first_fault(rt: HostRuntime) {
     }
 }
 
+// The second row has three octets more than a row may have. Of the other log a header and a row are read.
 #[test]
-fn sites_of_values_have_places(rt: HostRuntime) {
-    let sites = Sites {
-        settings: BY_INDEX,
-        values: Some(VALUES),
-    };
-    let wanted: &[u8] = b"handle,site,place,server_id\n10/1,X,0,7\n";
-    let log: &[u8] = b"handle\n10/1\n";
-    has_places(&rt, rt.alloc(), sites, log, (Ok(()), wanted));
-}
-
-// The header and the first row come before the reader fails.
-#[test]
-fn places_stop_where_a_read_fails(rt: HostRuntime) {
-    let log = Cut {
-        text: b"handle\n10/3\n10",
-    };
-    let ended = Err(StreamFault::Log(RowFault::ReadFailed));
-    let sent: &[u8] = b"handle,site,place,server_id\n10/3,E,1,3\n10/3,W,0,1\n";
-    has_places(&rt, rt.alloc(), SITES, log, (ended, sent));
-}
-
-// The second row has three octets more than a row may have.
-#[test]
-fn a_handle_may_be_too_long(rt: HostRuntime) {
-    let log = Rows {
+fn places_stop_at_a_fault_of_the_log(rt: HostRuntime) {
+    let long = Rows {
         head: b"handle\n10/3\n10/",
         row: b"eeeeeeee",
         times: 131_072,
         end: b"\n10/1\n",
+        fails: false,
+    };
+    let failing = Rows {
+        times: 1,
+        end: b"",
+        fails: true,
+        ..long
     };
     let fault = RowFault::BadHandle {
         row: 1,
         fault: HandleFault::TooLong,
     };
     let sent: &[u8] = b"handle,site,place,server_id\n10/3,E,1,3\n10/3,W,0,1\n";
-    has_places(
-        &rt,
-        rt.alloc(),
-        SITES,
-        log,
-        (Err(StreamFault::Log(fault)), sent),
-    );
+    for (log, fault) in [(long, fault), (failing, RowFault::ReadFailed)] {
+        let ended = Err(StreamFault::Log(fault));
+        has_places(&rt, rt.alloc(), SITES, log, (ended, sent));
+    }
 }
 
 // The last row is not a handle. The header has 28 octets, and each row before the last is answered by 22.
@@ -164,6 +159,7 @@ fn many_handles_have_places(rt: HostRuntime) {
         row: b"10/3\n",
         times: 70_000,
         end: b"10\n",
+        fails: false,
     };
     let fault = RowFault::BadHandle {
         row: 70_000,
