@@ -18,8 +18,8 @@ edit, and one that names the test or the case that has to refuse it:
 
 Nothing is proved: `rt try` runs the tests and the programs with checks. First each test and each case that an edit
 names has to pass on the sources as they stand. An edit is refused where its test fails, or where a case that it names
-has another output or another end. Sources that do not compile, and a run without an end, refuse nothing. If crates or edits are
-named, only these are tried.
+has another output or another end. Sources that do not compile, and a run without an end, refuse nothing. If crates or
+edits are named, only these are tried.
 """
 import argparse
 import collections
@@ -177,25 +177,33 @@ def run_cases(folder, names, own, seconds):
 
 def stream_cases(text):
     """The cases of hsplan-stream with this text that need no plan."""
-    shown = [(case, " ".join((case[0], case[1].decode(errors="replace"), case[3].decode()))) for case in check_stream.CASES]
+    shown = [
+        (case, " ".join((case[0], case[1].decode(errors="replace"), case[3].decode()))) for case in check_stream.CASES
+    ]
     return [case for case, it in shown if text in it and "--plan" not in case[0]]
 
 
 def run_stream(folder, texts, seconds):
     """The outcome of the cases of each of these texts together. The second result is what was printed."""
-    cases = {f"case_{number}_{at}": (text, case) for number, text in enumerate(texts) for at, case in enumerate(stream_cases(text))}
+    cases = {
+        f"case_{number}_{at}": (text, case)
+        for number, text in enumerate(texts)
+        for at, case in enumerate(stream_cases(text))
+    }
     with tempfile.TemporaryDirectory() as room, tempfile.TemporaryDirectory() as service:
         stream_service.put_service(service, [])
         check_stream.put_files(service)
         words = ["rt", "try", "--cases", room, "--seconds", str(seconds)]
         for name, (_, case) in cases.items():
-            put_run(room, name, case[1].decode(errors="surrogateescape"), "".join(it + "\n" for it in case[0].split()) or None)
+            words_in_lines = "".join(it + "\n" for it in case[0].split()) or None
+            put_run(room, name, case[1].decode(errors="surrogateescape"), words_in_lines)
         for name in sorted(os.listdir(service)):
             words += ["--data", f"{name}={os.path.join(service, name)}"]
         said = run(words, os.path.join(folder, "crates", "hsplan_stream"))
     found = collections.defaultdict(list)
     for name, (text, case) in cases.items():
-        found[text].append(judged_by(name, said, lambda got, case=case: got in both_ways(case[2].decode(), case[3].decode()), case[4]))
+        ways = both_ways(case[2].decode(), case[3].decode())
+        found[text].append(judged_by(name, said, ways.__contains__, case[4]))
     return {text: worst(outcomes) for text, outcomes in found.items()}, said
 
 
