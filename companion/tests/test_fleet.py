@@ -150,7 +150,9 @@ def test_a_worker_is_killed_while_a_million_rows_are_answered(million: Million, 
     said = ended(run, 0)
     assert said.startswith("1,000,000 rows: ") and million.are_answered(tmp_path)
     spent = million.answers.count(b"spent")
-    assert f", {spent:,} spent, " in said
+    assert f", {spent:,} spent, " in said and said.endswith(
+        "\nhsp: 1 worker ended early; another one did its parts\n"
+    )
 
 
 @pytest.mark.parametrize("seconds", [0.0, 0.8])

@@ -39,7 +39,7 @@ class Local:
             if not shutil.which(it):
                 raise Missing(f"{it} isn't in PATH: workers of this machine need it (Debian: util-linux and openssl)")
         self.folder = tempfile.mkdtemp(prefix="hsp-fleet-")
-        self.number, self._restarts, self._started = number, 0, 0
+        self.number, self.restarts, self._started = number, 0, 0
         self.certificate, self.key = (os.path.join(self.folder, it) for it in ("certificate.pem", "key.pem"))
         self._file = os.path.join(self.folder, "scheduler.json")
         self._scheduler: subprocess.Popen[bytes] | None = None
@@ -103,8 +103,8 @@ class Local:
             raise Gone("the scheduler of this machine has ended" + self._last("dask_scheduler"))
         for at, it in enumerate(self._workers):
             if it.poll() is not None:
-                self._restarts += 1
-                if self._restarts > MOST_RESTARTS * self.number:
+                self.restarts += 1
+                if self.restarts > MOST_RESTARTS * self.number:
                     raise Gone("the workers of this machine end again and again" + self._last("dask_worker"))
                 self._workers[at] = self._worker()
 

@@ -13,6 +13,7 @@ import click
 from hsp.faults import Unfit, printable
 from hsp.fleet.engine import BROKEN, Engine, Place, Unfinished
 from hsp.fleet.local import Gone
+from hsp.numbers import some
 
 Command = TypeVar("Command", bound=Callable[..., Any])
 # Paths whose unpublished files are taken away at the end, and their host.
@@ -66,6 +67,7 @@ def session(place: Place, targets: Targets) -> Iterator[Engine]:
     try:
         engine = Engine(place)
         yield engine
+        _lost(engine)
     except Unfinished as fault:
         _ended(fault.status, str(fault))
     except Gone as fault:
@@ -77,6 +79,14 @@ def session(place: Place, targets: Targets) -> Iterator[Engine]:
             engine.end(targets)
         for number, handler in before.items():
             signal.signal(number, handler)
+
+
+def _lost(engine: Engine) -> None:
+    """Reports the workers of this machine that ended before the run did."""
+    many = engine.local.restarts if engine.local else 0
+    if many:
+        parts = "another one did its parts" if many == 1 else "others did their parts"
+        click.echo(f"hsp: {some(many, 'worker')} ended early; {parts}", err=True)
 
 
 def _ended(status: int, line: str) -> None:
