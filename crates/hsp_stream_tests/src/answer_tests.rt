@@ -11,7 +11,6 @@ use hsp_faults::Fault;
 use hsp_stream::{PortionWords, RowFault, StreamFault, StreamSums, answer_run};
 use hsp_talk::{Joined, LONGEST_ROW};
 use std::alloc::{AllocError, Global};
-use std::io::Read;
 use std::process::Abort;
 
 // The words of a portion: the unit, and the number of fronts with that of one of them.
@@ -42,7 +41,7 @@ fn portion_of(alloc: Global, words: Words<'_>) -> Result<PortionWords, AllocErro
 // How the run ends, and what it sends.
 type Ended = (Result<StreamSums, StreamFault>, Vec<u8>);
 
-fn answer_once<R: Read + Drop>(alloc: Global, plan: &[u8], words: Words<'_>, log: R) -> Ended {
+fn answer_once(alloc: Global, plan: &[u8], words: Words<'_>, log: Rows<'_>) -> Ended {
     let mut sent = Vec::new(alloc);
     let (Ok(inputs), Ok(portion)) = (inputs_of(alloc), portion_of(alloc, words)) else {
         return (Err(StreamFault::OutOfMemory), sent);
@@ -56,7 +55,7 @@ fn answer_once<R: Read + Drop>(alloc: Global, plan: &[u8], words: Words<'_>, log
 }
 
 // The same, once more where memory ran out: a writer without memory fails.
-fn answer_of<R: Read + Copy + Drop>(alloc: Global, plan: &[u8], words: Words<'_>, log: R) -> Ended {
+fn answer_of(alloc: Global, plan: &[u8], words: Words<'_>, log: Rows<'_>) -> Ended {
     let (ended, sent) = answer_once(alloc, plan, words, log);
     match ended {
         Err(StreamFault::OutOfMemory) | Err(StreamFault::Log(RowFault::WriteFailed)) => {
@@ -74,7 +73,7 @@ fn answers(
     log: &[u8],
     wanted: (&[u8], [u64; 4]),
 ) {
-    let (ended, sent) = answer_of(alloc, PLAN, words, log);
+    let (ended, sent) = answer_of(alloc, PLAN, words, Rows::only(log));
     is_same(rt, sent.as_slice(), wanted.0);
     is_same(rt, ended, Ok(sums_of(wanted.1)));
 }
@@ -91,7 +90,7 @@ fn sums_of(sums: [u64; 4]) -> StreamSums {
 
 // The run has the fault, and sends nothing.
 fn has_fault(rt: &impl Abort, alloc: Global, plan: &[u8], words: Words<'_>, wanted: StreamFault) {
-    let (ended, sent) = answer_of(alloc, plan, words, b"bad\n".as_slice());
+    let (ended, sent) = answer_of(alloc, plan, words, Rows::only(b"bad\n"));
     is_same(rt, sent.as_slice(), b"".as_slice());
     is_same(rt, ended, Err(wanted));
 }

@@ -13,6 +13,19 @@ pub(crate) struct Rows<'a> {
     pub(crate) fails: bool,
 }
 
+impl<'a> Rows<'a> {
+    /// Only a text.
+    pub(crate) fn only(text: &'a [u8]) -> Rows<'a> {
+        Rows {
+            head: text,
+            row: b"",
+            times: 0,
+            end: b"",
+            fails: false,
+        }
+    }
+}
+
 impl Read for Rows<'_> {
     fn read(&mut self, buf: &mut [u8]) -> io::Result<usize> {
         if self.head.is_empty() {

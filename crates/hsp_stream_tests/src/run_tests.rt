@@ -10,7 +10,6 @@ use hsp_tables::TableFault;
 use hsp_talk::Joined;
 use hsp_test_support::service::SETTINGS;
 use std::alloc::Global;
-use std::io::Read;
 use std::process::Abort;
 
 // Settings, and the values that they may refer to.
@@ -29,7 +28,7 @@ const SITES: Sites<'static> = Sites {
 // How the run ends, and what it sends.
 type Ended = (Result<(), StreamFault>, Vec<u8>);
 
-fn places_once<R: Read + Drop>(alloc: Global, sites: Sites<'_>, log: R) -> Ended {
+fn places_once(alloc: Global, sites: Sites<'_>, log: Rows<'_>) -> Ended {
     let mut sent = Vec::new(alloc);
     let mut peer = Joined {
         reader: log,
@@ -40,7 +39,7 @@ fn places_once<R: Read + Drop>(alloc: Global, sites: Sites<'_>, log: R) -> Ended
 }
 
 // The same, once more where memory ran out: a writer without memory fails.
-fn places_of<R: Read + Copy + Drop>(alloc: Global, sites: Sites<'_>, log: R) -> Ended {
+fn places_of(alloc: Global, sites: Sites<'_>, log: Rows<'_>) -> Ended {
     let (ended, sent) = places_once(alloc, sites, log);
     match ended {
         Err(StreamFault::OutOfMemory) | Err(StreamFault::Log(RowFault::WriteFailed)) => {
@@ -50,11 +49,11 @@ fn places_of<R: Read + Copy + Drop>(alloc: Global, sites: Sites<'_>, log: R) -> 
     }
 }
 
-fn has_places<R: Read + Copy + Drop>(
+fn has_places(
     rt: &impl Abort,
     alloc: Global,
     sites: Sites<'_>,
-    log: R,
+    log: Rows<'_>,
     wanted: (Result<(), StreamFault>, &[u8]),
 ) {
     let (ended, sent) = places_of(alloc, sites, log);
@@ -100,7 +99,7 @@ fn handles_have_places(rt: HostRuntime) {
         ),
     ];
     for (sites, log, ended, sent) in cases {
-        has_places(&rt, rt.alloc(), sites, log, (ended, sent));
+        has_places(&rt, rt.alloc(), sites, Rows::only(log), (ended, sent));
     }
 }
 
@@ -120,7 +119,7 @@ fn places_have_their_first_fault(rt: HostRuntime) {
         (SITES, b"", StreamFault::Log(RowFault::Header)),
     ];
     for (sites, log, fault) in cases {
-        has_places(&rt, rt.alloc(), sites, log, (Err(fault), b""));
+        has_places(&rt, rt.alloc(), sites, Rows::only(log), (Err(fault), b""));
     }
 }
 
