@@ -9,7 +9,6 @@ mod fakes;
 #[cfg(test)]
 mod kinds_tests;
 #[cfg(test)]
-mod limit_tests;
 #[cfg(test)]
 mod line_tests;
 #[cfg(test)]

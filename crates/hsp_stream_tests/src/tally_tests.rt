@@ -40,39 +40,6 @@ fn a_row_of_more_than_256_octets_is_not_kept(rt: HostRuntime) {
     is_same(&rt, seen.find(b"r1", &long), None);
 }
 
-// Puts in rows of 256 octets, a number each, as far as memory goes.
-fn put_many(seen: &mut SeenRows, alloc: Global, many: u32) -> Result<(), AllocError> {
-    let mut handle = [b'x'; 255];
-    for number in 0..many {
-        handle[..4].copy_from_slice(&number.to_le_bytes());
-        seen.remember(alloc, b"r", &handle, number)?;
-    }
-    Ok(())
-}
-
-// The number of the row that was put in with this number, or None where there is none.
-fn number_in(seen: &SeenRows, number: u32) -> Option<u32> {
-    let mut handle = [b'x'; 255];
-    handle[..4].copy_from_slice(&number.to_le_bytes());
-    seen.find(b"r", &handle)
-}
-
-#[test]
-fn rows_are_kept_until_there_are_65536(rt: HostRuntime) {
-    let mut seen = SeenRows::new();
-    // Where memory ran out once, it is there again.
-    let is_put = put_many(&mut seen, rt.alloc(), 65_537).is_ok()
-        || put_many(&mut seen, rt.alloc(), 65_537).is_ok();
-    is_same(&rt, is_put, true);
-    is_same(&rt, seen.len(), 65_536);
-    let found = [
-        number_in(&seen, 0),
-        number_in(&seen, 65_535),
-        number_in(&seen, 65_536),
-    ];
-    is_same(&rt, found, [Some(0), Some(65_535), None]);
-}
-
 // Whether the row was seen before it was counted and after it, how many kinds there are then, and the count of the
 // first kind, if it is that of 10/1. None where memory ran out.
 type Counted = Option<(bool, bool, u32, Option<u64>)>;
