@@ -10,6 +10,7 @@ A shell that is not installed is named as not tried. With --all that is a fault.
 import argparse
 import os
 import pty
+import re
 import select
 import shlex
 import shutil
@@ -70,6 +71,11 @@ CASES = [
     ("hsp sites --into s", ["service/"]),
     ("hsp doctor -- loc", ["locate"]),
     ("hsp doctor -- plan --settings set", ["settings.toml"]),
+    ("hsplan check --demand=dem", ["demand.csv"]),
+    ("hsplan locate --option=l", ["local"]),
+    ("hsplan-stream places --settings=set", ["settings.toml"]),
+    ("hsp whatif --settings=set", ["settings.toml"]),
+    ("hsp sites --into=ser", ["service/"]),
 ]
 
 
@@ -78,7 +84,8 @@ def printed(command, folder):
 
 
 def ask_bash(line, folder):
-    words = shlex.split(line) + ([""] if line.endswith(" ") else [])
+    parts = [re.split("(=)", it) for it in shlex.split(line)]  # bash parts words there
+    words = [it for part in parts for it in part] + ([""] if line.endswith(" ") else [])
     listed = " ".join(shlex.quote(it) for it in words)
     program = words[0]
     asked = f"COMP_WORDS=({listed}); COMP_CWORD={len(words) - 1}; _{program.replace('-', '_')}"
@@ -114,7 +121,8 @@ def drained(terminal, until, seconds):
 
 
 def ask_zsh(line, folder):
-    """The last word of the line after Tab, as a list. The list is empty where the line did not change."""
+    """The last word of the line after Tab, as a list. The list is empty where the line did not change. An option with
+    an argument gets an equals sign, which a space takes away again."""
     with tempfile.TemporaryDirectory() as home:
         told = os.path.join(home, "told")
         with open(os.path.join(home, ".zshrc"), "w") as file:
@@ -129,14 +137,16 @@ def ask_zsh(line, folder):
         os.close(terminal)
         os.waitpid(child, 0)
         after = open(told).read().rstrip() if os.path.exists(told) else line
-    return [after.split(" ")[-1]] if after != line.rstrip() else []
+    return [after.split(" ")[-1].removesuffix("=")] if after != line.rstrip() else []
 
 
 def shown(shell, line, wanted):
-    """What a shell shows of the wanted completions: fish shows options only after a hyphen, and bash puts the slash
-    behind a folder itself."""
-    own = [it.rstrip("/") if shell == "bash" else it for it in wanted]
-    return [it for it in own if shell != "fish" or line.split(" ")[-1] or not it.startswith("-")]
+    """What a shell shows of the wanted completions: fish shows options only after a hyphen, bash puts the slash behind
+    a folder itself, and fish and zsh show the whole word of `--option=value`."""
+    option, sign, _ = line.split(" ")[-1].partition("=")
+    before = option + sign if sign and shell != "bash" else ""
+    own = [before + (it.rstrip("/") if shell == "bash" else it) for it in wanted]
+    return [it for it in own if shell != "fish" or option or not it.startswith("-")]
 
 
 def tried(shell, ask):
