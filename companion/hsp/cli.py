@@ -64,25 +64,47 @@ class Commands(Group):
             lost(fault)
 
     def main(self, *words: Any, **more: Any) -> Any:
+        with_streams()
         try:
             return super().main(*words, **more)
         except OSError as fault:  # of the words that --help and --version print
             lost(fault)
 
 
+def with_streams() -> None:
+    """Opens the null device for each standard stream that is closed, so that no file gets its number. Ends where that is
+    standard output, which each command writes."""
+    is_closed = sys.stdout is None
+    number = 0
+    while number < 3:
+        number = os.open(os.devnull, os.O_RDWR)
+    os.close(number)
+    sys.stdin = sys.stdin or open(0, encoding="utf-8")
+    sys.stderr = sys.stderr or open(2, "w", encoding="utf-8")
+    if is_closed:
+        ended(5, "standard output is closed")
+
+
+def to_nowhere(stream: int) -> None:
+    """Drops what a stream still has to write, so that Python doesn't try it once more at the end."""
+    os.dup2(os.open(os.devnull, os.O_WRONLY), stream)
+
+
 def lost(fault: OSError) -> None:
     """Ends where a file, or standard output, can't be read or written. Nothing is said where nobody reads on."""
     if fault.filename is None:
-        # What is still to be printed goes nowhere, so that Python doesn't try it once more at the end.
-        os.dup2(os.open(os.devnull, os.O_WRONLY), 1)
+        to_nowhere(1)
     name = "standard output" if fault.filename is None else fault.filename
     ended(5, *([] if isinstance(fault, BrokenPipeError) else [f"{name}: {fault.strerror}"]))
 
 
 def ended(status: int, *lines: str) -> None:
-    """Prints lines on standard error, and ends with a status."""
-    for line in lines:
-        click.echo(f"hsp: {line}", err=True)
+    """Prints lines on standard error, where these can be written, and ends with a status."""
+    try:
+        for line in lines:
+            click.echo(f"hsp: {line}", err=True)
+    except OSError:
+        to_nowhere(2)
     sys.exit(status)
 
 

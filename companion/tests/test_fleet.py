@@ -538,6 +538,9 @@ def test_a_cluster_with_keys_answers_who_has_one(million: Million, cluster: Clus
     ]
     said = fleet("dispatch", million.folder, *options, *strange, f"1={log}", status=5)
     assert said.startswith(f"hsp: no scheduler answers at {cluster.address}: ") and said.count("\n") == 1
+    absent = [*keys[:-1], tmp_path / "absent.pem"]
+    said = fleet("dispatch", million.folder, *options, *absent, f"1={log}", status=5)
+    assert said == f"hsp: {absent[-1]}: No such file or directory\n"
 
 
 def test_a_cluster_whose_scheduler_goes_away_is_one_line(cluster: Cluster, tmp_path: Path) -> None:

@@ -253,6 +253,30 @@ def test_a_reader_that_goes_away_is_no_refused_input(example: Example) -> None:
     assert (done.returncode, done.stderr) == (5, "")
 
 
+CLOSED = {
+    ">&-": (5, "", "hsp: standard output is closed\n"),
+    ">&- 2>&-": (5, "", ""),
+    ">/dev/full 2>&1": (5, "", ""),
+    "2>&-": (0, "all", ""),
+    "<&- 2>&-": (0, "all", ""),
+    "2>/dev/full": (0, "all", ""),
+}
+
+
+@pytest.mark.parametrize("streams", CLOSED)
+def test_a_closed_or_full_stream_changes_no_file_and_ends_plainly(hsp: Hsp, example: Example, streams: str) -> None:
+    folder = example("two-sites")
+    plain = hsp("plan", str(folder), "-o", str(folder / "plain")).stdout.replace("/plain", "/kept")
+    command = f'{sys.executable} -m hsp plan "$1" -o "$1/kept" {streams}'
+    environment = {**os.environ, "PYTHONPATH": str(TOP / "companion")}
+    done = subprocess.run(["sh", "-c", command, "sh", str(folder)], capture_output=True, text=True, env=environment)
+    status, printed, said = CLOSED[streams]
+    assert (done.returncode, done.stdout, done.stderr) == (status, printed and plain, said)
+    kept = folder / "kept"
+    assert not kept.exists() or kept.read_bytes() == (folder / "plain").read_bytes()
+    assert kept.exists() or status == 5
+
+
 @pytest.mark.parametrize("other", ["/bin/true", "/bin/echo"])
 def test_another_program_in_the_place_of_hsplan(hsp: Hsp, example: Example, other: str) -> None:
     said = hsp("plan", str(example("two-sites")), "--no-save", status=5, HSPLAN=other).stderr

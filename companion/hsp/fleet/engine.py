@@ -99,6 +99,8 @@ class Engine:
             keys = self.local.certificate, self.local.certificate, self.local.key
         secured: Any = None
         if any(keys):
+            for file in filter(None, keys):  # Dask doesn't name the one that it can't read
+                open(file, "rb").close()
             names = dict(zip(("tls_ca_file", "tls_client_cert", "tls_client_key"), keys))
             secured = self._dask.Security(require_encryption=True, **names)
         address = self.local.address(patience) if self.local else self._place.scheduler
