@@ -590,6 +590,17 @@ def test_a_file_is_published_once_and_nothing_old_stands_for_it(tmp_path: Path) 
         remote.publish("run", [path], "attempt", [inodes[0] + 10**9])
 
 
+def test_the_units_for_systemd_are_read_without_a_warning(tmp_path: Path) -> None:
+    if not shutil.which("systemd-analyze"):
+        pytest.skip("no systemd-analyze is here")
+    files = [tmp_path / f"fleet-{it}.service" for it in ("scheduler", "worker")]
+    for file, text in zip(files, DOCUMENT.split("```ini\n")[1:], strict=True):
+        file.write_text(text.split("```")[0])
+    ended = subprocess.run(["systemd-analyze", "verify", *files], capture_output=True, text=True)
+    assert ended.returncode == 0
+    assert not [it for it in ended.stderr.splitlines() if "fleet-" in it]
+
+
 def test_gnu_parallel_answers_the_same(million: Million, tmp_path: Path) -> None:
     if not shutil.which("parallel"):
         pytest.skip("no GNU parallel is here")
