@@ -80,7 +80,9 @@ CASES = [
 
 
 def printed(command, folder):
-    return subprocess.run(command, cwd=folder, stdout=subprocess.PIPE, stderr=subprocess.STDOUT, text=True, timeout=60).stdout
+    return subprocess.run(
+        command, cwd=folder, stdout=subprocess.PIPE, stderr=subprocess.STDOUT, text=True, timeout=60
+    ).stdout
 
 
 def ask_bash(line, folder):
@@ -101,9 +103,9 @@ def ask_fish(line, folder):
 ZSHRC = """fpath=({files} $fpath)
 autoload -Uz compinit
 compinit -u -D
-tell() {{ print -r -- "$BUFFER" > {told}; exit 0 }}
-zle -N tell
-bindkey '^X^T' tell
+report() {{ print -r -- "$BUFFER" > {reported}; exit 0 }}
+zle -N report
+bindkey '^X^T' report
 bindkey '^I' complete-word
 PS1='ready>'
 """
@@ -124,9 +126,9 @@ def ask_zsh(line, folder):
     """The last word of the line after Tab, as a list. The list is empty where the line did not change. An option with
     an argument gets an equals sign, which a space takes away again."""
     with tempfile.TemporaryDirectory() as home:
-        told = os.path.join(home, "told")
+        reported = os.path.join(home, "reported")
         with open(os.path.join(home, ".zshrc"), "w") as file:
-            file.write(ZSHRC.format(files=FILES, told=told))
+            file.write(ZSHRC.format(files=FILES, reported=reported))
         child, terminal = pty.fork()
         if child == 0:
             os.chdir(folder)
@@ -136,7 +138,7 @@ def ask_zsh(line, folder):
         drained(terminal, b"\x00", 10)
         os.close(terminal)
         os.waitpid(child, 0)
-        after = open(told).read().rstrip() if os.path.exists(told) else line
+        after = open(reported).read().rstrip() if os.path.exists(reported) else line
     return [after.split(" ")[-1].removesuffix("=")] if after != line.rstrip() else []
 
 
@@ -157,7 +159,9 @@ def tried(shell, ask):
             open(os.path.join(folder, name), "w").close()
         os.mkdir(os.path.join(folder, "service"))
         got = [(line, shown(shell, line, wanted), ask(line, folder)) for line, wanted in cases]
-    return [f"{shell}: {line!r}: wanted {wanted}, got {found}" for line, wanted, found in got if wanted != found], len(cases)
+    return [
+        f"{shell}: {line!r}: wanted {wanted}, got {found}" for line, wanted, found in got if wanted != found
+    ], len(cases)
 
 
 def main():
@@ -169,8 +173,13 @@ def main():
     found = {name: tried(name, ask) for name, ask in shells.items() if name not in absent}
     faults = [fault for it, _ in found.values() for fault in it]
     asked = ", ".join(f"{name} {count}" for name, (_, count) in found.items())
-    print("\n".join(faults + [f"{it} IS NOT INSTALLED HERE: its completions were not tried" for it in absent]
-                    + [f"completions: lines tried in {asked or 'no shell'}, {len(faults)} faults"]))
+    print(
+        "\n".join(
+            faults
+            + [f"{it} IS NOT INSTALLED HERE: its completions were not tried" for it in absent]
+            + [f"completions: lines tried in {asked or 'no shell'}, {len(faults)} faults"]
+        )
+    )
     return 1 if faults or not found or (wants_all and absent) else 0
 
 

@@ -45,7 +45,11 @@ def rows(text):
     """The cells of each row of a table, without heads and rules."""
     lines = [it for it in text.splitlines() if it.startswith("|")]
     cells = [[cell.strip() for cell in it.strip("|").split("|")] for it in lines]
-    return [it for at, it in enumerate(cells) if not is_rule(lines[at]) and not (at + 1 < len(lines) and is_rule(lines[at + 1]))]
+    return [
+        it
+        for at, it in enumerate(cells)
+        if not is_rule(lines[at]) and not (at + 1 < len(lines) and is_rule(lines[at + 1]))
+    ]
 
 
 def is_rule(line):
@@ -57,13 +61,22 @@ def named(cell):
 
 
 def crates_of():
-    return [line.split(":")[0].split()[0] for line in text_of("crates.txt").splitlines() if ":" in line and not line.startswith("#")]
+    return [
+        line.split(":")[0].split()[0]
+        for line in text_of("crates.txt").splitlines()
+        if ":" in line and not line.startswith("#")
+    ]
 
 
 def missing_crates():
     """The crates that a document does not name, and how many crates there are."""
     crates = crates_of()
-    faults = [f"{path} does not name the crate {it}" for path in ("README.md", "docs/understand/ARCHITECTURE.md") for it in crates if f"`{it}`" not in text_of(path)]
+    faults = [
+        f"{path} does not name the crate {it}"
+        for path in ("README.md", "docs/understand/ARCHITECTURE.md")
+        for it in crates
+        if f"`{it}`" not in text_of(path)
+    ]
     return faults, len(crates)
 
 
@@ -72,17 +85,23 @@ EVERYWHERE = {"lib", "main", "laws", "fault"}
 
 
 def wrong_modules():
-    """The modules that a table of docs/understand/ARCHITECTURE.md names and that are not there, or that it lacks; and how
-    many it names."""
+    """The modules that a table of docs/understand/ARCHITECTURE.md names and that are not there, or that it lacks; and
+    how many it names."""
     faults, count = [], 0
     head = r"(?:^The modules of `(\w+)`:|^\*\*`(\w+)`\*\*[^\n]*)\n\n(\| Modules \|.*?)(?:\n\n|\Z)"
     for plain, bold, table in re.findall(head, text_of("docs/understand/ARCHITECTURE.md"), re.M | re.S):
         crate = plain or bold
-        told = {it for row in rows(table) for it in named(row[0])}
+        stated = {it for row in rows(table) for it in named(row[0])}
         there = {os.path.basename(it)[:-3] for it in glob.glob(f"{TOP}/crates/{crate}/src/*.rt")}
-        count += len(told)
-        faults += [f"docs/understand/ARCHITECTURE.md names a module that {crate} does not have: {it}" for it in sorted(told - there)]
-        faults += [f"docs/understand/ARCHITECTURE.md lacks a module of {crate}: {it}" for it in sorted(there - told - EVERYWHERE)]
+        count += len(stated)
+        faults += [
+            f"docs/understand/ARCHITECTURE.md names a module that {crate} does not have: {it}"
+            for it in sorted(stated - there)
+        ]
+        faults += [
+            f"docs/understand/ARCHITECTURE.md lacks a module of {crate}: {it}"
+            for it in sorted(there - stated - EVERYWHERE)
+        ]
     return faults, count
 
 
@@ -102,22 +121,37 @@ def there_of(crate):
 def wrong_counts():
     """The counts of docs/maintain/GATE.md that differ from what is there, and how many crates it counts."""
     there = {it: there_of(it) for it in crates_of()}
-    told = {named(it[0])[0]: it[4:] for it in rows(text_of("docs/maintain/GATE.md")) if len(it) == 7 and named(it[0])}
-    faults = [f"docs/maintain/GATE.md counts a crate that is not in crates.txt: {it}" for it in told if it not in there]
+    stated = {
+        named(it[0])[0]: it[4:] for it in rows(text_of("docs/maintain/GATE.md")) if len(it) == 7 and named(it[0])
+    }
+    faults = [
+        f"docs/maintain/GATE.md counts a crate that is not in crates.txt: {it}" for it in stated if it not in there
+    ]
     for crate, counts in there.items():
         wanted = [str(it) for it in counts]
-        if told.get(crate) != wanted:
-            faults.append(f"docs/maintain/GATE.md: edits, tests and wrong bodies of {crate}: stated {told.get(crate)}, there are {wanted}")
-    sums = [len(there)] + [sum(it[at] for it in there.values()) for at in range(3)] + [len(os.listdir(f"{TOP}/checks/program"))]
+        if stated.get(crate) != wanted:
+            faults.append(
+                f"docs/maintain/GATE.md: edits, tests and wrong bodies of {crate}: "
+                f"stated {stated.get(crate)}, there are {wanted}"
+            )
+    sums = (
+        [len(there)]
+        + [sum(it[at] for it in there.values()) for at in range(3)]
+        + [len(os.listdir(f"{TOP}/checks/program"))]
+    )
     sentence = "{} crates, {} must-fail edits, {} tests, {} wrong bodies and {} cases of the program".format(*sums)
     if sentence not in " ".join(text_of("docs/maintain/GATE.md").split()):
         faults.append(f"docs/maintain/GATE.md does not say: {sentence}")
-    return faults, len(told)
+    return faults, len(stated)
 
 
 def documents():
     """The paths of the documents in Markdown."""
-    paths = glob.glob(f"{TOP}/*.md") + glob.glob(f"{TOP}/docs/**/*.md", recursive=True) + glob.glob(f"{TOP}/examples/*.md")
+    paths = (
+        glob.glob(f"{TOP}/*.md")
+        + glob.glob(f"{TOP}/docs/**/*.md", recursive=True)
+        + glob.glob(f"{TOP}/examples/*.md")
+    )
     return sorted(os.path.relpath(it, TOP) for it in paths)
 
 
@@ -131,7 +165,9 @@ def blocks(text):
 def missing_links():
     """The links of documents to files and headings that are not there, and how many links there are."""
     inline, named = r"\]\(([^)#:]*(?:#[^)]*)?)\)", r"^\[\w+\]: ([^#:\s]*(?:#\S*)?)$"
-    links = [(path, it) for path in documents() for kind in (inline, named) for it in re.findall(kind, text_of(path), re.M)]
+    links = [
+        (path, it) for path in documents() for kind in (inline, named) for it in re.findall(kind, text_of(path), re.M)
+    ]
     return [f"{path} links to nothing: {it}" for path, it in links if not leads_somewhere(path, it)], len(links)
 
 
@@ -152,15 +188,31 @@ def missing_targets():
         makes = re.findall(r"(?:`|^    )make ([a-z]+)", text_of(path), re.M)
         scripts = re.findall(r"\btools/[a-z_]+\.(?:py|c)\b", text_of(path))
         count += len(makes) + len(scripts)
-        faults += [f"{path} names a target that the Makefile does not have: {it}" for it in makes if it not in targets]
-        faults += [f"{path} names a file that is not there: {it}" for it in scripts if not os.path.exists(os.path.join(TOP, it))]
+        faults += [
+            f"{path} names a target that the Makefile does not have: {it}" for it in makes if it not in targets
+        ]
+        faults += [
+            f"{path} names a file that is not there: {it}"
+            for it in scripts
+            if not os.path.exists(os.path.join(TOP, it))
+        ]
     return faults, count
 
 
 def unmarked():
     """The commands that stand outside of the blocks marked `console`, and how many lines stand there."""
-    lines = [(path, it) for path in documents() for mark, block in blocks(text_of(path)) if mark != "console" for it in block]
-    return [f"{path} has a command outside of the blocks marked console: {it}" for path, it in lines if re.match(r" *\$ \w", it)], len(lines)
+    lines = [
+        (path, it)
+        for path in documents()
+        for mark, block in blocks(text_of(path))
+        if mark != "console"
+        for it in block
+    ]
+    return [
+        f"{path} has a command outside of the blocks marked console: {it}"
+        for path, it in lines
+        if re.match(r" *\$ \w", it)
+    ], len(lines)
 
 
 def fault_words():
@@ -174,8 +226,15 @@ def fault_words():
 def missing_words():
     """The words of faults without a row in docs/use/FAULTS.md or a paragraph in a manual page, and how many words
     there are."""
-    listed = {cell.split()[-1] if cell[:1].isdigit() or cell.startswith("log: ") else cell for cell in (it[0] for it in rows(text_of("docs/use/FAULTS.md")))}
-    manual = {it.split()[-1] if it.startswith("log:") else it for page in PAGES for it in re.findall(r"^\.B (.*)$", text_of(page), re.M)}
+    listed = {
+        cell.split()[-1] if cell[:1].isdigit() or cell.startswith("log: ") else cell
+        for cell in (it[0] for it in rows(text_of("docs/use/FAULTS.md")))
+    }
+    manual = {
+        it.split()[-1] if it.startswith("log:") else it
+        for page in PAGES
+        for it in re.findall(r"^\.B (.*)$", text_of(page), re.M)
+    }
     words = fault_words()
     faults = [f"docs/use/FAULTS.md has no row for {it}" for it in words if it not in listed]
     return faults + [f"no manual page has a paragraph for {it}" for it in words if it not in manual], len(words)
@@ -202,7 +261,11 @@ def merge_marks():
         count += 1
         with open(path, "rb") as file:
             lines = file.read().split(b"\n")
-        faults += [f"{os.path.relpath(path, TOP)}:{at}: a mark of a merge" for at, it in enumerate(lines, 1) if re.match(rb"(<{7}|>{7}) |={7}$", it)]
+        faults += [
+            f"{os.path.relpath(path, TOP)}:{at}: a mark of a merge"
+            for at, it in enumerate(lines, 1)
+            if re.match(rb"(<{7}|>{7}) |={7}$", it)
+        ]
     return faults, count
 
 
@@ -214,26 +277,47 @@ def wrong_kit():
         return [], 1
     said = subprocess.run(["rt", "version"], capture_output=True, text=True, check=True).stdout.strip()
     name, _, logic = said.partition(" logic ")
-    fine = logic and name.startswith("rattle-kit-13") and f"`logic {logic}`" in text_of("README.md") and "`rattle-kit-13`" in text_of("README.md")
+    fine = (
+        logic
+        and name.startswith("rattle-kit-13")
+        and f"`logic {logic}`" in text_of("README.md")
+        and "`rattle-kit-13`" in text_of("README.md")
+    )
     return [] if fine else [f"README.md does not name this machine's kit: {said}"], 1
 
 
 def wrong_commands(program):
     """The commands of the documents that print something other than the documents show, and how many there are."""
-    found = {path: [step for mark, lines in blocks(text_of(path)) if mark == "console" for step in transcripts.steps_of(lines)] for path in documents()}
+    found = {
+        path: [
+            step for mark, lines in blocks(text_of(path)) if mark == "console" for step in transcripts.steps_of(lines)
+        ]
+        for path in documents()
+    }
     found.update({page: manual_steps(page) for page in PAGES})
-    faults = [fault for path, steps in found.items() if steps for fault in transcripts.faults_of(path, steps, program)]
+    faults = [
+        fault for path, steps in found.items() if steps for fault in transcripts.faults_of(path, steps, program)
+    ]
     for shell in ("dash", "zsh"):
-        faults += wrong_in(shell, {path: steps for path, steps in found.items() if path == "README.md" or path.startswith("docs/use/")}, program)
+        faults += wrong_in(
+            shell,
+            {path: steps for path, steps in found.items() if path == "README.md" or path.startswith("docs/use/")},
+            program,
+        )
     return faults, sum(len(it) for it in found.values())
 
 
 def wrong_in(shell, found, program):
-    """The commands of operators' pages that print something else in another shell than bash, where that is installed."""
+    """The commands of operators' pages that print something else in another shell than bash, if that is installed."""
     if not shutil.which(shell):
         print(f"{shell} IS NOT INSTALLED HERE: the commands of operators' pages were not tried with it")
         return []
-    return [fault for path, steps in found.items() if steps for fault in transcripts.faults_of(f"{path}, by {shell}", steps, program, None, shell)]
+    return [
+        fault
+        for path, steps in found.items()
+        if steps
+        for fault in transcripts.faults_of(f"{path}, by {shell}", steps, program, None, shell)
+    ]
 
 
 KINDS = {
@@ -252,7 +336,9 @@ KINDS = {
 def main():
     arguments = argparse.ArgumentParser(description="Checks the names in the documents, and runs their commands.")
     arguments.add_argument("--names", action="store_true", help="run no command")
-    arguments.add_argument("--program", default=transcripts.PROGRAM, help="the program that is run, if not the built one")
+    arguments.add_argument(
+        "--program", default=transcripts.PROGRAM, help="the program that is run, if not the built one"
+    )
     chosen = arguments.parse_args()
     if not chosen.names and not os.access(chosen.program, os.X_OK):
         print(f"no program {chosen.program}: run rt ci or make prove first")

@@ -43,7 +43,9 @@ def record(path, steps, program):
 
 def main():
     arguments = argparse.ArgumentParser(description="Compares what the commands of the examples print.")
-    arguments.add_argument("--program", default=transcripts.PROGRAM, help="the program that is run, if not the built one")
+    arguments.add_argument(
+        "--program", default=transcripts.PROGRAM, help="the program that is run, if not the built one"
+    )
     arguments.add_argument("--record", action="store_true", help="write into the transcripts what is printed")
     arguments.add_argument("names", nargs="*", help="the examples, if not all")
     chosen = arguments.parse_args()
@@ -54,7 +56,11 @@ def main():
     if chosen.record:
         for path, steps in examples:
             record(path, steps, chosen.program)
-    faults = [fault for path, steps in examples for fault in transcripts.faults_of(os.path.relpath(path, TOP), steps, chosen.program, prepare)]
+    faults = [
+        fault
+        for path, steps in examples
+        for fault in transcripts.faults_of(os.path.relpath(path, TOP), steps, chosen.program, prepare)
+    ]
     count = sum(len(steps) for _, steps in examples)
     print("\n".join(faults + [f"examples: {len(examples)} transcripts, {count} commands, {len(faults)} faults"]))
     return 1 if faults or not count else 0

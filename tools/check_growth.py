@@ -38,7 +38,10 @@ MANY = 20_000
 
 def build(folder):
     made = os.path.join(folder, "refuse_growth.so")
-    subprocess.run(["cc", "-O1", "-shared", "-fPIC", "-o", made, os.path.join(TOP, "tools", "refuse_growth.c"), "-ldl"], check=True)
+    subprocess.run(
+        ["cc", "-O1", "-shared", "-fPIC", "-o", made, os.path.join(TOP, "tools", "refuse_growth.c"), "-ldl"],
+        check=True,
+    )
     return made
 
 
@@ -58,7 +61,9 @@ def run(program, test, preloaded, number):
     with tempfile.TemporaryDirectory() as room:
         count_file = os.path.join(room, "count")
         means = dict(os.environ, LD_PRELOAD=preloaded, REFUSE_GROWTH=str(number), COUNT_GROWTH=count_file)
-        ended = subprocess.run([program, test], env=means, stdout=subprocess.PIPE, stderr=subprocess.STDOUT, errors="replace")
+        ended = subprocess.run(
+            [program, test], env=means, stdout=subprocess.PIPE, stderr=subprocess.STDOUT, errors="replace"
+        )
         return ended.returncode, count_in(count_file), ended.stdout
 
 
@@ -79,7 +84,9 @@ def numbers(count, most=None):
     if most is None and count > MANY:
         limit //= 5
     first, spread = (limit + 1) // 2, limit // 2
-    return list(range(1, first + 1)) + [first + 1 + at * (count - first - 1) // max(1, spread - 1) for at in range(spread)]
+    return list(range(1, first + 1)) + [
+        first + 1 + at * (count - first - 1) // max(1, spread - 1) for at in range(spread)
+    ]
 
 
 def spent_below():
@@ -103,8 +110,10 @@ def check_test(pool, program, test, preloaded, most):
         return [f"{test}: status {status}, count {count}: {said}"], 0, 0, 0, test
     chosen = numbers(count, most)
     faults = []
-    for number, (status, told, said) in zip(chosen, pool.map(lambda it: run(program, test, preloaded, it), chosen)):
-        if status or told is None:
+    for number, (status, reported, said) in zip(
+        chosen, pool.map(lambda it: run(program, test, preloaded, it), chosen)
+    ):
+        if status or reported is None:
             faults.append(f"{test}: allocation {number} refused: status {status}: {said}")
     return faults, len(chosen), count, count * spent, test
 
@@ -125,8 +134,12 @@ def check(pool, crate, preloaded, most):
         faults.append(f"{crate}: the test program lists no test")
     if not (refused or (most == 0 and count)):
         faults.append(f"{crate}: none of its tests took memory")
-    print(f"{crate}: {len(tests)} tests, {refused} of {count} allocations refused, {len(faults)} faults, refusing all would take {seconds / 60:.1f} "
-          "minutes of the processor", flush=True)
+    print(
+        f"{crate}: {len(tests)} tests, {refused} of {count} allocations refused, {len(faults)} faults, "
+        f"refusing all would take {seconds / 60:.1f} "
+        "minutes of the processor",
+        flush=True,
+    )
     for _, refused, count, _, test in found:
         if refused < count:
             print(f"  {test}: {refused} of {count}", flush=True)
@@ -135,15 +148,21 @@ def check(pool, crate, preloaded, most):
 
 def jobs_of(words):
     """Adds the argument for the number of runs side by side."""
-    words.add_argument("--jobs", type=int, default=os.cpu_count() or 1, help="number of runs side by side (one for each processor)")
+    words.add_argument(
+        "--jobs", type=int, default=os.cpu_count() or 1, help="number of runs side by side (one for each processor)"
+    )
 
 
 def main():
     words = argparse.ArgumentParser(description="Refuses the allocations of the tests in turn.")
     jobs_of(words)
     words.add_argument("--most", type=int, metavar="N", help="refuse N allocations of each test that has more")
-    words.add_argument("--all", dest="most", action="store_const", const=sys.maxsize, help="refuse each allocation of each test")
-    words.add_argument("--count", dest="most", action="store_const", const=0, help="refuse none, and print how many there are")
+    words.add_argument(
+        "--all", dest="most", action="store_const", const=sys.maxsize, help="refuse each allocation of each test"
+    )
+    words.add_argument(
+        "--count", dest="most", action="store_const", const=0, help="refuse none, and print how many there are"
+    )
     words.add_argument("names", nargs="*", metavar="CRATE")
     given = words.parse_args()
     with tempfile.TemporaryDirectory() as folder, concurrent.futures.ThreadPoolExecutor(given.jobs) as pool:

@@ -18,7 +18,13 @@ TOP = programs.TOP
 
 
 def make(target, room, *more):
-    return subprocess.run(["make", *more, target, f"DESTDIR={room}", "PREFIX=/usr"], cwd=TOP, stdout=subprocess.PIPE, stderr=subprocess.STDOUT, text=True)
+    return subprocess.run(
+        ["make", *more, target, f"DESTDIR={room}", "PREFIX=/usr"],
+        cwd=TOP,
+        stdout=subprocess.PIPE,
+        stderr=subprocess.STDOUT,
+        text=True,
+    )
 
 
 def octets_of(path):
@@ -35,7 +41,9 @@ def files_below(folder):
 def wrong_answer(program, room):
     """A fault where the program does not answer from an empty folder with an empty environment."""
     words = ["locate", "--option", "local", "--servers", "2", "10/3"]
-    said = subprocess.run([program] + words, cwd=room, env={}, stdout=subprocess.PIPE, stderr=subprocess.STDOUT, text=True).stdout
+    said = subprocess.run(
+        [program] + words, cwd=room, env={}, stdout=subprocess.PIPE, stderr=subprocess.STDOUT, text=True
+    ).stdout
     return [] if said == "1\n" else [f"the installed program printed {said!r}"]
 
 
@@ -54,11 +62,21 @@ def faults_in(room):
     installed = make("install", room)
     if installed.returncode:
         return [f"make install: {installed.stdout}"]
-    other = [it for it, path in wanted_files().items() if octets_of(os.path.join(room, "usr", path)) != octets_of(os.path.join(TOP, it))]
-    found = [f"{it} is not installed, or not unchanged" for it in other] + wrong_answer(os.path.join(room, "usr", "bin", "hsplan"), room)
+    other = [
+        it
+        for it, path in wanted_files().items()
+        if octets_of(os.path.join(room, "usr", path)) != octets_of(os.path.join(TOP, it))
+    ]
+    found = [f"{it} is not installed, or not unchanged" for it in other] + wrong_answer(
+        os.path.join(room, "usr", "bin", "hsplan"), room
+    )
     found += wrong_companion(os.path.join(room, "usr", "bin", "hsp"))
     removed = make("uninstall", room)
-    return found + [f"make uninstall left {it}" for it in files_below(room)] + ([] if removed.returncode == 0 else [removed.stdout])
+    return (
+        found
+        + [f"make uninstall left {it}" for it in files_below(room)]
+        + ([] if removed.returncode == 0 else [removed.stdout])
+    )
 
 
 def main():

@@ -94,15 +94,19 @@ def calls_of(lines):
 def kinds_held(tools, run):
     """What a run does where no call fails, and its calls."""
     with tempfile.TemporaryDirectory() as room:
-        told = os.path.join(room, "told")
-        got = check_program.run(tools.program, run.words, run.given, run.folder, LD_PRELOAD=tools.preloaded, TELL_IO=told)
-        with open(told) as lines:
+        reported = os.path.join(room, "reported")
+        got = check_program.run(
+            tools.program, run.words, run.given, run.folder, LD_PRELOAD=tools.preloaded, REPORT_IO=reported
+        )
+        with open(reported) as lines:
             return got, calls_of(lines)
 
 
 def failing(tools, run, call, kind):
     order = f"{call.name} {call.number} {kind}"
-    return check_program.run(tools.program, run.words, run.given, run.folder, LD_PRELOAD=tools.preloaded, FAIL_IO=order)
+    return check_program.run(
+        tools.program, run.words, run.given, run.folder, LD_PRELOAD=tools.preloaded, FAIL_IO=order
+    )
 
 
 def answer_to(tools, run):
@@ -184,7 +188,11 @@ def fault_of(tools, run, call, kind, ordinary):
     got = failing(tools, run, call, kind)
     hoped = wanted(tools, run, call, kind, ordinary)
     way = "as arguments" if run.words else "on standard input"
-    return [] if got == hoped else [f"{run.case} {way}: {call.name} {call.number} of {call.path}: {kind}: wanted {hoped}, got {got}"]
+    return (
+        []
+        if got == hoped
+        else [f"{run.case} {way}: {call.name} {call.number} of {call.path}: {kind}: wanted {hoped}, got {got}"]
+    )
 
 
 def has_stand_in(call, kind, calls):
@@ -278,8 +286,8 @@ def on_a_closed_input(tools, words, folder):
 
 def with_a_closed_standard_error(tools, words, folder):
     """A closed standard error is a failure only where something has to be printed there."""
-    out, told, status = ended(tools, words, folder)
-    return ended(tools, words, folder, preexec_fn=closed(2)) == (out, b"", 5 if told else status)
+    out, reported, status = ended(tools, words, folder)
+    return ended(tools, words, folder, preexec_fn=closed(2)) == (out, b"", 5 if reported else status)
 
 
 def feed(path, text):
@@ -305,12 +313,22 @@ def through_pipes(tools, words, folder):
         return got == ended(tools, words, folder)
 
 
-STREAMS = [on_a_full_disk, on_a_closed_output, on_a_pipe_that_nobody_reads, on_a_limited_file, on_a_closed_input, with_a_closed_standard_error, through_pipes]
+STREAMS = [
+    on_a_full_disk,
+    on_a_closed_output,
+    on_a_pipe_that_nobody_reads,
+    on_a_limited_file,
+    on_a_closed_input,
+    with_a_closed_standard_error,
+    through_pipes,
+]
 
 
 def check_streams(tools, folder):
     """The faults of the runs on STREAMS, and how many runs there are."""
-    tried = [(stream, words) for stream in STREAMS for words in (PLACE, PLAN, ENTRIES, EVENTS)] + [(with_a_closed_standard_error, ABSENT)]
+    tried = [(stream, words) for stream in STREAMS for words in (PLACE, PLAN, ENTRIES, EVENTS)] + [
+        (with_a_closed_standard_error, ABSENT)
+    ]
     faults = [f"{words}: {stream.__name__}" for stream, words in tried if not stream(tools, words, folder)]
     if ended(tools, [], folder, stdin=None, preexec_fn=closed(0)) != USAGE:
         faults.append("no words: on a closed input")
@@ -352,7 +370,9 @@ def check_shrinking(tools, folder, room):
 
 
 def main():
-    words = argparse.ArgumentParser(description="Makes each call of the built program on files and streams fail in turn.")
+    words = argparse.ArgumentParser(
+        description="Makes each call of the built program on files and streams fail in turn."
+    )
     check_growth.jobs_of(words)
     words.add_argument("--program", default=os.path.join(TOP, "crates", "hsplan", "out", "hsplan"))
     words.add_argument("names", nargs="*", metavar="CASE")
@@ -368,7 +388,10 @@ def main():
     faults = [fault for it in found for fault in it[0]]
     for fault in faults:
         print(fault)
-    print(f"files and streams: {found[0][1]} calls made to fail, {sum(it[1] for it in found[1:])} runs on other streams and files, {len(faults)} faults")
+    print(
+        f"files and streams: {found[0][1]} calls made to fail, "
+        f"{sum(it[1] for it in found[1:])} runs on other streams and files, {len(faults)} faults"
+    )
     return 1 if faults or not found[0][1] else 0
 
 

@@ -209,7 +209,7 @@ class Case:
 
     words: list[str]
     printed: bytes
-    told: str = ""
+    reported: str = ""
     status: int = 0
     end: bytes = b""
 
@@ -219,10 +219,10 @@ def log_cases(folder: str, log: Log, header: str, bad: str, more: list[str]) -> 
     counts = [sum(1 for it in log.answers if it.startswith(kind)) for kind in ("assigned", "spent", "unknown")]
     sums = "" if more else "assigned {} spent {} unknown {}\n".format(*counts)
     printed, fault = lines(log.answers), f"hsplan: log: BadHandle row {len(log.rows)}\n"
-    for name, rows, told, status in [("good.csv", log.rows, sums, 0), ("bad.csv", log.rows + [bad], fault, 1)]:
+    for name, rows, reported, status in [("good.csv", log.rows, sums, 0), ("bad.csv", log.rows + [bad], fault, 1)]:
         with open(os.path.join(folder, name), "wb") as file:
             file.write(lines([header, *rows]))
-        yield Case(LOG + [name] + more, printed, told, status)
+        yield Case(LOG + [name] + more, printed, reported, status)
 
 
 def cases(folder: str) -> Iterator[Case]:
@@ -254,14 +254,14 @@ def shown(octets: bytes) -> bytes:
 
 def fault_of(program: str, folder: str, case: Case) -> list[str]:
     """The fault of a case, if it has one. What `plan` printed is checked too."""
-    printed, told, status = run(program, case.words, folder)
+    printed, reported, status = run(program, case.words, folder)
     is_right = (
         printed.startswith(case.printed) and printed.endswith(case.end) if case.end else printed == case.printed
     )
     name = " ".join(it if len(it) < 100 else it[:20] + ".." for it in case.words)
-    if not is_right or (told, status) != (case.told, case.status):
-        wanted = (shown(case.printed), case.told, case.status)
-        return [f"{name}: wanted {wanted}, got {(shown(printed), told, status)}"]
+    if not is_right or (reported, status) != (case.reported, case.status):
+        wanted = (shown(case.printed), case.reported, case.status)
+        return [f"{name}: wanted {wanted}, got {(shown(printed), reported, status)}"]
     if case.words[0] != "plan":
         return []
     with open(os.path.join(folder, "printed.txt"), "wb") as file:
@@ -277,15 +277,16 @@ FIELDS = [0, 2, 4, 6, 7, 8, 12, 16]
 
 
 def length_fault(program: str, folder: str, length: int) -> list[str]:
-    """The fault of `site` for a file of so many zero octets. Twenty of them are the record of a site without servers."""
+    """The fault of `site` for a file of so many zero octets. Twenty of them are the record of a site without
+    servers."""
     name = f"zeros{length}"
     with open(os.path.join(folder, name), "wb") as file:
         file.truncate(length)
     got = run(program, ["site", name], folder)
     os.remove(os.path.join(folder, name))
     cut = f"Truncated at {max(at for at in FIELDS if at <= length)}"
-    told = f"hsplan: site: {cut if length < 20 else 'Trailing at 20'}\n"
-    is_right = got[1:] == ("", 0) if length == 20 else got == (b"", told, 1)
+    reported = f"hsplan: site: {cut if length < 20 else 'Trailing at 20'}\n"
+    is_right = got[1:] == ("", 0) if length == 20 else got == (b"", reported, 1)
     return [] if is_right else [f"site of {length} zero octets: {got}"]
 
 

@@ -29,10 +29,12 @@ def warnings(tool, page):
 
 def wrong_version(page):
     with open(page, encoding="utf-8") as file:
-        told = re.search(r'^\.TH .* "hsplan ([^"]*)"', file.read(), re.M)
+        stated = re.search(r'^\.TH .* "hsplan ([^"]*)"', file.read(), re.M)
     with open(os.path.join(TOP, "VERSION"), encoding="utf-8") as file:
         version = file.read().strip()
-    return [] if told and told.group(1) == version else [f"{os.path.relpath(page, TOP)} is not of version {version}"]
+    return (
+        [] if stated and stated.group(1) == version else [f"{os.path.relpath(page, TOP)} is not of version {version}"]
+    )
 
 
 def main():
@@ -41,7 +43,13 @@ def main():
     faults = [fault for page in PAGES for fault in wrong_version(page)]
     faults += [fault for page in PAGES for it in there for fault in warnings(it, page)]
     notes = [f"{it} IS NOT INSTALLED HERE: the manual pages were not tried with it" for it in absent]
-    print("\n".join(faults + notes + [f"manual pages: {len(PAGES)} formatted by {', '.join(there) or 'no tool'}, {len(faults)} faults"]))
+    print(
+        "\n".join(
+            faults
+            + notes
+            + [f"manual pages: {len(PAGES)} formatted by {', '.join(there) or 'no tool'}, {len(faults)} faults"]
+        )
+    )
     return 1 if faults or not there else 0
 
 

@@ -68,7 +68,14 @@ def octets(case, name, absent=b""):
 
 
 def run(program, words, given, folder, **more):
-    ended = subprocess.run([program.encode()] + words, input=given, cwd=folder, stdout=subprocess.PIPE, stderr=subprocess.PIPE, env=dict(os.environ, **more))
+    ended = subprocess.run(
+        [program.encode()] + words,
+        input=given,
+        cwd=folder,
+        stdout=subprocess.PIPE,
+        stderr=subprocess.PIPE,
+        env=dict(os.environ, **more),
+    )
     return ended.stdout, ended.stderr, ended.returncode
 
 
@@ -129,7 +136,9 @@ def refusing(program, words, given, folder, preloaded, number):
     """What a run does with the allocation of this number refused (0: none), and how many allocations it has."""
     with tempfile.TemporaryDirectory() as room:
         count_file = os.path.join(room, "count")
-        got = run(program, words, given, folder, LD_PRELOAD=preloaded, REFUSE_GROWTH=str(number), COUNT_GROWTH=count_file)
+        got = run(
+            program, words, given, folder, LD_PRELOAD=preloaded, REFUSE_GROWTH=str(number), COUNT_GROWTH=count_file
+        )
         return got, check_growth.count_in(count_file)
 
 
@@ -145,7 +154,9 @@ def check_way(pool, program, case, folder, preloaded, way):
     if count is None:
         return faults + [f"{case}: no count of allocations"], 0, 0
     chosen = check_growth.numbers(count)
-    for number, (got, _) in zip(chosen, pool.map(lambda it: refusing(program, words, given, folder, preloaded, it), chosen)):
+    for number, (got, _) in zip(
+        chosen, pool.map(lambda it: refusing(program, words, given, folder, preloaded, it), chosen)
+    ):
         if got != wanted and not is_cut_short(words or given.split(), got, wanted):
             faults.append(f"{case}: allocation {number} refused: {got}")
     return faults, len(chosen), count

@@ -334,11 +334,13 @@ def check_talk(it: Programs, rows: int = 2_000) -> list[str]:
             return [f"the co-process ended at row {number}: {line!r}"]
     each = (time.monotonic() - begun) / rows
     running.stdin.close()
-    rest, told, status = running.stdout.read(), running.stderr.read(), running.wait()
+    rest, reported, status = running.stdout.read(), running.stderr.read(), running.wait()
     watch.cancel()
     print(f"co-process: {rows} rows, each after the answer before, {each * 1e6:.0f} microseconds a row")
     found = [] if slowest < 1 else [f"a row of the co-process took {slowest:.1f} seconds"]
-    return found + fault("the end of the co-process", (rest, told.startswith(b"assigned "), status), (b"", True, 0))
+    return found + fault(
+        "the end of the co-process", (rest, reported.startswith(b"assigned "), status), (b"", True, 0)
+    )
 
 
 # ---- a million handles
@@ -376,17 +378,17 @@ def check_million(it: Programs, number: int) -> list[str]:
             table = file.read()
         Programs(it.stream, it.hsplan, folder).plan()
         replaced(table, path[0], path[3])
-        told = measured([it.stream, *ANSWER.split()], folder, path[0], path[2])
-        found += fault("answers to a million handles", (told[0], told[1] < LIMIT_KB), (0, True))
+        reported = measured([it.stream, *ANSWER.split()], folder, path[0], path[2])
+        found += fault("answers to a million handles", (reported[0], reported[1] < LIMIT_KB), (0, True))
         words = ["dispatch", *INPUTS.split(), "--plan", "plan.txt", "--log", "/dev/stdin"]
         found += fault("dispatch", measured([it.hsplan, *words], folder, path[3], path[4])[0], 0)
         texts = [open(path[at], "rb").read().splitlines() for at in (2, 4)]
     found += fault("every row is assigned", sum(line.startswith(b"assigned ") for line in texts[0]), number)
     # The place is that of the handle itself; a row's handle has the same.
     found += [] if texts[0] == texts[1] else ["the answers are not those of dispatch to the replaced log"]
-    speeds = f"kinds {number / seconds:,.0f} and answer {number / told[2]:,.0f} rows a second of a processor"
+    speeds = f"kinds {number / seconds:,.0f} and answer {number / reported[2]:,.0f} rows a second of a processor"
     kinds = len(table.splitlines()) - 1
-    print(f"{number:,} handles, {kinds} kinds: {speeds}, {max(memory, told[1]):,} kB at most")
+    print(f"{number:,} handles, {kinds} kinds: {speeds}, {max(memory, reported[1]):,} kB at most")
     return found
 
 
@@ -421,12 +423,12 @@ def check_refused(it: Programs, room: str) -> tuple[list[str], int]:
     """The faults of runs in which each allocation is refused in turn."""
     preloaded, found, tried = check_growth.build(room), [], 0
     for words, given in FAILING:
-        ordinary, told = it.run(words, given), os.path.join(room, "count")
-        it.run(words, given, LD_PRELOAD=preloaded, REFUSE_GROWTH="0", COUNT_GROWTH=told)
-        count = check_growth.count_in(told)
+        ordinary, reported = it.run(words, given), os.path.join(room, "count")
+        it.run(words, given, LD_PRELOAD=preloaded, REFUSE_GROWTH="0", COUNT_GROWTH=reported)
+        count = check_growth.count_in(reported)
         found += [] if count else [f"{words}: no count of allocations"]
         for number in check_growth.numbers(count or 0, 400):
-            got = it.run(words, given, LD_PRELOAD=preloaded, REFUSE_GROWTH=str(number), COUNT_GROWTH=told)
+            got = it.run(words, given, LD_PRELOAD=preloaded, REFUSE_GROWTH=str(number), COUNT_GROWTH=reported)
             found += [] if is_cut(got, ordinary, "growth") else [f"{words}: allocation {number} refused: {got}"]
             tried += 1
     return found, tried
@@ -436,9 +438,9 @@ def check_failing(it: Programs, room: str) -> tuple[list[str], int]:
     """The faults of runs in which each open, read and write fails in turn."""
     preloaded, found, tried = check_io.build(room), [], 0
     for words, given in FAILING:
-        ordinary, told = it.run(words, given), os.path.join(room, "told")
-        it.run(words, given, LD_PRELOAD=preloaded, TELL_IO=told)
-        with open(told, encoding="utf-8") as lines:
+        ordinary, reported = it.run(words, given), os.path.join(room, "reported")
+        it.run(words, given, LD_PRELOAD=preloaded, REPORT_IO=reported)
+        with open(reported, encoding="utf-8") as lines:
             calls = check_io.calls_of(lines)
         for call in calls:
             for kind in (errno.EIO, errno.ENOSPC) if call.name in ("open", "read", "write") else ():
@@ -448,7 +450,9 @@ def check_failing(it: Programs, room: str) -> tuple[list[str], int]:
                 tried += 1
             if call.name == "read":
                 got = it.run(words, given, LD_PRELOAD=preloaded, FAIL_IO=f"read {call.number} {errno.EINTR}")
-                found += [] if is_cut(got, ordinary, "read") else [f"{words}: read {call.number} is interrupted: {got}"]
+                found += (
+                    [] if is_cut(got, ordinary, "read") else [f"{words}: read {call.number} is interrupted: {got}"]
+                )
                 tried += 1
     return found, tried
 

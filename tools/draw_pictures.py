@@ -84,7 +84,9 @@ def load_bar(picture: svg.Picture, top: float, server: Server, capacity: int, st
     within = min(server.load, capacity)
     picture.rectangle(LOADS_LEFT, top, within * LOADS_SCALE, 16, style)
     if server.load > capacity:
-        picture.rectangle(LOADS_LEFT + within * LOADS_SCALE, top, (server.load - capacity) * LOADS_SCALE, 16, "solid-red")
+        picture.rectangle(
+            LOADS_LEFT + within * LOADS_SCALE, top, (server.load - capacity) * LOADS_SCALE, 16, "solid-red"
+        )
     words = f"{server.load:,}" + (f" ({server.load - capacity:,} above)" if server.load > capacity else "")
     picture.text(LOADS_LEFT + server.load * LOADS_SCALE + 8, top + 13, words, 12)
 
@@ -92,9 +94,16 @@ def load_bar(picture: svg.Picture, top: float, server: Server, capacity: int, st
 def draw_loads() -> svg.Picture:
     nearest = load_report("--plan nearest.txt --kind load")
     planned = load_report("$inputs --plan plan.txt --kind load")
-    said = "; ".join(f"{it.site} {it.number}: {was.load:,}, {it.load:,}, {it.capacity:,}" for was, it in zip(nearest, planned))
+    said = "; ".join(
+        f"{it.site} {it.number}: {was.load:,}, {it.load:,}, {it.capacity:,}" for was, it in zip(nearest, planned)
+    )
     title = "Queries in the busiest hour at each server"
-    picture = svg.Picture(760, 98 + LOADS_STEP * len(planned), title, f"Server: load at the nearest site, load by plan, capacity. {said}.")
+    picture = svg.Picture(
+        760,
+        98 + LOADS_STEP * len(planned),
+        title,
+        f"Server: load at the nearest site, load by plan, capacity. {said}.",
+    )
     picture.text(16, 28, title, 16, form="bold")
     at = picture.swatch(16, 56, "solid-grey", "each region asks its nearest site")
     at = picture.swatch(at, 56, "solid-red", "of these, above capacity")
@@ -158,8 +167,10 @@ def flow_readers(picture: svg.Picture) -> None:
 def draw_flow() -> svg.Picture:
     title = "From the inputs to the answers"
     said = (
-        "The settings, the demand, the costs and the capacity define an instance. The command plan prints a certificate of it: a plan or a shortage. "
-        "The command check judges a certificate, report prints its tables, and dispatch answers the queries of a log by a plan. "
+        "The settings, the demand, the costs and the capacity define an instance. "
+        "The command plan prints a certificate of it: a plan or a shortage. "
+        "The command check judges a certificate, report prints its tables, "
+        "and dispatch answers the queries of a log by a plan. "
         "All three read the same instance."
     )
     picture = svg.Picture(996, 388, title, said)
@@ -172,7 +183,14 @@ def draw_flow() -> svg.Picture:
     flow_box(picture, (482, 94, 128, 200), "green", ["certificate", "a plan with prices,", "or a shortage"])
     flow_box(picture, (482, 308, 128, 38), "grey", ["log"])
     flow_readers(picture)
-    for start, end, level in ((348, 380, 204), (450, 482, 204), (610, 648, 113), (610, 648, 203), (610, 648, 283), (610, 648, 327)):
+    for start, end, level in (
+        (348, 380, 204),
+        (450, 482, 204),
+        (610, 648, 113),
+        (610, 648, 203),
+        (610, 648, 283),
+        (610, 648, 327),
+    ):
         picture.line([(start, level), (end, level)], arrow=True)
     picture.text(980, 378, "report and dispatch judge the certificate first, as check does", 11, "faint", "end")
     return picture
@@ -196,16 +214,35 @@ CELL, RULER_LEFT, RULER_STEP = 40, 62, 80
 
 def head_fields(octets: bytes) -> list[list[Field]]:
     """The fields up to the first server: two lines, and a line with the number of servers."""
-    names = ["version", "protocol", "", "serial number", "mask", "option", "hash filter: length", "attributes: number"]
+    names = [
+        "version",
+        "protocol",
+        "",
+        "serial number",
+        "mask",
+        "option",
+        "hash filter: length",
+        "attributes: number",
+    ]
     at, line = 0, []
     for name, wide in zip(names, (2, 1, 1, 2, 1, 1, 4, 4)):
-        line.append(Field(name, octets[at : at + wide], str(int.from_bytes(octets[at : at + wide], "big")), 2 if name == "protocol" else 1))
+        line.append(
+            Field(
+                name,
+                octets[at : at + wide],
+                str(int.from_bytes(octets[at : at + wide], "big")),
+                2 if name == "protocol" else 1,
+            )
+        )
         at += wide
     texts: list[Field] = []
     for name in ("name", "value"):
         long = int.from_bytes(octets[at : at + 4], "big")
         words = octets[at + 4 : at + 4 + long]
-        texts += [Field(f"{name}: length", octets[at : at + 4], str(long)), Field(f"{name} of the attribute", words, words.decode())]
+        texts += [
+            Field(f"{name}: length", octets[at : at + 4], str(long)),
+            Field(f"{name} of the attribute", words, words.decode()),
+        ]
         at += 4 + long
     count = Field("servers: number", octets[at : at + 4], str(int.from_bytes(octets[at : at + 4], "big")))
     return [line + texts[:1], texts[1:], [count]]
@@ -218,12 +255,21 @@ def server_fields(octets: bytes) -> list[list[Field]]:
     count = int.from_bytes(octets[behind : behind + 4], "big")
     who = Field("identifier", octets[:4], str(int.from_bytes(octets[:4], "big")))
     where = Field("address", octets[4:20], "IPv4 " + ".".join(str(it) for it in octets[16:20]))
-    key_length, key_octets = Field("key: length", octets[20:24], str(key)), Field("public key record", octets[24:behind], "read past", drawn=12)
+    key_length, key_octets = Field("key: length", octets[20:24], str(key)), Field(
+        "public key record", octets[24:behind], "read past", drawn=12
+    )
     doors = []
     for at in range(behind + 4, behind + 4 + 6 * count, 6):
-        doors += [Field("interface: type, protocol, port", octets[at : at + 1], str(octets[at]), 3), Field("", octets[at + 1 : at + 2], str(octets[at + 1]))]
+        doors += [
+            Field("interface: type, protocol, port", octets[at : at + 1], str(octets[at]), 3),
+            Field("", octets[at + 1 : at + 2], str(octets[at + 1])),
+        ]
         doors.append(Field("", octets[at + 2 : at + 6], str(int.from_bytes(octets[at + 2 : at + 6], "big"))))
-    return [[who, where], [key_length, key_octets, Field("interfaces: number", octets[behind : behind + 4], str(count))], doors]
+    return [
+        [who, where],
+        [key_length, key_octets, Field("interfaces: number", octets[behind : behind + 4], str(count))],
+        doors,
+    ]
 
 
 def ruler_cells(field: Field) -> list[str]:
@@ -232,7 +278,7 @@ def ruler_cells(field: Field) -> list[str]:
     if not field.drawn:
         return cells
     half = field.drawn // 2
-    return cells[: half] + ["…"] + cells[len(cells) - (field.drawn - half - 1) :]
+    return cells[:half] + ["…"] + cells[len(cells) - (field.drawn - half - 1) :]
 
 
 def ruler_line(picture: svg.Picture, top: float, start: int, fields: list[Field]) -> int:
@@ -260,19 +306,39 @@ def draw_record() -> svg.Picture:
     with open(os.path.join(EXAMPLE, "paris.site"), "rb") as file:
         octets = file.read()
     title = "A site record: the octets of examples/two-sites/paris.site"
-    said = "The fields of a site record with their octets and what they spell: the head, and the first of two servers."
+    said = (
+        "The fields of a site record with their octets and what they spell: the head, and the first of two servers."
+    )
     picture = svg.Picture(880, 66 + RULER_STEP * 6 + 24, title, said)
     picture.text(16, 28, title, 16, form="bold")
-    picture.text(16, 48, "Above each field its name, below it what its octets spell; at the left the offset of the line's first octet.", 12, "faint")
+    picture.text(
+        16,
+        48,
+        "Above each field its name, below it what its octets spell; at the left the offset of the line's first octet.",
+        12,
+        "faint",
+    )
     start, top = 0, 66.0
     for fields in head_fields(octets):
         start = ruler_line(picture, top, start, fields)
         top += RULER_STEP
-    picture.text(RULER_LEFT + 4 * CELL + 20, top - RULER_STEP + 34, f"then each server; the first one has the octets from {start} on:", 12, "faint")
+    picture.text(
+        RULER_LEFT + 4 * CELL + 20,
+        top - RULER_STEP + 34,
+        f"then each server; the first one has the octets from {start} on:",
+        12,
+        "faint",
+    )
     for fields in server_fields(octets[start:]):
         start = ruler_line(picture, top, start, fields)
         top += RULER_STEP
-    picture.text(RULER_LEFT, top + 6, f"The second server has the octets from {start} to {len(octets) - 1}, in the same order.", 12, "faint")
+    picture.text(
+        RULER_LEFT,
+        top + 6,
+        f"The second server has the octets from {start} to {len(octets) - 1}, in the same order.",
+        12,
+        "faint",
+    )
     return picture
 
 
@@ -314,7 +380,9 @@ def hosts_of(servers: list[Server]) -> list[Host]:
     with open(os.path.join(EXAMPLE, "hosts.toml"), encoding="utf-8") as file:
         settings = file.read()
     addresses = [it for record in RECORD_ENTRY.findall(settings) for it in addresses_of(bytes.fromhex(record))]
-    prices = {int(it.group(1)): int(it.group(2)) for it in filter(None, map(HOST.fullmatch, printed_by("cat hosts.txt")))}
+    prices = {
+        int(it.group(1)): int(it.group(2)) for it in filter(None, map(HOST.fullmatch, printed_by("cat hosts.txt")))
+    }
     found = []
     for number, (address, limit) in enumerate(HOST_ENTRY.findall(settings)):
         on = [at for at in range(len(servers)) if addresses[at] == address]
@@ -340,7 +408,9 @@ def stacked(sizes: list[int], gap: float) -> list[float]:
     return tops
 
 
-def region_bands(picture: svg.Picture, servers: list[Server], regions: dict[str, int], sent: dict[tuple[str, int], int]) -> None:
+def region_bands(
+    picture: svg.Picture, servers: list[Server], regions: dict[str, int], sent: dict[tuple[str, int], int]
+) -> None:
     """Draws the flows from regions to servers, each end below those before it."""
     left, right = stacked(list(regions.values()), REGION_GAP), stacked([it.load for it in servers], SERVER_GAP)
     base = 0.0
@@ -349,7 +419,13 @@ def region_bands(picture: svg.Picture, servers: list[Server], regions: dict[str,
             many = sent.get((region, to), 0)
             wide = many * FLOW_SCALE
             if many:
-                picture.band((REGIONS_AT + 16, left[at] + wide / 2), (SERVERS_AT, right[to] + wide / 2), wide, f"solid-{REGION_STYLES[at]}", 40)
+                picture.band(
+                    (REGIONS_AT + 16, left[at] + wide / 2),
+                    (SERVERS_AT, right[to] + wide / 2),
+                    wide,
+                    f"solid-{REGION_STYLES[at]}",
+                    40,
+                )
                 base = max(left[at] + wide / 2 + 4, base + 13)
                 picture.text(REGIONS_AT + 22, base, f"{many:,}", 11)
             left[at] += wide
@@ -357,7 +433,9 @@ def region_bands(picture: svg.Picture, servers: list[Server], regions: dict[str,
 
 
 def region_nodes(picture: svg.Picture, regions: dict[str, int]) -> None:
-    for (region, demand), top, style in zip(regions.items(), stacked(list(regions.values()), REGION_GAP), REGION_STYLES):
+    for (region, demand), top, style in zip(
+        regions.items(), stacked(list(regions.values()), REGION_GAP), REGION_STYLES
+    ):
         middle = top + demand * FLOW_SCALE / 2
         picture.rectangle(REGIONS_AT, top, 16, demand * FLOW_SCALE, f"solid-{style}")
         picture.text(REGIONS_AT - 12, middle - 14, region, 14, anchor="end", form="bold")
@@ -384,12 +462,16 @@ def sink_bands(picture: svg.Picture, servers: list[Server], hosts: list[Host]) -
         leaving.append((level, HOSTS_AT, host.load))
         for at in host.servers:
             wide = servers[at].load * FLOW_SCALE
-            picture.band((SERVERS_AT + 16, tops[at] + wide / 2), (HOSTS_AT, level + wide / 2), wide, "solid-grey", 180)
+            picture.band(
+                (SERVERS_AT + 16, tops[at] + wide / 2), (HOSTS_AT, level + wide / 2), wide, "solid-grey", 180
+            )
             level += wide
     level = stacked([sum(it.load for it in servers)], 0)[0]
     for top, left, load in sorted(leaving):
         wide = load * FLOW_SCALE
-        picture.band((left + 16, top + wide / 2), (SINK_AT, level + wide / 2), wide, "solid-grey", HOSTS_AT + 180 - left)
+        picture.band(
+            (left + 16, top + wide / 2), (SINK_AT, level + wide / 2), wide, "solid-grey", HOSTS_AT + 180 - left
+        )
         level += wide
 
 
@@ -404,7 +486,9 @@ def load_box(picture: svg.Picture, left: float, top: float, name: str, load: int
 def sink_nodes(picture: svg.Picture, servers: list[Server], hosts: list[Host]) -> None:
     """Draws the servers, the hosts and the sink."""
     for server, top in zip(servers, stacked([it.load for it in servers], SERVER_GAP)):
-        load_box(picture, SERVERS_AT, top, f"{server.site} {server.number}", server.load, server.capacity, server.price)
+        load_box(
+            picture, SERVERS_AT, top, f"{server.site} {server.number}", server.load, server.capacity, server.price
+        )
     for at, host in enumerate(hosts):
         load_box(picture, HOSTS_AT, host_top(host, servers), f"host {at}", host.load, host.limit, host.price)
     whole = sum(it.load for it in servers)
@@ -419,8 +503,14 @@ def network_words(servers: list[Server], hosts: list[Host], sent: dict[tuple[str
     said = [f"{region} to {names[to]}: {many:,}" for (region, to), many in sent.items()]
     said += [f"{name}: load {it.load:,} of {it.capacity:,}, price {it.price}" for name, it in zip(names, servers)]
     for at, it in enumerate(hosts):
-        said.append(f"host {at} of {' and '.join(names[on] for on in it.servers)}: load {it.load:,} of {it.limit:,}, price {it.price}")
-    return f"How many queries the plan sends from each region to each server, and from there to the hosts and the sink. {'; '.join(said)}."
+        said.append(
+            f"host {at} of {' and '.join(names[on] for on in it.servers)}: "
+            f"load {it.load:,} of {it.limit:,}, price {it.price}"
+        )
+    words = (
+        "How many queries the plan sends from each region to each server, and from there to the hosts and the sink."
+    )
+    return f"{words} {'; '.join(said)}."
 
 
 def draw_network() -> svg.Picture:
@@ -439,7 +529,8 @@ def draw_network() -> svg.Picture:
     sink_bands(picture, servers, hosts)
     region_nodes(picture, regions)
     sink_nodes(picture, servers, hosts)
-    words = f"The {len(table('demand.csv'))} rows of the demand are drawn by their regions. A row has one server in each site."
+    rows = len(table("demand.csv"))
+    words = f"The {rows} rows of the demand are drawn by their regions. A row has one server in each site."
     picture.text(16, 590, words + " A server on no host leads straight to the sink.", 11, "faint")
     return picture
 
@@ -493,7 +584,13 @@ def draw_floors() -> svg.Picture:
         floor_rooms(picture, FLOORS_BESIDE, top + 6, [it for it in names if is_beside(it)], "amber")
     words = "The number of a floor is the length of the longest chain of crates below it."
     picture.text(FLOORS_LEFT, bottom + 24, words + " The file crates.txt has what each stands on.", 11, "faint")
-    picture.text(FLOORS_LEFT, bottom + 42, f"Not drawn are the crates from outside of the repository: {', '.join(others)}.", 11, "faint")
+    picture.text(
+        FLOORS_LEFT,
+        bottom + 42,
+        f"Not drawn are the crates from outside of the repository: {', '.join(others)}.",
+        11,
+        "faint",
+    )
     return picture
 
 
@@ -543,7 +640,13 @@ def draw_ways() -> svg.Picture:
     picture.text(16, 28, title, 16, form="bold")
     for at, (heading, way) in enumerate(ways):
         draw_way(picture, 16 + at * (WAY_WIDTH + 16), heading, way)
-    picture.text(16, 78 + WAY_STEP * len(DEMAND_WAY) + 4, "Between them hsp_runs calls each in its turn, and reports the first fault.", 11, "faint")
+    picture.text(
+        16,
+        78 + WAY_STEP * len(DEMAND_WAY) + 4,
+        "Between them hsp_runs calls each in its turn, and reports the first fault.",
+        11,
+        "faint",
+    )
     return picture
 
 
@@ -573,8 +676,12 @@ def differing(drawn: dict[str, str]) -> list[str]:
 
 
 def main() -> int:
-    arguments = argparse.ArgumentParser(description="Draws the pictures of docs/pictures/ from files of the repository.")
-    arguments.add_argument("--check", action="store_true", help="write nothing, and compare the pictures that are there")
+    arguments = argparse.ArgumentParser(
+        description="Draws the pictures of docs/pictures/ from files of the repository."
+    )
+    arguments.add_argument(
+        "--check", action="store_true", help="write nothing, and compare the pictures that are there"
+    )
     chosen = arguments.parse_args()
     drawn = {name: draw().drawn() for name, draw in PICTURES.items()}
     if chosen.check:

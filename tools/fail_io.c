@@ -7,7 +7,7 @@
  *               short                the call gives or takes 1 octet
  *               shrink               the file that is read is cut where the reading stands
  *             With `on` each later call of that name fails in the same way.
- *   TELL_IO   a file that gets a line for each call: CALL DESCRIPTOR RESULT PATH. PATH is that of the opened file,
+ *   REPORT_IO   a file that gets a line for each call: CALL DESCRIPTOR RESULT PATH. PATH is that of the opened file,
  *             or `-`.
  */
 #define _GNU_SOURCE
@@ -22,7 +22,7 @@
 
 enum { OPEN, READ, WRITE, CLOSE, CALLS };
 enum { NONE = -1, SHORT = -2, SHRINK = -3 };
-enum { DESCRIPTORS = 64, PATH_ROOM = 256, TOLD_ROOM = 1 << 22 };
+enum { DESCRIPTORS = 64, PATH_ROOM = 256, REPORT_ROOM = 1 << 22 };
 
 static const char *const names[CALLS] = {"open", "read", "write", "close"};
 static long counts[CALLS];
@@ -30,8 +30,8 @@ static int failing_call = CALLS, kind, goes_on;
 static long failing_number;
 static char paths[DESCRIPTORS][PATH_ROOM];
 static char has_ended[DESCRIPTORS];
-static char told[TOLD_ROOM];
-static size_t told_length;
+static char reported[REPORT_ROOM];
+static size_t reported_length;
 
 static int kind_of(const char *word)
 {
@@ -66,13 +66,14 @@ static const char *path_of(int descriptor)
     return descriptor >= 3 && descriptor < DESCRIPTORS && paths[descriptor][0] ? paths[descriptor] : "-";
 }
 
-static long tell(int call, int descriptor, long result)
+static long report(int call, int descriptor, long result)
 {
-    int room = (int)(TOLD_ROOM - told_length), kept = errno;
-    int length = snprintf(told + told_length, room, "%s %d %ld %s\n", names[call], descriptor, result, path_of(descriptor));
+    int room = (int)(REPORT_ROOM - reported_length), kept = errno;
+    int length = snprintf(
+        reported + reported_length, room, "%s %d %ld %s\n", names[call], descriptor, result, path_of(descriptor));
     if (length >= room)
         abort();
-    told_length += length;
+    reported_length += length;
     errno = kept;
     return result;
 }
@@ -80,7 +81,7 @@ static long tell(int call, int descriptor, long result)
 static long failed(int call, int descriptor)
 {
     errno = kind;
-    return tell(call, descriptor, -1);
+    return report(call, descriptor, -1);
 }
 
 int open(const char *path, int flags, ...)
@@ -96,7 +97,7 @@ int open(const char *path, int flags, ...)
         has_ended[descriptor] = 0;
     if (descriptor >= 0 && descriptor < DESCRIPTORS)
         snprintf(paths[descriptor], PATH_ROOM, "%s", path);
-    return tell(OPEN, descriptor, descriptor);
+    return report(OPEN, descriptor, descriptor);
 }
 
 static void cut_at_the_reading(int descriptor)
@@ -119,8 +120,8 @@ ssize_t read(int descriptor, void *octets, size_t length)
         length = kind == SHORT && length ? 1 : length;
     }
     if (descriptor >= 0 && descriptor < DESCRIPTORS && has_ended[descriptor])
-        return tell(READ, descriptor, 0);
-    return tell(READ, descriptor, syscall(SYS_read, descriptor, octets, length));
+        return report(READ, descriptor, 0);
+    return report(READ, descriptor, syscall(SYS_read, descriptor, octets, length));
 }
 
 ssize_t write(int descriptor, const void *octets, size_t length)
@@ -130,20 +131,20 @@ ssize_t write(int descriptor, const void *octets, size_t length)
             return failed(WRITE, descriptor);
         length = kind == NONE ? 0 : kind == SHORT && length ? 1 : length;
     }
-    return tell(WRITE, descriptor, syscall(SYS_write, descriptor, octets, length));
+    return report(WRITE, descriptor, syscall(SYS_write, descriptor, octets, length));
 }
 
 int close(int descriptor)
 {
     int is_failing = fails(CLOSE);
     long result = syscall(SYS_close, descriptor);
-    return is_failing ? failed(CLOSE, descriptor) : tell(CLOSE, descriptor, result);
+    return is_failing ? failed(CLOSE, descriptor) : report(CLOSE, descriptor, result);
 }
 
-__attribute__((destructor)) static void tell_all(void)
+__attribute__((destructor)) static void report_all(void)
 {
-    const char *path = getenv("TELL_IO");
+    const char *path = getenv("REPORT_IO");
     int file = path ? (int)syscall(SYS_openat, AT_FDCWD, path, O_WRONLY | O_CREAT | O_TRUNC, 0600) : -1;
-    if (file >= 0 && syscall(SYS_write, file, told, told_length) != (long)told_length)
+    if (file >= 0 && syscall(SYS_write, file, reported, reported_length) != (long)reported_length)
         abort();
 }

@@ -36,7 +36,7 @@ struct turn {
 /* What a run printed on both streams, its status, the most octets of memory that it held at once, those that it held
  * at its end, its nanoseconds, and the read of the log that was noted. */
 struct answer {
-    struct text printed, told;
+    struct text printed, reported;
     int status;
     uint64_t most, held, spent;
     struct turn turn;
@@ -147,7 +147,7 @@ int is_same(const struct answer *one, const struct answer *other);
 void wants_same(const char *fault, struct text words, const struct answer *one, const struct answer *other);
 
 /* Whether the program printed these texts on its two streams, and ended with this status. */
-int is_answer(const struct answer *answer, struct text printed, struct text told, int status);
+int is_answer(const struct answer *answer, struct text printed, struct text reported, int status);
 
 /* What was printed on both streams. */
 struct text all_of(const struct answer *answer);

@@ -102,15 +102,53 @@ import programs
 import stream_service
 
 TOP = check_growth.TOP
-KINDS = ["settings", "values", "record", "body", "demand", "costs", "capacity", "plan", "log", "events", "words",
-         "written_record", "written_values", "written_log"]
-STREAM_KINDS = ["stream_words", "stream_settings", "stream_costs", "stream_plan", "kinds", "places", "answer",
-                "written_kinds", "written_places", "written_answer"]
+KINDS = [
+    "settings",
+    "values",
+    "record",
+    "body",
+    "demand",
+    "costs",
+    "capacity",
+    "plan",
+    "log",
+    "events",
+    "words",
+    "written_record",
+    "written_values",
+    "written_log",
+]
+STREAM_KINDS = [
+    "stream_words",
+    "stream_settings",
+    "stream_costs",
+    "stream_plan",
+    "kinds",
+    "places",
+    "answer",
+    "written_kinds",
+    "written_places",
+    "written_answer",
+]
 
-NAMED = {"settings": "settings.toml", "values": "list.values", "record": "two_servers.site", "demand": "demand.csv", "costs": "costs.csv",
-         "capacity": "capacity.csv", "plan": "plan.txt", "log": "log.csv", "events": "events.csv"}
-MORE = {"settings": ["by_index.toml"], "values": ["other_type.values"], "record": ["one_server.site", "one_octet_more.site"], "demand": ["short.csv"],
-        "plan": ["shortage.txt", "idle_price.txt"]}
+NAMED = {
+    "settings": "settings.toml",
+    "values": "list.values",
+    "record": "two_servers.site",
+    "demand": "demand.csv",
+    "costs": "costs.csv",
+    "capacity": "capacity.csv",
+    "plan": "plan.txt",
+    "log": "log.csv",
+    "events": "events.csv",
+}
+MORE = {
+    "settings": ["by_index.toml"],
+    "values": ["other_type.values"],
+    "record": ["one_server.site", "one_octet_more.site"],
+    "demand": ["short.csv"],
+    "plan": ["shortage.txt", "idle_price.txt"],
+}
 HANDLES = [b"10/3", b"10/1", b"10.1/a/b", b"10/"]
 
 # A case that takes longer, in seconds, counts as one without an end.
@@ -223,10 +261,17 @@ class Job:
     def begin(self, program, first, last):
         self.program, self.last, self.seen, self.since = program, last, None, time.monotonic()
         it = self.given.programs[program]
-        means = dict(os.environ, LD_PRELOAD=os.path.join(self.folder, "fuzz.so"),
-                     FUZZ_SEEDS=os.path.join(self.folder, f"seeds{program}"), FUZZ_PROGRESS=self.progress[program],
-                     FUZZ_KINDS=",".join(it.kinds), FUZZ_SEED=str(self.given.seed), FUZZ_CASES=str(last),
-                     FUZZ_FIRST=str(first), FUZZ_STEP=str(self.step))
+        means = dict(
+            os.environ,
+            LD_PRELOAD=os.path.join(self.folder, "fuzz.so"),
+            FUZZ_SEEDS=os.path.join(self.folder, f"seeds{program}"),
+            FUZZ_PROGRESS=self.progress[program],
+            FUZZ_KINDS=",".join(it.kinds),
+            FUZZ_SEED=str(self.given.seed),
+            FUZZ_CASES=str(last),
+            FUZZ_FIRST=str(first),
+            FUZZ_STEP=str(self.step),
+        )
         with open(self.said, "ab") as said:
             self.process = subprocess.Popen([it.path], env=means, stdin=subprocess.DEVNULL, stdout=said, stderr=said)
 
@@ -327,8 +372,10 @@ def main():
     for it, each in zip(given.programs, counts):
         print(f"{it.name}: {counted(*each)}")
     sums = [sum(it) for it in zip(*counts)]
-    print(f"fuzz: seed {given.seed}: {counted(*sums)}, in {spent:.0f} seconds and {by_jobs:.1f} of the processor, "
-          f"{len(faults)} faults")
+    print(
+        f"fuzz: seed {given.seed}: {counted(*sums)}, in {spent:.0f} seconds and {by_jobs:.1f} of the processor, "
+        f"{len(faults)} faults"
+    )
     return 1 if faults or not sums[0] else 0
 
 

@@ -29,7 +29,7 @@ static void show(struct text text)
     printf(text.length > some.length ? "'.. of %zu" : "'", text.length);
 }
 
-static void tell(const char *fault, struct text first, struct text second, struct text third)
+static void report(const char *fault, struct text first, struct text second, struct text third)
 {
     faults++;
     printf("--seed %lu: %s %lu: %s:", seed, kind, number, fault);
@@ -40,22 +40,23 @@ static void tell(const char *fault, struct text first, struct text second, struc
 void want(int holds, const char *fault, struct text first, struct text second, struct text third)
 {
     if (!holds)
-        tell(fault, first, second, third);
+        report(fault, first, second, third);
 }
 
 int is_same(const struct answer *one, const struct answer *other)
 {
-    return one->status == other->status && is_equal(one->printed, other->printed) && is_equal(one->told, other->told);
+    return one->status == other->status && is_equal(one->printed, other->printed) &&
+           is_equal(one->reported, other->reported);
 }
 
-int is_answer(const struct answer *answer, struct text printed, struct text told, int status)
+int is_answer(const struct answer *answer, struct text printed, struct text reported, int status)
 {
-    return answer->status == status && is_equal(answer->printed, printed) && is_equal(answer->told, told);
+    return answer->status == status && is_equal(answer->printed, printed) && is_equal(answer->reported, reported);
 }
 
 struct text all_of(const struct answer *answer)
 {
-    return glued(answer->told, answer->printed, TEXT(""));
+    return glued(answer->reported, answer->printed, TEXT(""));
 }
 
 void wants_same(const char *fault, struct text words, const struct answer *one, const struct answer *other)
@@ -67,7 +68,7 @@ static struct answer run_counted(struct manner by, struct text words, const stru
 {
     struct answer answer = run(by, words, files);
     progress->runs++;
-    progress->plain_runs += !begins(answer.told, name_of(&by));
+    progress->plain_runs += !begins(answer.reported, name_of(&by));
     return answer;
 }
 
@@ -89,10 +90,10 @@ struct answer answered_by(struct manner by, struct text words, const struct file
     static const char form[] = "status %lu, at most %lu octets, %lu nanoseconds";
     struct text sums = numbered(form, first.status, first.most, first.spent);
     int is_well = by.is_stream ? is_stream_suiting(words, &first) : is_suiting(words, &first);
-    want(is_well, "status or line", words, first.told, glued(sums, TEXT(" "), first.printed));
-    want(!first.held, "memory kept", words, first.told, sums);
-    want(first.most <= least_octets + OCTETS_EACH * size, "memory", words, first.told, sums);
-    want(first.spent <= bound, "time", words, first.told, sums);
+    want(is_well, "status or line", words, first.reported, glued(sums, TEXT(" "), first.printed));
+    want(!first.held, "memory kept", words, first.reported, sums);
+    want(first.most <= least_octets + OCTETS_EACH * size, "memory", words, first.reported, sums);
+    want(first.spent <= bound, "time", words, first.reported, sums);
     return first;
 }
 

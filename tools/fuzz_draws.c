@@ -54,7 +54,8 @@ void begin_draws(uint64_t seed, uint64_t kind, uint64_t number)
 
 uint32_t drawn_number(void)
 {
-    static const uint32_t numbers[] = {0, 1, 2, 7, 255, 1023, 1024, 1025, 65535, 1u << 31, (1u << 31) - 1, 0xffffffff};
+    static const uint32_t numbers[] = {
+        0, 1, 2, 7, 255, 1023, 1024, 1025, 65535, 1u << 31, (1u << 31) - 1, 0xffffffff};
     return below(3) ? numbers[below(sizeof numbers / sizeof *numbers)] : drawn_bits() >> 32;
 }
 
@@ -105,7 +106,8 @@ int begins(struct text text, struct text beginning)
 
 int ends(struct text text, struct text ending)
 {
-    return text.length >= ending.length && !memcmp(text.octets + text.length - ending.length, ending.octets, ending.length);
+    return text.length >= ending.length &&
+           !memcmp(text.octets + text.length - ending.length, ending.octets, ending.length);
 }
 
 int holds_octet(struct text text, char octet)
@@ -137,14 +139,79 @@ static struct text with_between(struct text text, size_t at, size_t end, struct 
 }
 
 static const struct text WORDS[] = {
-    TEXT("0"), TEXT("1"), TEXT("1000000"), TEXT("1000001"), TEXT("10000000000000000"), TEXT("10000000000000001"), TEXT("4294967295"), TEXT("4294967296"),
-    TEXT("007"), TEXT("-1"), TEXT("+1"), TEXT("\n"), TEXT("\r"), TEXT("\r\n"), TEXT("\n\n"), TEXT(","), TEXT(",,"), TEXT("\""), TEXT("\"\""), TEXT("#"),
-    TEXT("="), TEXT("["), TEXT("]"), TEXT("[["), TEXT("]]"), TEXT("[[site]]\n"), TEXT("[[host]]\n"), TEXT("{"), TEXT("}"), TEXT("."), TEXT("/"), TEXT("@"),
-    TEXT(" "), TEXT("\t"), TEXT("\0"), TEXT("\xff"), TEXT("\xc3\xa9"), TEXT("\xef\xbb\xbf"), TEXT("0x10"), TEXT("1_000"), TEXT("1e3"), TEXT("'''"),
-    TEXT("\"\"\""), TEXT("\\u0041"), TEXT("inf"), TEXT("true"), TEXT("r1"), TEXT("E"), TEXT("W"), TEXT("10/1"), TEXT("name = "), TEXT("record = "),
-    TEXT("index = "), TEXT("address = "), TEXT("limit = "), TEXT("END\n"), TEXT("PLAN\n"), TEXT("SHORTAGE\n"), TEXT("HSPLAN 2\n"), TEXT("cost "),
-    TEXT("use "), TEXT("row "), TEXT("server "), TEXT("host "), TEXT("demand "), TEXT("capacity "), TEXT("--"), TEXT("-"), TEXT("--index"),
-    TEXT("--values list.values"), TEXT("--kind load"), TEXT("--fronts 2"), TEXT("HS_SITE"),
+    TEXT("0"),
+    TEXT("1"),
+    TEXT("1000000"),
+    TEXT("1000001"),
+    TEXT("10000000000000000"),
+    TEXT("10000000000000001"),
+    TEXT("4294967295"),
+    TEXT("4294967296"),
+    TEXT("007"),
+    TEXT("-1"),
+    TEXT("+1"),
+    TEXT("\n"),
+    TEXT("\r"),
+    TEXT("\r\n"),
+    TEXT("\n\n"),
+    TEXT(","),
+    TEXT(",,"),
+    TEXT("\""),
+    TEXT("\"\""),
+    TEXT("#"),
+    TEXT("="),
+    TEXT("["),
+    TEXT("]"),
+    TEXT("[["),
+    TEXT("]]"),
+    TEXT("[[site]]\n"),
+    TEXT("[[host]]\n"),
+    TEXT("{"),
+    TEXT("}"),
+    TEXT("."),
+    TEXT("/"),
+    TEXT("@"),
+    TEXT(" "),
+    TEXT("\t"),
+    TEXT("\0"),
+    TEXT("\xff"),
+    TEXT("\xc3\xa9"),
+    TEXT("\xef\xbb\xbf"),
+    TEXT("0x10"),
+    TEXT("1_000"),
+    TEXT("1e3"),
+    TEXT("'''"),
+    TEXT("\"\"\""),
+    TEXT("\\u0041"),
+    TEXT("inf"),
+    TEXT("true"),
+    TEXT("r1"),
+    TEXT("E"),
+    TEXT("W"),
+    TEXT("10/1"),
+    TEXT("name = "),
+    TEXT("record = "),
+    TEXT("index = "),
+    TEXT("address = "),
+    TEXT("limit = "),
+    TEXT("END\n"),
+    TEXT("PLAN\n"),
+    TEXT("SHORTAGE\n"),
+    TEXT("HSPLAN 2\n"),
+    TEXT("cost "),
+    TEXT("use "),
+    TEXT("row "),
+    TEXT("server "),
+    TEXT("host "),
+    TEXT("demand "),
+    TEXT("capacity "),
+    TEXT("--"),
+    TEXT("-"),
+    TEXT("--index"),
+    TEXT("--values list.values"),
+    TEXT("--kind load"),
+    TEXT("--fronts 2"),
+    TEXT("HS_SITE"),
 };
 
 static struct text repeated(struct text text, uint32_t times)
@@ -169,11 +236,16 @@ static struct text replaced(struct text text, size_t at, size_t end)
     static const uint32_t times[] = {0, 2, 2, 3, 50};
     size_t other = below(text.length + 1);
     switch (below(5)) {
-    case 0: return with_between(text, at, end, WORDS[below(sizeof WORDS / sizeof *WORDS)]);
-    case 1: return with_between(text, at, end, four_octets(drawn_number()));
-    case 2: return with_between(text, at, end, drawn_octets(4));
-    case 3: return with_between(text, at, end, repeated(behind(front(text, end), at), times[below(5)]));
-    default: return with_between(text, at, end, front(behind(text, other), below(40) + 1));
+    case 0:
+        return with_between(text, at, end, WORDS[below(sizeof WORDS / sizeof *WORDS)]);
+    case 1:
+        return with_between(text, at, end, four_octets(drawn_number()));
+    case 2:
+        return with_between(text, at, end, drawn_octets(4));
+    case 3:
+        return with_between(text, at, end, repeated(behind(front(text, end), at), times[below(5)]));
+    default:
+        return with_between(text, at, end, front(behind(text, other), below(40) + 1));
     }
 }
 
@@ -189,10 +261,14 @@ static uint64_t another_number(struct text digits)
     for (size_t at = 0; at < digits.length && at < 18; at++)
         number = number * 10 + (digits.octets[at] - '0');
     switch (below(4)) {
-    case 0: return below(12);
-    case 1: return below(2000);
-    case 2: return limits[below(3)];
-    default: return below(2) || !number ? number + 1 : number - 1;
+    case 0:
+        return below(12);
+    case 1:
+        return below(2000);
+    case 2:
+        return limits[below(3)];
+    default:
+        return below(2) || !number ? number + 1 : number - 1;
     }
 }
 
@@ -204,7 +280,9 @@ static struct text with_another_number(struct text text)
         at++;
     for (end = at; end < text.length && is_digit(text.octets[end]);)
         end++;
-    return at == end ? text : with_between(text, at, end, numbered("%lu", another_number(behind(front(text, end), at)), 0, 0));
+    return at == end
+               ? text
+               : with_between(text, at, end, numbered("%lu", another_number(behind(front(text, end), at)), 0, 0));
 }
 
 static size_t line_begin(struct text text, size_t at)
@@ -252,7 +330,8 @@ struct text changed(struct text text)
 
 struct text continued(struct text text)
 {
-    static const struct text more[] = {TEXT("x"), TEXT("0\n"), TEXT("\n"), TEXT("a,b,c\n"), TEXT("r1,E,1\n"), TEXT("row 1 1\n"), TEXT("\0\0\0\0")};
+    static const struct text more[] = {
+        TEXT("x"), TEXT("0\n"), TEXT("\n"), TEXT("a,b,c\n"), TEXT("r1,E,1\n"), TEXT("row 1 1\n"), TEXT("\0\0\0\0")};
     return glued(text, more[below(7)], cut(text));
 }
 

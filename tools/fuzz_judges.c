@@ -8,7 +8,8 @@
 #define INPUTS "--settings settings.toml --demand demand.csv --costs costs.csv --capacity capacity.csv"
 #define PLANNED INPUTS " --plan plan.txt"
 
-static const struct text PLAN = TEXT("plan " INPUTS), CHECK = TEXT("check " PLANNED), DISPATCH = TEXT("dispatch " PLANNED " --log log.csv");
+static const struct text PLAN = TEXT("plan " INPUTS), CHECK = TEXT("check " PLANNED),
+                         DISPATCH = TEXT("dispatch " PLANNED " --log log.csv");
 static const struct text LOCATE = TEXT("locate --settings settings.toml --values list.values 10/3");
 
 /* ---- plans */
@@ -17,7 +18,8 @@ static const struct text LOCATE = TEXT("locate --settings settings.toml --values
 static struct text cost_of(const struct answer *plan)
 {
     struct text rest = behind_line(behind_line(behind_line(plan->printed)));
-    return front(plan->printed, plan->printed.length - (plan->status == 0 ? rest.length : behind_line(behind_line(plan->printed)).length));
+    return front(plan->printed,
+        plan->printed.length - (plan->status == 0 ? rest.length : behind_line(behind_line(plan->printed)).length));
 }
 
 /* The order of costs and of capacities has no effect on the cost. */
@@ -25,12 +27,14 @@ static void judge_order(const struct files *files, const struct answer *plan)
 {
     struct files others = *files;
     struct text *costs = held_by(&others, TEXT("costs.csv")), *capacity = held_by(&others, TEXT("capacity.csv"));
-    if (!ends_plainly(*costs) || !ends_plainly(*capacity) || !begins(*costs, TEXT("region,")) || !begins(*capacity, TEXT("site,")))
+    if (!ends_plainly(*costs) || !ends_plainly(*capacity) || !begins(*costs, TEXT("region,")) ||
+        !begins(*capacity, TEXT("site,")))
         return;
     *costs = reordered(*costs);
     *capacity = reordered(*capacity);
     struct answer again = answered(PLAN, &others);
-    want(!again.told.length && is_equal(cost_of(&again), cost_of(plan)), "another order", cost_of(&again), cost_of(plan), *costs);
+    want(!again.reported.length && is_equal(cost_of(&again), cost_of(plan)), "another order", cost_of(&again),
+        cost_of(plan), *costs);
 }
 
 static void judge_reports(const struct files *made, int is_short)
@@ -39,7 +43,8 @@ static void judge_reports(const struct files *made, int is_short)
     static const struct text reports[] = {REPORT("load"), REPORT("region"), REPORT("shortage")};
     for (int at = 0; at < 3; at++) {
         struct answer report = answered(reports[at], made);
-        want(report.status == ((at == 2) == is_short ? 0 : 3), "report", reports[at], report.told, report.printed);
+        want(
+            report.status == ((at == 2) == is_short ? 0 : 3), "report", reports[at], report.reported, report.printed);
     }
 }
 
@@ -47,11 +52,12 @@ static void judge_reports(const struct files *made, int is_short)
 static struct answer judge_plan(const struct files *files)
 {
     struct answer plan = answered(PLAN, files);
-    if (plan.told.length)
+    if (plan.reported.length)
         return plan;
     struct files made = with(files, TEXT("plan.txt"), plan.printed);
     struct answer verdict = answered(CHECK, &made);
-    want(is_answer(&verdict, TEXT("yes\n"), TEXT(""), 0), "check of a plan", verdict.printed, verdict.told, plan.printed);
+    want(is_answer(&verdict, TEXT("yes\n"), TEXT(""), 0), "check of a plan", verdict.printed, verdict.reported,
+        plan.printed);
     if (is_deep) {
         judge_reports(&made, plan.status == 3);
         judge_order(files, &plan);
@@ -66,8 +72,9 @@ static void judge_settings(struct text text)
     if (!is_deep)
         return;
     struct answer places = answered(LOCATE, &files);
-    if (!is_equal(plan.told, TEXT("hsplan: settings: NotToml\n"))) {
-        struct answer more = answered_with(LOCATE, TEXT("settings.toml"), glued(text, TEXT("\n# a comment\n"), TEXT("")));
+    if (!is_equal(plan.reported, TEXT("hsplan: settings: NotToml\n"))) {
+        struct answer more =
+            answered_with(LOCATE, TEXT("settings.toml"), glued(text, TEXT("\n# a comment\n"), TEXT("")));
         wants_same("a comment behind", text, &places, &more);
     }
 }
@@ -78,7 +85,7 @@ static void judge_table(struct text text)
     struct text part = glued(TEXT("hsplan: "), (struct text){kind, strlen(kind)}, TEXT(": "));
     struct files files = with(&base, name, text);
     struct answer plan = judge_plan(&files);
-    if (is_deep && begins(plan.told, part) && ends_plainly(text)) {
+    if (is_deep && begins(plan.reported, part) && ends_plainly(text)) {
         struct answer more = answered_with(PLAN, name, continued(text));
         wants_same("rows behind a fault", text, &plan, &more);
     }
@@ -114,10 +121,11 @@ static void judge_beginning(struct text words, struct text name, struct text par
     struct text beginning = cut(text);
     struct answer begun = answered_with(words, name, beginning);
     int is_well = begins_well(part, line_of(&whole), line_of(&begun), beginning.length, text.length);
-    want(is_well, "a beginning", in_digits(beginning), begun.told, whole.told);
+    want(is_well, "a beginning", in_digits(beginning), begun.reported, whole.reported);
     if (is_of_octets(line_of(&whole), part) && place_in(line_of(&whole), part, &at) != 'c') {
         struct answer more = answered_with(words, name, continued(text));
-        want(is_equal(more.told, whole.told), "behind a fault", in_digits(text), more.told, whole.told);
+        want(is_equal(more.reported, whole.reported), "behind a fault", in_digits(text), more.reported,
+            whole.reported);
     }
 }
 
@@ -143,14 +151,15 @@ static void judge_spelling(struct text words, struct text name, const char *part
     char form[64];
     snprintf(form, sizeof form, "hsplan: %s: %s at %%lu\n", part, "Truncated");
     struct answer begun = answered_with(words, name, beginning);
-    struct text told = numbered(form, field_at(spelling, beginning.length), 0, 0);
-    want(is_answer(&begun, TEXT(""), told, 1), "a beginning of a spelling", in_digits(beginning), begun.told, told);
+    struct text reported = numbered(form, field_at(spelling, beginning.length), 0, 0);
+    want(is_answer(&begun, TEXT(""), reported, 1), "a beginning of a spelling", in_digits(beginning), begun.reported,
+        reported);
     if (!more.length)
         return;
     snprintf(form, sizeof form, "hsplan: %s: %s at %%lu\n", part, "Trailing");
     struct answer behind = answered_with(words, name, glued(whole, more, TEXT("")));
-    told = numbered(form, whole.length, 0, 0);
-    want(is_answer(&behind, TEXT(""), told, 1), "behind a spelling", in_digits(whole), behind.told, told);
+    reported = numbered(form, whole.length, 0, 0);
+    want(is_answer(&behind, TEXT(""), reported, 1), "behind a spelling", in_digits(whole), behind.reported, reported);
 }
 
 static void judge_written_record(struct text text)
@@ -161,14 +170,15 @@ static void judge_written_record(struct text text)
     begin_spelling(&spelling);
     struct text lines = put_record(&spelling);
     struct answer whole = answered_with(words, name, spelled(&spelling));
-    want(is_answer(&whole, lines, TEXT(""), 0), "what was written", in_digits(spelled(&spelling)), lines, glued(whole.told, whole.printed, TEXT("")));
+    want(is_answer(&whole, lines, TEXT(""), 0), "what was written", in_digits(spelled(&spelling)), lines,
+        glued(whole.reported, whole.printed, TEXT("")));
     if (is_deep)
         judge_spelling(words, name, "site", &spelling);
 }
 
 /* What has to be printed for the value of an index in a list: the lines of its record, or its fault. */
 struct wanted {
-    struct text printed, told;
+    struct text printed, reported;
 };
 
 static struct wanted put_drawn_value(struct spelling *list, uint32_t index)
@@ -178,7 +188,8 @@ static struct wanted put_drawn_value(struct spelling *list, uint32_t index)
     begin_spelling(&record);
     struct text lines = put_record(&record), type = is_site ? TEXT("HS_SITE") : changed(TEXT("HS_SITE"));
     put_value(list, index, type, spelled(&record));
-    return is_equal(type, TEXT("HS_SITE")) ? (struct wanted){lines, TEXT("")} : (struct wanted){TEXT(""), TEXT("hsplan: NotSiteValue\n")};
+    return is_equal(type, TEXT("HS_SITE")) ? (struct wanted){lines, TEXT("")}
+                                           : (struct wanted){TEXT(""), TEXT("hsplan: NotSiteValue\n")};
 }
 
 static void judge_written_values(struct text text)
@@ -195,8 +206,9 @@ static void judge_written_values(struct text text)
     }
     struct text words = numbered("site --index %lu list.values", sought, 0, 0);
     struct answer whole = answered_with(words, TEXT("list.values"), spelled(&list));
-    struct text said = glued(whole.told, whole.printed, TEXT(""));
-    want(is_answer(&whole, wanted.printed, wanted.told, wanted.told.length > 0), "what was written", wanted.told, wanted.printed, said);
+    struct text said = glued(whole.reported, whole.printed, TEXT(""));
+    want(is_answer(&whole, wanted.printed, wanted.reported, wanted.reported.length > 0), "what was written",
+        wanted.reported, wanted.printed, said);
     if (is_deep)
         judge_spelling(words, TEXT("list.values"), "values", &list);
 }
@@ -212,13 +224,15 @@ static void judge_verdict(const struct files *files, const struct answer *verdic
     while (at && reason.octets[at - 1] != ' ')
         at--;
     if (reason.length) {
-        struct text told = glued(TEXT("hsplan: check: "), (struct text){reason.octets + at, reason.length - at}, TEXT(""));
-        want(is_answer(&dispatched, TEXT(""), told, 3), "dispatch after no", verdict->printed, dispatched.told, dispatched.printed);
+        struct text reported =
+            glued(TEXT("hsplan: check: "), (struct text){reason.octets + at, reason.length - at}, TEXT(""));
+        want(is_answer(&dispatched, TEXT(""), reported, 3), "dispatch after no", verdict->printed,
+            dispatched.reported, dispatched.printed);
     } else if (verdict->printed.length) {
-        int is_well = dispatched.status == 0 || is_equal(dispatched.told, TEXT("hsplan: WrongKind\n"));
-        want(is_well, "dispatch after yes", verdict->printed, dispatched.told, dispatched.printed);
+        int is_well = dispatched.status == 0 || is_equal(dispatched.reported, TEXT("hsplan: WrongKind\n"));
+        want(is_well, "dispatch after yes", verdict->printed, dispatched.reported, dispatched.printed);
     } else
-        wants_same("dispatch after a fault", verdict->told, verdict, &dispatched);
+        wants_same("dispatch after a fault", verdict->reported, verdict, &dispatched);
 }
 
 static void judge_certificate(struct text text)
@@ -232,8 +246,8 @@ static void judge_certificate(struct text text)
     if (verdict.printed.length && text.length) {
         struct text beginning = front(text, below(text.length));
         struct answer begun = answered_with(CHECK, name, beginning);
-        want(is_equal(begun.told, ended), "a beginning", beginning, begun.told, begun.printed);
-    } else if (!is_equal(verdict.told, ended) && ends(text, TEXT("\n"))) {
+        want(is_equal(begun.reported, ended), "a beginning", beginning, begun.reported, begun.printed);
+    } else if (!is_equal(verdict.reported, ended) && ends(text, TEXT("\n"))) {
         struct answer more = answered_with(CHECK, name, continued(text));
         wants_same("behind a bad line", text, &verdict, &more);
     }
@@ -245,18 +259,23 @@ static void judge_certificate(struct text text)
  * plan has. */
 static void judge_lines(struct text log, const struct answer *answer, int is_of_fronts)
 {
-    uint64_t assigned = lines_of(answer->printed, TEXT("assigned ")), spent = lines_of(answer->printed, TEXT("spent\n"));
-    uint64_t unknown = lines_of(answer->printed, TEXT("unknown\n")), lacking = lines_of(answer->printed, TEXT("nofront\n"));
-    want(assigned <= 12, "more than the plan", log, answer->printed, answer->told);
-    want(is_of_fronts || !lacking, "nofront", log, answer->printed, answer->told);
-    want(assigned + spent + unknown + lacking == lines_of(answer->printed, TEXT("")), "lines", log, answer->printed, answer->told);
+    uint64_t assigned = lines_of(answer->printed, TEXT("assigned ")),
+             spent = lines_of(answer->printed, TEXT("spent\n"));
+    uint64_t unknown = lines_of(answer->printed, TEXT("unknown\n")),
+             lacking = lines_of(answer->printed, TEXT("nofront\n"));
+    want(assigned <= 12, "more than the plan", log, answer->printed, answer->reported);
+    want(is_of_fronts || !lacking, "nofront", log, answer->printed, answer->reported);
+    want(assigned + spent + unknown + lacking == lines_of(answer->printed, TEXT("")), "lines", log, answer->printed,
+        answer->reported);
     for (struct text rest = answer->printed; rest.length; rest = behind_line(rest)) {
         struct text line = first_line(rest);
-        int is_well = !begins(line, TEXT("assigned ")) || (line.length == 14 && strchr("EW", line.octets[9]) && line.octets[10] == ' ');
+        int is_well = !begins(line, TEXT("assigned ")) ||
+                      (line.length == 14 && strchr("EW", line.octets[9]) && line.octets[10] == ' ');
         want(is_well, "line", log, line, answer->printed);
     }
     struct text sums = numbered("assigned %lu spent %lu unknown %lu\n", assigned, spent, unknown);
-    want(is_of_fronts || answer->status || is_equal(answer->told, sums), "sums", sums, answer->told, answer->printed);
+    want(is_of_fronts || answer->status || is_equal(answer->reported, sums), "sums", sums, answer->reported,
+        answer->printed);
 }
 
 static void judge_log_text(struct text words, struct text name, struct text text, int is_of_fronts)
@@ -291,7 +310,8 @@ static struct answer of_log(struct text header, struct text rows)
 /* The row of a body is answered as that of its handle, and a beginning of a body is not a body. */
 static void judge_body(struct text text)
 {
-    static const struct text regions[] = {TEXT("r1,"), TEXT("r2,"), TEXT("r9,")}, of_bodies = TEXT("region,body"), of_handles = TEXT("region,handle");
+    static const struct text regions[] = {TEXT("r1,"), TEXT("r2,"), TEXT("r9,")}, of_bodies = TEXT("region,body"),
+                             of_handles = TEXT("region,handle");
     struct text region = regions[below(3)], digits = in_digits(body_of(front(text, 5000)));
     struct answer by_body = of_log(of_bodies, glued(region, digits, TEXT("\n")));
     struct answer by_handle = of_log(of_handles, glued(region, in_quotes(front(text, 5000)), TEXT("\n")));
@@ -299,7 +319,8 @@ static void judge_body(struct text text)
     if (!is_deep)
         return;
     struct answer begun = of_log(of_bodies, glued(region, front(digits, below(digits.length)), TEXT("\n")));
-    want(is_answer(&begun, TEXT(""), TEXT("hsplan: log: BadBody row 0\n"), 1), "a beginning of a body", digits, begun.told, begun.printed);
+    want(is_answer(&begun, TEXT(""), TEXT("hsplan: log: BadBody row 0\n"), 1), "a beginning of a body", digits,
+        begun.reported, begun.printed);
     of_log(of_bodies, glued(region, changed(digits), TEXT("\n")));
 }
 
@@ -307,7 +328,8 @@ static void judge_body(struct text text)
 static void judge_written_log(struct text text)
 {
     static const struct text regions[] = {TEXT("r1,"), TEXT("r1,"), TEXT("r2,"), TEXT("r2,"), TEXT("r9,")};
-    static const struct text handles[] = {TEXT("10/1"), TEXT("10/2"), TEXT("10/3"), TEXT("10/3"), TEXT("10/4"), TEXT("10.1/x")};
+    static const struct text handles[] = {
+        TEXT("10/1"), TEXT("10/2"), TEXT("10/3"), TEXT("10/3"), TEXT("10/4"), TEXT("10.1/x")};
     struct text by_handle = TEXT(""), by_body = TEXT(""), by_front = TEXT("front,region,handle\n");
     (void)text;
     for (uint32_t left = below(30); left; left--) {
@@ -319,8 +341,10 @@ static void judge_written_log(struct text text)
     struct answer handled = of_log(TEXT("region,handle"), by_handle), bodied = of_log(TEXT("region,body"), by_body);
     judge_lines(by_handle, &handled, 0);
     wants_same("a log of bodies", by_handle, &handled, &bodied);
-    struct answer fronted = answered_with(TEXT("dispatch " PLANNED " --log events.csv --fronts 1"), TEXT("events.csv"), by_front);
-    want(is_equal(fronted.printed, handled.printed), "a log at one front", by_handle, handled.printed, fronted.printed);
+    struct answer fronted =
+        answered_with(TEXT("dispatch " PLANNED " --log events.csv --fronts 1"), TEXT("events.csv"), by_front);
+    want(is_equal(fronted.printed, handled.printed), "a log at one front", by_handle, handled.printed,
+        fronted.printed);
 }
 
 static void judge_words(struct text text)
@@ -330,9 +354,20 @@ static void judge_words(struct text text)
 
 /* The kinds whose runs take least come more often. */
 const struct judge HSPLAN_JUDGES[] = {
-    {"settings", judge_settings, 3}, {"values", judge_values, 5}, {"record", judge_record, 5}, {"words", judge_words, 3}, {"body", judge_body, 1},
-    {"demand", judge_table, 1}, {"costs", judge_table, 1}, {"capacity", judge_table, 1}, {"plan", judge_certificate, 1}, {"log", judge_log, 1},
-    {"events", judge_events, 1}, {"written_record", judge_written_record, 5}, {"written_values", judge_written_values, 5}, {"written_log", judge_written_log, 1},
+    {"settings", judge_settings, 3},
+    {"values", judge_values, 5},
+    {"record", judge_record, 5},
+    {"words", judge_words, 3},
+    {"body", judge_body, 1},
+    {"demand", judge_table, 1},
+    {"costs", judge_table, 1},
+    {"capacity", judge_table, 1},
+    {"plan", judge_certificate, 1},
+    {"log", judge_log, 1},
+    {"events", judge_events, 1},
+    {"written_record", judge_written_record, 5},
+    {"written_values", judge_written_values, 5},
+    {"written_log", judge_written_log, 1},
 };
 
 const int HSPLAN_JUDGE_COUNT = sizeof HSPLAN_JUDGES / sizeof *HSPLAN_JUDGES;

@@ -12,46 +12,97 @@ struct form {
 
 /* The lines of both programs. */
 static const struct form FORMS[] = {
-    {TEXT("Usage"), 2}, {TEXT("WrongKind"), 3}, {TEXT("read failed"), 5}, {TEXT("BadFronts"), 1}, {TEXT("log: Header"), 1},
-    {TEXT("settings: NotToml"), 1}, {TEXT("settings: UnknownKey"), 1}, {TEXT("settings: BadSite site #"), 1}, {TEXT("settings: SiteTwice site #"), 1},
-    {TEXT("settings: TooManySites"), 1}, {TEXT("settings: BadHost host #"), 1}, {TEXT("settings: HostTwice host #"), 1},
+    {TEXT("Usage"), 2},
+    {TEXT("WrongKind"), 3},
+    {TEXT("read failed"), 5},
+    {TEXT("BadFronts"), 1},
+    {TEXT("log: Header"), 1},
+    {TEXT("settings: NotToml"), 1},
+    {TEXT("settings: UnknownKey"), 1},
+    {TEXT("settings: BadSite site #"), 1},
+    {TEXT("settings: SiteTwice site #"), 1},
+    {TEXT("settings: TooManySites"), 1},
+    {TEXT("settings: BadHost host #"), 1},
+    {TEXT("settings: HostTwice host #"), 1},
     {TEXT("settings: TooManyHosts"), 1},
-    {TEXT("build: NoValue site #"), 1}, {TEXT("build: NotSiteValue site #"), 1}, {TEXT("build: BadHashOption site #"), 1}, {TEXT("build: NoServer site #"), 1},
-    {TEXT("build: ServerIdTwice site #"), 1}, {TEXT("build: TooManyServers"), 1}, {TEXT("build: UnknownSite table costs row #"), 1},
-    {TEXT("build: UnknownSite table capacity row #"), 1}, {TEXT("build: UnknownServer row #"), 1}, {TEXT("build: NoCapacity site # server_id #"), 1},
-    {TEXT("build: BadRecord site # Truncated at #"), 1}, {TEXT("build: BadRecord site # Trailing at #"), 1},
+    {TEXT("build: NoValue site #"), 1},
+    {TEXT("build: NotSiteValue site #"), 1},
+    {TEXT("build: BadHashOption site #"), 1},
+    {TEXT("build: NoServer site #"), 1},
+    {TEXT("build: ServerIdTwice site #"), 1},
+    {TEXT("build: TooManyServers"), 1},
+    {TEXT("build: UnknownSite table costs row #"), 1},
+    {TEXT("build: UnknownSite table capacity row #"), 1},
+    {TEXT("build: UnknownServer row #"), 1},
+    {TEXT("build: NoCapacity site # server_id #"), 1},
+    {TEXT("build: BadRecord site # Truncated at #"), 1},
+    {TEXT("build: BadRecord site # Trailing at #"), 1},
     {TEXT("build: BadRecord site # TooManyServers"), 1},
-    {TEXT("certificate: BadLine line #"), 1}, {TEXT("certificate: Ended"), 1}, {TEXT("certificate: AfterEnd line #"), 1},
-    {TEXT("check: Shape"), 3}, {TEXT("check: NoSuchUse"), 3}, {TEXT("check: RowSum"), 3}, {TEXT("check: Load"), 3}, {TEXT("check: Cost"), 3},
-    {TEXT("check: ArcPrice"), 3}, {TEXT("check: UsedArcPrice"), 3}, {TEXT("check: IdlePrice"), 3}, {TEXT("check: DemandSum"), 3},
-    {TEXT("check: CapacitySum"), 3}, {TEXT("check: NotShort"), 3},
+    {TEXT("certificate: BadLine line #"), 1},
+    {TEXT("certificate: Ended"), 1},
+    {TEXT("certificate: AfterEnd line #"), 1},
+    {TEXT("check: Shape"), 3},
+    {TEXT("check: NoSuchUse"), 3},
+    {TEXT("check: RowSum"), 3},
+    {TEXT("check: Load"), 3},
+    {TEXT("check: Cost"), 3},
+    {TEXT("check: ArcPrice"), 3},
+    {TEXT("check: UsedArcPrice"), 3},
+    {TEXT("check: IdlePrice"), 3},
+    {TEXT("check: DemandSum"), 3},
+    {TEXT("check: CapacitySum"), 3},
+    {TEXT("check: NotShort"), 3},
     {TEXT("log: Fields row #"), 1},
 };
 
 /* The further lines of hsplan. */
 static const struct form HSPLAN_FORMS[] = {
-    {TEXT("BadOption"), 1}, {TEXT("BadServers"), 1}, {TEXT("BadIndex"), 1}, {TEXT("NoValue"), 1},
-    {TEXT("NotSiteValue"), 1}, {TEXT("handle: TooLong"), 1}, {TEXT("handle: NotUtf8"), 1},
-    {TEXT("handle: NoSlash"), 1}, {TEXT("handle: EmptySegment"), 1}, {TEXT("log: BadHandle row #"), 1},
-    {TEXT("log: BadBody row #"), 1}, {TEXT("log: BadFront row #"), 1},
+    {TEXT("BadOption"), 1},
+    {TEXT("BadServers"), 1},
+    {TEXT("BadIndex"), 1},
+    {TEXT("NoValue"), 1},
+    {TEXT("NotSiteValue"), 1},
+    {TEXT("handle: TooLong"), 1},
+    {TEXT("handle: NotUtf8"), 1},
+    {TEXT("handle: NoSlash"), 1},
+    {TEXT("handle: EmptySegment"), 1},
+    {TEXT("log: BadHandle row #"), 1},
+    {TEXT("log: BadBody row #"), 1},
+    {TEXT("log: BadFront row #"), 1},
 };
 
 /* The further lines of hsplan-stream. */
 static const struct form STREAM_FORMS[] = {
-    {TEXT("BadUnit"), 1}, {TEXT("BadFront"), 1}, {TEXT("log: BadName row #"), 1}, {TEXT("log: BadNumber row #"), 1},
-    {TEXT("log: TooManyRegions row #"), 1}, {TEXT("log: TooManyKinds row #"), 1},
-    {TEXT("log: CountTooLarge row # unit #"), 1}, {TEXT("log: BadHandle row # TooLong"), 1},
-    {TEXT("log: BadHandle row # NotUtf8"), 1}, {TEXT("log: BadHandle row # NoSlash"), 1},
+    {TEXT("BadUnit"), 1},
+    {TEXT("BadFront"), 1},
+    {TEXT("log: BadName row #"), 1},
+    {TEXT("log: BadNumber row #"), 1},
+    {TEXT("log: TooManyRegions row #"), 1},
+    {TEXT("log: TooManyKinds row #"), 1},
+    {TEXT("log: CountTooLarge row # unit #"), 1},
+    {TEXT("log: BadHandle row # TooLong"), 1},
+    {TEXT("log: BadHandle row # NotUtf8"), 1},
+    {TEXT("log: BadHandle row # NoSlash"), 1},
     {TEXT("log: BadHandle row # EmptySegment"), 1},
 };
 
 /* The parts of which only hsplan reads the first. */
 static const struct text RECORD_PARTS[] = {TEXT("site: "), TEXT("values: ")};
-static const struct text RECORD_FORMS[] = {TEXT("Truncated at #"), TEXT("Trailing at #"), TEXT("TooManyServers"), TEXT("IndexTwice index #")};
+static const struct text RECORD_FORMS[] = {
+    TEXT("Truncated at #"), TEXT("Trailing at #"), TEXT("TooManyServers"), TEXT("IndexTwice index #")};
 static const struct text TABLE_PARTS[] = {TEXT("demand: "), TEXT("costs: "), TEXT("capacity: ")};
 static const struct text TABLE_FORMS[] = {
-    TEXT("Header"), TEXT("Fields row #"), TEXT("BadName row #"), TEXT("BadNumber row #"), TEXT("RowTwice row #"), TEXT("TooManyRows"), TEXT("TooManyRegions"),
-    TEXT("BadHandle row # TooLong"), TEXT("BadHandle row # NotUtf8"), TEXT("BadHandle row # NoSlash"), TEXT("BadHandle row # EmptySegment"),
+    TEXT("Header"),
+    TEXT("Fields row #"),
+    TEXT("BadName row #"),
+    TEXT("BadNumber row #"),
+    TEXT("RowTwice row #"),
+    TEXT("TooManyRows"),
+    TEXT("TooManyRegions"),
+    TEXT("BadHandle row # TooLong"),
+    TEXT("BadHandle row # NotUtf8"),
+    TEXT("BadHandle row # NoSlash"),
+    TEXT("BadHandle row # EmptySegment"),
 };
 
 #define COUNT(list) (int)(sizeof list / sizeof *list)
@@ -77,7 +128,9 @@ static int is_of_part(struct text line, const struct text *parts, int count, con
 {
     for (int part = 0; part < count; part++)
         for (int form = 0; form < form_count; form++)
-            if (begins(line, parts[part]) && is_of_form((struct text){line.octets + parts[part].length, line.length - parts[part].length}, forms[form]))
+            if (begins(line, parts[part]) &&
+                is_of_form(
+                    (struct text){line.octets + parts[part].length, line.length - parts[part].length}, forms[form]))
                 return 1;
     return 0;
 }
@@ -113,7 +166,7 @@ struct text name_of(const struct manner *by)
 
 struct text line_of(const struct answer *answer)
 {
-    return front(answer->told, answer->told.length - ends(answer->told, TEXT("\n")));
+    return front(answer->reported, answer->reported.length - ends(answer->reported, TEXT("\n")));
 }
 
 static struct text behind(struct text line, struct text beginning)
@@ -126,19 +179,21 @@ int is_suiting(struct text words, const struct answer *answer)
     static const struct text begin = TEXT("hsplan: ");
     struct text line = line_of(answer);
     int is_log = memmem(words.octets, words.length, "dispatch", 8) != NULL;
-    if (answer->told.length && (line.length == answer->told.length || holds_octet(line, '\n')))
+    if (answer->reported.length && (line.length == answer->reported.length || holds_octet(line, '\n')))
         return 0;
     if (begins(line, begin))
         return answer->status == status_of(behind(line, begin), 0) && (!answer->printed.length || is_log);
-    int is_short = answer->status == 3 && (begins(answer->printed, TEXT("no ")) || begins(answer->printed, TEXT("HSPLAN 1\nSHORTAGE\n")));
-    return (answer->status == 0 || is_short) && (!line.length || (is_log && is_of_form(line, TEXT("assigned # spent # unknown #"))));
+    int is_short = answer->status == 3 &&
+                   (begins(answer->printed, TEXT("no ")) || begins(answer->printed, TEXT("HSPLAN 1\nSHORTAGE\n")));
+    return (answer->status == 0 || is_short) &&
+           (!line.length || (is_log && is_of_form(line, TEXT("assigned # spent # unknown #"))));
 }
 
 int is_stream_suiting(struct text words, const struct answer *answer)
 {
     static const struct text begin = TEXT("hsplan-stream: ");
     struct text line = line_of(answer);
-    if (answer->told.length && (line.length == answer->told.length || holds_octet(line, '\n')))
+    if (answer->reported.length && (line.length == answer->reported.length || holds_octet(line, '\n')))
         return 0;
     int is_answer = memmem(words.octets, words.length, "answer", 6) != NULL;
     if (!begins(line, begin)) {
@@ -152,7 +207,8 @@ int is_stream_suiting(struct text words, const struct answer *answer)
 
 int place_in(struct text line, struct text part, uint64_t *place)
 {
-    struct text ended = glued(TEXT("hsplan: "), part, TEXT(": Truncated at ")), trailing = glued(TEXT("hsplan: "), part, TEXT(": Trailing at "));
+    struct text ended = glued(TEXT("hsplan: "), part, TEXT(": Truncated at ")),
+                trailing = glued(TEXT("hsplan: "), part, TEXT(": Trailing at "));
     int is_cut = begins(line, ended);
     if (!is_cut && !begins(line, trailing))
         return 0;

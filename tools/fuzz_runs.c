@@ -26,7 +26,7 @@ static struct manner manner;
 static struct turn turn;
 static struct text input;
 static size_t input_at, file_at[MOST_FILES];
-static struct stream printed, told;
+static struct stream printed, reported;
 static uint64_t held, most_held;
 
 static void *(*real_malloc)(size_t);
@@ -120,7 +120,7 @@ ssize_t read(int descriptor, void *octets, size_t length)
 
 ssize_t write(int descriptor, const void *octets, size_t length)
 {
-    struct stream *stream = descriptor == 1 ? &printed : &told;
+    struct stream *stream = descriptor == 1 ? &printed : &reported;
     if (!is_running)
         return syscall(SYS_write, descriptor, octets, length);
     if (length > MOST_TEXT - stream->length)
@@ -199,7 +199,7 @@ struct answer run(struct manner by, struct text words, const struct files *files
     lent = files;
     turn.is_there = 0;
     input = by.has_arguments ? TEXT("") : glued(words, TEXT("\n"), TEXT(""));
-    input_at = printed.length = told.length = held = most_held = 0;
+    input_at = printed.length = reported.length = held = most_held = 0;
     keep_arguments(count, arguments);
     uint64_t begun = now();
     is_running = 1;
@@ -210,7 +210,7 @@ struct answer run(struct manner by, struct text words, const struct files *files
     answer.held = held;
     answer.turn = turn;
     answer.printed = kept(&printed);
-    answer.told = kept(&told);
+    answer.reported = kept(&reported);
     return answer;
 }
 
@@ -218,17 +218,19 @@ static int run_all(int count, char **words, char **means)
 {
     (void)count, (void)words, (void)means;
     printed.octets = malloc(MOST_TEXT);
-    told.octets = malloc(MOST_TEXT);
+    reported.octets = malloc(MOST_TEXT);
     find_first_functions();
-    return printed.octets && told.octets ? judge_all() : 1;
+    return printed.octets && reported.octets ? judge_all() : 1;
 }
 
 typedef int main_function(int, char **, char **);
 typedef void end_function(void);
 
-int __libc_start_main(main_function *main, int count, char **words, end_function *first, end_function *last, end_function *unload, void *stack)
+int __libc_start_main(main_function *main, int count, char **words, end_function *first, end_function *last,
+    end_function *unload, void *stack)
 {
-    int (*start)(main_function *, int, char **, end_function *, end_function *, end_function *, void *) = dlsym(RTLD_NEXT, "__libc_start_main");
+    int (*start)(main_function *, int, char **, end_function *, end_function *, end_function *, void *) =
+        dlsym(RTLD_NEXT, "__libc_start_main");
     program = main;
     return start(getenv("FUZZ_CASES") ? run_all : main, count, words, first, last, unload, stack);
 }

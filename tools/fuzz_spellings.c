@@ -63,7 +63,8 @@ struct text in_digits(struct text octets)
 static struct text put_server(struct spelling *spelling, uint32_t place)
 {
     uint32_t id = drawn_number(), interfaces = below(4);
-    struct text address = front(glued(drawn_octets(16), TEXT("\0\0\0\0\0\0\0\0\0\0\0\0\0\0\0\0"), TEXT("")), 16), key = drawn_octets(below(8) ? 5 : 300);
+    struct text address = front(glued(drawn_octets(16), TEXT("\0\0\0\0\0\0\0\0\0\0\0\0\0\0\0\0"), TEXT("")), 16),
+                key = drawn_octets(below(8) ? 5 : 300);
     put_number(spelling, id, 4);
     put_field(spelling, address);
     put_run(spelling, key);
@@ -73,13 +74,15 @@ static struct text put_server(struct spelling *spelling, uint32_t place)
         put_number(spelling, below(256), 1);
         put_number(spelling, drawn_number(), 4);
     }
-    return glued(numbered("server %lu %lu ", place, id, 0), in_digits(address), numbered(" %lu %lu\n", key.length, interfaces, 0));
+    return glued(numbered("server %lu %lu ", place, id, 0), in_digits(address),
+        numbered(" %lu %lu\n", key.length, interfaces, 0));
 }
 
 /* Writes what stands before the servers, and returns its lines. */
 static struct text put_head(struct spelling *spelling)
 {
-    uint64_t version = below(65536), major = below(256), minor = below(256), serial = below(65536), mask = below(256), option = below(256);
+    uint64_t version = below(65536), major = below(256), minor = below(256), serial = below(65536), mask = below(256),
+             option = below(256);
     uint64_t attributes = below(4);
     struct text filter = drawn_octets(below(8) ? 4 : 300);
     put_number(spelling, version, 2);

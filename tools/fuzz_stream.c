@@ -48,7 +48,8 @@ struct asked drawn_question(enum order order)
 static struct text words_of(const struct asked *asked)
 {
     static const struct text first[] = {
-        TEXT("kinds --costs costs.csv"), TEXT("places"),
+        TEXT("kinds --costs costs.csv"),
+        TEXT("places"),
         TEXT("answer --demand demand.csv --costs costs.csv --capacity capacity.csv --plan plan.txt"),
     };
     struct text words = glued(first[asked->order], TEXT(" --settings settings.toml"), TEXT(" --log log.csv"));
@@ -186,7 +187,8 @@ static void judge_pieces(const struct asked *asked, struct text log, const struc
 /* Rows behind a fault change nothing. */
 static void judge_behind_fault(const struct asked *asked, struct text log, const struct answer *answer)
 {
-    if (!begins(answer->told, LOG_FAULT) || memmem(answer->told.octets, answer->told.length, "CountTooLarge", 13))
+    if (!begins(answer->reported, LOG_FAULT) ||
+        memmem(answer->reported.octets, answer->reported.length, "CountTooLarge", 13))
         return;
     struct answer more = answer_to(asked, continued(log));
     wants_same("behind a fault", log, answer, &more);
@@ -251,7 +253,7 @@ static void judge_row_order(const struct asked *asked, struct text log, struct t
     struct answer other = answer_to(asked, reordered(log));
     struct sums first = sums_of(table), second = sums_of(other.printed);
     int is_well = first.rows == second.rows && first.total == second.total && first.mix == second.mix;
-    want(!other.told.length && is_well, "another order", log, table, all_of(&other));
+    want(!other.reported.length && is_well, "another order", log, table, all_of(&other));
 }
 
 /* The tables of a log's parts, joined, have the table of the log. */
@@ -287,25 +289,26 @@ static void judge_reported_unit(const struct asked *asked, struct text log, cons
 {
     struct asked other = *asked;
     uint64_t row, unit, other_row, other_unit;
-    if (!is_too_large(answer->told, &row, &unit) || unit > GREATEST_UNIT)
+    if (!is_too_large(answer->reported, &row, &unit) || unit > GREATEST_UNIT)
         return;
-    want(unit > unit_of(asked), "unit", log, answer->told, TEXT(""));
+    want(unit > unit_of(asked), "unit", log, answer->reported, TEXT(""));
     other.unit = unit - 1;
     struct answer by_less = answer_to(&other, log);
     wants_same("a smaller unit", log, answer, &by_less);
     other.unit = unit;
     struct answer by_it = answer_to(&other, log);
-    int is_well = !by_it.told.length || (is_too_large(by_it.told, &other_row, &other_unit) && other_row > row);
-    want(is_well, "the unit", log, answer->told, by_it.told);
+    int is_well =
+        !by_it.reported.length || (is_too_large(by_it.reported, &other_row, &other_unit) && other_row > row);
+    want(is_well, "the unit", log, answer->reported, by_it.reported);
 }
 
 static void judge_kinds(const struct asked *asked, struct text log, const struct answer *answer)
 {
-    if (!answer->told.length)
+    if (!answer->reported.length)
         judge_table_text(asked, log, answer->printed);
     if (!is_deep || !is_plain(log))
         return;
-    if (answer->told.length) {
+    if (answer->reported.length) {
         judge_reported_unit(asked, log, answer);
         return;
     }
@@ -355,11 +358,12 @@ static void judge_place_lines(const struct asked *asked, struct text log, const 
 {
     struct text lines = behind_line(answer->printed);
     uint64_t row, count = lines_of(lines, TEXT("")), sites = asked->service.count;
-    if (begins(answer->told, LOG_FAULT) && number_behind(answer->told, TEXT(" row "), &row))
-        want(count == row * sites, "lines before a fault", log, answer->told, answer->printed);
+    if (begins(answer->reported, LOG_FAULT) && number_behind(answer->reported, TEXT(" row "), &row))
+        want(count == row * sites, "lines before a fault", log, answer->reported, answer->printed);
     if (!is_plain(log))
         return;
-    want(answer->told.length || count == rows_of(behind_header(log)) * sites, "lines", log, answer->printed, TEXT(""));
+    want(answer->reported.length || count == rows_of(behind_header(log)) * sites, "lines", log, answer->printed,
+        TEXT(""));
     judge_row_lines(asked, log, lines);
 }
 
@@ -384,9 +388,9 @@ static void judge_places_twice(const struct asked *asked, struct text log, const
 static void judge_places(const struct asked *asked, struct text log, const struct answer *answer)
 {
     want(!answer->printed.length || begins(answer->printed, PLACES_HEADER), "header", log, answer->printed, TEXT(""));
-    want(answer->told.length || answer->printed.length, "no header", log, TEXT(""), TEXT(""));
+    want(answer->reported.length || answer->printed.length, "no header", log, TEXT(""), TEXT(""));
     judge_place_lines(asked, log, answer);
-    if (is_deep && is_plain(log) && !answer->told.length)
+    if (is_deep && is_plain(log) && !answer->reported.length)
         judge_places_twice(asked, log, answer);
 }
 
@@ -417,8 +421,14 @@ static int site_of(const struct service *service, struct text line)
 static int is_without_server(struct text line)
 {
     static const struct text lines[] = {
-        TEXT("spent"), TEXT("unknown"), TEXT("refused Fields"), TEXT("refused BadBody"), TEXT("refused TooLong"),
-        TEXT("refused BadHandle TooLong"), TEXT("refused BadHandle NotUtf8"), TEXT("refused BadHandle NoSlash"),
+        TEXT("spent"),
+        TEXT("unknown"),
+        TEXT("refused Fields"),
+        TEXT("refused BadBody"),
+        TEXT("refused TooLong"),
+        TEXT("refused BadHandle TooLong"),
+        TEXT("refused BadHandle NotUtf8"),
+        TEXT("refused BadHandle NoSlash"),
         TEXT("refused BadHandle EmptySegment"),
     };
     for (size_t at = 0; at < sizeof lines / sizeof *lines; at++)
@@ -491,10 +501,10 @@ static void judge_refused_row(const struct asked *asked, struct text log, const 
 static void judge_answers(const struct asked *asked, struct text log, const struct answer *answer)
 {
     uint64_t sums[MOST_SITES] = {0};
-    if (begins(answer->told, FAULT))
+    if (begins(answer->reported, FAULT))
         return;
     struct text wanted = sums_of_answers(answer->printed);
-    want(is_equal(answer->told, wanted), "sums", wanted, answer->told, answer->printed);
+    want(is_equal(answer->reported, wanted), "sums", wanted, answer->reported, answer->printed);
     add_assigned(asked, log, answer->printed, sums);
     judge_bounds(asked, log, sums);
     if (!is_plain(log))
@@ -517,7 +527,7 @@ static void judge_longer(const struct asked *asked, struct text log, const struc
     want(begins(more.printed, answer->printed), "a longer log", log, answer->printed, more.printed);
     want(begins(answer->printed, less.printed), "a shorter log", log, less.printed, answer->printed);
     uint64_t lines = lines_of(less.printed, TEXT("")), sites = asked->service.count;
-    if (!begins(less.told, FAULT)) {
+    if (!begins(less.reported, FAULT)) {
         uint64_t wanted = asked->order == PLACES ? 1 + sites * rows_of(rows) : rows_of(rows);
         want(lines == wanted, "lines of a shorter log", beginning, less.printed, TEXT(""));
     }
@@ -612,12 +622,12 @@ static void judge_stream_settings(struct text text)
     places.unit = 0;
     places.files = kinds.files;
     struct answer of_kinds = answer_to(&kinds, SHORT_LOG), of_places = answer_to(&places, SHORT_LOG);
-    int is_refused = begins(of_kinds.told, TEXT("hsplan-stream: settings: "));
-    if (begins(of_places.told, FAULT))
+    int is_refused = begins(of_kinds.reported, TEXT("hsplan-stream: settings: "));
+    if (begins(of_places.reported, FAULT))
         wants_same("settings", *settings, &of_places, &of_kinds);
     else
-        want(!is_refused, "settings", *settings, of_kinds.told, of_places.told);
-    if (!is_deep || is_equal(of_places.told, TEXT("hsplan-stream: settings: NotToml\n")))
+        want(!is_refused, "settings", *settings, of_kinds.reported, of_places.reported);
+    if (!is_deep || is_equal(of_places.reported, TEXT("hsplan-stream: settings: NotToml\n")))
         return;
     *settings = glued(*settings, TEXT("\n# a comment\n"), TEXT(""));
     struct answer more = answer_to(&kinds, SHORT_LOG);
@@ -653,8 +663,8 @@ static void judge_stream_costs(struct text text)
     struct answer answer = answer_to(&asked, log);
     if (!is_deep || !ends_plainly(*costs) || !begins(*costs, TEXT("region,")))
         return;
-    int is_refused = begins(answer.told, TEXT("hsplan-stream: costs: "));
-    if (answer.told.length && !is_refused)
+    int is_refused = begins(answer.reported, TEXT("hsplan-stream: costs: "));
+    if (answer.reported.length && !is_refused)
         return;
     *costs = is_refused ? continued(*costs) : reordered(*costs);
     struct answer other = answer_to(&asked, log);
@@ -678,7 +688,11 @@ static void judge_table_order(void)
 static void judge_stream_plan(struct text text)
 {
     static const struct text names[] = {
-        TEXT("demand.csv"), TEXT("costs.csv"), TEXT("capacity.csv"), TEXT("plan.txt"), TEXT("plan.txt"),
+        TEXT("demand.csv"),
+        TEXT("costs.csv"),
+        TEXT("capacity.csv"),
+        TEXT("plan.txt"),
+        TEXT("plan.txt"),
     };
     static const struct text ended = TEXT("hsplan-stream: certificate: Ended\n");
     (void)text;
@@ -691,13 +705,14 @@ static void judge_stream_plan(struct text text)
     *file = changed(*file);
     struct answer answer = answer_to(&asked, log);
     struct text sums = sums_of_answers(answer.printed);
-    want(begins(answer.told, FAULT) || is_equal(answer.told, sums), "sums", sums, answer.told, answer.printed);
-    if (!is_deep || begins(answer.told, FAULT))
+    want(begins(answer.reported, FAULT) || is_equal(answer.reported, sums), "sums", sums, answer.reported,
+        answer.printed);
+    if (!is_deep || begins(answer.reported, FAULT))
         return;
     struct text *plan = held_by(&asked.files, TEXT("plan.txt"));
     *plan = front(*plan, below(plan->length));
     struct answer begun = answer_to(&asked, log);
-    want(is_answer(&begun, TEXT(""), ended, 1), "a beginning", *plan, begun.told, begun.printed);
+    want(is_answer(&begun, TEXT(""), ended, 1), "a beginning", *plan, begun.reported, begun.printed);
 }
 
 static int is_of_letters(struct text text)
@@ -751,10 +766,16 @@ static void judge_stream_words(struct text text)
 }
 
 const struct judge STREAM_JUDGES[] = {
-    {"stream_words", judge_stream_words, 3}, {"stream_settings", judge_stream_settings, 2},
-    {"stream_costs", judge_stream_costs, 2}, {"stream_plan", judge_stream_plan, 2}, {"kinds", judge_changed_kinds, 3},
-    {"places", judge_changed_places, 3}, {"answer", judge_changed_answer, 3}, {"written_kinds", judge_written_kinds, 2},
-    {"written_places", judge_written_places, 2}, {"written_answer", judge_written_answer, 2},
+    {"stream_words", judge_stream_words, 3},
+    {"stream_settings", judge_stream_settings, 2},
+    {"stream_costs", judge_stream_costs, 2},
+    {"stream_plan", judge_stream_plan, 2},
+    {"kinds", judge_changed_kinds, 3},
+    {"places", judge_changed_places, 3},
+    {"answer", judge_changed_answer, 3},
+    {"written_kinds", judge_written_kinds, 2},
+    {"written_places", judge_written_places, 2},
+    {"written_answer", judge_written_answer, 2},
 };
 
 const int STREAM_JUDGE_COUNT = sizeof STREAM_JUDGES / sizeof *STREAM_JUDGES;

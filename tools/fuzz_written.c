@@ -25,7 +25,7 @@ struct log {
 
 /* What has to be printed on both streams. */
 struct wanted {
-    struct text printed, told;
+    struct text printed, reported;
 };
 
 /* ---- drawing */
@@ -288,7 +288,7 @@ static void judge_served(const struct asked *asked, struct log *log)
     *held_by(&plan.files, TEXT("demand.csv")) = answer_to(asked, log->text).printed;
     struct answer answer = answer_to(&plan, log->text);
     struct text sums = numbered("assigned %lu spent 0 unknown 0 refused 0\n", log->count, 0, 0);
-    want(is_equal(answer.told, sums), "a plan of the table", log->text, sums, all_of(&answer));
+    want(is_equal(answer.reported, sums), "a plan of the table", log->text, sums, all_of(&answer));
 }
 
 static struct wanted wanted_by(const struct asked *asked, const struct log *log)
@@ -307,8 +307,8 @@ void judge_written_stream(enum order order)
     draw_log(&asked, &log);
     struct wanted wanted = wanted_by(&asked, &log);
     struct answer answer = judge_stream_log(&asked, log.text);
-    int is_well = is_answer(&answer, wanted.printed, wanted.told, begins(wanted.told, TEXT("hsplan-stream: ")));
-    want(is_well, "what was written", log.text, glued(wanted.told, wanted.printed, TEXT("")), all_of(&answer));
+    int is_well = is_answer(&answer, wanted.printed, wanted.reported, begins(wanted.reported, TEXT("hsplan-stream: ")));
+    want(is_well, "what was written", log.text, glued(wanted.reported, wanted.printed, TEXT("")), all_of(&answer));
     if (!is_deep || order != KINDS)
         return;
     judge_reversed(&asked, &log, &answer);

@@ -43,15 +43,39 @@ CALLS = (
 # at the clauses of the calls.
 PARTS = (
     ("Which inputs define which instance", ((HEADLINE, "Defines"),)),
-    ("What a certificate shows of it, and that there always is one", tuple((HEADLINE, it) for it in ("ShowsOf", "PlansAlways", "SaysYesAlways"))),
-    ("What logs show of it, and that they are always answered", (
-        (RUNS_OVER_LOGS, "over"), (LOGS, "ShowsLogOf"), (LOGS, "ShowsFrontsOf"), (LOGS, "DispatchesAlways"), (LOGS, "DispatchesAtAlways"),
-        (RUNS_OVER_LOGS, "IsBeforeLog"))),
-    ("No log exceeds a plan", (("Rattle.hsp_dispatch.specs.Laws", "NeverExceeds"), ("Rattle.hsp_dispatch.specs.FrontLaws", "NeverExceedsTogether"))),
+    (
+        "What a certificate shows of it, and that there always is one",
+        tuple((HEADLINE, it) for it in ("ShowsOf", "PlansAlways", "SaysYesAlways")),
+    ),
+    (
+        "What logs show of it, and that they are always answered",
+        (
+            (RUNS_OVER_LOGS, "over"),
+            (LOGS, "ShowsLogOf"),
+            (LOGS, "ShowsFrontsOf"),
+            (LOGS, "DispatchesAlways"),
+            (LOGS, "DispatchesAtAlways"),
+            (RUNS_OVER_LOGS, "IsBeforeLog"),
+        ),
+    ),
+    (
+        "No log exceeds a plan",
+        (
+            ("Rattle.hsp_dispatch.specs.Laws", "NeverExceeds"),
+            ("Rattle.hsp_dispatch.specs.FrontLaws", "NeverExceedsTogether"),
+        ),
+    ),
     ("What the calls answer, with every fault in its order", ()),
-    ("What holds of all inputs and of all runs", (
-        *((PAGE_LAWS, it) for it in ("GivesTheDefined", "AcceptsTheDefined", "GivesOneAnswer", "GivesNothingElse")),
-        *((LAWS, it) for it in ("DispatchedLogsShow", "FrontsLogsShow", "LogsGoByHash")))),
+    (
+        "What holds of all inputs and of all runs",
+        (
+            *(
+                (PAGE_LAWS, it)
+                for it in ("GivesTheDefined", "AcceptsTheDefined", "GivesOneAnswer", "GivesNothingElse")
+            ),
+            *((LAWS, it) for it in ("DispatchedLogsShow", "FrontsLogsShow", "LogsGoByHash")),
+        ),
+    ),
 )
 # The files of the page in reading order, and what each is.
 FILES = (
@@ -71,11 +95,21 @@ QUESTIONS = (
     ("May `check` refuse a certificate that holds?", "Headline.antt", "SaysYesAlways inputs octets answer ="),
     ("What does the text of a plan show of cheaper plans?", "Shown.antt", "pub best : Best n"),
     ("What must hold of each price in the text?", "Shown.antt", "pub prices : Prices n"),
-    ("Are the demand and the capacity of a shortage the true sums?", "Shown.antt", "pub demand : c.demand ≡ demand_of n"),
-    ("What was answered when a log stopped at a fault?", "Logs.antt", "(StopsSomewhere desk run ⊎ StopsInLine desk run)"),
+    (
+        "Are the demand and the capacity of a shortage the true sums?",
+        "Shown.antt",
+        "pub demand : c.demand ≡ demand_of n",
+    ),
+    (
+        "What was answered when a log stopped at a fault?",
+        "Logs.antt",
+        "(StopsSomewhere desk run ⊎ StopsInLine desk run)",
+    ),
     ("Do all fronts together stay within the plan?", "Logs.antt", "pub within : (events : List Event)"),
 )
-STARTS = re.compile(r"^(?:infix[lr]? .*|(?:unfoldable |opaque )*(?:abbrev |record |data |pub )+(?:record |data )?(?P<name>\S+) .*)$")
+STARTS = re.compile(
+    r"^(?:infix[lr]? .*|(?:unfoldable |opaque )*(?:abbrev |record |data |pub )+(?:record |data )?(?P<name>\S+) .*)$"
+)
 TYPE = re.compile(r"^pub(?:\(crate\))? (?:struct|enum|const) (?P<name>\w+)")
 WORD = re.compile(r"[A-Za-z_][\w'\-]*(?:\.[A-Za-z_][\w'\-]*)*|>>=")
 BOUND = re.compile(r"λ ([^.]*)\.|\(([\w '\-]+) : |\{([\w '\-]+) : |^  pub ([\w'\-]+) :", re.M)
@@ -207,7 +241,11 @@ def mentioned(known, one):
     if isinstance(known[one[0]], Source):
         crate = one[0].split(".")[1]
         for word in dict.fromkeys(re.findall(r"\w+", re.sub(r"//.*", "", text))):
-            owners = [it for it in known if it.startswith(f"Rattle.{crate}.specs.declared.") and word in known[it].definitions]
+            owners = [
+                it
+                for it in known
+                if it.startswith(f"Rattle.{crate}.specs.declared.") and word in known[it].definitions
+            ]
             if owners and word != one[1]:
                 yield owners[0], word
     else:
@@ -233,7 +271,11 @@ def clauses(known):
     starts = []
     for file, call, _ in CALLS:
         module = Module(os.path.join(RUNS, "src", file))
-        starts += [settle(known, *it) for it in names_in(module, "\n".join(re.findall(r"ensures.*", head_of(file, call), re.S))) if it[0]]
+        starts += [
+            settle(known, *it)
+            for it in names_in(module, "\n".join(re.findall(r"ensures.*", head_of(file, call), re.S)))
+            if it[0]
+        ]
     return starts
 
 
@@ -269,7 +311,12 @@ def in_order(known, found):
 def unread(known, order):
     """The definitions that are mentioned before they are read."""
     place = {it: at for at, it in enumerate(order)}
-    return [(one, it) for one in order for it in mentioned(known, one) if it in place and place[it] > place[one] and it != one]
+    return [
+        (one, it)
+        for one in order
+        for it in mentioned(known, one)
+        if it in place and place[it] > place[one] and it != one
+    ]
 
 
 def paragraph(known, found):
@@ -291,7 +338,8 @@ def minutes(words):
 def measures(known, own):
     lines = sum(len(known[module].definitions[name][1]) for module, name in own)
     words = sum(known[module].words[name] for module, name in own)
-    return f"{len(own)} definitions in {len({it[0] for it in own})} files, {lines} lines, {words} words: {minutes(words)}."
+    files = len({it[0] for it in own})
+    return f"{len(own)} definitions in {files} files, {lines} lines, {words} words: {minutes(words)}."
 
 
 def wrapped(words):
@@ -300,13 +348,25 @@ def wrapped(words):
 
 def outside(found):
     """The ported crates and the words of std that are named among what is reached."""
-    ported = sorted({f"`{it[0].split('.')[1]}`" for it in found if it[0].startswith("Rattle.") and not it[0].startswith(("Rattle.hsp", "Rattle.std"))})
+    ported = sorted(
+        {
+            f"`{it[0].split('.')[1]}`"
+            for it in found
+            if it[0].startswith("Rattle.") and not it[0].startswith(("Rattle.hsp", "Rattle.std"))
+        }
+    )
     modules = {}
     for module, word in sorted({it for it in found if it[0].startswith("Rattle.std")}):
         modules.setdefault(module, []).append(f"`{word}`")
     number = sum(map(len, modules.values()))
-    lines = [f"Beside these they name readings of {', '.join(ported)}, and {number} words of std. `rt lemma Contains` shows such a word:", ""]
-    return lines + [line for module, words in modules.items() for line in wrapped(f"- `{module}`: " + ", ".join(words))]
+    lines = [
+        f"Beside these they name readings of {', '.join(ported)}, and {number} words of std. "
+        "`rt lemma Contains` shows such a word:",
+        "",
+    ]
+    return lines + [
+        line for module, words in modules.items() for line in wrapped(f"- `{module}`: " + ", ".join(words))
+    ]
 
 
 def listed():
@@ -354,7 +414,10 @@ def figures():
             heads = [it for call in CALLS for it in promised(*call)]
             words = words_in(heads)
             total += words
-            lines.append(f"| what `plan_run`, `check_run`, `dispatch_run` and `fronts_run` say of themselves, and their clauses of the page | {len(heads)} | {words} | {words / RATE:.1f} |")
+            lines.append(
+                "| what `plan_run`, `check_run`, `dispatch_run` and `fronts_run` say of themselves, "
+                f"and their clauses of the page | {len(heads)} | {words} | {words / RATE:.1f} |"
+            )
             lines.append(f"| **these together** | | **{total}** | **{total / RATE:.1f}** |")
     return lines + [f"| all | | {total} | {total / RATE:.1f} |", ""]
 
@@ -372,7 +435,10 @@ def answered():
 
 def written(page):
     for name, part in (("figures", figures), ("questions", answered), ("list", listed)):
-        begin, end = f"<!-- the {name} begin{'s' if name == 'list' else ''} -->\n", f"<!-- the {name} end{'s' if name == 'list' else ''} -->\n"
+        begin, end = (
+            f"<!-- the {name} begin{'s' if name == 'list' else ''} -->\n",
+            f"<!-- the {name} end{'s' if name == 'list' else ''} -->\n",
+        )
         page = page[: page.index(begin)] + begin + "\n" + "\n".join(part()) + "\n" + page[page.index(end) :]
     return page
 
@@ -385,7 +451,10 @@ def main():
         page = file.read()
     made = written(page)
     if check:
-        print("reading: docs/understand/READING.md " + ("as listed" if made == page else "is not what tools/list_reading.py lists"))
+        print(
+            "reading: docs/understand/READING.md "
+            + ("as listed" if made == page else "is not what tools/list_reading.py lists")
+        )
         return 0 if made == page else 1
     with open(PAGE, "w", encoding="utf-8") as file:
         file.write(made)

@@ -2,8 +2,8 @@
 """Writes the inputs of the examples.
 
 Those of examples/two-sites and examples/bring-in are kept with the sources. Those of examples/twelve-sites are large,
-and go into its folder out/. A number that is not written here is drawn from a digest of a word and of what the number is for. So each
-run writes the same octets.
+and go into its folder out/. A number that is not written here is drawn from a digest of a word and of what the number
+is for. So each run writes the same octets.
 
     tools/make_examples.py            writes all
     tools/make_examples.py --check    writes nothing, and compares the kept ones with what it would write there
@@ -44,12 +44,23 @@ def address_of(text):
 
 def key_of(name, server_id):
     """A stand-in for a public key record: the planner carries it and never reads it."""
-    return counted(b"RSA_PUB_KEY") + whole(0, 2) + counted(whole(65537, 3)) + counted(hashlib.shake_128(f"{name}/{server_id}".encode()).digest(64))
+    return (
+        counted(b"RSA_PUB_KEY")
+        + whole(0, 2)
+        + counted(whole(65537, 3))
+        + counted(hashlib.shake_128(f"{name}/{server_id}".encode()).digest(64))
+    )
 
 
 def server_octets(name, server_id, address):
     interfaces = b"".join(whole(kind, 1) + whole(protocol, 1) + whole(port, 4) for kind, protocol, port in INTERFACES)
-    return whole(server_id, 4) + address_of(address) + counted(key_of(name, server_id)) + whole(len(INTERFACES), 4) + interfaces
+    return (
+        whole(server_id, 4)
+        + address_of(address)
+        + counted(key_of(name, server_id))
+        + whole(len(INTERFACES), 4)
+        + interfaces
+    )
 
 
 def site_octets(name, serial, addresses):
@@ -62,7 +73,16 @@ def site_octets(name, serial, addresses):
 
 def value_octets(index, data):
     """A value of the type HS_SITE: permission 14, a relative lifetime of a day, and no references."""
-    return whole(index, 4) + counted(b"HS_SITE") + counted(data) + bytes([14]) + bytes([0]) + whole(86400, 4) + whole(1774000000, 8) + whole(0, 4)
+    return (
+        whole(index, 4)
+        + counted(b"HS_SITE")
+        + counted(data)
+        + bytes([14])
+        + bytes([0])
+        + whole(86400, 4)
+        + whole(1774000000, 8)
+        + whole(0, 4)
+    )
 
 
 def values_octets(values):
@@ -74,7 +94,9 @@ def settings_text(sites):
 
 
 def hosts_text(hosts):
-    return "".join(f'[[host]]\naddress = "{address_of(address).hex()}"\nlimit = {limit}\n' for address, limit in hosts).encode()
+    return "".join(
+        f'[[host]]\naddress = "{address_of(address).hex()}"\nlimit = {limit}\n' for address, limit in hosts
+    ).encode()
 
 
 def table(header, rows):
@@ -83,9 +105,29 @@ def table(header, rows):
 
 TWO_SITES = {"paris": ["192.0.2.11", "192.0.2.12"], "reston": ["198.51.100.21", "198.51.100.22", "198.51.100.22"]}
 TWO_CAPACITY = {"paris": 1500, "reston": 1450}
-TWO_COSTS = [("eu", "paris", 12), ("eu", "reston", 84), ("us", "paris", 91), ("us", "reston", 17), ("asia", "paris", 168), ("asia", "reston", 143)]
+TWO_COSTS = [
+    ("eu", "paris", 12),
+    ("eu", "reston", 84),
+    ("us", "paris", 91),
+    ("us", "reston", 17),
+    ("asia", "paris", 168),
+    ("asia", "reston", 143),
+]
 TWO_WEIGHTS = {"eu": 300, "us": 260, "asia": 120}
-HANDLES = ["report-2024", "report-2025", "dataset-7", "dataset-19", "dataset-23", "thesis-0412", "thesis-0977", "map-12", "map-31", "film-5", "audio-88", "code-v3"]
+HANDLES = [
+    "report-2024",
+    "report-2025",
+    "dataset-7",
+    "dataset-19",
+    "dataset-23",
+    "thesis-0412",
+    "thesis-0977",
+    "map-12",
+    "map-31",
+    "film-5",
+    "audio-88",
+    "code-v3",
+]
 
 
 def two_handles():
@@ -95,11 +137,18 @@ def two_handles():
 def two_demand():
     """Queries in the busiest hour. The first handles are asked for most, and each region asks for each handle."""
     rows = [(region, place, handle) for region in TWO_WEIGHTS for place, handle in enumerate(two_handles())]
-    return [(region, handle, TWO_WEIGHTS[region] * 3 // (place + 2) + drawn(97, "count", region, handle)) for region, place, handle in rows]
+    return [
+        (region, handle, TWO_WEIGHTS[region] * 3 // (place + 2) + drawn(97, "count", region, handle))
+        for region, place, handle in rows
+    ]
 
 
 def two_capacity(capacities):
-    return [(name, at + 1, capacities[name] + 10 * at) for name, addresses in TWO_SITES.items() for at in range(len(addresses))]
+    return [
+        (name, at + 1, capacities[name] + 10 * at)
+        for name, addresses in TWO_SITES.items()
+        for at in range(len(addresses))
+    ]
 
 
 def wanted_more(rows, name, times):
@@ -116,7 +165,11 @@ def log_rows(demand, number, word):
 def two_pings():
     """Five measured times for each region and site. The middle one is the cost."""
     spread = [-3, -1, 0, 2, 40]
-    return [(region, site, f"{cost + it}.{drawn(5, region, site, it)}") for region, site, cost in TWO_COSTS for it in spread]
+    return [
+        (region, site, f"{cost + it}.{drawn(5, region, site, it)}")
+        for region, site, cost in TWO_COSTS
+        for it in spread
+    ]
 
 
 def two_sites():
@@ -133,7 +186,9 @@ def two_sites():
         "premiere.csv": table("region,handle,count", wanted_more(demand, "film-5", 4)),
         "costs.csv": table("region,site,cost", TWO_COSTS),
         "capacity.csv": table("site,server_id,capacity", two_capacity(TWO_CAPACITY)),
-        "boundless.csv": table("site,server_id,capacity", [row[:2] + (1000000000,) for row in two_capacity(TWO_CAPACITY)]),
+        "boundless.csv": table(
+            "site,server_id,capacity", [row[:2] + (1000000000,) for row in two_capacity(TWO_CAPACITY)]
+        ),
         "pings.csv": table("region,site,milliseconds", two_pings()),
         "log.csv": table("region,handle", log_rows(demand, 600, "two-sites")),
     }
@@ -142,35 +197,58 @@ def two_sites():
 PROTOCOLS = ["UDP", "TCP", "HTTP"]
 # Networks of users. One lies within another, and one is of IPv6.
 NETWORKS = [
-    ("192.0.2.0/24", "eu"), ("192.0.2.128/26", "asia"), ("198.51.100.0/24", "us"), ("203.0.113.0/24", "asia"), ("2001:db8::/32", "eu"),
+    ("192.0.2.0/24", "eu"),
+    ("192.0.2.128/26", "asia"),
+    ("198.51.100.0/24", "us"),
+    ("203.0.113.0/24", "asia"),
+    ("2001:db8::/32", "eu"),
 ]
 CLIENTS = {
-    "eu": ["192.0.2.7", "192.0.2.201", "2001:db8::7"], "us": ["198.51.100.7", "198.51.100.90"], "asia": ["203.0.113.7", "192.0.2.130"],
+    "eu": ["192.0.2.7", "192.0.2.201", "2001:db8::7"],
+    "us": ["198.51.100.7", "198.51.100.90"],
+    "asia": ["203.0.113.7", "192.0.2.130"],
 }
 NO_QUERIES = ["GET /favicon.ico", "GET /", "POST /20.500.1234/film-5", "GET /static"]
 
 
-def server_told(name, server_id, address):
+def server_json(name, server_id, address):
     """A server as a handle proxy answers it."""
     key = {"format": "base64", "value": base64.b64encode(key_of(name, server_id)).decode()}
-    interfaces = [{"query": True, "admin": True, "protocol": PROTOCOLS[protocol], "port": port} for _, protocol, port in INTERFACES]
+    interfaces = [
+        {"query": True, "admin": True, "protocol": PROTOCOLS[protocol], "port": port}
+        for _, protocol, port in INTERFACES
+    ]
     return {"serverId": server_id, "address": address, "publicKey": key, "interfaces": interfaces}
 
 
-def site_told(name, serial, addresses):
-    head = {"version": 1, "protocolVersion": "2.11", "serialNumber": serial, "primarySite": False, "multiPrimary": False}
+def site_json(name, serial, addresses):
+    head = {
+        "version": 1,
+        "protocolVersion": "2.11",
+        "serialNumber": serial,
+        "primarySite": False,
+        "multiPrimary": False,
+    }
     attributes = [{"name": "desc", "value": name.title()}]
-    return {**head, "attributes": attributes, "servers": [server_told(name, at + 1, it) for at, it in enumerate(addresses)]}
+    return {
+        **head,
+        "attributes": attributes,
+        "servers": [server_json(name, at + 1, it) for at, it in enumerate(addresses)],
+    }
 
 
-def answer_told(index, name, serial, addresses):
+def answer_json(index, name, serial, addresses):
     """A handle proxy's answer for a handle that has the site and its administrator."""
-    site = {"index": index, "type": "HS_SITE", "data": {"format": "site", "value": site_told(name, serial, addresses)}}
+    site = {
+        "index": index,
+        "type": "HS_SITE",
+        "data": {"format": "site", "value": site_json(name, serial, addresses)},
+    }
     admin = {"handle": "0.NA/20.500.1234", "index": 200, "permissions": "011111110011"}
     values = [site, {"index": 100, "type": "HS_ADMIN", "data": {"format": "admin", "value": admin}}]
     rest = {"ttl": 86400, "timestamp": "2026-11-26T08:00:00Z"}
-    told = {"responseCode": 1, "handle": "0.NA/20.500.1234", "values": [{**it, **rest} for it in values]}
-    return (json.dumps(told, indent=1) + "\n").encode()
+    answer = {"responseCode": 1, "handle": "0.NA/20.500.1234", "values": [{**it, **rest} for it in values]}
+    return (json.dumps(answer, indent=1) + "\n").encode()
 
 
 def access_line(at, client, request, status):
@@ -187,14 +265,16 @@ def access_log(number):
         query = ["", "?noredirect", "?auth=true"][drawn(3, "query", at)]
         odd = NO_QUERIES[drawn(len(NO_QUERIES), "odd", at)]
         path = urllib.parse.quote(handle) if drawn(2, "quoted", at) else handle.replace("-", "%2D")
-        lines.append(access_line(at, client, odd if at % 10 == 9 else f"GET /{path}{query}", 200 if at % 10 == 9 else 302))
+        lines.append(
+            access_line(at, client, odd if at % 10 == 9 else f"GET /{path}{query}", 200 if at % 10 == 9 else 302)
+        )
     return "".join(lines).encode()
 
 
 def bring_in():
     return {
-        "paris.json": answer_told(3, "paris", 7, TWO_SITES["paris"]),
-        "reston.json": answer_told(4, "reston", 8, TWO_SITES["reston"]),
+        "paris.json": answer_json(3, "paris", 7, TWO_SITES["paris"]),
+        "reston.json": answer_json(4, "reston", 8, TWO_SITES["reston"]),
         "networks.csv": table("network,region", NETWORKS),
         "access.log": access_log(600),
     }
@@ -202,19 +282,40 @@ def bring_in():
 
 # Degrees of latitude and longitude.
 TWELVE_SITES = {
-    "paris": (49, 2), "reston": (39, -77), "tokyo": (36, 140), "sydney": (-34, 151), "saopaulo": (-24, -47), "capetown": (-34, 18),
-    "mumbai": (19, 73), "frankfurt": (50, 9), "oslo": (60, 11), "toronto": (44, -79), "seoul": (37, 127), "nairobi": (-1, 37),
+    "paris": (49, 2),
+    "reston": (39, -77),
+    "tokyo": (36, 140),
+    "sydney": (-34, 151),
+    "saopaulo": (-24, -47),
+    "capetown": (-34, 18),
+    "mumbai": (19, 73),
+    "frankfurt": (50, 9),
+    "oslo": (60, 11),
+    "toronto": (44, -79),
+    "seoul": (37, 127),
+    "nairobi": (-1, 37),
 }
 REGIONS = {
-    "eu-west": (48, 0), "eu-north": (58, 14), "eu-south": (41, 14), "us-east": (40, -76), "us-west": (38, -121),
-    "latin": (-15, -60), "africa": (-5, 25), "india": (20, 78), "east-asia": (34, 122), "oceania": (-33, 147),
+    "eu-west": (48, 0),
+    "eu-north": (58, 14),
+    "eu-south": (41, 14),
+    "us-east": (40, -76),
+    "us-west": (38, -121),
+    "latin": (-15, -60),
+    "africa": (-5, 25),
+    "india": (20, 78),
+    "east-asia": (34, 122),
+    "oceania": (-33, 147),
 }
 NUMBER_OF_HANDLES = 2400
 
 
 def twelve_addresses():
     """Two to seven servers a site."""
-    return {name: [f"203.0.113.{16 * at + it}" for it in range(2 + drawn(6, "servers", name))] for at, name in enumerate(TWELVE_SITES)}
+    return {
+        name: [f"203.0.113.{16 * at + it}" for it in range(2 + drawn(6, "servers", name))]
+        for at, name in enumerate(TWELVE_SITES)
+    }
 
 
 def twelve_count(place, region):
@@ -225,7 +326,9 @@ def twelve_count(place, region):
 
 def twelve_demand():
     pairs = [(region, place) for place in range(NUMBER_OF_HANDLES) for region in REGIONS]
-    rows = [(region, f"20.500.{4000 + place % 7}/item-{place}", twelve_count(place, region)) for region, place in pairs]
+    rows = [
+        (region, f"20.500.{4000 + place % 7}/item-{place}", twelve_count(place, region)) for region, place in pairs
+    ]
     return [row for row in rows if row[2]]
 
 
@@ -239,13 +342,21 @@ def way(place, other):
 
 
 def twelve_costs():
-    return [(region, site, way(REGIONS[region], TWELVE_SITES[site]) + drawn(9, "cost", region, site)) for region in REGIONS for site in TWELVE_SITES]
+    return [
+        (region, site, way(REGIONS[region], TWELVE_SITES[site]) + drawn(9, "cost", region, site))
+        for region in REGIONS
+        for site in TWELVE_SITES
+    ]
 
 
 def twelve_sites():
     addresses = twelve_addresses()
     demand = twelve_demand()
-    capacity = [(name, at + 1, 12500 + drawn(6000, "capacity", name, at)) for name, it in addresses.items() for at in range(len(it))]
+    capacity = [
+        (name, at + 1, 12500 + drawn(6000, "capacity", name, at))
+        for name, it in addresses.items()
+        for at in range(len(it))
+    ]
     return {
         "settings.toml": settings_text([(name, site_octets(name, 1, it)) for name, it in addresses.items()]),
         "demand.csv": table("region,handle,count", demand),
@@ -271,12 +382,18 @@ def octets_at(path):
 
 def differing(folder, files):
     """The files that are not there, or hold other octets."""
-    return [f"{folder}/{name} is not what tools/make_examples.py writes" for name, octets in files.items() if octets_at(os.path.join(TOP, folder, name)) != octets]
+    return [
+        f"{folder}/{name} is not what tools/make_examples.py writes"
+        for name, octets in files.items()
+        if octets_at(os.path.join(TOP, folder, name)) != octets
+    ]
 
 
 def main():
     arguments = argparse.ArgumentParser(description="Writes the inputs of the examples.")
-    arguments.add_argument("--check", action="store_true", help="compare the kept examples with what would be written, and write nothing")
+    arguments.add_argument(
+        "--check", action="store_true", help="compare the kept examples with what would be written, and write nothing"
+    )
     kept = {"examples/two-sites": two_sites(), "examples/bring-in": bring_in()}
     if arguments.parse_args().check:
         faults = [fault for folder, files in kept.items() for fault in differing(folder, files)]

@@ -61,13 +61,21 @@ def inputs(folder, draw, factor=1.5, hosts=0, times=1):
     rows = [f"region-{draw.randrange(REGIONS)},20.500.12345/object-{row:06}" for row in range(ROWS)]
     capacity = int(factor * sum(counts)) // (SITES * SERVERS)
     sites = [f'[[site]]\nname = "site-{site}"\nrecord = "{record(site, hosts)}"' for site in range(SITES)]
-    limits = [f'[[host]]\naddress = "{address(host).hex()}"\nlimit = {3 * SITES * SERVERS * capacity // (5 * hosts)}' for host in range(hosts)]
-    return rows, counts, [
-        "--settings", write(folder, "settings.toml", sites + limits),
-        "--demand", write(folder, "demand.csv", ["region,handle,count"] + [f"{row},{count}" for row, count in zip(rows, counts)]),
-        "--costs", write(folder, "costs.csv", ["region,site,cost"] + [f"region-{region},site-{site},{draw.randrange(1000)}" for region in range(REGIONS) for site in range(SITES)]),
-        "--capacity", write(folder, "capacity.csv", ["site,server_id,capacity"] + [f"site-{site},{site * SERVERS + place},{capacity}" for site in range(SITES) for place in range(SERVERS)]),
+    limits = [
+        f'[[host]]\naddress = "{address(host).hex()}"\nlimit = {3 * SITES * SERVERS * capacity // (5 * hosts)}'
+        for host in range(hosts)
     ]
+    pairs = [(region, site) for region in range(REGIONS) for site in range(SITES)]
+    costs = [f"region-{region},site-{site},{draw.randrange(1000)}" for region, site in pairs]
+    servers = [(site, site * SERVERS + place) for site in range(SITES) for place in range(SERVERS)]
+    files = {
+        "settings.toml": sites + limits,
+        "demand.csv": ["region,handle,count", *(f"{row},{count}" for row, count in zip(rows, counts))],
+        "costs.csv": ["region,site,cost", *costs],
+        "capacity.csv": ["site,server_id,capacity", *(f"site-{site},{own},{capacity}" for site, own in servers)],
+    }
+    named = [(f"--{name.partition('.')[0]}", write(folder, name, lines)) for name, lines in files.items()]
+    return rows, counts, [word for pair in named for word in pair]
 
 
 def log(folder, name, header, lines, weights, many, draw):
@@ -92,12 +100,16 @@ os.write(3, f"{os.waitstatus_to_exitcode(status)} {used.ru_utime + used.ru_stime
 """
 
 
-def spent_by(words, out, told):
+def spent_by(words, out, reported):
     """The status of a run, its processor seconds and its peak memory in megabytes. What it prints goes to the files
-    `out` and `told`."""
+    `out` and `reported`."""
     reading, writing = os.pipe()
     begun = [sys.executable, "-S", "-E", "-c", BEGIN] + words
-    actions = [(os.POSIX_SPAWN_DUP2, out.fileno(), 1), (os.POSIX_SPAWN_DUP2, told.fileno(), 2), (os.POSIX_SPAWN_DUP2, writing, 3)]
+    actions = [
+        (os.POSIX_SPAWN_DUP2, out.fileno(), 1),
+        (os.POSIX_SPAWN_DUP2, reported.fileno(), 2),
+        (os.POSIX_SPAWN_DUP2, writing, 3),
+    ]
     started = os.posix_spawn(sys.executable, begun, os.environ, file_actions=actions)
     os.close(writing)
     with open(reading) as answer:
@@ -108,12 +120,12 @@ def spent_by(words, out, told):
 
 def timed(words):
     """Processor seconds, peak memory in megabytes, and what was printed on standard error."""
-    with open(os.devnull, "w") as sink, tempfile.TemporaryFile("w+") as told:
-        status, seconds, memory = spent_by(words, sink, told)
-        told.seek(0)
+    with open(os.devnull, "w") as sink, tempfile.TemporaryFile("w+") as reported:
+        status, seconds, memory = spent_by(words, sink, reported)
+        reported.seek(0)
         if status:
-            sys.exit(told.read())
-        return seconds, memory, told.read()
+            sys.exit(reported.read())
+        return seconds, memory, reported.read()
 
 
 def peer_in(folder):
@@ -124,7 +136,11 @@ def peer_in(folder):
         return None
     source = shutil.copytree(os.path.join(TOP, "tools", "dispatch_peer"), os.path.join(folder, "peer"))
     os.makedirs(os.path.join(source, ".cargo"))
-    write(os.path.join(source, ".cargo"), "config.toml", ["[source.crates-io]", 'replace-with = "debian"', "[source.debian]", f'directory = "{registry}"'])
+    write(
+        os.path.join(source, ".cargo"),
+        "config.toml",
+        ["[source.crates-io]", 'replace-with = "debian"', "[source.debian]", f'directory = "{registry}"'],
+    )
     built = subprocess.run(["cargo", "build", "--release", "--offline", "--quiet"], cwd=source, check=False)
     return os.path.join(source, "target", "release", "dispatch_peer") if built.returncode == 0 else None
 
@@ -158,9 +174,13 @@ def measure(kinds, many, turns):
     spent = {name: [] for name, *_ in kinds}
     for _ in range(turns):
         for name, _, words in kinds:
-            seconds, memory, told = timed(words)
+            seconds, memory, reported = timed(words)
             spent[name].append(seconds - before[name])
-            print(f"{name}: {seconds:.3f} s, {before[name]:.3f} of them before the first row, {many / spent[name][-1] / 1e6:.2f} million rows a second, {memory:.1f} MB: {told.strip()}", flush=True)
+            print(
+                f"{name}: {seconds:.3f} s, {before[name]:.3f} of them before the first row, "
+                f"{many / spent[name][-1] / 1e6:.2f} million rows a second, {memory:.1f} MB: {reported.strip()}",
+                flush=True,
+            )
     return spent
 
 
@@ -172,7 +192,34 @@ def compare(spent, turns):
         beside = f", {seconds / min(peers):.2f} times the fastest peer" if peers else ""
         print(f"{name}: {seconds:.3f} s behind the first row at best{beside}")
     pairs = [a / b for a, b in zip(spent["none"], spent[f"{FRONTS} fronts"])]
-    print(f"of the rows a second without fronts: {least['none'] / least[f'{FRONTS} fronts']:.3f} by the fastest runs, {statistics.median(pairs):.3f} by the median of {turns} turns")
+    print(
+        f"of the rows a second without fronts: {least['none'] / least[f'{FRONTS} fronts']:.3f} by the fastest runs, "
+        f"{statistics.median(pairs):.3f} by the median of {turns} turns"
+    )
+
+
+def ways_of(chosen, peer, folder, draw):
+    """The ways in which logs are answered, each with its words for an empty log and for the whole one."""
+    rows, counts, files = inputs(folder, draw, times=chosen.times)
+    plan = os.path.join(folder, "plan.txt")
+    with open(plan, "w") as file:
+        subprocess.run([chosen.program, "plan"] + files, stdout=file, check=True)
+    words = [chosen.program, "dispatch"] + files + ["--plan", plan]
+    empty = log(folder, "no_log.csv", "region,handle", rows, counts, 0, draw)
+    full = log(folder, "log.csv", "region,handle", rows, counts, chosen.rows, draw)
+    at_fronts = [f"{front},{row}" for row in rows for front in range(FRONTS)]
+    weights = [count for count in counts for _ in range(FRONTS)]
+    no_events = log(folder, "no_events.csv", "front,region,handle", rows, counts, 0, draw)
+    all_events = log(folder, "events.csv", "front,region,handle", at_fronts, weights, chosen.rows, draw)
+    events = words + ["--fronts", str(FRONTS), "--log"]
+    ways = [
+        ("none", words + ["--log", empty], words + ["--log", full]),
+        (f"{FRONTS} fronts", events + [no_events], events + [all_events]),
+    ]
+    if peer:
+        table = table_for(folder, chosen.stream, rows, counts, files, plan)
+        ways += [(f"peer, {it}", [peer, it, table, empty], [peer, it, table, full]) for it in ("plain", "fast")]
+    return ways
 
 
 def main():
@@ -183,35 +230,18 @@ def main():
     arguments.add_argument("--program", default=os.path.join(TOP, "crates", "hsplan", "out", "hsplan"))
     arguments.add_argument("--stream", default=os.path.join(TOP, "crates", "hsplan_stream", "out", "hsplan_stream"))
     chosen = arguments.parse_args()
-    program, many = chosen.program, chosen.rows
-    if not os.access(program, os.X_OK):
-        print(f"no program {program}: run rt ci or make prove first")
+    if not os.access(chosen.program, os.X_OK):
+        print(f"no program {chosen.program}: run rt ci or make prove first")
         return 1
-    draw = random.Random(1)
     with tempfile.TemporaryDirectory() as folder:
         peer = peer_in(folder) if os.access(chosen.stream, os.X_OK) else None
         if hasattr(os, "sched_setaffinity"):
             os.sched_setaffinity(0, {max(os.sched_getaffinity(0))})
-        rows, counts, files = inputs(folder, draw, times=chosen.times)
-        plan = os.path.join(folder, "plan.txt")
-        with open(plan, "w") as file:
-            subprocess.run([program, "plan"] + files, stdout=file, check=True)
-        words = [program, "dispatch"] + files + ["--plan", plan, "--log"]
-        events = [program, "dispatch"] + files + ["--plan", plan, "--fronts", str(FRONTS), "--log"]
-        empty = log(folder, "no_log.csv", "region,handle", rows, counts, 0, draw)
-        full = log(folder, "log.csv", "region,handle", rows, counts, many, draw)
-        at_fronts = [f"{front},{row}" for row in rows for front in range(FRONTS)]
-        weights = [count for count in counts for _ in range(FRONTS)]
-        no_events = log(folder, "no_events.csv", "front,region,handle", rows, counts, 0, draw)
-        all_events = log(folder, "events.csv", "front,region,handle", at_fronts, weights, many, draw)
-        kinds = [("none", words + [empty], words + [full]), (f"{FRONTS} fronts", events + [no_events], events + [all_events])]
-        if peer:
-            table = table_for(folder, chosen.stream, rows, counts, files, plan)
-            kinds += [(f"peer, {kind}", [peer, kind, table, empty], [peer, kind, table, full]) for kind in ("plain", "fast")]
-            told = {name: answers_of(words) for name, _, words in kinds if name != f"{FRONTS} fronts"}
-            if len(set(told.values())) > 1:
-                sys.exit(f"answers differ: {told}")
-        compare(measure(kinds, many, chosen.turns), chosen.turns)
+        ways = ways_of(chosen, peer, folder, random.Random(1))
+        answers = {name: answers_of(words) for name, _, words in ways if peer and name != f"{FRONTS} fronts"}
+        if len(set(answers.values())) > 1:
+            sys.exit(f"answers differ: {answers}")
+        compare(measure(ways, chosen.rows, chosen.turns), chosen.turns)
     return 0
 
 

@@ -65,7 +65,9 @@ def measured(jobs, log):
     """Runs rt ci to its end. Returns its status, the seconds by the clock, what checks took by crate and kind, and what
     each edit took."""
     began, seen = time.monotonic(), {}
-    run = subprocess.Popen(["rt", "ci"], cwd=TOP, env={**os.environ, "RT_JOBS": str(jobs)}, stdout=log, stderr=subprocess.STDOUT)
+    run = subprocess.Popen(
+        ["rt", "ci"], cwd=TOP, env={**os.environ, "RT_JOBS": str(jobs)}, stdout=log, stderr=subprocess.STDOUT
+    )
     while run.poll() is None:
         seen.update(checks_of(run.pid))
         time.sleep(1)
@@ -93,7 +95,10 @@ def main():
         print(f"{round(seconds)} {crate}/{edit}")
     for kind in KINDS:
         print(f"{kind}: {sum(seconds for (_, it), seconds in took.items() if it == kind) / 60:.0f} minutes")
-    print(f"{sum(took.values()) / 60:.0f} minutes of a processor, {clock / 60:.0f} by the clock, {given.jobs} checks side by side")
+    print(
+        f"{sum(took.values()) / 60:.0f} minutes of a processor, {clock / 60:.0f} by the clock, "
+        f"{given.jobs} checks side by side"
+    )
     with open(given.log, encoding="utf-8") as log:
         print(log.read().splitlines()[-1])
     return status

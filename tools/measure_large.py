@@ -75,20 +75,24 @@ def fill(path, begins, pieces):
 
 
 def build(folder):
-    made = os.path.join(folder, "tell_memory.so")
-    subprocess.run(["cc", "-O1", "-shared", "-fPIC", "-o", made, os.path.join(TOP, "tools", "tell_memory.c")], check=True)
+    made = os.path.join(folder, "report_memory.so")
+    subprocess.run(
+        ["cc", "-O1", "-shared", "-fPIC", "-o", made, os.path.join(TOP, "tools", "report_memory.c")], check=True
+    )
     return made
 
 
 def measured(program, words, folder, preloaded):
     """The seconds, the most kilobytes of memory (None where the program was ended), the status, and what was printed
     on standard error."""
-    told = os.path.join(folder, "memory")
-    means = dict(os.environ, LD_PRELOAD=preloaded, TELL_MEMORY=told)
+    reported = os.path.join(folder, "memory")
+    means = dict(os.environ, LD_PRELOAD=preloaded, REPORT_MEMORY=reported)
     begun = time.perf_counter()
-    ended = subprocess.run([program] + words.split(), cwd=folder, env=means, stdout=subprocess.DEVNULL, stderr=subprocess.PIPE, text=True)
+    ended = subprocess.run(
+        [program] + words.split(), cwd=folder, env=means, stdout=subprocess.DEVNULL, stderr=subprocess.PIPE, text=True
+    )
     spent = time.perf_counter() - begun
-    return spent, check_growth.count_in(told), ended.returncode, ended.stderr.strip()
+    return spent, check_growth.count_in(reported), ended.returncode, ended.stderr.strip()
 
 
 def measure(program, room, preloaded, name, filler):

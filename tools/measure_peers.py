@@ -127,10 +127,10 @@ def cost_in(path: str) -> str:
 
 def run(words: list[str], path: str) -> tuple[float, float, str]:
     """The seconds and the peak megabytes of a run, and its standard error. What it prints goes to a file."""
-    with open(path, "w", encoding="utf-8") as out, tempfile.TemporaryFile("w+") as told:
-        _, seconds, memory = measure_dispatch.spent_by(words, out, told)
-        told.seek(0)
-        return seconds, memory, told.read()
+    with open(path, "w", encoding="utf-8") as out, tempfile.TemporaryFile("w+") as reported:
+        _, seconds, memory = measure_dispatch.spent_by(words, out, reported)
+        reported.seek(0)
+        return seconds, memory, reported.read()
 
 
 def turn(folder: str, program: str, words: list[str], peer: list[str]) -> tuple[dict[str, float], str, str]:

@@ -24,15 +24,19 @@ STATUSES = {0: "plan", 3: "shortage"}
 def spent_by(words, out):
     """The status of a run, its processor seconds and its peak memory in megabytes. What it prints goes to the file
     `out`."""
-    with open(out, "w") as file, open(os.devnull, "w") as told:
-        return measure_dispatch.spent_by(words, file, told)
+    with open(out, "w") as file, open(os.devnull, "w") as reported:
+        return measure_dispatch.spent_by(words, file, reported)
 
 
 def row(name, words, out, runs):
     """Runs a command `runs` times, and prints a row of the table. Returns the status of the last run."""
     took = [spent_by(words, out) for _ in range(runs)]
     seconds = [it[1] for it in took]
-    print(f"| {name} | {min(seconds):.3f}, {statistics.median(seconds):.3f}, {max(seconds):.3f} | {max(it[2] for it in took):.1f} MB | {took[-1][0]} |", flush=True)
+    print(
+        f"| {name} | {min(seconds):.3f}, {statistics.median(seconds):.3f}, {max(seconds):.3f} "
+        f"| {max(it[2] for it in took):.1f} MB | {took[-1][0]} |",
+        flush=True,
+    )
     return took[-1][0]
 
 
@@ -41,9 +45,19 @@ def measure(factor, chosen, folder):
     _, _, files = measure_dispatch.inputs(folder, random.Random(1), factor, chosen.hosts)
     answer, sink = os.path.join(folder, "answer.txt"), os.path.join(folder, "sink.txt")
     status = row(f"`plan` at factor {factor}", [chosen.program, "plan"] + files, answer, chosen.runs)
-    row(f"`check` of that {STATUSES.get(status, 'refusal')}", [chosen.program, "check"] + files + ["--plan", answer], sink, chosen.runs)
+    row(
+        f"`check` of that {STATUSES.get(status, 'refusal')}",
+        [chosen.program, "check"] + files + ["--plan", answer],
+        sink,
+        chosen.runs,
+    )
     if status == 0:
-        row("`report` of its loads", [chosen.program, "report", "--kind", "load"] + files + ["--plan", answer], sink, chosen.runs)
+        row(
+            "`report` of its loads",
+            [chosen.program, "report", "--kind", "load"] + files + ["--plan", answer],
+            sink,
+            chosen.runs,
+        )
     return files
 
 
@@ -51,7 +65,9 @@ def main():
     arguments = argparse.ArgumentParser(description="Measures whole runs over an instance at the limits.")
     arguments.add_argument("--runs", type=int, default=5)
     arguments.add_argument("--hosts", type=int, default=0)
-    arguments.add_argument("--program", default=os.path.join(measure_dispatch.TOP, "crates", "hsplan", "out", "hsplan"))
+    arguments.add_argument(
+        "--program", default=os.path.join(measure_dispatch.TOP, "crates", "hsplan", "out", "hsplan")
+    )
     arguments.add_argument("factors", type=float, nargs="*", default=FACTORS)
     chosen = arguments.parse_args()
     if not os.access(chosen.program, os.X_OK):
@@ -62,7 +78,12 @@ def main():
         for factor in chosen.factors:
             files = measure(factor, chosen, folder)
         settings = files[:2]
-        row("`locate` over the settings", [chosen.program, "locate"] + settings + ["20.500.12345/object-000001"], os.path.join(folder, "sink.txt"), chosen.runs)
+        row(
+            "`locate` over the settings",
+            [chosen.program, "locate"] + settings + ["20.500.12345/object-000001"],
+            os.path.join(folder, "sink.txt"),
+            chosen.runs,
+        )
     return 0
 
 

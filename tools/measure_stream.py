@@ -122,7 +122,8 @@ def measure(folder: str, name: str, programs_of: tuple[str, str, Optional[str]],
     for it, found in spent.items():
         seconds, memory = min(found)[0], max(it[1] for it in found)
         print(
-            f"{name}, {rows:,} rows, {kinds:,} kinds: {it}: {seconds:.2f} s, {rows / seconds / 1e6:.2f} million rows a second, {memory:.1f} MB",
+            f"{name}, {rows:,} rows, {kinds:,} kinds: {it}: {seconds:.2f} s, "
+            f"{rows / seconds / 1e6:.2f} million rows a second, {memory:.1f} MB",
             flush=True,
         )
 

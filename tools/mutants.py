@@ -74,7 +74,9 @@ def read_mutant(path):
         raise ValueError(f"{path}: a test has a crate and a name")
     if "refused" in found and not test:
         raise ValueError(f"{path}: only a test can have an allocation refused")
-    return Mutant(crate, name, found["file"], pairs, test, found.get("case"), found.get("stream"), found.get("refused"))
+    return Mutant(
+        crate, name, found["file"], pairs, test, found.get("case"), found.get("stream"), found.get("refused")
+    )
 
 
 def read_mutants(wanted):
@@ -84,7 +86,11 @@ def read_mutants(wanted):
 
 
 def is_source(folder, names):
-    return [it for it in names if it in ("out", "proofs", "specs", "must-fail") and os.path.basename(os.path.dirname(folder)) == "crates"]
+    return [
+        it
+        for it in names
+        if it in ("out", "proofs", "specs", "must-fail") and os.path.basename(os.path.dirname(folder)) == "crates"
+    ]
 
 
 def copy_to(folder):
@@ -103,13 +109,24 @@ def changed(mutant, text):
     """The text of the file with the wrong body in it."""
     for old, new in mutant.pairs:
         if text.count(old) != 1:
-            raise ValueError(f"mutants/{mutant.crate}/{mutant.name}.edit: the old text stands {text.count(old)} times in {mutant.file}: {old}")
+            raise ValueError(
+                f"mutants/{mutant.crate}/{mutant.name}.edit: "
+                f"the old text stands {text.count(old)} times in {mutant.file}: {old}"
+            )
         text = text.replace(old, new)
     return text
 
 
 def run(words, folder):
-    ended = subprocess.run(words, cwd=folder, stdin=subprocess.DEVNULL, stdout=subprocess.PIPE, stderr=subprocess.STDOUT, text=True, errors="replace")
+    ended = subprocess.run(
+        words,
+        cwd=folder,
+        stdin=subprocess.DEVNULL,
+        stdout=subprocess.PIPE,
+        stderr=subprocess.STDOUT,
+        text=True,
+        errors="replace",
+    )
     return ended.stdout
 
 
@@ -123,7 +140,11 @@ def outcomes(said):
 
 
 def run_tests(folder, crate, seconds, name=None, refused=None):
-    words = ["rt", "try", "--test", "--seconds", str(seconds)] + (["--fail-alloc", refused] if refused else []) + (["--", name] if name else [])
+    words = (
+        ["rt", "try", "--test", "--seconds", str(seconds)]
+        + (["--fail-alloc", refused] if refused else [])
+        + (["--", name] if name else [])
+    )
     said = run(words, os.path.join(folder, "crates", crate))
     return outcomes(said), said
 
@@ -165,7 +186,9 @@ def run_cases(folder, names, own, seconds):
     cases = os.path.join(folder, CASES)
     files = {it: os.path.join(folder, BASE, it) for it in os.listdir(os.path.join(folder, BASE))}
     if own:
-        files.update({it: os.path.join(cases, own, "files", it) for it in os.listdir(os.path.join(cases, own, "files"))})
+        files.update(
+            {it: os.path.join(cases, own, "files", it) for it in os.listdir(os.path.join(cases, own, "files"))}
+        )
     with tempfile.TemporaryDirectory() as room:
         runs = {name: put_case(os.path.join(cases, name), room, name) for name in names}
         words = ["rt", "try", "--cases", room, "--seconds", str(seconds)]
@@ -214,11 +237,11 @@ def worst(outcomes):
 
 def judged(case, name, said):
     """The outcome of a run of a case, by its output, both streams in one, and by its status."""
-    begins, told = octets(case, "begins", None), octets(case, "stderr").strip("\n")
+    begins, reported = octets(case, "begins", None), octets(case, "stderr").strip("\n")
 
     def is_right(got):
         if begins is None:
-            return got in both_ways(octets(case, "stdout"), told)
+            return got in both_ways(octets(case, "stdout"), reported)
         return got.startswith(begins.strip("\n")) and got.endswith(octets(case, "ends").strip("\n"))
 
     return judged_by(name, said, is_right, int(octets(case, "status", "0")))
@@ -235,9 +258,9 @@ def judged_by(name, said, is_right, status):
     return "ok" if is_right(found[1].strip("\n")) and int(found[3] or -1) == status else "FAILED"
 
 
-def both_ways(printed, told):
+def both_ways(printed, reported):
     """Both orders of what a run prints on its two streams."""
-    return put(printed, told), put(told, printed)
+    return put(printed, reported), put(reported, printed)
 
 
 def put(first, second):
@@ -291,7 +314,11 @@ def faults_of_unchanged(folder, tested, own, names, seconds):
         found, said = run_tests(folder, crate, seconds)
     else:
         found, said = run_cases(folder, sorted(names), own, seconds)
-    wrong = [f"{crate or 'case'} {it}: {found.get(it, 'not run')} on the sources as they stand" for it in sorted(names) if found.get(it) != "ok"]
+    wrong = [
+        f"{crate or 'case'} {it}: {found.get(it, 'not run')} on the sources as they stand"
+        for it in sorted(names)
+        if found.get(it) != "ok"
+    ]
     return wrong + ([said] if wrong else [])
 
 
@@ -323,7 +350,13 @@ def tried(folder, mutant, seconds):
     """Whether a wrong body is refused, and the line that reports it."""
     begun = time.monotonic()
     outcome, said = outcome_of(folder, mutant, seconds)
-    by = f"test {mutant.test[0]} {mutant.test[1]}" if mutant.test else f"case {mutant.case}" if mutant.case else f"cases of {mutant.stream}"
+    by = (
+        f"test {mutant.test[0]} {mutant.test[1]}"
+        if mutant.test
+        else f"case {mutant.case}"
+        if mutant.case
+        else f"cases of {mutant.stream}"
+    )
     spent = f"{time.monotonic() - begun:.0f} s"
     if outcome == "FAILED":
         return True, f"refused: {mutant.crate}/{mutant.name} by {by}, {spent}"
@@ -354,18 +387,38 @@ def told_each(pool, calls):
 
 def try_unchanged(copies, tested, own, names, seconds):
     faults = copies.use(lambda folder: faults_of_unchanged(folder, tested, own, names, seconds))
-    return not faults, "\n".join(faults) or f"as they stand: {tested[0] if tested else 'program'}, {len(names)} {'tests' if tested else 'cases'} pass"
+    return (
+        not faults,
+        "\n".join(faults)
+        or f"as they stand: {tested[0] if tested else 'program'}, {len(names)} {'tests' if tested else 'cases'} pass",
+    )
 
 
 def try_stream(copies, texts, seconds):
     found, said = copies.use(lambda folder: run_stream(folder, sorted(texts), seconds))
-    faults = [f"hsplan-stream {it}: {outcome} on the sources as they stand" for it, outcome in found.items() if outcome != "ok"]
-    return not faults, "\n".join(faults + [said]) if faults else f"as they stand: hsplan-stream, the cases of {len(texts)} texts pass"
+    faults = [
+        f"hsplan-stream {it}: {outcome} on the sources as they stand"
+        for it, outcome in found.items()
+        if outcome != "ok"
+    ]
+    return (
+        not faults,
+        "\n".join(faults + [said])
+        if faults
+        else f"as they stand: hsplan-stream, the cases of {len(texts)} texts pass",
+    )
 
 
 def main():
-    words = argparse.ArgumentParser(description="Checks that each wrong body of mutants/ is refused by its test or case.")
-    words.add_argument("--jobs", type=int, default=max(1, (os.cpu_count() or 1) // 2), help="number of runs side by side (half of the processors)")
+    words = argparse.ArgumentParser(
+        description="Checks that each wrong body of mutants/ is refused by its test or case."
+    )
+    words.add_argument(
+        "--jobs",
+        type=int,
+        default=max(1, (os.cpu_count() or 1) // 2),
+        help="number of runs side by side (half of the processors)",
+    )
     words.add_argument("--seconds", type=int, default=300, help="how long a test or a case may take (300)")
     words.add_argument("names", nargs="*", metavar="CRATE | CRATE/NAME")
     given = words.parse_args()
@@ -383,7 +436,10 @@ def main():
         refused = told_each(pool, calls)
     minutes = (time.monotonic() - begun) / 60
     wrong = len(refused) - sum(refused) + len(stands) - sum(stands)
-    print(f"mutants: {len(mutants)} wrong bodies, {sum(refused)} refused, {wrong} faults, {minutes:.0f} minutes by {given.jobs} jobs")
+    print(
+        f"mutants: {len(mutants)} wrong bodies, {sum(refused)} refused, {wrong} faults, "
+        f"{minutes:.0f} minutes by {given.jobs} jobs"
+    )
     return 1 if wrong or not mutants else 0
 
 

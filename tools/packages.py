@@ -1,5 +1,6 @@
 #!/usr/bin/env python3
-"""Installs the packages of Debian that the gate takes, where it runs as root. Otherwise one line names those that are absent.
+"""Installs the packages of Debian that the gate takes, where it runs as root. Otherwise one line names those that are
+absent.
 
     tools/packages.py
 

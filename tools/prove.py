@@ -97,7 +97,7 @@ def seconds() -> dict[str, float]:
 
 
 class Plan:
-    """The crates that are left, with how long each takes about, alone and with the longest chain above it."""
+    """The crates that are left, with how long each takes about, by itself and with the longest chain above it."""
 
     def __init__(self) -> None:
         self.left = programs.crates_of()

@@ -43,7 +43,7 @@ void *realloc(void *old, size_t size)
     return next(old, size);
 }
 
-__attribute__((destructor)) static void tell(void)
+__attribute__((destructor)) static void report(void)
 {
     const char *path = getenv("COUNT_GROWTH");
     long count = allocations;

@@ -12,12 +12,101 @@ MONO = "'DejaVu Sans Mono', Consolas, monospace"
 EDGE = 8
 # The advance widths of DejaVu Sans from space to tilde, in thousandths of the size of the letters.
 WIDTHS = [
-    318, 401, 460, 838, 636, 950, 780, 275, 390, 390, 500, 838, 318, 361, 318, 337,
-    636, 636, 636, 636, 636, 636, 636, 636, 636, 636, 337, 337, 838, 838, 838, 531,
-    1000, 684, 686, 698, 770, 632, 575, 775, 752, 295, 295, 656, 557, 863, 748, 787,
-    603, 787, 695, 635, 611, 732, 684, 989, 685, 611, 685, 390, 337, 390, 838, 500,
-    500, 613, 635, 550, 635, 615, 352, 635, 634, 278, 278, 579, 278, 974, 634, 612,
-    635, 635, 411, 521, 392, 634, 592, 818, 592, 592, 525, 636, 337, 636, 838,
+    318,
+    401,
+    460,
+    838,
+    636,
+    950,
+    780,
+    275,
+    390,
+    390,
+    500,
+    838,
+    318,
+    361,
+    318,
+    337,
+    636,
+    636,
+    636,
+    636,
+    636,
+    636,
+    636,
+    636,
+    636,
+    636,
+    337,
+    337,
+    838,
+    838,
+    838,
+    531,
+    1000,
+    684,
+    686,
+    698,
+    770,
+    632,
+    575,
+    775,
+    752,
+    295,
+    295,
+    656,
+    557,
+    863,
+    748,
+    787,
+    603,
+    787,
+    695,
+    635,
+    611,
+    732,
+    684,
+    989,
+    685,
+    611,
+    685,
+    390,
+    337,
+    390,
+    838,
+    500,
+    500,
+    613,
+    635,
+    550,
+    635,
+    615,
+    352,
+    635,
+    634,
+    278,
+    278,
+    579,
+    278,
+    974,
+    634,
+    612,
+    635,
+    635,
+    411,
+    521,
+    392,
+    634,
+    592,
+    818,
+    592,
+    592,
+    525,
+    636,
+    337,
+    636,
+    838,
 ]
 OTHER_WIDTH = 1000
 MONO_WIDTH = 602
@@ -59,7 +148,9 @@ def number(value: float) -> str:
 
 def rules(first: int) -> str:
     """The colours of all styles in the light palette, which begins at 0, or in the dark one, which begins at 2."""
-    return "\n".join(f".{name} {{ fill: {colours[first]}; stroke: {colours[first + 1]}; }}" for name, colours in STYLES.items())
+    return "\n".join(
+        f".{name} {{ fill: {colours[first]}; stroke: {colours[first + 1]}; }}" for name, colours in STYLES.items()
+    )
 
 
 class Picture:
@@ -72,9 +163,21 @@ class Picture:
 
     def rectangle(self, left: float, top: float, width: float, height: float, style: str, rounded: float = 0) -> None:
         corner = f' rx="{number(rounded)}"' if rounded else ""
-        self.shapes.append(f'<rect class="{style}" x="{number(left)}" y="{number(top)}" width="{number(width)}" height="{number(height)}"{corner}/>')
+        self.shapes.append(
+            f'<rect class="{style}" x="{number(left)}" y="{number(top)}" '
+            f'width="{number(width)}" height="{number(height)}"{corner}/>'
+        )
 
-    def text(self, at: float, base: float, words: str, size: float = 13, style: str = "ink", anchor: str = "start", form: str = "") -> None:
+    def text(
+        self,
+        at: float,
+        base: float,
+        words: str,
+        size: float = 13,
+        style: str = "ink",
+        anchor: str = "start",
+        form: str = "",
+    ) -> None:
         """A text on a base line; its form is empty, `bold` or `mono`."""
         wide = width_of(words, size, form == "bold", form == "mono")
         left = at - {"start": 0, "middle": wide / 2, "end": wide}[anchor]
@@ -83,7 +186,10 @@ class Picture:
         classes = f"{style} {form}".strip()
         place = "" if anchor == "start" else f' text-anchor="{anchor}"'
         written = html.escape(words, quote=False)
-        self.shapes.append(f'<text class="{classes}" x="{number(at)}" y="{number(base)}" font-size="{number(size)}"{place}>{written}</text>')
+        self.shapes.append(
+            f'<text class="{classes}" x="{number(at)}" y="{number(base)}" '
+            f'font-size="{number(size)}"{place}>{written}</text>'
+        )
 
     def label(self, middle: float, base: float, texts: list[str], size: float = 13) -> None:
         """A name and what is said of it below, each centred."""
@@ -91,7 +197,9 @@ class Picture:
         for at, words in enumerate(texts[1:]):
             self.text(middle, base + 17 + 15 * at, words, size - 2, "faint", "middle")
 
-    def line(self, points: list[tuple[float, float]], style: str = "line", width: float = 1.5, arrow: bool = False) -> None:
+    def line(
+        self, points: list[tuple[float, float]], style: str = "line", width: float = 1.5, arrow: bool = False
+    ) -> None:
         """A line from point to point, with or without an arrow head at its end."""
         path = " ".join(f"{number(x)},{number(y)}" for x, y in (self.shortened(points) if arrow else points))
         self.shapes.append(f'<polyline class="{style}" fill="none" points="{path}" stroke-width="{number(width)}"/>')
@@ -107,11 +215,15 @@ class Picture:
 
     def arrow_head(self, start: tuple[float, float], end: tuple[float, float]) -> None:
         turn = math.atan2(end[1] - start[1], end[0] - start[0])
-        corners = [end] + [(end[0] - 10 * math.cos(turn + it), end[1] - 10 * math.sin(turn + it)) for it in (0.42, -0.42)]
+        corners = [end] + [
+            (end[0] - 10 * math.cos(turn + it), end[1] - 10 * math.sin(turn + it)) for it in (0.42, -0.42)
+        ]
         path = " ".join(f"{number(x)},{number(y)}" for x, y in corners)
         self.shapes.append(f'<polygon class="head" points="{path}"/>')
 
-    def band(self, start: tuple[float, float], end: tuple[float, float], width: float, style: str, level: float = 0) -> None:
+    def band(
+        self, start: tuple[float, float], end: tuple[float, float], width: float, style: str, level: float = 0
+    ) -> None:
         """A band of a width between the middles of its ends, which are both level. The first part of it, of the
         length `level`, is straight."""
         (x, y), (to_x, to_y), half = start, end, width / 2
@@ -136,8 +248,14 @@ class Picture:
 
     def drawn(self) -> str:
         size = f'width="{self.width}" height="{self.height}" viewBox="0 0 {self.width} {self.height}"'
-        head = f'<svg xmlns="http://www.w3.org/2000/svg" {size} font-family="{SANS}" role="img" aria-labelledby="title desc">'
-        names = [f'<title id="title">{html.escape(self.title)}</title>', f'<desc id="desc">{html.escape(self.description)}</desc>']
+        head = (
+            f'<svg xmlns="http://www.w3.org/2000/svg" {size} font-family="{SANS}" role="img" '
+            'aria-labelledby="title desc">'
+        )
+        names = [
+            f'<title id="title">{html.escape(self.title)}</title>',
+            f'<desc id="desc">{html.escape(self.description)}</desc>',
+        ]
         forms = f".bold {{ font-weight: bold; }}\n.mono {{ font-family: {MONO}; }}"
         style = f"<style>\n{rules(0)}\n{forms}\n@media (prefers-color-scheme: dark) {{\n{rules(2)}\n}}\n</style>"
         return "\n".join([head] + names + [style] + self.shapes + ["</svg>"]) + "\n"

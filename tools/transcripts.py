@@ -57,7 +57,9 @@ def stream_beside(program):
 def room_for(folder, program):
     """Makes in an empty folder what a transcript may read and run: the examples, the program as `hsplan`,
     `hsplan-stream`, and `hsp`. Returns its environment."""
-    shutil.copytree(os.path.join(TOP, "examples"), os.path.join(folder, "examples"), ignore=shutil.ignore_patterns("out"))
+    shutil.copytree(
+        os.path.join(TOP, "examples"), os.path.join(folder, "examples"), ignore=shutil.ignore_patterns("out")
+    )
     os.mkdir(os.path.join(folder, "bin"))
     os.symlink(program, os.path.join(folder, "bin", "hsplan"))
     os.symlink(stream_beside(program), os.path.join(folder, "bin", "hsplan-stream"))
@@ -74,7 +76,9 @@ def printed_by(steps, program, prepare=None, shell="bash"):
         environment = room_for(folder, program)
         if prepare:
             prepare(folder)
-        ended = subprocess.run([shell], input=script, cwd=folder, env=environment, stdout=subprocess.PIPE, text=True, timeout=600)
+        ended = subprocess.run(
+            [shell], input=script, cwd=folder, env=environment, stdout=subprocess.PIPE, text=True, timeout=600
+        )
     texts = ended.stdout.split(MARK)[:-1]
     return [it.splitlines() for it in texts] + [None] * (len(steps) - len(texts))
 
@@ -93,5 +97,7 @@ def faults_of(name, steps, program, prepare=None, shell="bash"):
     for step, got in zip(steps, printed_by(steps, program, prepare, shell)):
         if not fits(step.wanted, got):
             shown = ["not run"] if got is None else got[:40]
-            found.append("\n  ".join([f"{name}: $ {step.command()}", "wanted:"] + step.wanted[:40] + ["printed:"] + shown))
+            found.append(
+                "\n  ".join([f"{name}: $ {step.command()}", "wanted:"] + step.wanted[:40] + ["printed:"] + shown)
+            )
     return found

@@ -72,8 +72,8 @@ class Commands(Group):
 
 
 def with_streams() -> None:
-    """Opens the null device for each standard stream that is closed, so that no file gets its number. Ends where that is
-    standard output, which each command writes."""
+    """Opens the null device for each standard stream that is closed, so that no file gets its number. Ends where that
+    is standard output, which each command writes."""
     is_closed = sys.stdout is None
     number = 0
     while number < 3:
@@ -119,8 +119,8 @@ def main(context: click.Context) -> None:
     """Shows the load plan of a Handle System service.
 
     DIR has settings.toml, demand.csv, costs.csv and capacity.csv, and may have hsp.toml with a title and units.
-    Every rule is hsplan's. Nothing is sent anywhere, but by fleet to its workers. At a terminal, hsp by itself says what
-    to do next.
+    Every rule is hsplan's. Nothing is sent anywhere, but by fleet to its workers. At a terminal, hsp by itself says
+    what to do next.
     """
     if context.invoked_subcommand is None:
         if sys.stdout.isatty():

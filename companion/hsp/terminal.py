@@ -132,7 +132,8 @@ def shortage_lines(
     )
     if short.stranded:
         verb = "has" if len(short.stranded) == 1 else "have"
-        yield f"why   {listed(short.stranded)} {verb} no cost for any site, so no site may serve them: give costs, or mend the name"
+        why = f"{listed(short.stranded)} {verb} no cost for any site, so no site may serve them"
+        yield f"why   {why}: give costs, or mend the name"
     handles: Counter[str] = Counter()
     for row in short.rows:
         handles[row.handle] += row.count
@@ -157,7 +158,8 @@ def purchase_lines(
         return
     whole = bold(f"room for {sum(bought.values()):,} queries more")
     cost = after.certificate.cost
-    yield f"buy   {whole}, the least that suffices; then the cost is {cost:,}{_unit(service)}, {average(cost, service.asked)} a query"
+    each = f"{average(cost, service.asked)} a query"
+    yield f"buy   {whole}, the least that suffices; then the cost is {cost:,}{_unit(service)}, {each}"
     wide = max(len(it.label) for it in bought)
     for server, more in sorted(bought.items(), key=lambda it: -it[1]):
         before = service.capacity(server)

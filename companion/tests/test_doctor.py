@@ -434,13 +434,13 @@ def test_json_has_the_same_findings(hsp: Hsp, example: Example) -> None:
     folder = example("two-sites")
     (folder / DEMAND).write_text(sub(",475", ",4.5")((folder / DEMAND).read_text()))
     (folder / COSTS).unlink()
-    told = json.loads(hsp("doctor", str(folder), "--json", status=5).stdout)
+    printed = json.loads(hsp("doctor", str(folder), "--json", status=5).stdout)
     found = examined(str(folder), Desk(), {})
-    assert [(it["file"], it["line"], it["column"], it["end"], it["message"], it["remedy"]) for it in told] == [
+    assert [(it["file"], it["line"], it["column"], it["end"], it["message"], it["remedy"]) for it in printed] == [
         (it.file, it.line, it.column, it.end, it.message, it.remedy) for it in found.findings
     ]
-    assert {it["hsplan"] for it in told} == {"read failed", "demand: BadNumber row 0"}
-    assert set(told[0]) == {"severity", "file", "line", "column", "end", "message", "why", "remedy", "hsplan"}
+    assert {it["hsplan"] for it in printed} == {"read failed", "demand: BadNumber row 0"}
+    assert set(printed[0]) == {"severity", "file", "line", "column", "end", "message", "why", "remedy", "hsplan"}
 
 
 @pytest.mark.parametrize("name", ["two-sites", "base"])

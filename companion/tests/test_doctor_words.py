@@ -34,7 +34,7 @@ def folder(example: Example, monkeypatch: pytest.MonkeyPatch) -> Path:
     return found
 
 
-def told(words: str, status: int) -> list[dict[str, Any]]:
+def findings(words: str, status: int) -> list[dict[str, Any]]:
     """The findings for words, as objects."""
     found = examined_words(words.split(), Desk())
     assert found.status == status
@@ -105,7 +105,7 @@ VALUES = [
 
 @pytest.mark.parametrize("words, marked, remedy", WORDS)
 def test_words_that_are_no_command(folder: Path, words: str, marked: str, remedy: str) -> None:
-    first = told(words, 2)[0]
+    first = findings(words, 2)[0]
     line = words if words.startswith("hsplan") else "hsplan " + words
     assert (first["file"], first["line"], first["hsplan"]) == ("", 1, "Usage")
     assert line[first["column"] - 1 : first["end"] - 1] == marked
@@ -114,7 +114,7 @@ def test_words_that_are_no_command(folder: Path, words: str, marked: str, remedy
 
 @pytest.mark.parametrize("words, marked, remedy, said", VALUES)
 def test_values_that_an_option_does_not_take(folder: Path, words: str, marked: str, remedy: str, said: str) -> None:
-    (first,) = told(words, 1)
+    (first,) = findings(words, 1)
     program = "hsplan-stream " if words.startswith(("kinds", "answer")) else "hsplan "
     assert (program + words)[first["column"] - 1 : first["end"] - 1] == marked
     assert remedy in first["remedy"] and first["hsplan"] == said
@@ -130,17 +130,17 @@ WHY = [
 
 @pytest.mark.parametrize("number, why", WHY)
 def test_why_an_option_does_not_take_a_number(folder: Path, number: str, why: str) -> None:
-    (only,) = told(f"locate --option handle --servers {number} 20.500.1234/film-5", 1)
+    (only,) = findings(f"locate --option handle --servers {number} 20.500.1234/film-5", 1)
     assert only["why"] == why
 
 
 def test_a_question_for_help_lacks_nothing(folder: Path) -> None:
-    assert [it["message"] for it in told("plan --help", 2)] == ["plan has no --help"]
+    assert [it["message"] for it in findings("plan --help", 2)] == ["plan has no --help"]
 
 
 def test_all_faults_of_words_and_their_files(folder: Path) -> None:
     words = "plan --setings settings.toml --demand demands.csv --cost costs.csv --capacity capacity.csv --capacity x"
-    found = told(words, 2)
+    found = findings(words, 2)
     assert [it["message"] for it in found] == [
         "no option --setings",
         "no option --cost",
@@ -237,7 +237,7 @@ COMMANDS = {
 def test_faults_of_plans_logs_and_records(folder: Path, case: tuple[str, str, bytes, bytes, int, str, str]) -> None:
     command, file, old, new, line, remedy, said = case
     edited(folder / file, old, new)
-    first = told(COMMANDS[command], 1)[0]
+    first = findings(COMMANDS[command], 1)[0]
     named = "plan.txt" if said.startswith(("check", "no ")) else file
     assert (first["file"], first["line"], first["hsplan"]) == (named, line, said)
     assert remedy in first["remedy"]
@@ -245,14 +245,14 @@ def test_faults_of_plans_logs_and_records(folder: Path, case: tuple[str, str, by
 
 @pytest.mark.parametrize("words", [it for name, it in COMMANDS.items() if name != "fronts"])
 def test_commands_without_a_fault(folder: Path, words: str) -> None:
-    assert told(words, 0) == []
+    assert findings(words, 0) == []
 
 
 def test_a_shortage_where_a_plan_is_wanted(folder: Path) -> None:
     files = FILES.replace("demand.csv", "premiere.csv")
     short = subprocess.run([os.environ["HSPLAN"], "plan", *files.split()], capture_output=True)
     (folder / "plan.txt").write_bytes(short.stdout)
-    (first,) = told(f"report {files} --plan plan.txt --kind load", 1)
+    (first,) = findings(f"report {files} --plan plan.txt --kind load", 1)
     assert first["hsplan"] == "WrongKind" and "--kind shortage" in first["remedy"]
 
 
@@ -267,9 +267,9 @@ def test_octets_that_are_no_record(folder: Path) -> None:
     }
     for name, (text, remedy) in forms.items():
         (folder / name).write_bytes(text)
-        (first,) = told(f"site {name}", 1)
+        (first,) = findings(f"site {name}", 1)
         assert remedy in first["remedy"], first
-    assert told("site --index 5 sites.values", 1)[0]["remedy"] == "write --index 3"
+    assert findings("site --index 5 sites.values", 1)[0]["remedy"] == "write --index 3"
 
 
 def spoilt(words: list[str], draw: random.Random) -> list[str]:
@@ -363,7 +363,7 @@ RARE: dict[str, tuple[str, str, str, str]] = {
 def test_rare_faults(folder: Path, name: str) -> None:
     file, text, remedy, said = RARE[name]
     (folder / file).write_text(text)
-    first = told(f"plan {FILES}", 1)[0]
+    first = findings(f"plan {FILES}", 1)[0]
     assert first["hsplan"] == said and remedy in first["remedy"], first
 
 
@@ -381,31 +381,31 @@ LISTS: dict[str, tuple[bytes, bytes, str, str]] = {
 def test_value_lists(folder: Path, name: str) -> None:
     old, new, said, remedy = LISTS[name]
     words = f"plan {FILES} --values sites.values".replace("settings.toml", "by_index.toml")
-    assert told(words, 0) == []
+    assert findings(words, 0) == []
     edited(folder / "sites.values", old, new)
-    first = told(words, 1)[0]
+    first = findings(words, 1)[0]
     assert first["hsplan"].startswith(said) and remedy in first["remedy"], first
 
 
 def test_long_logs(folder: Path) -> None:
     kinds = "kinds --settings settings.toml --costs costs.csv --log {}"
     (folder / "sums.csv").write_text("region,handle,count\neu,20.500.1234/film-5,2000000\n")
-    (first,) = told(kinds.format("sums.csv"), 1)
+    (first,) = findings(kinds.format("sums.csv"), 1)
     assert first["hsplan"].startswith("log: CountTooLarge row 0 unit 2") and "--unit 2," in first["remedy"]
     rows = "".join(f"r{it},20.500.1234/film-5\n" for it in range(65))
     (folder / "regions.csv").write_text("region,handle\n" + rows)
     costs = "region,site,cost\n" + "".join(f"r{it},paris,1\n" for it in range(64))
     (folder / "costs.csv").write_text(costs)
-    first = told(kinds.format("regions.csv"), 1)[0]
+    first = findings(kinds.format("regions.csv"), 1)[0]
     assert (first["hsplan"], first["line"]) == ("log: TooManyRegions row 64", 66) and "join networks" in first[
         "remedy"
     ]
-    (first,) = told(f"dispatch {FILES} --plan plan.txt --log .".replace("costs.csv", "costs2.csv"), 5)[:1]
+    (first,) = findings(f"dispatch {FILES} --plan plan.txt --log .".replace("costs.csv", "costs2.csv"), 5)[:1]
     assert "costs2.csv" in first["file"]
 
 
 def test_a_log_that_is_a_folder(folder: Path) -> None:
-    (first,) = told(f"dispatch {FILES} --plan plan.txt --log .", 5)
+    (first,) = findings(f"dispatch {FILES} --plan plan.txt --log .", 5)
     assert first["file"] == "." and "folder" in first["message"] + first["why"]
 
 
@@ -424,27 +424,27 @@ def test_a_pipe_that_stands_for_two_files(folder: Path) -> None:
 
 
 def test_a_log_where_the_demand_belongs(folder: Path) -> None:
-    (first,) = told("plan " + FILES.replace("demand.csv", "log.csv"), 1)
+    (first,) = findings("plan " + FILES.replace("demand.csv", "log.csv"), 1)
     assert first["why"] == "this is a log, whose rows aren't counted yet"
     assert "hsplan-stream kinds" in first["remedy"]
 
 
 def test_a_handle_that_is_not_utf8(folder: Path) -> None:
     """It is no file, so no file has to be renamed."""
-    (first,) = told("locate --settings settings.toml 20.500.1234/caf\udce9", 2)
+    (first,) = findings("locate --settings settings.toml 20.500.1234/caf\udce9", 2)
     assert first["hsplan"] == "Usage" and "iconv" in first["remedy"]
 
 
 @pytest.mark.parametrize("prefix", ["20.500.1234", "21.T11998"])
 def test_only_a_prefix(folder: Path, prefix: str) -> None:
     edited(folder / "demand.csv", b"20.500.1234/report-2024", prefix.encode())
-    (first,) = told("plan " + FILES, 1)
+    (first,) = findings("plan " + FILES, 1)
     assert first["remedy"] == f"write the suffix too, as {prefix}/report-2024"
 
 
 def doubtful(words: str) -> list[dict[str, Any]]:
     """The warnings for words that hsplan takes."""
-    found = told(words, 0)
+    found = findings(words, 0)
     assert all((it["severity"], it["hsplan"]) == ("warning", "") for it in found)
     return found
 
@@ -479,13 +479,13 @@ def test_doubts_of_words_are_those_of_a_folder(hsp: Hsp, folder: Path) -> None:
 @pytest.mark.parametrize("count, remedy", [(1_000_001, "give --unit 2,"), (10**12, "give --unit 1000000,")])
 def test_a_sum_that_needs_a_unit(folder: Path, count: int, remedy: str) -> None:
     (folder / "log.csv").write_text(f"region,handle,count\neu,20.500.1234/x,{count}\n")
-    (first,) = told(COMMANDS["kinds"], 1)
+    (first,) = findings(COMMANDS["kinds"], 1)
     assert first["remedy"].startswith(remedy)
 
 
 def test_a_sum_that_no_unit_helps(folder: Path) -> None:
     (folder / "log.csv").write_text("region,handle,count\n" + f"eu,20.500.1234/x,{10**12}\n" * 2)
-    (first,) = told(COMMANDS["kinds"], 1)
+    (first,) = findings(COMMANDS["kinds"], 1)
     assert first["hsplan"] == "log: CountTooLarge row 0 unit 2000000"
     assert first["remedy"].startswith("cut the log in parts")
 

@@ -25,7 +25,8 @@ NO_LIMIT = 1_000_000_000
 # The kind of the doubt about a plan that isn't one of its inputs.
 OLD_PLAN = "old plan"
 ADDRESS = re.compile(
-    r"\s*(?:https?://(?:(?:dx\.)?doi\.org|(?:www\.)?hdl\.handle\.net)/(?:api/handles/)?|https?://[^/]+/|hdl:(?://)?|doi:|info:hdl/)",
+    r"\s*(?:https?://(?:(?:dx\.)?doi\.org|(?:www\.)?hdl\.handle\.net)/(?:api/handles/)?|https?://[^/]+/"
+    r"|hdl:(?://)?|doi:|info:hdl/)",
     re.I,
 )
 OTHER_OCTETS = "other octets are hashed, so another server may be planned; a log's queries are 'unknown'"

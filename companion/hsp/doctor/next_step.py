@@ -64,6 +64,8 @@ def next_step(service: Service, desk: Desk) -> str:
         return step(f"hsp plan{at}", "plans, and keeps the plan in plan.txt")
     newer = stale_plan(service, desk, path)
     if newer is not None:
-        why = f"{listed(newer)} changed since plan.txt was written" if newer else "plan.txt isn't a plan of these files"
+        why = (
+            f"{listed(newer)} changed since plan.txt was written" if newer else "plan.txt isn't a plan of these files"
+        )
         return step(f"hsp plan{at}", f"plans again: {why}")
     return step(f"hsp view{at}", "writes the plan as a page")

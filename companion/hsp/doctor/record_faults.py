@@ -109,7 +109,8 @@ def record_words(octets: bytes, said: Said, path: str, desk: Desk) -> tuple[Word
     if counted:
         old, new, changed = counted
         verb = "raise" if new > old else "lower"
-        why = f"the number of servers in the head is {old}, and {some(new, 'server')} {'follow' if new > 1 else 'follows'}"
+        follows = "follow" if new > 1 else "follows"
+        why = f"the number of servers in the head is {old}, and {some(new, 'server')} {follows}"
         return Words("", f"{verb} the number of servers in the record to {new}; hsplan reads it then", why), changed
     left = len(octets) - at
     if said.detail == "Trailing" or said.word == "Trailing":

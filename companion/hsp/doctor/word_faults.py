@@ -266,7 +266,8 @@ def not_utf8(line: Line, word: Word) -> Finding:
 
 
 def value_fault(line: Line, word: str) -> Finding:
-    """A value that its option doesn't take: `BadOption`, `BadServers`, `BadIndex`, `BadFronts`, `BadUnit`, `BadFront`."""
+    """A value that its option doesn't take: `BadOption`, `BadServers`, `BadIndex`, `BadFronts`, `BadUnit` or
+    `BadFront`."""
     advised = {
         "BadOption": ("option", "write na, local or handle"),
         "BadServers": ("servers", "write the number of the site's servers, 1 to 1024"),

@@ -1,4 +1,5 @@
-"""How a front's rows are answered: hsplan gets them with their front, and its faults are turned back to file and line."""
+"""How a front's rows are answered: hsplan gets them with their front, and its faults are turned back to file and
+line."""
 
 from __future__ import annotations
 

@@ -91,8 +91,8 @@ def _checked(logs: list[Log], regions: str, output: str | None) -> None:
 def demand(logs: tuple[str, ...], regions: str, into: str | None, keep: str | None, **given: Any) -> None:
     """Counts the queries of logs by region and handle, in parallel.
 
-    It runs on many processors or machines. A LOG is the path of a file that every worker can read, or @HOST=PATH where only the workers of one host can. The
-    table is that of hsp demand over all logs in their order.
+    It runs on many processors or machines. A LOG is the path of a file that every worker can read, or @HOST=PATH where
+    only the workers of one host can. The table is that of hsp demand over all logs in their order.
     """
     desk = Desk()
     place, output = place_of(given), output_of(given, into)

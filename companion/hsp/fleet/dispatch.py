@@ -136,8 +136,9 @@ def _in_one(engine: Engine, own: Front, options: dict[str, Any]) -> list[Reply]:
 def dispatch(folder: str, logs: tuple[str, ...], plan: str | None, **given: Any) -> None:
     """Answers the queries of logs by the plan of DIR, in parallel.
 
-    Each front answers by its share, on many processors or machines. A front's LOG is a table region,handle. Every worker can read it, or those of its host only. The answers are in
-    LOG.answers. One LOG of all fronts is a table front,region,handle.
+    Each front answers by its share, on many processors or machines. A front's LOG is a table region,handle. Every
+    worker can read it, or those of its host only. The answers are in LOG.answers. One LOG of all fronts is a table
+    front,region,handle.
     """
     place, fronts = place_of(given), fronts_of(logs, given["fronts"])
     if given["unit"] and not given["any_handle"]:

@@ -137,7 +137,8 @@ class Engine:
             raise Gone("the scheduler has gone away")
 
     def ship(self, files: Mapping[str, bytes], installed: bool = False) -> None:
-        """Gives each worker the files, and names those that aren't fit. Installed programs have only their sums sent."""
+        """Gives each worker the files, and names those that aren't fit. Installed programs have only their sums
+        sent."""
         sums = {name: self.remote.sum_of(octets) for name, octets in files.items()}
         self.seal = self.remote.Seal(sums, installed)
         sent = {name: it for name, it in files.items() if not (installed and name in self.remote.PROGRAMS)}

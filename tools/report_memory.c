@@ -1,5 +1,5 @@
 /* Preloaded before a program: at its end, writes the most kilobytes of memory that it had in use into the file that
- * TELL_MEMORY names. */
+ * REPORT_MEMORY names. */
 #include <stdio.h>
 #include <stdlib.h>
 #include <string.h>
@@ -17,9 +17,9 @@ static long most_kilobytes(void)
     return most;
 }
 
-__attribute__((destructor)) static void tell(void)
+__attribute__((destructor)) static void report(void)
 {
-    const char *path = getenv("TELL_MEMORY");
+    const char *path = getenv("REPORT_MEMORY");
     long most = most_kilobytes();
     FILE *file = path ? fopen(path, "w") : NULL;
     if (file) {
