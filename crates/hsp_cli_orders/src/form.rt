@@ -128,8 +128,8 @@ fn check_order(alloc: Global, inputs: &InputTexts<'_>, plan: &str) -> Result<Ord
     ensures { IfOk result (λ it. it ≡ order.Check (files_in inputs.now) plan.now) }
 {
     Ok(Order::Check {
-        inputs: files_of(alloc, inputs)?,
         plan: word_of(alloc, plan)?,
+        inputs: files_of(alloc, inputs)?,
     })
 }
 
@@ -144,10 +144,10 @@ fn dispatch_order(
         (option_map (λ t. t.now) fronts.entry)) }
 {
     Ok(Order::Dispatch {
-        inputs: files_of(alloc, inputs)?,
         plan: word_of(alloc, plan)?,
         log: word_of(alloc, log)?,
         fronts: word_if_any(alloc, fronts)?,
+        inputs: files_of(alloc, inputs)?,
     })
 }
 
@@ -160,9 +160,9 @@ fn report_order(
     ensures { IfOk result (λ it. it ≡ order.Report (files_in inputs.now) plan.now kind) }
 {
     Ok(Order::Report {
-        inputs: files_of(alloc, inputs)?,
         plan: word_of(alloc, plan)?,
         kind,
+        inputs: files_of(alloc, inputs)?,
     })
 }
 

@@ -1,6 +1,6 @@
 // The order that words give.
 
-ghost use Rattle.std.specs.Prelude.{◌≡◌, ◌↔◌, [], true, false, IfNone, IfOk, IfSome, OnOk, Err, None, codes, map};
+ghost use Rattle.std.specs.Prelude.{◌≡◌, ◌≢◌, ◌↔◌, [], true, false, IfNone, IfOk, IfSome, OnOk, Err, None, codes, map};
 ghost use Rattle.std.specs.Prelude.{option_map, string_bytes};
 ghost use Rattle.clap.specs.Words.{fault_of, found_of, kind_of, rows_of, first_of, subcommand_of};
 ghost use Rattle.clap.specs.declared.error.kind.ErrorKind.TheVariants as kind;
@@ -185,6 +185,24 @@ fn report_of<'a>(matches: &ArgMatches<'a>) -> Option<Form<'a>>
     })
 }
 
+// The form of a subcommand that takes a certificate.
+fn certificate_form_of<'a>(name: &str, matches: &ArgMatches<'a>) -> Option<Form<'a>>
+    requires locate { name.now ≢ codes "locate" }
+    requires site { name.now ≢ codes "site" }
+    requires plan { name.now ≢ codes "plan" }
+    ensures order { IfSome result (λ form.
+        IsOrderIn (order_in form) name.now (rows_of (found_of matches.now))) }
+    ensures none { IfNone result ((order : Order)
+        → IsOrderIn order name.now (rows_of (found_of matches.now)) → ⊥) }
+{
+    match name {
+        "check" => check_of(matches),
+        "dispatch" => dispatch_of(matches),
+        "report" => report_of(matches),
+        _ => None,
+    }
+}
+
 // The form of a subcommand with its values. It is decided before anything is copied, so memory can't run out meanwhile.
 fn form_of<'a>(name: &str, matches: &ArgMatches<'a>) -> Option<Form<'a>>
     ensures order { IfSome result (λ form.
@@ -196,10 +214,7 @@ fn form_of<'a>(name: &str, matches: &ArgMatches<'a>) -> Option<Form<'a>>
         "locate" => locate_of(matches),
         "site" => site_of(matches),
         "plan" => plan_of(matches),
-        "check" => check_of(matches),
-        "dispatch" => dispatch_of(matches),
-        "report" => report_of(matches),
-        _ => None,
+        _ => certificate_form_of(name, matches),
     }
 }
 

@@ -100,6 +100,26 @@ fn front_if_any(
     }
 }
 
+fn answer_order(
+    alloc: Global,
+    inputs: &InputTexts<'_>,
+    files: (&str, &str),
+    unit: Option<&str>,
+    front: &Option<FrontTexts<'_>>,
+) -> Result<StreamOrder, AllocError>
+    ensures { IfOk result (λ it. it ≡ order.Answer (files_in inputs.now) files.entry.0.now
+        files.entry.1.now (option_map (λ t. t.now) unit.entry) (option_map front_in front.now)) }
+{
+    let (plan, log) = files;
+    Ok(StreamOrder::Answer {
+        plan: word_of(alloc, plan)?,
+        log: word_of(alloc, log)?,
+        unit: word_if_any(alloc, unit)?,
+        front: front_if_any(alloc, front)?,
+        inputs: files_of(alloc, inputs)?,
+    })
+}
+
 /// The order whose texts these are.
 pub fn stream_copied(alloc: Global, form: &StreamForm<'_>) -> Result<StreamOrder, AllocError>
     ensures { IfOk result (λ it. it ≡ stream_order_in form.now) }
@@ -123,12 +143,6 @@ pub fn stream_copied(alloc: Global, form: &StreamForm<'_>) -> Result<StreamOrder
             log,
             unit,
             front,
-        } => Ok(StreamOrder::Answer {
-            inputs: files_of(alloc, inputs)?,
-            plan: word_of(alloc, plan)?,
-            log: word_of(alloc, log)?,
-            unit: word_if_any(alloc, *unit)?,
-            front: front_if_any(alloc, front)?,
-        }),
+        } => answer_order(alloc, inputs, (plan, log), *unit, front),
     }
 }
