@@ -6,15 +6,16 @@ ghost use Rattle.csv.specs.Records.{fields_of};
 ghost use Rattle.std.specs.Str.{bytes_eq};
 ghost use Rattle.indexmap.specs.IndexSet.{insert_key};
 ghost use Rattle.hsp_csv.specs.Header.{names_in};
-ghost use Rattle.hsp_csv.specs.Records.{Fields as Record, records_of};
+ghost use Rattle.hsp_csv.specs.Records.{Fields as Record, IsKnown, IsReading, records_left, records_of};
 ghost use Rattle.hsp_text.specs.Answers.{GivesUnless};
 ghost use Rattle.hsp_tables.specs.declared.fault.TableFault.TheVariants.{Fields, OutOfMemory};
-ghost use Rattle.hsp_tables.specs.InTurn.{with_row};
+ghost use Rattle.hsp_tables.specs.Fields.{lent};
+ghost use Rattle.hsp_tables.specs.InTurn.{rows_after, with_row};
 ghost use Rattle.hsp_tables.specs.Table.{Table, regions_of, row_after, seen_with, table_of};
 
 use crate::fault::TableFault;
 use crate::keyed::Regions;
-use csv::ByteRecord;
+use csv::{ByteRecord, Reader};
 use hsp_csv::{read_records, take_header, take_record, three_fields};
 use hsp_text::limits::MOST_REGIONS;
 use indexmap::IndexMap;
@@ -106,6 +107,25 @@ fn add_record<K: Kind>(
     Ok(())
 }
 
+// The rows that a reader has left, each found by its key, or their first fault.
+fn rows_left<K: Kind>(
+    alloc: Global,
+    records: &mut Reader<&[u8]>,
+    fields: &mut ByteRecord,
+) -> Result<IndexMap<K::Key, u64>, TableFault>
+    requires reading { IsReading records.old }
+    requires known { IsKnown lent records.old }
+    ensures { GivesUnless OutOfMemory (λ rows. map K.entry rows.entries) result (
+        rows_after (row_after K.table) [] (records_left lent records.old)) }
+{
+    let mut rows = IndexMap::new(alloc);
+    let mut regions = Regions::new(alloc);
+    'rows: while take_record(records, fields)? {
+        add_record::<K>(alloc, &mut rows, &mut regions, fields)?;
+    }
+    Ok(rows)
+}
+
 /// The rows of the table that a text of comma-separated values spells under a header, or its first fault.
 pub(crate) fn read_table<K: Kind>(
     alloc: Global,
@@ -121,10 +141,5 @@ pub(crate) fn read_table<K: Kind>(
     if !take_header(&mut records, &mut fields, header)? {
         return Err(TableFault::Header);
     }
-    let mut rows = IndexMap::new(alloc);
-    let mut regions = Regions::new(alloc);
-    'rows: while take_record(&mut records, &mut fields)? {
-        add_record::<K>(alloc, &mut rows, &mut regions, &fields)?;
-    }
-    Ok(rows)
+    rows_left::<K>(alloc, &mut records, &mut fields)
 }

@@ -1,9 +1,9 @@
-use Rattle.std.proofs.Common.{◌≡◌, length, map}
-use Rattle.hsp_csv.specs.Records.{IsKnown, IsReading, records_left, records_of}
+use Rattle.std.proofs.Common.{◌≡◌, [], length, map}
+use Rattle.hsp_csv.specs.Records.{IsKnown, IsReading, records_left}
 use Rattle.hsp_tables.specs.Fields.{lent}
 use Rattle.hsp_tables.specs.InTurn.{rows_after}
-use Rattle.hsp_tables.specs.Table.{regions_of, row_after, table_of}
-use Rattle.hsp_tables.proofs.table.read_table.Given as goal
+use Rattle.hsp_tables.specs.Table.{regions_of, row_after}
+use Rattle.hsp_tables.proofs.table.rows_left.Given as goal
 
 abbrev pub invariant-rows : goal.invariant-rows
 invariant-rows g l =
@@ -13,7 +13,8 @@ invariant-rows g l =
       reading : IsReading l.records;
       known : IsKnown lent l.records;
       regions : l.regions ≡ regions_of table rows;
-      so_far : rows_after (row_after table) rows (records_left lent l.records) ≡ table_of table (records_of l.fn.text);
+      so_far : rows_after (row_after table) rows (records_left lent l.records)
+          ≡ rows_after (row_after table) [] (records_left lent l.fn.records);
     }
 
 abbrev pub decreases-rows : goal.decreases-rows

@@ -1,0 +1,11 @@
+use Rattle.std.proofs.Common.{refl, sym}
+use Rattle.hsp_tables.proofs.TableLaws.{regions_of-none}
+use Rattle.hsp_tables.proofs.table.rows_left.Goals as goal
+
+pub rows-init : goal.rows-init
+rows-init g c = record {
+  reading = c.requires.reading;
+  known = c.requires.known;
+  regions = rw (c.new-rows.ensures.empty, c.new-regions.ensures) (sym (regions_of-none g.K.Kind.table));
+  so_far = rw c.new-rows.ensures.empty refl;
+}
