@@ -1,9 +1,10 @@
 // The run `kinds`: the table of the kinds of a log.
 
-ghost use Rattle.std.specs.Prelude.{◌≡◌, ◌<◌, ◌≤◌, ◌⊎◌, Err, IfErr, IfOk, IfSome, Ok, option_map};
+ghost use Rattle.std.specs.Prelude.{◌≡◌, ◌<◌, ◌≤◌, ◌⊎◌, [], Err, IfErr, IfOk, IfSome, Ok, option_map};
 ghost use Rattle.hsp_csv.specs.Records.{records_of};
 ghost use Rattle.hsp_stream.specs.KindsLog.{IsReadFault};
 ghost use Rattle.hsp_stream.specs.KindsRun.{IsKindsText, kinds_text};
+ghost use Rattle.hsp_tally.specs.Tally.{IsWhole};
 
 use crate::fault::StreamFault;
 use crate::kinds_files::{KindsInputs, files_in};
@@ -15,6 +16,25 @@ use hsp_tables::Costs;
 use hsp_tally::Kinds;
 use std::alloc::Global;
 use std::io::Read;
+
+// The table of a log whose rows are counted into kinds that have none yet.
+fn text_of_counted<R: Read + Drop>(
+    alloc: Global,
+    kinds: &mut Kinds<'_>,
+    unit: u32,
+    log: R,
+) -> Result<Vec<u8>, StreamFault>
+    requires none { kinds.old.rows ≡ [] }
+    requires whole { IsWhole kinds.old }
+    requires unit { 0 < unit }
+    ensures text { IfOk result (λ text. IfSome (R.remaining log) (λ octets.
+        kinds_text kinds.old.costs kinds.old.sites unit (records_of octets) ≡ Ok text.items)) }
+    ensures fault { IfErr result (λ fault. IsReadFault fault ⊎ IfSome (R.remaining log) (λ octets.
+        kinds_text kinds.old.costs kinds.old.sites unit (records_of octets) ≡ Err fault)) }
+{
+    count_log(alloc, kinds, log)?;
+    text_of_kinds(alloc, kinds, u64::from(unit))
+}
 
 // The table of a log, by sites and costs.
 fn text_of_log<R: Read + Drop>(
@@ -31,8 +51,7 @@ fn text_of_log<R: Read + Drop>(
         (λ octets. kinds_text costs.now sites.now unit (records_of octets) ≡ Err fault)) }
 {
     let mut kinds = Kinds::new(alloc, sites, costs);
-    count_log(alloc, &mut kinds, log)?;
-    text_of_kinds(alloc, &kinds, u64::from(unit))
+    text_of_counted(alloc, &mut kinds, unit, log)
 }
 
 /// The table of the kinds of the rows that the log has, as comma-separated values.
