@@ -19,6 +19,7 @@ from hsp.forms import NAMES as FORMS
 from hsp.forms import Form
 from hsp.joining import block, capacity_rows, joined, lines_of, read_back
 from hsp.numbers import listed, some
+from hsp.paths import path_in, shell_word
 from hsp.programs import Desk, Inputs
 from hsp.queries import Judge, Reading, field_of, queries
 from hsp.regions import regions_in
@@ -42,7 +43,13 @@ def new(folder: str, example: bool) -> None:
     """
     paths = create(folder, skeleton.example() if example else skeleton.empty())
     click.echo(printable(f"{folder} has {listed([os.path.basename(it) for it in paths], 9)}"))
-    click.echo(printable(f"next: hsp plan {folder}" if example else f"next: hsp sites FILE.. --into {folder}"))
+    click.echo(
+        printable(
+            f"next: hsp plan {shell_word(folder)}"
+            if example
+            else f"next: hsp sites FILE.. --into {shell_word(folder)}"
+        )
+    )
 
 
 def once(_: click.Context, __: click.Parameter, paths: tuple[str, ...]) -> tuple[str, ...]:
@@ -165,7 +172,7 @@ def service_of(folder: str | None, given: dict[str, Any]) -> Inputs | None:
     """The sites and the costs by which handles of one kind are joined, where both are there."""
 
     def path_of(kind: str, name: str) -> str | None:
-        beside = os.path.normpath(os.path.join(folder, name)) if folder else ""
+        beside = path_in(folder, name) if folder else ""
         return given[kind] or (beside if os.path.isfile(beside) else None)
 
     settings, costs = path_of("settings", NAMES["settings"]), path_of("costs", NAMES["costs"])
@@ -241,7 +248,7 @@ def with_forms(command: Command) -> Command:
 
 def output_of(given: dict[str, Any], into: str | None) -> str | None:
     """The file of the table, where one is named."""
-    return given["output"] or (os.path.normpath(os.path.join(into, NAMES["demand"])) if into else None)
+    return given["output"] or (path_in(into, NAMES["demand"]) if into else None)
 
 
 @click.command()

@@ -14,6 +14,7 @@ import click
 
 from hsp import __version__, bring
 from hsp.numbers import listed, some
+from hsp.paths import path_in, shell_word
 from hsp.plans import Planned, Reference, cheapest, least_purchase, planned, shortage, with_gains, with_purchase
 from hsp.charts import drawn
 from hsp.doctor import Examined, examined, examined_words
@@ -174,7 +175,9 @@ def sound(
     warnings = [it for it in found.warnings if it.kind != OLD_PLAN]
     if warnings:
         titles = visible(listed(dict.fromkeys(it.message for it in warnings), 2))
-        click.echo(f"hsp: {some(len(warnings), 'warning')}: {titles} (hsp doctor {visible(folder)})", err=True)
+        click.echo(
+            f"hsp: {some(len(warnings), 'warning')}: {titles} (hsp doctor {visible(shell_word(folder))})", err=True
+        )
     return found.service
 
 
@@ -283,7 +286,7 @@ def plan(
     if not as_csv:
         priced = [it for it in service.servers if found.prices[it.number] > 0 and found.is_full(it)]
         found = with_gains(found, desk, progress(len(priced)))
-    path = output or os.path.normpath(os.path.join(folder, "plan.txt"))
+    path = output or path_in(folder, "plan.txt")
     verdict = desk.verdict(service.inputs, service.plan_file)
     if verdict != "yes":
         ended(1, f"hsplan check says {verdict} to hsplan's own plan: please report this with your files")
@@ -357,7 +360,7 @@ def view(
     desk = Desk()
     service = sound(folder, desk, given, title, unit)
     text = render(view_of(service, desk, before))
-    path = output or os.path.normpath(os.path.join(folder, "plan.html"))
+    path = output or path_in(folder, "plan.html")
     write(path, text)
     click.echo(f"{path}  {len(text.encode()) / 1024:,.0f} KiB, {some(len(service.rows), 'row')}")
     sys.exit(0 if service.certificate.is_plan else 3)

@@ -9,6 +9,7 @@ import stat
 from collections.abc import Iterator, Mapping
 from typing import IO
 
+from hsp.paths import path_in
 from hsp.programs import Missing
 
 
@@ -49,7 +50,7 @@ def _publish(part: str, path: str) -> None:
 
 def create(folder: str, texts: Mapping[str, str]) -> list[str]:
     """Writes new files into a folder, and returns their paths. It overwrites nothing."""
-    paths = {os.path.normpath(os.path.join(folder, name)): text for name, text in texts.items()}
+    paths = {path_in(folder, name): text for name, text in texts.items()}
     there = [it for it in paths if os.path.lexists(it)]
     if there:
         raise Missing(f"{there[0]}: it is there already, and no file is overwritten")

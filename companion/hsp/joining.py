@@ -12,6 +12,7 @@ from dataclasses import dataclass, field
 
 from hsp.faults import Unfit
 from hsp.numbers import some
+from hsp.paths import path_in
 from hsp.programs import Desk, Inputs, Refused, table_of
 from hsp.records import OPTIONS
 from hsp.service import NAMES, VALUES, dotted, sites_of
@@ -84,7 +85,7 @@ def _servers_in(path: str, octets: bytes) -> set[tuple[str, str]]:
 
 def joined(folder: str, sites: list[Found], capacity: int, desk: Desk) -> Joined:
     """Adds sites to the texts of a folder's settings and capacities. hsplan reads back what comes out."""
-    settings, capacities = (os.path.normpath(os.path.join(folder, NAMES[it])) for it in ("settings", "capacity"))
+    settings, capacities = (path_in(folder, NAMES[it]) for it in ("settings", "capacity"))
     texts = {path: _octets(path) for path in (settings, capacities)}
     before = _settings_in(settings, texts[settings])
     there = dict(before)

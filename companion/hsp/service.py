@@ -10,6 +10,7 @@ import tomllib
 from dataclasses import dataclass, field
 from typing import Any
 
+from hsp.paths import path_in
 from hsp.programs import Certificate, Desk, Inputs, Missing, Refused
 
 # The conventional names of the files.
@@ -121,12 +122,12 @@ def _absent(folder: str, paths: list[str]) -> str:
 
 def inputs_in(folder: str, given: dict[str, str | None]) -> Inputs:
     """The files of a folder by their conventional names, or those that were given instead."""
-    files = {kind: given.get(kind) or os.path.normpath(os.path.join(folder, name)) for kind, name in NAMES.items()}
+    files = {kind: given.get(kind) or path_in(folder, name) for kind, name in NAMES.items()}
     absent = [path for path in files.values() if not os.path.exists(path) or os.path.isdir(path)]
     if absent:
         raise Missing(_absent(folder, absent))
     values = given.get("values")
-    beside = os.path.join(folder, VALUES)
+    beside = path_in(folder, VALUES)
     if not values and os.path.isfile(beside):
         values = beside
     return Inputs(**files, values=values)

@@ -6,6 +6,7 @@ import json
 import os
 import pty
 import re
+import shlex
 import subprocess
 import sys
 from collections.abc import Callable
@@ -168,6 +169,20 @@ def test_commands_sum_up_warnings(hsp: Hsp, example: Example, command: str) -> N
     assert summary.startswith("hsp: 2 warnings: ") and summary.endswith(f"(hsp doctor {folder})")
     assert "'20.500.1234/report-2025 ' has a blank behind it" in summary
     assert ended.stdout.startswith("two-sites") or "plan.html" in ended.stdout
+
+
+@pytest.mark.parametrize("name", ["my service", "it's", "-x", "$HOME;"])
+def test_printed_commands_have_a_path_as_one_word(
+    hsp: Hsp, tmp_path: Path, monkeypatch: pytest.MonkeyPatch, name: str
+) -> None:
+    monkeypatch.chdir(tmp_path)
+    (made,) = re.findall("next: (hsp sites FILE.. --into .*)", hsp("new", "--", name).stdout)
+    assert os.path.samefile(shlex.split(made)[-1], tmp_path / name)
+    (asked,) = re.findall(r"\((hsp doctor .*)\)", hsp("plan", "--", name).stderr)
+    assert os.path.samefile(shlex.split(asked)[-1], tmp_path / name)
+    (tmp_path / name / DEMAND).write_bytes(b"\x1f\x8b is packed")
+    (remedy,) = re.findall("gunzip < .*", hsp("doctor", f"./{name}", status=1).stdout)
+    assert os.path.samefile(shlex.split(remedy)[2], tmp_path / name / DEMAND)
 
 
 def at_a_terminal(folder: Path, *words: str) -> str:

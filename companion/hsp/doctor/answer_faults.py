@@ -10,6 +10,7 @@ from hsp.doctor.findings import Place, Text, Words, found, quoted
 from hsp.doctor.question import Question, Said
 from hsp.doctor.table_faults import Explained, renumbered, spot_of
 from hsp.numbers import listed, some
+from hsp.paths import shell_word
 
 AGAIN = "print it again: hsplan plan .. > plan.txt"
 # The reasons of a no, and the file that they speak of.
@@ -68,7 +69,7 @@ def certificate(question: Question, said: Said) -> Explained:
         )
     elif b"\r\n" in text.octets[:200]:
         message, why = "the plan has line ends of Windows", "a program that changed the text"
-        remedy = rf"tr -d '\r' < {text.path} > plain.txt"
+        remedy = rf"tr -d '\r' < {shell_word(text.path)} > plain.txt"
     elif number == 1:
         why, remedy = _other_text(text)
         message = "this isn't a plan"
@@ -173,7 +174,7 @@ def far_row(question: Question, said: Said) -> Explained:
     path, line = question.files["log"].original.path, said.numbers["row"] + 2
     words = Words(
         f"row {line - 2:,} of the log has a fault: {said.word} {said.detail}".rstrip(),
-        f"look at the line: sed -n {line}p {path}; hsp doctor on a short log with it says more",
+        f"look at the line: sed -n {line}p {shell_word(path)}; hsp doctor on a short log with it says more",
         "the log is long, and the row is far behind",
     )
     return Explained(found(path, Place(line, 0, 0, ""), words, said.line))

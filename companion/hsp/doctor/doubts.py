@@ -15,6 +15,7 @@ from hsp.doctor.findings import WARNING, Finding, Place, Text, Words, decoded, f
 from hsp.doctor.rows import Row, Table, near, table_of
 from hsp.doctor.toml_places import value_of
 from hsp.numbers import listed, some
+from hsp.paths import path_in, shell_word
 from hsp.programs import Desk
 from hsp.service import NAMES, TITLE_KEYS, TITLES, VALUES, Service, dotted
 
@@ -337,7 +338,7 @@ def stale_plan(service: Service, desk: Desk, path: str) -> list[str] | None:
     A plan of the folder isn't one of other files that were given.
     """
     inputs = service.inputs
-    own = {os.path.normpath(os.path.join(service.folder, name)) for name in (*NAMES.values(), VALUES)}
+    own = {path_in(service.folder, name) for name in (*NAMES.values(), VALUES)}
     if not {inputs.settings, inputs.demand, inputs.costs, inputs.capacity} <= own:
         return None
     if desk.verdict(inputs, path) == "yes":
@@ -349,7 +350,7 @@ def stale_plan(service: Service, desk: Desk, path: str) -> list[str] | None:
 
 def old_plan(it: Read, desk: Desk) -> None:
     """A plan in the folder that isn't one of its inputs, or isn't one of them any more."""
-    path = os.path.normpath(os.path.join(it.service.folder, "plan.txt"))
+    path = path_in(it.service.folder, "plan.txt")
     newer = stale_plan(it.service, desk, path) if os.path.isfile(path) else None
     if newer is None:
         return
@@ -357,13 +358,13 @@ def old_plan(it: Read, desk: Desk) -> None:
     if newer:
         message = f"the plan is older than {listed(newer)}"
         why = f"{listed(newer)} {'is' if len(newer) == 1 else 'are'} newer, and hsplan check says no to the plan"
-    words = Words(message, f"hsp plan {it.service.folder}", why, kind=OLD_PLAN)
+    words = Words(message, f"hsp plan {shell_word(it.service.folder)}", why, kind=OLD_PLAN)
     it.findings.append(found(path, Place(), words, "", WARNING))
 
 
 def titles(it: Read) -> None:
     """Words of hsp.toml that no page and no line shows."""
-    path = os.path.normpath(os.path.join(it.service.folder, TITLES))
+    path = path_in(it.service.folder, TITLES)
     if not os.path.isfile(path):
         return
     text = read_text(path)

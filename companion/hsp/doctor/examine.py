@@ -11,6 +11,7 @@ from hsp.doctor.doubts import doubts
 from hsp.doctor.findings import ERROR, Finding, Place, Words, found, read_text
 from hsp.doctor.question import Diagnosis, Question, draft_of
 from hsp.numbers import listed
+from hsp.paths import path_in, shell_word
 from hsp.programs import Desk, Missing, Refused
 from hsp.service import NAMES, TITLES, VALUES, Service, read_service
 
@@ -44,9 +45,9 @@ def examined(
     folder: str, desk: Desk, given: dict[str, str | None], title: str | None = None, cost: str | None = None
 ) -> Examined:
     """What is wrong with a folder, or what is doubtful where nothing is wrong."""
-    paths = {kind: given.get(kind) or os.path.normpath(os.path.join(folder, name)) for kind, name in NAMES.items()}
-    beside = os.path.join(folder, VALUES)
-    values = given.get("values") or (os.path.normpath(beside) if os.path.isfile(beside) else None)
+    paths = {kind: given.get(kind) or path_in(folder, name) for kind, name in NAMES.items()}
+    beside = path_in(folder, VALUES)
+    values = given.get("values") or (beside if os.path.isfile(beside) else None)
     if values:
         paths["values"] = values
     if not any(os.path.exists(paths[kind]) for kind in NAMES):
@@ -77,9 +78,11 @@ def _no_service(folder: str) -> Finding:
     there = [it for it in inside if os.path.exists(os.path.join(folder, it, NAMES["settings"]))]
     message = f"none of {listed(NAMES.values())} is here"
     if there:
-        near = os.path.normpath(os.path.join(folder, there[0]))
+        near = path_in(folder, there[0])
         words = Words(
-            message, f"hsp doctor {near}", f"{listed(there)} in it {'has' if len(there) == 1 else 'have'} settings"
+            message,
+            f"hsp doctor {shell_word(near)}",
+            f"{listed(there)} in it {'has' if len(there) == 1 else 'have'} settings",
         )
     else:
         words = Words(message, "give the folder that has them; hsp new makes such a folder", "another folder?")
@@ -88,7 +91,7 @@ def _no_service(folder: str) -> Finding:
 
 def titles_faults(folder: str) -> list[Finding]:
     """What is wrong with hsp.toml, which hsplan doesn't read."""
-    path = os.path.normpath(os.path.join(folder, TITLES))
+    path = path_in(folder, TITLES)
     if not os.path.isfile(path):
         return []
     text = read_text(path)
@@ -96,7 +99,9 @@ def titles_faults(folder: str) -> list[Finding]:
         tomllib.loads(text.octets.decode("utf-8"))
     except UnicodeDecodeError:
         words = Words(
-            f"{TITLES} isn't UTF-8", f"iconv -f windows-1252 -t utf-8 {path} > utf8.toml", "a letter of Latin-1"
+            f"{TITLES} isn't UTF-8",
+            f"iconv -f windows-1252 -t utf-8 {shell_word(path)} > utf8.toml",
+            "a letter of Latin-1",
         )
         return [found(path, Place(), words)]
     except tomllib.TOMLDecodeError as fault:

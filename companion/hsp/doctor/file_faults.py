@@ -7,6 +7,7 @@ import os
 import stat
 
 from hsp.doctor.findings import LARGEST, Finding, Place, Words, found
+from hsp.paths import shell_word
 
 CONVENTIONS = {"settings": "settings.toml", "demand": "demand.csv", "costs": "costs.csv", "capacity": "capacity.csv"}
 
@@ -53,7 +54,9 @@ def _of_kind(path: str, kind: str, mode: int) -> Words | None:
         )
     if not os.access(path, os.R_OK):
         return Words(
-            "you may not read this file", f"chmod +r {path}, or run as its owner", "its rights don't let you"
+            "you may not read this file",
+            f"chmod +r {shell_word(path)}, or run as its owner",
+            "its rights don't let you",
         )
     return None
 

@@ -12,6 +12,7 @@ from hsp.doctor.question import ORDER, Question, Said
 from hsp.doctor.rows import HEADERS, near, table_of
 from hsp.doctor.table_faults import Explained
 from hsp.numbers import listed
+from hsp.paths import shell_word
 
 # The headers of logs, by the command that reads them.
 LOGS = {
@@ -42,11 +43,11 @@ def headers_of(question: Question, kind: str) -> list[str]:
 
 def _of_octets(text: Text) -> Cause | None:
     """A file that is packed, or in another encoding."""
-    octets, name = text.octets, text.path
+    octets = text.octets
     if octets[:2] in (b"\xff\xfe", b"\xfe\xff"):
         return Cause(
             "a file in UTF-16, as programs of Windows write",
-            f"iconv -f utf-16 -t utf-8 {name} > utf8.csv",
+            f"iconv -f utf-16 -t utf-8 {shell_word(text.path)} > utf8.csv",
             octets.decode("utf-16", "replace"),
         )
     if octets[:2] == b"\x1f\x8b":
@@ -54,7 +55,7 @@ def _of_octets(text: Text) -> Cause | None:
             plain = decoded(gzip.decompress(octets))
         except (OSError, EOFError, zlib.error):
             plain = None
-        return Cause("a packed file", f"gunzip < {name} > plain.csv", plain)
+        return Cause("a packed file", f"gunzip < {shell_word(text.path)} > plain.csv", plain)
     if octets[:4] == b"PK\x03\x04":
         return Cause("a file of a spreadsheet program", "save it as CSV, with commas, in UTF-8")
     if octets[:5] == b"%PDF-" or b"\x00" in octets[:100]:
@@ -68,12 +69,14 @@ def _of_whole(text: Text, wanted: list[str]) -> Cause | None:
     for sign, name, way in ((";", "semicolons", "tr ';' ,"), ("\t", "tabs", r"tr '\t' ,"), ("|", "bars", "tr '|' ,")):
         if first.replace(sign, ",") == want:
             plain = "\n".join(it.replace(sign, ",") for it in text.lines)
-            return Cause(f"{name} in place of commas", f"{way} < {text.path} > commas.csv", plain)
+            return Cause(f"{name} in place of commas", f"{way} < {shell_word(text.path)} > commas.csv", plain)
     bare = re.sub(r"\s*,\s*", ",", first.strip())
     if bare in wanted and first != bare:
         plain = "\n".join(re.sub(r" *, *", ",", it.strip()) for it in text.lines)
         return Cause(
-            "blanks beside the commas", f"sed 's/ *, */,/g; s/^ *//; s/ *$//' {text.path} > plain.csv", plain
+            "blanks beside the commas",
+            f"sed 's/ *, */,/g; s/^ *//; s/ *$//' {shell_word(text.path)} > plain.csv",
+            plain,
         )
     return None
 
@@ -84,7 +87,9 @@ def _of_names(text: Text, wanted: list[str]) -> Cause | None:
     names = [it.strip().strip('"') for it in first.split(",")]
     mended = "\n".join([want, *text.lines[1:]])
     if first == "region,handle" and want == "region,handle,count":
-        remedy = f"count it: hsplan-stream kinds --settings FILE --costs FILE --log {text.path} > counted.csv"
+        remedy = (
+            f"count it: hsplan-stream kinds --settings FILE --costs FILE --log {shell_word(text.path)} > counted.csv"
+        )
         return Cause("this is a log, whose rows aren't counted yet", remedy)
     if first.casefold() in wanted or ",".join(names).casefold() in wanted:
         return Cause("another case of letters", f"write {want}", mended)

@@ -3,12 +3,12 @@
 from __future__ import annotations
 
 import os
-import shlex
 from collections.abc import Iterator
 
 from hsp.doctor.doubts import stale_plan
 from hsp.doctor.examine import examined
 from hsp.numbers import listed, some
+from hsp.paths import shell_word
 from hsp.programs import Desk
 from hsp.service import NAMES, Service
 from hsp.terminal import bold, head
@@ -40,7 +40,7 @@ def next_lines(folder: str, desk: Desk) -> Iterator[str]:
 
 def _behind(folder: str) -> str:
     """The folder as the last word of a command, if it isn't the present one."""
-    return "" if folder in ("", ".") else f" {shlex.quote(folder)}"
+    return "" if folder in ("", ".") else f" {shell_word(folder)}"
 
 
 def next_step(service: Service, desk: Desk) -> str:
@@ -48,11 +48,11 @@ def next_step(service: Service, desk: Desk) -> str:
     at = _behind(service.folder)
     if not service.sites:
         return step(
-            f"hsp sites FILE.. --into {shlex.quote(service.folder)}",
+            f"hsp sites FILE.. --into {shell_word(service.folder)}",
             "brings the sites in, of a proxy's JSON or their records",
         )
     if not service.rows:
-        command = f"hsp demand LOG.. --regions FILE --into {shlex.quote(service.folder)}"
+        command = f"hsp demand LOG.. --regions FILE --into {shell_word(service.folder)}"
         return step(command, "counts the queries of access logs, by a table network,region")
     if not {region for region, _ in service.costs} & set(service.regions):
         example = f"{service.regions[0]},{service.sites[0].name},N"

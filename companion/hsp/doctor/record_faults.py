@@ -12,6 +12,7 @@ from hsp.doctor.settings_faults import mends, place_in, with_value, without_bloc
 from hsp.doctor.table_faults import Explained
 from hsp.doctor.toml_places import listed_in
 from hsp.numbers import some
+from hsp.paths import shell_word
 from hsp.programs import Desk, run
 
 
@@ -70,21 +71,21 @@ def octets_words(octets: bytes, path: str, desk: Desk) -> Words | None:
         head = b"TOML" if stripped[:2] == b"[[" else b"JSON"
         if head == b"TOML":
             return Words("", "give the file of a record, not the settings", "these are settings")
-        return Words("", f"hsp sites {path or 'FILE'} makes a record of it", "JSON in place of octets")
+        return Words("", f"hsp sites {shell_word(path or 'FILE')} makes a record of it", "JSON in place of octets")
     bare = re.sub(rb"^0[xX]|\s", b"", stripped)
     if not path and re.fullmatch(rb"[0-9A-Fa-f]+", bare):
         return Words("", f"write {bare[:16].decode()}.. in place of them", "these are the digits of digits")
     if re.fullmatch(rb"[0-9A-Fa-f]+", bare):
-        return Words("", f"xxd -r -p {path} > octets.site", "hexadecimal digits in place of octets")
+        return Words("", f"xxd -r -p {shell_word(path)} > octets.site", "hexadecimal digits in place of octets")
     if re.fullmatch(rb"[A-Za-z0-9+/\s]+=*", stripped) and len(stripped) > 20:
-        return Words("", f"base64 -d {path or 'FILE'} > octets.site", "base64 in place of octets")
+        return Words("", f"base64 -d {shell_word(path or 'FILE')} > octets.site", "base64 in place of octets")
     if stripped.isascii() and re.fullmatch(rb"[\x20-\x7e\r\n\t]+", stripped):
         return Words("", "give the octets of the record, as siteinfo.bin has them", "a text in place of octets")
     values = run("hsplan", "site", "--index=1", desk.put(octets, ".values"))
     if not values.status or "Value" in values.line:
         return Words(
             "",
-            f"hsplan site --index N {path}, with the index of the site's value",
+            f"hsplan site --index N {shell_word(path)}, with the index of the site's value",
             "a value list in place of a record",
         )
     return None
@@ -117,7 +118,7 @@ def record_words(octets: bytes, said: Said, path: str, desk: Desk) -> tuple[Word
         ending = octets[at:].strip(b"\r\n") == b""
         why = "a line end behind the record" if ending else f"{some(left, 'octet')} behind the last server"
         why = "the record stands twice" if octets[at:] == octets[:at] else why
-        remedy = f"cut {'it' if ending else 'them'} off: head -c {at} {path} > record.site"
+        remedy = f"cut {'it' if ending else 'them'} off: head -c {at} {shell_word(path)} > record.site"
         return Words("", remedy if path else f"cut them off: keep the first {2 * at:,} digits", why), octets[:at]
     why = f"{some(left, 'octet')} from octet {at} on are too few for the field that begins there"
     return Words("", "copy the whole record again: it was cut, or an octet is lost; or another layout", why), b""
@@ -272,14 +273,14 @@ def _bad_list(question: Question, said: Said, kind: str) -> Explained:
             "this is one site's record",
         )
         if kind == "file":
-            remedy = f"hsplan site {path}, without --index"
+            remedy = f"hsplan site {shell_word(path)}, without --index"
     elif said.word == "IndexTwice":
         why = f"two values have the index {said.numbers.get('index', 0)}"
         remedy = "keep one value for each index"
     elif octets.strip()[:1] in (b"{", b"["):
-        remedy, why = f"hsp sites {path} makes the blocks of it", "JSON in place of octets"
+        remedy, why = f"hsp sites {shell_word(path)} makes the blocks of it", "JSON in place of octets"
     elif re.fullmatch(rb"[0-9A-Fa-f\s]+", octets):
-        remedy, why = f"xxd -r -p {path} > sites.values", "hexadecimal digits in place of octets"
+        remedy, why = f"xxd -r -p {shell_word(path)} > sites.values", "hexadecimal digits in place of octets"
     words = Words(f"{quoted(os.path.basename(path))} isn't a value list", remedy, why)
     return Explained(
         found(path, Place(), words, said.line),

@@ -14,6 +14,7 @@ from hsp.doctor.question import Question, Said
 from hsp.doctor.rows import near, table_of
 from hsp.doctor.table_faults import Explained, slug
 from hsp.doctor.toml_places import KEYS, blocks, data_of, head_of, listed_in, value_of
+from hsp.paths import shell_word
 
 NAMES = "a name has only ASCII letters, digits, '-', '_' and '.', and at most 64 of them"
 
@@ -149,7 +150,11 @@ def record_words(record: str, folder: str) -> Words:
         return Words("", "take the blanks or colons out", "blanks or colons between the digits")
     if re.search(r"\.\w{1,6}$", record) or os.path.exists(os.path.join(folder, record)):
         why = "the name of a file in place of its octets"
-        return Words("", f"hsp sites {record[:40]} prints the block; or xxd -p {record[:40]} | tr -d '\\n'", why)
+        return Words(
+            "",
+            f"hsp sites {shell_word(record[:40])} prints the block; or xxd -p {shell_word(record[:40])} | tr -d '\\n'",
+            why,
+        )
     if record.lstrip().startswith(("{", "[")):
         return Words("", "save it in a file; hsp sites prints the block", "JSON in place of hexadecimal digits")
     wrong = re.search(r"[^0-9A-Fa-f]", record)

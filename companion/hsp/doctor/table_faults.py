@@ -14,6 +14,7 @@ from hsp.doctor.numbers_advice import QUOTES, advice
 from hsp.doctor.question import Question, Said
 from hsp.doctor.rows import HEADERS, Row, joined, near, spans_of, table_of
 from hsp.numbers import listed, some
+from hsp.paths import shell_word
 from hsp.programs import run
 
 
@@ -108,7 +109,7 @@ def bad_number(spot: Spot, said: str) -> Explained:
         )
     if advised.why.startswith("a blank") and all(it.startswith(" ") for it in fields[1:]):
         path = spot.question.files[spot.kind].original.path
-        remedy = f"{advised.remedy}; in the whole table: sed 's/, */,/g' {path} > plain.csv"
+        remedy = f"{advised.remedy}; in the whole table: sed 's/, */,/g' {shell_word(path)} > plain.csv"
         words = replace(words, remedy=remedy)
     if name == "server_id" and not fields[at].strip().isdigit():
         remedy = "write the identifier of the server, as hsplan site prints it"
@@ -160,7 +161,7 @@ def handle_words(handle: str, detail: str, path: str) -> Words:
     if detail == "NotUtf8":
         octets = handle.encode("utf-8", "surrogateescape")
         meant = octets.decode("cp1252", "replace")
-        remedy = f"iconv -f windows-1252 -t utf-8 {path} > utf8.csv"
+        remedy = f"iconv -f windows-1252 -t utf-8 {shell_word(path)} > utf8.csv"
         return Words(
             f"the handle isn't UTF-8; likely '{meant}'", remedy, "a file in Latin-1 or Windows-1252", kind=kind
         )

@@ -14,6 +14,7 @@ from hsp.doctor.question import Question, Said
 from hsp.doctor.rows import near
 from hsp.doctor.table_faults import Explained
 from hsp.doctor.toml_places import KEYS
+from hsp.paths import shell_word
 
 # How many lines are looked at as likely ones, and in settings of how many octets.
 MOST_LINES, MOST_OCTETS = 12, 1_000_000
@@ -196,16 +197,17 @@ def _other_form(question: Question, said: Said) -> Explained | None:
     draft = question.files["settings"]
     octets, path = draft.text.octets, draft.text.path
     if octets[:2] in (b"\xff\xfe", b"\xfe\xff"):
-        remedy = f"iconv -f utf-16 -t utf-8 {path} > utf8.toml"
+        remedy = f"iconv -f utf-16 -t utf-8 {shell_word(path)} > utf8.toml"
         words = Words("the settings aren't UTF-8", remedy, "a file in UTF-16")
         text = octets.decode("utf-16", "replace")
     elif b"\r" in octets and b"\n" not in octets:
-        remedy = rf"tr '\r' '\n' < {path} > plain.toml"
+        remedy = rf"tr '\r' '\n' < {shell_word(path)} > plain.toml"
         words = Words("the settings have line ends of an old Mac", remedy, "lone carriage returns")
         text = "\n".join(draft.text.lines)
     elif _is_json(octets):
         words = Words(
-            "the settings are JSON, not TOML", f"hsp sites {path} makes the blocks, if it is a proxy's answer"
+            "the settings are JSON, not TOML",
+            f"hsp sites {shell_word(path)} makes the blocks, if it is a proxy's answer",
         )
         finding = found(path, Place(1, 1, 1, draft.text.line(1)), words, said.line)
         return Explained(finding, [replace(question.with_stand_in("settings"), lacks_site=True)])

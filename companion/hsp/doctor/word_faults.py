@@ -9,6 +9,7 @@ from hsp.doctor.commands import FILES, FORMS, KINDS, Form, Line, Option, Word, s
 from hsp.doctor.findings import Finding, Place, Words, found, quoted
 from hsp.doctor.question import Said
 from hsp.doctor.rows import near
+from hsp.paths import shell_word
 
 USAGE = "Usage"
 VERSION = ("-V", "--version", "version", "-v")
@@ -73,7 +74,7 @@ def _of_companion(line: Line) -> Words:
         folder = third if third and not third.startswith("-") else "DIR"
         return Words(
             "hsp's own words need no --",
-            f"hsp doctor {folder}",
+            f"hsp doctor {folder if folder == 'DIR' else shell_word(folder)}",
             f"hsp {second} asks the doctor about its folder first",
         )
     return Words(

@@ -21,6 +21,7 @@ from hsp.fleet.progress import shown
 from hsp.fleet.session import Targets, place_of, session, with_cluster
 from hsp.fleet.split import Parted
 from hsp.numbers import listed, some
+from hsp.paths import path_in, shell_word
 from hsp.programs import Missing
 from hsp.service import inputs_in
 
@@ -143,9 +144,9 @@ def dispatch(folder: str, logs: tuple[str, ...], plan: str | None, **given: Any)
     place, fronts = place_of(given), fronts_of(logs, given["fronts"])
     if given["unit"] and not given["any_handle"]:
         raise click.UsageError("--unit needs --any-handle")
-    certificate = plan or os.path.normpath(os.path.join(folder, "plan.txt"))
+    certificate = plan or path_in(folder, "plan.txt")
     if not os.path.isfile(certificate):
-        raise Missing(f"{certificate}: no such file: hsp plan {folder} makes it")
+        raise Missing(f"{certificate}: no such file: hsp plan {shell_word(folder)} makes it")
     files = {**kit.files_of(inputs_in(folder, {}), certificate), **kit.programs(), "hsp.zip": kit.companion()}
     targets: Targets = [(it.targets, it.host) for it in fronts]
     with contextlib.ExitStack() as stack:
