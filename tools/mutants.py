@@ -375,7 +375,7 @@ def check_forms(mutants):
             raise ValueError(f"mutants/{it.crate}/{it.name}.edit: no case of hsplan-stream has {it.stream}")
 
 
-def told_each(pool, calls):
+def all_printed(pool, calls):
     """Prints the line of each call as it ends, and returns the answers."""
     answers = []
     for done in concurrent.futures.as_completed([pool.submit(it) for it in calls]):
@@ -431,9 +431,9 @@ def main():
         first = [lambda c=c, n=n: try_unchanged(copies, c, None, n, given.seconds) for c, n in sorted(tests.items())]
         first += [lambda o=o, n=n: try_unchanged(copies, None, o, n, given.seconds) for o, n in cases.items()]
         first += [lambda: try_stream(copies, texts, given.seconds)] if texts else []
-        stands = told_each(pool, first)
+        stands = all_printed(pool, first)
         calls = [lambda it=it: copies.use(lambda folder: tried(folder, it, given.seconds)) for it in mutants]
-        refused = told_each(pool, calls)
+        refused = all_printed(pool, calls)
     minutes = (time.monotonic() - begun) / 60
     wrong = len(refused) - sum(refused) + len(stands) - sum(stands)
     print(
