@@ -43,13 +43,8 @@ def new(folder: str, example: bool) -> None:
     """
     paths = create(folder, skeleton.example() if example else skeleton.empty())
     click.echo(printable(f"{folder} has {listed([os.path.basename(it) for it in paths], 9)}"))
-    click.echo(
-        printable(
-            f"next: hsp plan {shell_word(folder)}"
-            if example
-            else f"next: hsp sites FILE.. --into {shell_word(folder)}"
-        )
-    )
+    next_one = "hsp plan" if example else "hsp sites FILE.. --into"
+    click.echo(printable(f"next: {next_one} {shell_word(folder)}"))
 
 
 def once(_: click.Context, __: click.Parameter, paths: tuple[str, ...]) -> tuple[str, ...]:
@@ -61,6 +56,8 @@ def once(_: click.Context, __: click.Parameter, paths: tuple[str, ...]) -> tuple
 
 def octets_of(path: str) -> bytes:
     """The octets of a file, or of standard input where it is `-`."""
+    if re.match("https?://", path):
+        raise Unfit(f"{path}: hsp opens no connection. Fetch it first: curl -o answer.json {shell_word(path)}")
     if path == "-":
         return sys.stdin.buffer.read()
     with open(path, "rb") as file:
@@ -197,7 +194,8 @@ def counted(logs: tuple[str, ...], reading: Reading, tally: Tally, into: Any) ->
 def some_in(logs: tuple[str, ...], reading: Reading, tally: Tally) -> None:
     """Refuses logs that have no query."""
     if not tally.asked:
-        first = (skipped_lines(reading) + ["", "they have no line"])[1].strip()
+        none = "it has no line" if len(logs) == 1 else "they have no line"
+        first = (skipped_lines(reading) + ["", none])[1].strip()
         raise Unfit(f"no query is in {listed(logs)}: {first}")
 
 

@@ -14,6 +14,12 @@ README = "README.txt"
 HEADERS = {"demand": "region,handle,count", "costs": "region,site,cost", "capacity": "site,server_id,capacity"}
 PORT, BOTH = 2641, 3
 
+# How the text begins that goes with the example.
+EXAMPLE = """An example for hsplan, of which hsp plan DIR makes a plan at once. At a terminal in this folder, hsp by itself
+says which step comes next. The files of a service of your own are filled in, in this order.
+
+"""
+
 # Sites, each with the addresses of its servers and how many queries an hour each of them takes.
 SITES = {"north": {"192.0.2.1": 900, "192.0.2.2": 700}, "south": {"198.51.100.1": 1600}}
 COSTS = {
@@ -58,5 +64,5 @@ def example() -> dict[str, str]:
         NAMES["settings"]: _text(NAMES["settings"]) + "\n" + "\n".join(blocks),
         **{NAMES[kind]: table_of(HEADERS[kind], rows) for kind, rows in tables.items()},
         TITLES: titles,
-        README: _text(README),
+        README: EXAMPLE + _text(README).partition("\n\n")[2],
     }

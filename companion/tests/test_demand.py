@@ -380,8 +380,8 @@ def test_tables_of_networks_that_are_refused(tmp_path: Path, table: bytes, says:
 @pytest.mark.parametrize(
     "octets, says",
     [
-        (b"", "they have no line"),
-        (b"\n\r\n", "they have no line"),
+        (b"", "it has no line"),
+        (b"\n\r\n", "it has no line"),
         (b"\xff\xfeh\0i\0", "line 1: this text is in UTF-16"),
         (b"hello\nworld\n", "line 1: a log of no known form"),
         (bytes(range(256)) * 9, "a log of no known form"),

@@ -369,7 +369,7 @@ def test_a_log_of_no_form_ends_the_count_and_is_named(tmp_path: Path) -> None:
     said = fleet("demand", good, bad, *options, status=1)
     assert said.startswith(f"hsp: {bad}: line 1: a log of no known form; ") and said.count("\n") == 1
     said = fleet("demand", empty, *options, status=1)
-    assert said == f"hsp: no query is in {empty}: they have no line\n"
+    assert said == f"hsp: no query is in {empty}: it has no line\n"
     assert not (tmp_path / "t.csv").exists() and not left(tmp_path)
 
 

@@ -441,9 +441,17 @@ def test_one_file_that_is_there_keeps_all_from_being_written(hsp: Hsp, tmp_path:
     assert os.listdir(tmp_path) == ["costs.csv"]
 
 
+def test_an_address_is_not_opened(hsp: Hsp) -> None:
+    line = hsp("sites", "https://hdl.handle.net/api/handles/0.NA/20.1?a=1&b=2", status=1).stderr
+    assert line.endswith(": curl -o answer.json 'https://hdl.handle.net/api/handles/0.NA/20.1?a=1&b=2'\n")
+    assert "hsp opens no connection" in line and line.count("\n") == 1
+
+
 def test_the_example_plans_at_once(hsp: Hsp, tmp_path: Path) -> None:
     folder = tmp_path / "example"
     hsp("new", str(folder), "--example")
+    says = (folder / "README.txt").read_text()
+    assert says.startswith("An example ") and "have to be filled in" not in says and "\n\nsettings.toml  " in says
     lines = hsp("plan", str(folder)).stdout.splitlines()
     assert lines[0] == "An example  2 sites, 3 servers, 3 regions, 4 handles, 1,900 queries in the busiest hour"
     service = read_service(str(folder), Desk(), {})
