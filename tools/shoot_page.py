@@ -24,6 +24,8 @@ import programs
 TOP = Path(programs.TOP)
 PICTURE = TOP / "docs" / "pictures" / "page.png"
 WIDTH, HEIGHT, COLOURS, LARGEST = 1200, 1000, 64, 120_000
+# The time of the pages of the examples: 27 November 2026, 09:00 UTC.
+TIME = "1795770000"
 PAGES = {"two-sites": ["--unit", "ms"], "twelve-sites": ["--title", "twelve-sites"]}
 
 
@@ -35,7 +37,7 @@ def page_of(name: str, folder: Path) -> str:
         source.mkdir()
         make_examples.write(str(source), make_examples.twelve_sites())
     paths = {it.upper().replace("-", "_"): programs.built_path(it) for it in programs.PROGRAMS}
-    environment = {**paths, **os.environ, "PYTHONPATH": str(TOP / "companion")}
+    environment = {**paths, **os.environ, "PYTHONPATH": str(TOP / "companion"), "SOURCE_DATE_EPOCH": TIME}
     out = folder / f"{name}.html"
     words = [sys.executable, "-m", "hsp", "view", str(source), "-o", str(out), *PAGES[name]]
     subprocess.run(words, check=True, env=environment, stdout=subprocess.DEVNULL)

@@ -8,7 +8,7 @@ from hsp.numbers import signed
 from hsp.page import step_of
 from hsp.programs import Missing
 from hsp.service import Service
-from hsp.whatif import DEMAND, LOST, MORE, SIZE, Case
+from hsp.whatif import DEMAND, LOST, MORE, SIZE, Case, greatest
 
 WIDE = 680
 STYLE = """<style>
@@ -114,12 +114,11 @@ def bars(cases: list[Case], step: float) -> str:
         LOST: "One site lost: what it costs",
         DEMAND: "All regions together: what it costs",
     }
-    parts, y = [], 30
+    parts, y, most = [], 30, greatest(cases)
     for kind, head in heads.items():
         own = [it for it in cases if it.kind == kind]
         if not own:
             continue
-        most = max(abs(it.change or it.cost or 0) for it in own)
         parts.append(f'<text class="head" x="12" y="{y}">{head}</text>')
         for at, it in enumerate(own):
             parts += _bar(it, most, y + 14 + 22 * at)

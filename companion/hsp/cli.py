@@ -15,7 +15,17 @@ import click
 from hsp import __version__, bring
 from hsp.numbers import listed, some
 from hsp.paths import path_in, shell_word
-from hsp.plans import Planned, Reference, cheapest, least_purchase, planned, shortage, with_gains, with_purchase
+from hsp.plans import (
+    Planned,
+    Reference,
+    by_shares,
+    cheapest,
+    least_purchase,
+    planned,
+    shortage,
+    with_gains,
+    with_purchase,
+)
 from hsp.charts import drawn
 from hsp.doctor import Examined, examined, examined_words
 from hsp.doctor.commands import FORMS
@@ -30,6 +40,7 @@ from hsp.groups import Group
 from hsp.page import View, changes_between, render
 from hsp.programs import Desk, Missing, Refused
 from hsp.service import Service
+from hsp.sources import sources_of
 from hsp.terminal import colored, head, plan_lines, shortage_lines
 from hsp.whatif import Changes, full_servers, server_named, sizes, standard
 from hsp.whatif import csv_of as cases_csv
@@ -223,6 +234,7 @@ def json_of(plan: Planned, reference: Reference | None) -> str:
         for it in plan.gains
     ]
     shares = [{"region": a, "site": b, "queries": c, "share": d} for a, b, c, d in shares_of(plan)]
+    regional = by_shares(plan)
     report = {
         "title": plan.service.titles.title,
         "served": True,
@@ -233,6 +245,7 @@ def json_of(plan: Planned, reference: Reference | None) -> str:
         "room": gains,
         "regions": [{"region": it, "queries": a, "cost": b} for it, (a, b) in plan.regions.items()],
         "shares": shares,
+        "by_shares_alone": {"servers_too_full": regional.servers, "queries_too_many": regional.queries},
     }
     return json.dumps(report, indent=2, ensure_ascii=False) + "\n"
 
@@ -304,6 +317,15 @@ def plan(
         click.echo(next_step(service, desk))
 
 
+def name_of_earlier(old: Service, now: Service) -> str:
+    """The title of another folder's plan. Where both have one title, the folder is named too."""
+    if old.titles.title != now.titles.title:
+        return old.titles.title
+    own, other = (os.path.abspath(it.folder).split(os.sep) for it in (old, now))
+    parts = next((at for at in range(1, len(own)) if own[-at:] != other[-at:]), 1)
+    return f"{old.titles.title} ({os.sep.join(own[-parts:])})"
+
+
 def earlier(folder: str, desk: Desk, now: Service) -> tuple[Service, Reference] | None:
     """Another folder's plan, as a reference for this one. Sites are matched by their names."""
     old = sound(folder, desk, {})
@@ -315,12 +337,13 @@ def earlier(folder: str, desk: Desk, now: Service) -> tuple[Service, Reference] 
     names = [site.name for site in old.sites]
     shares = {(region, numbers[names[at]]): it for (region, at), it in found.shares.items() if names[at] in numbers}
     before = [loads.get((it.site, it.id), 0) for it in now.servers]
-    return old, Reference(f"in the plan of {old.titles.title}", found.cost, old.asked, before, found.regions, shares)
+    words = f"in the plan of {name_of_earlier(old, now)}"
+    return old, Reference(words, found.cost, old.asked, before, found.regions, shares)
 
 
 def view_of(service: Service, desk: Desk, before: str | None) -> View:
     """All that the page shows: the plan, or the shortage and the plan after the least purchase."""
-    shown = View(service, None, cheapest(service, desk))
+    shown = View(service, None, cheapest(service, desk), sources=sources_of(service.folder, service.inputs))
     after: Service | None = service
     if not service.certificate.is_plan:
         shown.short = shortage(service, desk)

@@ -10,8 +10,9 @@ import jinja2
 
 from hsp import __version__
 from hsp.numbers import average, listed, percent, signed, some
-from hsp.plans import Gain, Host, Planned, Reference, Shortage, above
+from hsp.plans import Gain, Host, Planned, Reference, Shortage, above, by_shares
 from hsp.service import Row, Server, Service, dotted
+from hsp.sources import Source, now
 
 # So many rows stand in the page; a script shows the others.
 ROWS_SHOWN = 100
@@ -79,6 +80,8 @@ class View:
     changes: list[str] = field(default_factory=list)
     short: Shortage | None = None
     bought: dict[Server, int] = field(default_factory=dict)
+    sources: list[Source] = field(default_factory=list)
+    time: str = field(default_factory=now)
 
 
 def step_of(most: float) -> int:
@@ -110,14 +113,28 @@ def servers_of(view: View, plan: Planned) -> list[ServerView]:
 
 
 def regions_of(view: View, plan: Planned) -> list[RegionView]:
-    """The regions, those first that pay most above the reference, or that changed most."""
+    """The regions by their names, so that the pages of two plans have them in one order."""
     found = []
     for name, (asked, cost) in plan.regions.items():
         then, was = view.reference.regions.get(name, (0, 0)) if view.reference else (0, 0)
         before = was / then if then else None
         found.append(RegionView(name, asked, cost, cost / asked if asked else 0.0, before, cost - was))
-    found.sort(key=lambda it: (-(abs(it.added) if view.before else it.added), it.name))
-    return found
+    return sorted(found, key=lambda it: it.name)
+
+
+def reserve(servers: list[ServerView], hosts: list[Host]) -> str:
+    """How full the fullest servers are."""
+    full = [it for it in servers if it.is_full]
+    words = [f"{len(full)} of {some(len(servers), 'server')}"] if full else []
+    machines = sum(0 < it.limit <= it.load for it in hosts)
+    words += [some(machines, "machine")] if machines else []
+    said = f"{listed(words)} {'is' if len(full) + machines == 1 else 'are'} full. " if words else ""
+    rest = [it for it in servers if not it.is_full and it.capacity]
+    if not rest:
+        return said
+    most = max(rest, key=lambda it: it.load / it.capacity)
+    first = "The fullest of the others" if full else "The fullest server"
+    return f"{said}{first}, {most.label}, is {percent(most.load, most.capacity)} full."
 
 
 def rows_of(plan: Planned) -> list[RowView]:
@@ -251,6 +268,8 @@ def plan_shown(view: View, plan: Planned) -> dict[str, object]:
         "full": [it for it in servers if it.is_full],
         "tight": [it for it in plan.hosts if it.price],
         "best": best_room(plan, plan.hosts),
+        "by_shares": by_shares(plan),
+        "reserve": reserve(servers, plan.hosts),
         "over": above(view.service, view.reference.loads) if view.reference and not view.before else (0, 0),
         "diverted": diverted(plan),
     }

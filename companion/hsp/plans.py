@@ -8,7 +8,9 @@ import os
 from collections import Counter
 from collections.abc import Callable, Iterable
 from dataclasses import dataclass, field, replace
+from fractions import Fraction
 
+from hsp.numbers import some
 from hsp.programs import BOUNDLESS, Bound, Certificate, Desk, Inputs, Missing
 from hsp.service import Row, Server, Service, dotted
 
@@ -264,7 +266,49 @@ def with_purchase(service: Service, desk: Desk, bought: dict[Server, int]) -> Se
     return replace(service, inputs=inputs, capacities=room, certificate=certificate, plan_file=path)
 
 
-def above(service: Service, loads: Iterable[int]) -> tuple[int, int]:
+def above(service: Service, loads: Iterable[int | Fraction]) -> tuple[int, int]:
     """How many servers would get more than they can take, and how many queries too many."""
     over = [load - service.capacity(it) for it, load in zip(service.servers, loads) if load > service.capacity(it)]
-    return len(over), sum(over)
+    return len(over), round(sum(over))
+
+
+@dataclass(frozen=True)
+class ByShares:
+    """What is too full where each handle of a region is split by the shares of the whole region: so many of all
+    servers, the queries above their capacities, and machines above their limits."""
+
+    servers: int
+    queries: int
+    all_servers: int
+    hosts: int
+
+    @property
+    def is_within(self) -> bool:
+        """Nothing is too full."""
+        return not self.servers and not self.hosts
+
+    @property
+    def words(self) -> str:
+        if self.is_within:
+            return "no server too full"
+        words = f"{self.servers} of {some(self.all_servers, 'server')} too full"
+        words += f", {some(self.queries, 'query', 'queries')} too many" if self.servers else ""
+        if self.hosts:
+            words += f"; {some(self.hosts, 'machine')} above {'its limit' if self.hosts == 1 else 'their limits'}"
+        return words
+
+
+def by_shares(plan: Planned) -> ByShares:
+    """What the shares of regions do by themselves. A share is a mean over handles, and a handle has one server."""
+    service = plan.service
+    counts: Counter[tuple[str, int, int]] = Counter()
+    for row in service.rows:
+        for site in service.sites_for(row.region):
+            counts[row.region, site, service.server(site, row.handle).number] += row.count
+    loads = [Fraction(0)] * len(service.servers)
+    for (region, site, server), count in counts.items():
+        asked = plan.regions[region][0]
+        if asked:
+            loads[server] += Fraction(count * plan.shares.get((region, site), 0), asked)
+    hosts = [it for it in plan.hosts if sum(loads[server.number] for server in it.servers) > it.limit]
+    return ByShares(*above(service, loads), len(service.servers), len(hosts))

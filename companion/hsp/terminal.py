@@ -10,7 +10,7 @@ from collections.abc import Iterator
 import click
 
 from hsp.numbers import average, listed, percent, signed, some
-from hsp.plans import Gain, Planned, Reference, Shortage, above
+from hsp.plans import Gain, Planned, Reference, Shortage, above, by_shares
 from hsp.service import Server, Service
 
 SHOWN = 5
@@ -72,6 +72,7 @@ def plan_lines(plan: Planned, reference: Reference | None, every: bool = False) 
         note = f"; one query more saves at most {host.price:,}{unit}" if host.price else ""
         yield f"host  {host.address} takes {host.load:,} of {host.limit:,}{note}"
     yield from region_lines(plan, reference, every)
+    yield f"by shares of regions alone  {by_shares(plan).words}"
 
 
 def full_lines(plan: Planned, every: bool = False) -> Iterator[str]:

@@ -4,7 +4,7 @@ from __future__ import annotations
 
 import csv
 import io
-from collections.abc import Callable, Iterator
+from collections.abc import Callable, Iterable, Iterator
 from dataclasses import dataclass
 
 from hsp.doctor.rows import near
@@ -110,6 +110,11 @@ def sizes(changes: Changes, server: Server, low: int, high: int, points: int) ->
     return [changes.with_room(SIZE, server, it) for it in sorted(rooms | ({own} if low <= own <= high else set()))]
 
 
+def greatest(cases: Iterable[Case]) -> int:
+    """The greatest change of all cases, or the greatest cost where there is no plan to change: the scale of all bars."""
+    return max((abs(it.change if it.change is not None else it.cost or 0) for it in cases), default=0)
+
+
 def bar(part: float, most: float, width: int = 24) -> str:
     """A bar of eighths of a letter, so that small differences show."""
     eighths = round(8 * width * part / most) if most else 0
@@ -134,11 +139,11 @@ def lines(service: Service, cases: list[Case], step: float) -> Iterator[str]:
     else:
         yield f"now   {colored('short', 'red')} by {now.demand - now.capacity:,} queries"
     heads = {MORE: f"{step:g}% more room at", LOST: "without the site", DEMAND: "all regions together"}
+    most = greatest(it for it in cases if it.kind in heads)
     for kind, head in heads.items():
         own = [it for it in cases if it.kind == kind]
         if own:
             yield bold(head)
-        most = max((abs(it.change or 0) for it in own), default=0)
         yield from (_line(it, most) for it in own)
     yield from size_lines(service, [it for it in cases if it.kind == SIZE])
 

@@ -2,13 +2,18 @@
 
 from __future__ import annotations
 
+import csv
+import io
 import json
 import random
 import re
 import shutil
+import subprocess
+from collections import Counter
 from collections.abc import Callable, Iterator
 from pathlib import Path
 from typing import Any
+from urllib.parse import unquote
 
 import pytest
 from selenium import webdriver
@@ -173,6 +178,90 @@ def test_rows_are_sorted_and_searched(browser: Any, pages: dict[str, Path]) -> N
     page.choose("find", "")
     page.choose("kind", "split")
     assert page.shown() and all(":" in it[5] for it in page.shown())
+
+
+def test_rows_are_a_download(browser: Any, pages: dict[str, Path]) -> None:
+    """The table behind the link has each use of the plan, by region and handle, with its server."""
+    page = Page(browser, pages["two-sites"], 1200, "light")
+    link = page.run(
+        "const it = document.getElementById('save'); it.addEventListener('click', event => event.preventDefault());"
+        "it.click(); return [it.download, it.href]"
+    )
+    assert link[0] == "rows.csv" and link[1].startswith("data:text/csv;charset=utf-8,")
+    rows = list(csv.DictReader(io.StringIO(unquote(link[1].partition(",")[2]), newline="")))
+    desk = Desk()
+    service = read_service(str(pages["two-sites"].parent / "two-sites"), desk, {})
+    own = [service.rows[use.row] for use in service.certificate.uses]
+    wanted = Counter(
+        (it.region, it.handle, str(it.count), service.sites[use.site].name, str(use.queries))
+        for it, use in zip(own, service.certificate.uses)
+    )
+    names = ("region", "handle", "count", "site", "queries")
+    assert Counter(tuple(row[name] for name in names) for row in rows) == wanted
+    assert {(row["site"], row["server_id"]) for row in rows} <= {(it.site, str(it.id)) for it in service.servers}
+
+
+def test_a_page_names_what_it_was_made_of(hsp: Hsp, example: Example) -> None:
+    """The sums are those of sha256sum, and the time is that of SOURCE_DATE_EPOCH, as date -u has it."""
+    folder = example("two-sites")
+    hsp("view", str(folder), SOURCE_DATE_EPOCH="1795600800")
+    text = (folder / "plan.html").read_text(encoding="utf-8")
+    assert "planned 25 November 2026, 10:00 UTC" in text
+    names = ["settings.toml", "demand.csv", "costs.csv", "capacity.csv"]
+    words = ["sha256sum", *names]
+    printed = subprocess.run(words, cwd=folder, capture_output=True, text=True, check=True).stdout.split()
+    for name, sum in zip(printed[1::2], printed[::2]):
+        assert re.search(rf"{re.escape(name)}</th><td class=\"left\"><code>{sum}</code>", text)
+
+
+def test_the_reserve_stands_beside_the_verdict(hsp: Hsp, browser: Any, pages: dict[str, Path]) -> None:
+    """Of two-sites paris 2 and reston 2 are full; reston 3 has 1,205 of 1,470, which is 82%."""
+    head = "return document.querySelector('h1').innerText"
+    said = Page(browser, pages["two-sites"], 1200, "light").run(head)
+    assert said == "Everyone is served. 2 of 5 servers are full. The fullest of the others, reston 3, is 82% full."
+    said = Page(browser, pages["hosts"], 1200, "light").run(head)
+    assert said.startswith("Everyone is served. 2 of 5 servers and 1 machine are full. ")
+
+
+def test_regions_stand_by_their_names(browser: Any, pages: dict[str, Path]) -> None:
+    page = Page(browser, pages["twelve-sites"], 1200, "light")
+    for table in (".matrix", ".dots"):
+        names = page.run(
+            f"return [...document.querySelectorAll('{table} tbody tr:not(.soft)')].map(it => "
+            "it.cells[0].firstChild.textContent.trim())"
+        )
+        assert len(names) > 3 and names == sorted(names)
+    names = page.run("return [...document.getElementById('in').options].slice(1).map(it => it.textContent)")
+    assert names == sorted(names)
+    page.choose("in", page.run("return document.getElementById('in').options[1].value"))
+    assert {it[0] for it in page.shown()} == {names[0]}
+
+
+def test_shares_of_regions_are_said_to_be_sums(browser: Any, pages: dict[str, Path]) -> None:
+    text = Page(browser, pages["two-sites"], 1200, "light").text()
+    assert "By shares of regions alone: 2 of 5 servers too full, 476 queries too many." in text
+    assert "fill no server too much" in Page(browser, pages["base"], 1200, "light").text()
+
+
+def test_a_shortage_is_short_on_a_phone(browser: Any, pages: dict[str, Path]) -> None:
+    """Each handle takes two lines: itself with its queries, and who asks for it."""
+    page = Page(browser, pages["shortage"], 420, "light")
+    rows = page.run(
+        "return [...document.querySelectorAll('.lack tbody tr')].map(it => [it.innerText, it.offsetHeight])"
+    )
+    assert len(rows) == 4 and all(height <= 60 for _, height in rows)
+    assert [it.strip() for it in rows[0][0].split("\n") if it.strip()][-1] == "asia 488, eu 376, us 432"
+
+
+def test_two_plans_of_one_title_have_distinct_names(hsp: Hsp, browser: Any, example: Example) -> None:
+    folder = example("two-sites")
+    (folder / "hsp.toml").write_text('title = "Films"\n')
+    later = Path(shutil.copytree(folder, folder.parent / "later"))
+    hsp("view", str(later), "--before", str(folder))
+    assert "in the plan of Films (two-sites)" in Page(browser, later / "plan.html", 1200, "light").text()
+    (folder / "hsp.toml").write_text('title = "Old films"\n')
+    hsp("view", str(later), "--before", str(folder))
+    assert "in the plan of Old films 6,282 cost" in Page(browser, later / "plan.html", 1200, "light").text()
 
 
 def test_a_page_needs_no_script(browser: Any, pages: dict[str, Path], tmp_path: Path) -> None:

@@ -34,6 +34,7 @@ full  2 of 5 servers; more room saves
 goes  eu     18.1 (+6.1)  paris 91% and reston 9%
       us     21.9 (+4.9)  reston 93% and paris 7%
       asia  145.0 (+2.0)  reston 92% and paris 8%
+by shares of regions alone  2 of 5 servers too full, 476 queries too many
 check yes: no plan within these capacities costs less; kept in {kept}
 """
 
