@@ -111,7 +111,7 @@ def sizes(changes: Changes, server: Server, low: int, high: int, points: int) ->
 
 
 def greatest(cases: Iterable[Case]) -> int:
-    """The greatest change of all cases, or the greatest cost where there is no plan to change: the scale of all bars."""
+    """The greatest change of all cases, or cost where there is no plan to change: the scale of all bars."""
     return max((abs(it.change if it.change is not None else it.cost or 0) for it in cases), default=0)
 
 
