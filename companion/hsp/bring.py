@@ -2,19 +2,18 @@
 
 from __future__ import annotations
 
-import contextlib
 import os
 import re
 import sys
 import time
-from collections.abc import Callable
+from collections.abc import Callable, Sequence
 from typing import Any, TypeVar
 
 import click
 
 from hsp import skeleton
 from hsp.faults import Unfit, printable
-from hsp.files import create, growing, replace_all
+from hsp.files import create, locked, refuse_clashes, replace_all, together
 from hsp.forms import NAMES as FORMS
 from hsp.forms import Form
 from hsp.joining import block, capacity_rows, joined, lines_of, read_back
@@ -23,7 +22,7 @@ from hsp.paths import path_in, shell_word
 from hsp.programs import Desk, Inputs
 from hsp.queries import Judge, Reading, field_of, queries
 from hsp.regions import regions_in
-from hsp.service import NAMES, VALUES
+from hsp.service import NAMES, TITLES, VALUES
 from hsp.sitefiles import Files, Found
 from hsp.tally import Tally
 
@@ -98,6 +97,8 @@ def sites(paths: tuple[str, ...], into: str | None, names: tuple[str, ...], capa
     digits or base64, or a value list; - is standard input. Without --into the blocks are printed, and no file is
     written.
     """
+    if into:
+        refuse_clashes(paths, [path_in(into, NAMES[it]) for it in ("settings", "capacity")])
     desk = Desk()
     files = Files(desk)
     found = gathered(paths, names, files)
@@ -110,10 +111,11 @@ def sites(paths: tuple[str, ...], into: str | None, names: tuple[str, ...], capa
         for line in notes:
             click.echo(printable(line), err=True)
         return
-    result = joined(into, found, capacity, desk)
+    with locked([into]):
+        result = joined(into, found, capacity, desk)
+        if result.added:
+            replace_all(result.contents)
     notes += [f"left out: {it.file}: its record is in the settings already" for it in result.known]
-    if result.added:
-        replace_all(result.contents)
     for line in [line for it in result.added for line in lines_of(it)] + notes:
         click.echo(printable(line))
     if not result.added:
@@ -244,6 +246,14 @@ def with_forms(command: Command) -> Command:
     return command
 
 
+def refuse_own(logs: Sequence[str], regions: str, into: str | None, outputs: Sequence[str], given: Any) -> None:
+    """Refuses outputs that are inputs, or one another, or in the place of another file of DIR."""
+    others = [it for kind, it in NAMES.items() if kind != "demand"] + [VALUES, TITLES]
+    beside = [path_in(into, it) for it in others] if into else []
+    own = [given[it] for it in ("settings", "values", "costs") if given[it]]
+    refuse_clashes([*logs, regions, *beside, *own], outputs)
+
+
 def output_of(given: dict[str, Any], into: str | None) -> str | None:
     """The file of the table, where one is named."""
     return given["output"] or (path_in(into, NAMES["demand"]) if into else None)
@@ -271,20 +281,18 @@ def demand(logs: tuple[str, ...], regions: str, into: str | None, kept: str | No
     """
     desk = Desk()
     output = output_of(given, into)
-    sources = {os.path.realpath(it) for it in (*logs, regions)}
-    for path in filter(None, (output, kept)):
-        if os.path.realpath(path) in sources:
-            raise Unfit(f"{path}: it would be read and written")
+    refuse_own(logs, regions, into, [it for it in (output, kept) if it], given)
+    refuse_clashes([path_in(into, NAMES["demand"])] if into else [], [kept] if kept else [])
     reading = Reading(form_of(given), regions_in(regions, given["by"], given["elsewhere"]), Judge(desk))
     if sys.stderr.isatty():
         reading.progress = shown_progress()
     tally, inputs = Tally(desk), service_of(into, given)
-    with growing(kept) if kept else contextlib.nullcontext() as file:
-        counted(logs, reading, tally, file)
+    with together() as files:
+        counted(logs, reading, tally, files.open(kept) if kept else None)
         text, is_joined = tally.demand(inputs, given["unit"])
         lacking = tally.without_costs(inputs) if inputs else []
         if output:
-            replace_all({output: text})
+            files.open(output).write(text)
         else:
             click.echo(text, nl=False)
     lines = [summary(logs, reading, tally), *skipped_lines(reading), rows_line(output, text, is_joined)]

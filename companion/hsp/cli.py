@@ -7,7 +7,7 @@ import io
 import json
 import os
 import sys
-from collections.abc import Callable
+from collections.abc import Callable, Mapping
 from typing import Any, TypeVar
 
 import click
@@ -34,12 +34,13 @@ from hsp.doctor.findings import visible
 from hsp.doctor.next_step import next_lines, next_step
 from hsp.doctor.printing import json_of as findings_json
 from hsp.doctor.printing import lines as finding_lines
-from hsp.files import replace_all
+from hsp.files import refuse_clashes, replace_all
 from hsp.fleet.command import fleet
 from hsp.groups import Group
 from hsp.page import View, changes_between, render
 from hsp.programs import Desk, Missing, Refused
-from hsp.service import Service
+from hsp.service import NAMES, TITLES, VALUES, Service
+from hsp.signals import Stopped, stopping
 from hsp.sources import sources_of
 from hsp.terminal import colored, head, plan_lines, shortage_lines
 from hsp.whatif import Changes, full_servers, server_named, sizes, standard
@@ -48,6 +49,7 @@ from hsp.whatif import lines as case_lines
 
 Command = TypeVar("Command", bound=Callable[..., Any])
 OUTPUT = click.Path(dir_okay=False, readable=False)
+OUT_OF_MEMORY = 4
 
 
 class Folder(click.Path):
@@ -78,7 +80,12 @@ class Commands(Group):
     def main(self, *words: Any, **more: Any) -> Any:
         with_streams()
         try:
-            return super().main(*words, **more)
+            with stopping():
+                return super().main(*words, **more)
+        except Stopped as fault:
+            ended(fault.status, "interrupted")
+        except MemoryError:
+            ended(OUT_OF_MEMORY, "out of memory")
         except OSError as fault:  # of the words that --help and --version print
             lost(fault)
 
@@ -149,6 +156,12 @@ def with_files(command: Command) -> Command:
         words = "the value list that the settings refer to" if kind == "values" else f"in place of DIR's {kind}"
         command = click.option(f"--{kind}", metavar="FILE", help=words)(command)
     return click.argument("folder", metavar="[DIR]", default=".", type=Folder())(command)
+
+
+def read_in(folder: str, given: Mapping[str, str | None]) -> list[str]:
+    """The files of a folder that a command may read."""
+    names = {**NAMES, "values": VALUES, "titles": TITLES}
+    return [given.get(kind) or path_in(folder, name) for kind, name in names.items()]
 
 
 def write(path: str, text: str) -> None:
@@ -290,6 +303,8 @@ def plan(
 
     Status 3 is a shortage: then the lines say who lacks what, and the least that has to be bought.
     """
+    path = output or path_in(folder, "plan.txt")
+    refuse_clashes(read_in(folder, given), [] if no_save else [path])
     desk = Desk()
     service = sound(folder, desk, given, cost=unit)
     if not service.certificate.is_plan:
@@ -299,7 +314,6 @@ def plan(
     if not as_csv:
         priced = [it for it in service.servers if found.prices[it.number] > 0 and found.is_full(it)]
         found = with_gains(found, desk, progress(len(priced)))
-    path = output or path_in(folder, "plan.txt")
     verdict = desk.verdict(service.inputs, service.plan_file)
     if verdict != "yes":
         ended(1, f"hsplan check says {verdict} to hsplan's own plan: please report this with your files")
@@ -380,10 +394,11 @@ def view(
 
     The page is one file. It asks no network, and needs no script but to sort and search its rows.
     """
+    path = output or path_in(folder, "plan.html")
+    refuse_clashes(read_in(folder, given) + (read_in(before, {}) if before else []), [path])
     desk = Desk()
     service = sound(folder, desk, given, title, unit)
     text = render(view_of(service, desk, before))
-    path = output or path_in(folder, "plan.html")
     write(path, text)
     click.echo(f"{path}  {len(text.encode()) / 1024:,.0f} KiB, {some(len(service.rows), 'row')}")
     sys.exit(0 if service.certificate.is_plan else 3)
@@ -419,6 +434,7 @@ def whatif(
 
     By default: more room at each full server, each site lost, and 10% more demand.
     """
+    refuse_clashes(read_in(folder, given), [chart] if chart else [])
     desk = Desk()
     service = sound(folder, desk, given, cost=unit)
     if server:

@@ -2,6 +2,7 @@
 
 from __future__ import annotations
 
+import contextlib
 import csv
 import functools
 import io
@@ -10,9 +11,11 @@ import os
 import shutil
 import subprocess
 import tempfile
-from collections.abc import Iterable
+from collections.abc import Iterable, Iterator
 from dataclasses import dataclass, replace
 from typing import NamedTuple
+
+from hsp.signals import uncut
 
 # A capacity that no demand within hsplan's limits can fill.
 BOUNDLESS = 1_000_000_000
@@ -151,19 +154,34 @@ def table_of(header: str, rows: Iterable[Iterable[object]]) -> str:
     return f"{header}\n{out.getvalue()}"
 
 
+@contextlib.contextmanager
+def _temporary(folder: str) -> Iterator[None]:
+    """Names the folder of temporary files where one can't be written."""
+    try:
+        yield
+    except OSError as fault:
+        remedy = "set TMPDIR to another folder for temporary files"
+        raise OSError(fault.errno, f"{fault.strerror}; {remedy}", folder) from None
+
+
 class Desk:
     """A folder for the files that are made on the way, and the questions that are asked with them."""
 
     def __init__(self) -> None:
-        self._folder = tempfile.TemporaryDirectory(prefix="hsp-")
+        with _temporary("TMPDIR"), uncut():
+            self._folder = tempfile.TemporaryDirectory(prefix="hsp-")
         self._numbers = itertools.count(1)
 
     def put(self, text: str | bytes, suffix: str = ".txt") -> str:
         """Writes a file, and returns its path."""
         path = os.path.join(self._folder.name, f"{next(self._numbers)}{suffix}")
-        with open(path, "wb") as file:
-            file.write(text if isinstance(text, bytes) else text.encode())
+        self.add(path, [text if isinstance(text, bytes) else text.encode()])
         return path
+
+    def add(self, path: str, pieces: Iterable[bytes]) -> None:
+        """Writes on at the end of a file of this desk."""
+        with _temporary(self._folder.name), open(path, "ab") as file:
+            file.writelines(pieces)
 
     def put_table(self, header: str, rows: Iterable[Iterable[object]]) -> str:
         return self.put(table_of(header, rows), ".csv")

@@ -70,8 +70,7 @@ class Tally:
         """Puts the counts into a file in their order, since a table is a log of `kinds`."""
         self.regions.update(region for region, _ in self._counts)
         self._spilled = self._spilled or self._desk.put(HEADER, ".csv")
-        with open(self._spilled, "ab") as file:
-            file.writelines(rows_of(self._counts.items()))
+        self._desk.add(self._spilled, rows_of(self._counts.items()))
         self._counts.clear()
 
     @property

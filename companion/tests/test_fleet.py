@@ -264,7 +264,7 @@ def test_logs_of_any_rows_are_parted_as_one_run_reads_them(million: Million, tmp
     draw, seen = random.Random(94), set()
     files = {it.split(".")[0]: str(million.folder / it) for it in ("settings.toml", "demand.csv", "plan.txt")}
     files |= {it: str(million.folder / f"{it}.csv") for it in ("costs", "capacity")}
-    for _ in range(60):
+    for number in range(60):
         kinds = draw.sample(ROWS, draw.randrange(1, 4)) + ROWS[:5]
         lines = [draw.choice(kinds) + draw.choice([b"\n"] * 9 + [b"\r\n"] * draw.randrange(2)) for _ in range(12)]
         log = tmp_path / "log.csv"
@@ -275,7 +275,7 @@ def test_logs_of_any_rows_are_parted_as_one_run_reads_them(million: Million, tmp
             seen.add("not plain")
             continue
         asked = {"fronts": 2, "any_handle": False, "unit": None, "files": files}
-        outs = [str(tmp_path / f"{it}.out") for it in range(2)]
+        outs = [str(tmp_path / f"{number}-{it}.out") for it in range(2)]
         parts = zip(range(2), parted.logs, outs)
         replies = [answers.answer({**asked, "front": it, "logs": [log], "staged": [out]}) for it, log, out in parts]
         rows = [parted.row(at, it["row"]) for at, it in enumerate(replies) if "row" in it]

@@ -13,6 +13,7 @@ from collections.abc import Iterator
 from typing import IO, Any
 
 from hsp.faults import Unfit
+from hsp.files import created
 from hsp.logs import opened
 from hsp.programs import program
 
@@ -171,7 +172,7 @@ def _cut(whole: str, paths: list[str], counts: list[int]) -> None:
     """Parts the answers of several files."""
     with open(whole, "rb") as answers:
         for path, count in zip(paths, counts):
-            with open(path, "wb") as file:
+            with created(path) as file:
                 file.writelines(itertools.islice(answers, count))
                 file.flush()
                 os.fsync(file.fileno())
@@ -182,7 +183,7 @@ def answer(request: dict[str, Any]) -> dict[str, Any]:
     """Answers the rows of a front, or a log of all fronts where none is named. The answers aren't published yet."""
     paths = request["staged"]
     whole = paths[0] if len(paths) == 1 else f"{paths[0]}-all"
-    with open(whole, "wb") as out:
+    with created(whole) as out:
         status, said, counts = _ran(request, out)
         os.fsync(out.fileno())
     if status:

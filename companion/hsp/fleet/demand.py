@@ -9,9 +9,20 @@ from typing import Any
 
 import click
 
-from hsp.bring import FOLDER, form_of, output_of, rows_line, service_of, skipped_lines, some_in, summary, with_forms
+from hsp.bring import (
+    FOLDER,
+    form_of,
+    output_of,
+    refuse_own,
+    rows_line,
+    service_of,
+    skipped_lines,
+    some_in,
+    summary,
+    with_forms,
+)
 from hsp.faults import Unfit, printable
-from hsp.files import replace_all
+from hsp.files import locked, replace_all
 from hsp.fleet import kit
 from hsp.fleet.engine import Engine, Reply
 from hsp.fleet.parts import fields_of_form
@@ -67,17 +78,20 @@ def _files(regions: str, inputs: Inputs | None) -> dict[str, bytes]:
     return files | (kit.files_of(inputs) if inputs else {})
 
 
-def _checked(logs: list[Log], regions: str, output: str | None) -> None:
-    """Refuses a run that would read what it writes."""
+def _checked(logs: list[Log], regions: str, into: str | None, output: str | None, given: Any) -> None:
+    """Refuses a run that would read what it writes, or write a file twice."""
     if any(it.path == "-" for it in logs):
         raise Unfit("standard input isn't a log that workers can read")
-    sources = {os.path.realpath(it.path) for it in logs if not it.host} | {os.path.realpath(regions)}
-    for path in [*([output] if output else []), *(it for log in logs for it in log.kept)]:
-        if os.path.realpath(path) in sources:
-            raise Unfit(f"{path}: it would be read and written")
     kept = [(it.host, path) for it in logs for path in it.kept]
     if len(set(kept)) < len(kept):
         raise Unfit("a log is given twice, and its queries have one file")
+    away = {(it.host, os.path.abspath(it.path)) for it in logs if it.host}
+    for host, path in kept:
+        if (host, path) in away:
+            raise Unfit(f"{path}: it would be read and written")
+    own = [it for it in logs if not it.host]
+    outputs = [*([output] if output else []), *(path for it in own for path in it.kept)]
+    refuse_own([it.path for it in own], regions, into, outputs, given)
 
 
 @click.command()
@@ -97,7 +111,7 @@ def demand(logs: tuple[str, ...], regions: str, into: str | None, keep: str | No
     desk = Desk()
     place, output = place_of(given), output_of(given, into)
     named = [log_of(it, keep) for it in logs]
-    _checked(named, regions, output)
+    _checked(named, regions, into, output, given)
     form, seek = form_of(given), regions_in(regions, given["by"], given["elsewhere"])
     reading, tally, inputs = Reading(form, seek, Judge(desk)), Tally(desk), service_of(into, given)
     asked = {"form": fields_of_form(form), "by": given["by"], "elsewhere": given["elsewhere"]}
@@ -112,9 +126,10 @@ def demand(logs: tuple[str, ...], regions: str, into: str | None, keep: str | No
         text, is_joined = tally.demand(inputs, given["unit"])
         hosts = [engine.host(it.host) if it.host else None for it in named]
         engine.is_publishing = True
-        if output:
-            replace_all({output: text})
-        engine.publish([(it.kept, head, host) for it, head, host in zip(named, heads, hosts) if it.kept])
+        with locked(os.path.dirname(os.path.realpath(it)) for it in [output] if it):
+            if output:
+                replace_all({output: text})
+            engine.publish([(it.kept, head, host) for it, head, host in zip(named, heads, hosts) if it.kept])
     if not output:
         click.echo(text, nl=False)
     lines = [summary(logs, reading, tally), *skipped_lines(reading), rows_line(output, text, is_joined)]

@@ -7,13 +7,14 @@ import os
 import re
 import tempfile
 from collections import Counter
-from dataclasses import dataclass, field
+from dataclasses import astuple, dataclass, field
 from typing import Any
 
 import click
 
 from hsp.bring import FOLDER
 from hsp.faults import Unfit, printable
+from hsp.files import refuse_clashes
 from hsp.fleet import kit
 from hsp.fleet.answers import SUMS, line_of_row
 from hsp.fleet.engine import Engine, Reply
@@ -61,6 +62,9 @@ def fronts_of(words: tuple[str, ...], most: int) -> list[Front]:
     names = [(it.host, path) for it in found.values() for path in it.targets]
     if len(set(names)) < len(names):
         raise click.UsageError("a log is given twice")
+    logs = {(it.host, os.path.abspath(path)) for it in found.values() for path in it.logs}
+    for _, path in logs.intersection(names):
+        raise Unfit(f"{path}: it would be read and written")
     return [found[it] for it in sorted(found)]
 
 
@@ -147,7 +151,10 @@ def dispatch(folder: str, logs: tuple[str, ...], plan: str | None, **given: Any)
     certificate = plan or path_in(folder, "plan.txt")
     if not os.path.isfile(certificate):
         raise Missing(f"{certificate}: no such file: hsp plan {shell_word(folder)} makes it")
-    files = {**kit.files_of(inputs_in(folder, {}), certificate), **kit.programs(), "hsp.zip": kit.companion()}
+    inputs, own = inputs_in(folder, {}), [it for it in fronts if not it.host]
+    read = [certificate, *filter(None, astuple(inputs)), *(path for it in own for path in it.logs)]
+    refuse_clashes(read, [path for it in own for path in it.targets])
+    files = {**kit.files_of(inputs, certificate), **kit.programs(), "hsp.zip": kit.companion()}
     targets: Targets = [(it.targets, it.host) for it in fronts]
     with contextlib.ExitStack() as stack:
         folder = stack.enter_context(beside(fronts[0])) if fronts[0].number is None else ""

@@ -17,6 +17,7 @@ from typing import Any
 
 import click
 
+from hsp.files import locked
 from hsp.fleet.local import Gone, Local
 from hsp.programs import Missing
 
@@ -235,13 +236,14 @@ class Engine:
         """Gives all files their names, at their hosts: paths, reply and host of each part. It isn't interrupted."""
         self.is_publishing = True
         futures = []
-        for paths, reply, host in files:
-            if host is None:
-                self.remote.publish(self.run, paths, reply["attempt"], reply["inodes"])
-            else:
+        with locked(os.path.dirname(it) for paths, _, host in files if host is None for it in paths):
+            for paths, reply, host in files:
                 words = self.run, paths, reply["attempt"], reply["inodes"]
-                futures.append(self._submit("publish", *words, host=host))
-        self.outcomes(futures)
+                if host is None:
+                    self.remote.publish(*words)
+                else:
+                    futures.append(self._submit("publish", *words, host=host))
+            self.outcomes(futures)
 
     def end(self, targets: list[tuple[list[str], str | None]]) -> None:
         """Ends all parts, leaves the cluster, and takes away what isn't published: beside paths, at a host or here."""

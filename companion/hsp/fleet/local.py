@@ -14,6 +14,7 @@ import tempfile
 import time
 
 from hsp.programs import Missing
+from hsp.signals import uncut
 
 # Workers that end are started again, but not without end.
 MOST_RESTARTS = 5
@@ -38,13 +39,15 @@ class Local:
         for it in ("setpriv", "openssl"):
             if not shutil.which(it):
                 raise Missing(f"{it} isn't in PATH: workers of this machine need it (Debian: util-linux and openssl)")
-        self.folder = tempfile.mkdtemp(prefix="hsp-fleet-")
         self.number, self.restarts, self._started = number, 0, 0
-        self.certificate, self.key = (os.path.join(self.folder, it) for it in ("certificate.pem", "key.pem"))
-        self._file = os.path.join(self.folder, "scheduler.json")
+        self.folder = ""
         self._scheduler: subprocess.Popen[bytes] | None = None
         self._workers: list[subprocess.Popen[bytes]] = []
         try:
+            with uncut():
+                self.folder = tempfile.mkdtemp(prefix="hsp-fleet-")
+            self.certificate, self.key = (os.path.join(self.folder, it) for it in ("certificate.pem", "key.pem"))
+            self._file = os.path.join(self.folder, "scheduler.json")
             self._begin()
         except BaseException:
             self.close()

@@ -12,6 +12,7 @@ from collections.abc import Callable
 from typing import Any
 
 from hsp.faults import Unfit
+from hsp.files import created
 from hsp.fleet import answers
 from hsp.fleet.tables import Table, merged
 from hsp.forms import Form
@@ -53,7 +54,7 @@ def count(request: Request) -> Reply:
     reading = Reading(form_of(request["form"]), seek, Judge(desk))
     table, asked = Table(desk, inputs_of(request["files"])), 0
     rows = iter(queries(request["log"], reading))
-    kept = open(request["staged"][0], "wb") if request["staged"] else None
+    kept = created(request["staged"][0]) if request["staged"] else None
     try:
         if kept:
             kept.write(LOG_HEADER)

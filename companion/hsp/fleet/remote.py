@@ -96,10 +96,11 @@ class Mark:
         os.makedirs(folder, exist_ok=True)
         for name, octets in self.files.items():
             path = os.path.join(folder, name)
-            with open(f"{path}.part", "wb") as file:
+            descriptor, part = tempfile.mkstemp(dir=folder)
+            with open(descriptor, "wb") as file:
                 file.write(octets)
-            os.chmod(f"{path}.part", 0o700 if name in PROGRAMS else 0o600)
-            os.replace(f"{path}.part", path)
+                os.fchmod(descriptor, 0o700 if name in PROGRAMS else 0o600)
+            os.replace(part, path)
         return self.seal.differs(local) or self.seal.tried(local)
 
     async def setup(self, worker: Any) -> None:
@@ -123,7 +124,8 @@ def refusal(mark: str, dask_worker: Any) -> str | None:
 
 def staged(path: str, run: str, attempt: str) -> str:
     """The name of a file that isn't published yet, beside its place. Each attempt has its own."""
-    return f"{path}.fleet-{run}-{attempt}"
+    folder, name = os.path.split(path)
+    return os.path.join(folder, f".{name}.fleet-{run}-{attempt}")
 
 
 def sweep(paths: list[str], run: str) -> None:
@@ -132,7 +134,7 @@ def sweep(paths: list[str], run: str) -> None:
         folder, name = os.path.split(os.path.abspath(path))
         with contextlib.suppress(OSError):
             for it in os.listdir(folder):
-                if it.startswith(f"{name}.fleet-{run}"):
+                if it.startswith(f".{name}.fleet-{run}"):
                     with contextlib.suppress(OSError):
                         os.unlink(os.path.join(folder, it))
 

@@ -3,7 +3,6 @@
 from __future__ import annotations
 
 import contextlib
-import signal
 import sys
 from collections.abc import Callable, Iterator
 from typing import Any, TypeVar
@@ -14,11 +13,11 @@ from hsp.faults import Unfit, printable
 from hsp.fleet.engine import BROKEN, Engine, Place, Unfinished
 from hsp.fleet.local import Gone
 from hsp.numbers import some
+from hsp.signals import STOPPED, deaf, stopping
 
 Command = TypeVar("Command", bound=Callable[..., Any])
 # Paths whose unpublished files are taken away at the end, and their host.
 Targets = list[tuple[list[str], str | None]]
-STOPPED = 128
 OPTIONS = [
     click.option("--workers", type=click.IntRange(1, 256), metavar="N", help="of this machine; one a processor"),
     click.option("--scheduler", metavar="ADDRESS", help="tcp://HOST:PORT or tls://HOST:PORT that runs already"),
@@ -59,26 +58,23 @@ def session(place: Place, targets: Targets) -> Iterator[Engine]:
     """A run. It ends with one line where it can't go on, and takes away all that it hasn't published."""
     engine: Engine | None = None
 
-    def stop(number: int, _: Any) -> None:
+    def stop(number: int) -> None:
         if not engine or not engine.is_publishing:
             raise Unfinished(STOPPED + number, "interrupted; nothing was written")
 
-    before = {it: signal.signal(it, stop) for it in (signal.SIGINT, signal.SIGTERM, signal.SIGHUP)}
-    try:
-        engine = Engine(place)
-        yield engine
-        _lost(engine)
-    except Unfinished as fault:
-        _ended(fault.status, str(fault))
-    except Gone as fault:
-        _ended(BROKEN, str(fault))
-    finally:
-        for it in before:
-            signal.signal(it, signal.SIG_IGN)
-        if engine:
-            engine.end(targets)
-        for number, handler in before.items():
-            signal.signal(number, handler)
+    with stopping(stop):
+        try:
+            engine = Engine(place)
+            yield engine
+            _lost(engine)
+        except Unfinished as fault:
+            _ended(fault.status, str(fault))
+        except Gone as fault:
+            _ended(BROKEN, str(fault))
+        finally:
+            deaf()
+            if engine:
+                engine.end(targets)
 
 
 def _lost(engine: Engine) -> None:

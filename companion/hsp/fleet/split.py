@@ -80,7 +80,8 @@ class Parted:
         try:
             with growing(output) as out:
                 for at in range(0, len(self.order), 1 << 16):
-                    out.writelines(map(next, map(files.__getitem__, self.order[at : at + (1 << 16)])))
+                    own = self.order[at : at + (1 << 16)]
+                    out.write(b"".join(map(next, map(files.__getitem__, own))))
         finally:
             for it in files:
                 it.close()

@@ -1,0 +1,280 @@
+"""What hsp writes: nothing is lost or mixed between runs, and nothing is left where a run is stopped."""
+
+from __future__ import annotations
+
+import csv
+import fcntl
+import os
+import re
+import signal
+import subprocess
+import sys
+import time
+from collections.abc import Callable
+from pathlib import Path
+
+import pytest
+
+from hsp import files
+from hsp.faults import Unfit
+from hsp.programs import Desk, Missing
+
+from conftest import TOP, Hsp
+from test_sites import PARIS, RESTON, invoke
+
+Example = Callable[[str], Path]
+ENVIRONMENT = {**os.environ, "PYTHONPATH": str(TOP / "companion")}
+
+
+def started(*words: object, **more: str) -> "subprocess.Popen[str]":
+    """A run of hsp that goes on beside the test."""
+    command = [sys.executable, "-m", "hsp", *map(str, words)]
+    environment = {**ENVIRONMENT, **more}
+    pipes = {"stdin": subprocess.DEVNULL, "stdout": subprocess.PIPE, "stderr": subprocess.PIPE}
+    return subprocess.Popen(command, text=True, env=environment, **pipes)  # type: ignore[call-overload,no-any-return]
+
+
+def log_of(path: Path, word: str, lines: int) -> Path:
+    """A log whose handles all have a word."""
+    rows = [f"192.0.2.1,20.500.1234/{word}-{number}\n" for number in range(lines)]
+    path.write_text("client,handle\n" + "".join(rows))
+    return path
+
+
+@pytest.fixture
+def regions(tmp_path: Path) -> Path:
+    path = tmp_path / "networks.csv"
+    path.write_text("network,region\n192.0.2.0/24,eu\n")
+    return path
+
+
+def test_two_runs_over_one_log_keep_the_rows_of_one(tmp_path: Path, regions: Path) -> None:
+    logs = {word: log_of(tmp_path / word, word, 8000) for word in ("a", "b")}
+    for _ in range(3):
+        kept = tmp_path / "kept.csv"
+        runs = [
+            started("demand", log, "--regions", regions, "--log", kept, "-o", tmp_path / f"{word}.out")
+            for word, log in logs.items()
+        ]
+        assert [(run.wait(), run.communicate()[1]) for run in runs] == [(0, ""), (0, "")]
+        words = [re.sub("[0-9]+$", "", row[1]) for row in list(csv.reader(kept.open()))[1:]]
+        assert (len(words), len(set(words))) == (8000, 1)
+    assert not list(tmp_path.glob(".hsp-*"))
+
+
+def test_two_runs_over_one_folder_lose_nothing(tmp_path: Path) -> None:
+    """Both sites are there, however the runs come together."""
+    records = {"paris": PARIS, "reston": RESTON}
+    for name, octets in records.items():
+        (tmp_path / name).write_bytes(octets)
+    for number in range(6):
+        folder = tmp_path / f"{number}"
+        folder.mkdir()
+        runs = [started("sites", tmp_path / name, "--into", folder) for name in records]
+        assert [run.wait() for run in runs] == [0, 0]
+        for run in runs:
+            run.communicate()
+        settings = (folder / "settings.toml").read_text()
+        assert sorted(re.findall('name = "(.*)"', settings)) == ["paris", "reston"]
+        assert {row[0] for row in csv.reader((folder / "capacity.csv").open())} == {"site", "paris", "reston"}
+        assert sorted(os.listdir(folder)) == ["capacity.csv", "settings.toml"]
+
+
+def test_a_later_run_waits_or_is_refused(tmp_path: Path, monkeypatch: pytest.MonkeyPatch) -> None:
+    monkeypatch.setattr(files, "PATIENCE", 0.1)
+    descriptor = os.open(tmp_path, os.O_RDONLY)
+    fcntl.flock(descriptor, fcntl.LOCK_EX)
+    with pytest.raises(Missing, match="another run has it locked"):
+        files.replace_all({f"{tmp_path}/a": b"new"})
+    assert os.listdir(tmp_path) == []
+    os.close(descriptor)
+    with files.locked([str(tmp_path)]):
+        files.replace_all({f"{tmp_path}/a": b"new"})
+        assert files._locked == {(tmp_path.stat().st_dev, tmp_path.stat().st_ino)}
+    assert (os.listdir(tmp_path), files._locked) == (["a"], set())
+
+
+def test_a_folder_that_cannot_be_locked_is_written(tmp_path: Path, monkeypatch: pytest.MonkeyPatch) -> None:
+    def refused(*_: object) -> None:
+        raise OSError(37, "No locks available")
+
+    monkeypatch.setattr(fcntl, "flock", refused)
+    files.replace_all({f"{tmp_path}/a": b"new"})
+    assert (tmp_path / "a").read_bytes() == b"new"
+
+
+def test_a_planted_link_is_not_followed(tmp_path: Path, monkeypatch: pytest.MonkeyPatch) -> None:
+    """Neither is one by the name that a run chooses for what it writes."""
+    monkeypatch.setattr(files.secrets, "token_hex", lambda _: "chosen")
+    (tmp_path / "victim").write_bytes(b"mine")
+    (tmp_path / ".hsp-chosen").symlink_to("victim")
+    with pytest.raises(FileExistsError):
+        files.replace_all({f"{tmp_path}/plan.txt": b"planned"})
+    assert ((tmp_path / "victim").read_bytes(), (tmp_path / "plan.txt").exists()) == (b"mine", False)
+
+
+def test_a_file_by_the_old_fixed_name_stays(hsp: Hsp, example: Example) -> None:
+    folder = example("two-sites")
+    own = folder / "plan.txt.part"
+    (folder / "victim").write_text("mine")
+    own.symlink_to("victim")
+    hsp("plan", str(folder))
+    assert ((folder / "victim").read_text(), own.is_symlink()) == ("mine", True)
+    assert not (folder / "plan.txt").is_symlink()
+
+
+def test_a_log_by_the_name_of_a_part_stays(tmp_path: Path, regions: Path) -> None:
+    log = log_of(tmp_path / "q.csv.part", "a", 20)
+    before = log.read_bytes()
+    invoke("demand", log, "--regions", regions, "--log", tmp_path / "q.csv", "-o", tmp_path / "out.csv")
+    assert log.read_bytes() == before
+    assert len((tmp_path / "q.csv").read_text().splitlines()) == 21
+
+
+def test_a_file_of_a_closed_owner_is_never_open_to_others(tmp_path: Path) -> None:
+    """The part of a file that only its owner may read is that owner's too, while it is written."""
+    own = tmp_path / "kept"
+    own.write_bytes(b"old")
+    own.chmod(0o600)
+    with files.growing(str(own)) as file:
+        file.write(b"new")
+        part = next(tmp_path.glob(".hsp-*"))
+        assert part.stat().st_mode & 0o777 == 0o600
+    assert (own.read_bytes(), own.stat().st_mode & 0o777) == (b"new", 0o600)
+
+
+@pytest.mark.parametrize("way", ["same", "hard link", "link", "through a folder's link"])
+def test_an_output_is_no_input_by_any_path(tmp_path: Path, way: str) -> None:
+    own = tmp_path / "own"
+    own.write_bytes(b"mine")
+    other = tmp_path / "other"
+    if way == "same":
+        other = own
+    elif way == "hard link":
+        os.link(own, other)
+    elif way == "link":
+        other.symlink_to("own")
+    else:
+        (tmp_path / "folder").symlink_to(tmp_path)
+        other = tmp_path / "folder" / "own"
+    with pytest.raises(Unfit, match="read and written"):
+        files.refuse_clashes([str(own)], [str(other)])
+    with pytest.raises(Unfit, match="written twice"):
+        files.refuse_clashes([], [str(own), str(other)])
+
+
+def test_files_that_are_not_there_yet_are_compared_too(tmp_path: Path) -> None:
+    (tmp_path / "folder").symlink_to(tmp_path)
+    with pytest.raises(Unfit, match="written twice"):
+        files.refuse_clashes([], [f"{tmp_path}/new", f"{tmp_path}/folder/../{tmp_path.name}/new"])
+    files.refuse_clashes([f"{tmp_path}/a"], [f"{tmp_path}/b", f"{tmp_path}/c", "/dev/null", "/dev/null"])
+
+
+def test_no_command_writes_what_it_reads(example: Example, tmp_path: Path, regions: Path) -> None:
+    folder, log = example("two-sites"), log_of(tmp_path / "log.csv", "a", 20)
+    before = {it.name: it.read_bytes() for it in folder.iterdir()}
+    for words in (
+        ["plan", folder, "-o", folder / "demand.csv"],
+        ["plan", folder, "-o", folder / "hsp.toml"],
+        ["view", folder, "-o", folder / "settings.toml"],
+        ["view", folder, "--before", folder, "-o", folder / "costs.csv"],
+        ["whatif", folder, "--chart", folder / "capacity.csv"],
+        ["demand", log, "--regions", regions, "--log", folder / "costs.csv", "--into", folder],
+        ["demand", log, "--regions", regions, "--log", folder / "capacity.csv", "--into", folder],
+        ["demand", log, "--regions", regions, "--log", folder / "demand.csv", "-o", tmp_path / "o", "--into", folder],
+        ["demand", log, "--regions", regions, "-o", folder / "settings.toml", "--into", folder],
+        ["sites", folder / "settings.toml", "--into", folder],
+        ["fleet", "demand", log, "--regions", regions, "-o", folder / "costs.csv", "--into", folder],
+    ):
+        assert "would be read and written" in invoke(*words, status=1).stderr
+    for words in (
+        ["demand", log, "--regions", regions, "--log", tmp_path / "same", "-o", tmp_path / "same"],
+        ["demand", log, "--regions", regions, "--into", folder, "--log", folder / "demand.csv"],
+        ["fleet", "demand", log, "--regions", regions, "--keep", ".k", "-o", f"{log}.k"],
+    ):
+        assert "would be written twice" in invoke(*words, status=1).stderr
+    assert {it.name: it.read_bytes() for it in folder.iterdir()} == before
+
+
+def test_fleet_writes_no_log_and_no_plan(example: Example, tmp_path: Path) -> None:
+    folder, log = example("two-sites"), tmp_path / "a.csv"
+    log.write_text("region,handle\n")
+    (tmp_path / "a.csv.answers").write_text("region,handle\n")
+    plan = tmp_path / "b.csv.answers"
+    plan.write_text("HSPLAN 1\n")
+    fleet = ["fleet", "dispatch", folder, "--fronts", "2", "--plan", plan]
+    for words in ([f"0={log}", f"1={log}.answers"], [f"0={tmp_path}/b.csv"], [f"0@h={log}", f"1@h={log}.answers"]):
+        assert "would be read and written" in invoke(*fleet, *words, status=1).stderr
+
+
+STOPS = {signal.SIGTERM: 143, signal.SIGHUP: 129, signal.SIGINT: 130}
+
+
+def slow_program(tmp_path: Path, name: str) -> Path:
+    """A program in place of hsplan's that never ends by itself."""
+    path = tmp_path / name
+    path.write_text("#!/bin/sh\nexec sleep 600\n")
+    path.chmod(0o755)
+    return path
+
+
+@pytest.mark.parametrize("number", STOPS)
+@pytest.mark.parametrize("command", ["plan", "view", "whatif", "doctor", "sites", "demand"])
+def test_a_stopped_command_leaves_nothing(
+    example: Example, tmp_path: Path, regions: Path, command: str, number: signal.Signals
+) -> None:
+    folder, room = example("two-sites"), tmp_path / "room"
+    room.mkdir()
+    pipe = tmp_path / "pipe"
+    os.mkfifo(pipe)
+    (tmp_path / "site").write_bytes(PARIS)
+    own = {
+        "sites": ["sites", tmp_path / "site", "--into", folder],
+        "demand": ["demand", pipe, "--regions", regions, "--log", folder / "kept.csv", "-o", folder / "new.csv"],
+    }
+    before = sorted(os.listdir(folder))
+    slow = str(slow_program(tmp_path, "slow"))
+    run = started(*own.get(command, [command, folder]), TMPDIR=str(room), HSPLAN=slow)
+    until = time.monotonic() + 20
+    while not list(room.glob("hsp-*/*" if command == "sites" else "hsp-*")) and time.monotonic() < until:
+        time.sleep(0.02)
+    time.sleep(0.3)
+    run.send_signal(number)
+    _, said = run.communicate(timeout=20)
+    assert (run.returncode, said) == (STOPS[number], "hsp: interrupted\n")
+    assert (sorted(os.listdir(folder)), os.listdir(room)) == (before, [])
+
+
+def test_a_signal_that_the_caller_ignores_stays_ignored(tmp_path: Path, regions: Path) -> None:
+    """As nohup has it."""
+    pipe = tmp_path / "pipe"
+    os.mkfifo(pipe)
+    script = 'trap "" HUP; exec "$@"'
+    words = [sys.executable, "-m", "hsp", "demand", str(pipe), "--regions", str(regions)]
+    run = subprocess.Popen(
+        ["sh", "-c", script, "sh", *words], env=ENVIRONMENT, stdout=subprocess.PIPE, stderr=subprocess.PIPE, text=True
+    )
+    with pipe.open("w") as file:
+        run.send_signal(signal.SIGHUP)
+        file.write("client,handle\n192.0.2.1,20.500.1234/a\n")
+    assert (run.communicate(timeout=20)[0], run.returncode) == ("region,handle,count\neu,20.500.1234/a,1\n", 0)
+
+
+def test_a_full_folder_of_temporary_files_is_named(twelve: Path, tmp_path: Path) -> None:
+    """A limit on the size of files stands for the full disk."""
+    words = ["bash", "-c", f"ulimit -f 1; exec {sys.executable} -m hsp plan {twelve} --no-save"]
+    environment = {**ENVIRONMENT, "TMPDIR": str(tmp_path)}
+    done = subprocess.run(words, capture_output=True, text=True, env=environment)
+    remedy = "File too large; set TMPDIR to another folder for temporary files"
+    assert re.fullmatch(rf"hsp: {tmp_path}/hsp-\w+: {remedy}\n", done.stderr)
+    assert (done.returncode, os.listdir(tmp_path)) == (5, [])
+
+
+def test_a_desk_without_a_folder_says_so(monkeypatch: pytest.MonkeyPatch) -> None:
+    def none(**_: object) -> None:
+        raise FileNotFoundError(2, "No usable temporary directory found")
+
+    monkeypatch.setattr("hsp.programs.tempfile.TemporaryDirectory", none)
+    with pytest.raises(OSError, match="set TMPDIR to another folder") as fault:
+        Desk()
+    assert fault.value.filename == "TMPDIR"
