@@ -60,6 +60,41 @@ def test_no_such_server(hsp: Hsp, example: Example, words: str, remedy: str) -> 
     assert remedy in hsp("whatif", str(example("two-sites")), "--server", words, status=5).stderr
 
 
+def changes_of(hsp: Hsp, folder: Path) -> dict[str, int]:
+    return {it["what"]: abs(int(it["change"])) for it in cases(hsp, str(folder)) if it["change"]}
+
+
+def test_all_bars_of_a_chart_have_one_scale(hsp: Hsp, example: Example) -> None:
+    """A bar is as long as its change, whichever head it stands under: 330 for the greatest."""
+    folder = example("base")
+    chart = folder / "chart.svg"
+    hsp("whatif", str(folder), "--chart", str(chart))
+    tags = list(ElementTree.parse(chart).getroot())
+    bars = {
+        str(text.text): float(bar.get("width", "0"))
+        for text, bar in zip(tags, tags[1:])
+        if bar.tag.endswith("rect") and text.tag.endswith("text")
+    }
+    changes = changes_of(hsp, folder)
+    most = max(changes.values())
+    assert len({it["case"] for it in cases(hsp, str(folder)) if it["change"]}) > 1 and set(bars) == set(changes)
+    for what, change in changes.items():
+        assert bars[what] == pytest.approx(max(1, 330 * change / most), abs=0.06)
+
+
+def test_all_bars_of_a_terminal_have_one_scale(hsp: Hsp, example: Example) -> None:
+    """A full block is a twenty-fourth of the greatest change of all cases; what is shorter ends in an eighth."""
+    folder = example("base")
+    changes = changes_of(hsp, folder)
+    most = max(changes.values())
+    for line in hsp("whatif", str(folder)).stdout.splitlines():
+        what = line[2:20].strip()
+        if what in changes and line.startswith("  "):
+            wanted = round(8 * 24 * changes[what] / most)
+            drawn = sum(8 if it == "\u2588" else 8 - (ord(it) - 0x2588) for it in line if 0x2588 <= ord(it) <= 0x258F)
+            assert drawn == wanted, line
+
+
 def test_charts_are_svg(hsp: Hsp, example: Example) -> None:
     folder = example("two-sites")
     for words in ([], ["--server", "paris:2"]):
