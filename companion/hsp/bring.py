@@ -12,7 +12,7 @@ from typing import Any, TypeVar
 import click
 
 from hsp import skeleton
-from hsp.faults import Unfit, printable
+from hsp.faults import Unfit
 from hsp.files import create, locked, refuse_clashes, replace_all, together
 from hsp.forms import NAMES as FORMS
 from hsp.forms import Form
@@ -25,6 +25,7 @@ from hsp.regions import regions_in
 from hsp.service import NAMES, TITLES, VALUES
 from hsp.sitefiles import Files, Found
 from hsp.tally import Tally
+from hsp.text import give, is_utf8, say, show_progress
 
 FOLDER = click.Path(exists=True, file_okay=False)
 FILE = click.Path(exists=True, dir_okay=False)
@@ -41,9 +42,9 @@ def new(folder: str, example: bool) -> None:
     No file is overwritten.
     """
     paths = create(folder, skeleton.example() if example else skeleton.empty())
-    click.echo(printable(f"{folder} has {listed([os.path.basename(it) for it in paths], 9)}"))
+    say(f"{folder} has {listed([os.path.basename(it) for it in paths], 9)}")
     next_one = "hsp plan" if example else "hsp sites FILE.. --into"
-    click.echo(printable(f"next: {next_one} {shell_word(folder)}"))
+    say(f"next: {next_one} {shell_word(folder)}")
 
 
 def once(_: click.Context, __: click.Parameter, paths: tuple[str, ...]) -> tuple[str, ...]:
@@ -73,7 +74,7 @@ def gathered(paths: tuple[str, ...], names: tuple[str, ...], files: Files) -> li
                 files.left.append(f"{path}: the record of {twin.name} once more")
             else:
                 found.append(it)
-    if any(printable(it) != it for it in names):
+    if any(not is_utf8(it) for it in names):
         raise Unfit("a name isn't text")
     if len(names) > len(found):
         raise Unfit(f"{some(len(names), 'name')} for {some(len(found), 'site')}")
@@ -107,9 +108,9 @@ def sites(paths: tuple[str, ...], into: str | None, names: tuple[str, ...], capa
         read_back("".join(map(block, found)).encode(), 0, found, desk)
         for it in found:
             rows = "".join(f"# {site},{server},{room}\n" for site, server, room in capacity_rows(it, capacity))
-            click.echo(f"{block(it)}# its rows of capacity.csv:\n{rows}", nl=False)
+            give(f"{block(it)}# its rows of capacity.csv:\n{rows}")
         for line in notes:
-            click.echo(printable(line), err=True)
+            say(line, err=True)
         return
     with locked([into]):
         result = joined(into, found, capacity, desk)
@@ -117,14 +118,14 @@ def sites(paths: tuple[str, ...], into: str | None, names: tuple[str, ...], capa
             replace_all(result.contents)
     notes += [f"left out: {it.file}: its record is in the settings already" for it in result.known]
     for line in [line for it in result.added for line in lines_of(it)] + notes:
-        click.echo(printable(line))
+        say(line)
     if not result.added:
-        click.echo("nothing is added")
+        say("nothing is added")
         return
     servers = sum(len(it.site().servers) for it in result.added)
     room = f"with the capacity {capacity:,}" + ("" if capacity else ": put in what each takes")
     where = " and ".join(result.contents)
-    click.echo(printable(f"{some(len(result.added), 'site')} added to {where}; {some(servers, 'server')} {room}"))
+    say(f"{some(len(result.added), 'site')} added to {where}; {some(servers, 'server')} {room}")
 
 
 def form_of(given: dict[str, Any]) -> Form:
@@ -153,7 +154,7 @@ def shown_progress() -> Callable[[str, int], None]:
         if now - last > 0.5:
             last = now
             speed = lines / max(now - begun, 0.001)
-            click.echo(f"\r{path}: {lines:,} lines, {speed:,.0f} a second\033[K", err=True, nl=False)
+            show_progress(f"{path}: {lines:,} lines, {speed:,.0f} a second")
 
     return show
 
@@ -189,7 +190,7 @@ def counted(logs: tuple[str, ...], reading: Reading, tally: Tally, into: Any) ->
             if into:
                 into.write(b"".join(b"%b,%b\n" % (field_of(region), field_of(handle)) for region, handle in chunk))
     if sys.stderr.isatty():
-        click.echo("\r\033[K", err=True, nl=False)
+        show_progress("")
     some_in(logs, reading, tally)
 
 
@@ -294,12 +295,12 @@ def demand(logs: tuple[str, ...], regions: str, into: str | None, kept: str | No
         if output:
             files.open(output).write(text)
         else:
-            click.echo(text, nl=False)
+            give(text)
     lines = [summary(logs, reading, tally), *skipped_lines(reading), rows_line(output, text, is_joined)]
     if inputs and lacking:
         lines.append(f"{inputs.costs} has no cost yet of {listed(lacking)}")
     for line in lines:
-        click.echo(printable(line), err=output is None)
+        say(line, err=output is None)
 
 
 __all__ = ["demand", "new", "sites"]

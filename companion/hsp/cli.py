@@ -2,12 +2,13 @@
 
 from __future__ import annotations
 
+import contextlib
 import csv
 import io
 import json
 import os
 import sys
-from collections.abc import Callable, Mapping
+from collections.abc import Callable, Iterator, Mapping
 from typing import Any, TypeVar
 
 import click
@@ -30,7 +31,6 @@ from hsp.charts import drawn
 from hsp.doctor import Examined, examined, examined_words
 from hsp.doctor.commands import FORMS
 from hsp.doctor.doubts import OLD_PLAN
-from hsp.doctor.findings import visible
 from hsp.doctor.next_step import next_lines, next_step
 from hsp.doctor.printing import json_of as findings_json
 from hsp.doctor.printing import lines as finding_lines
@@ -42,7 +42,8 @@ from hsp.programs import Desk, Missing, Refused
 from hsp.service import NAMES, TITLES, VALUES, Service
 from hsp.signals import Stopped, stopping
 from hsp.sources import sources_of
-from hsp.terminal import colored, head, plan_lines, shortage_lines
+from hsp.terminal import head, plan_lines, shortage_lines
+from hsp.text import colored, escaped, give, say, show_progress, visible
 from hsp.whatif import Changes, full_servers, server_named, sizes, standard
 from hsp.whatif import csv_of as cases_csv
 from hsp.whatif import lines as case_lines
@@ -64,14 +65,29 @@ class Folder(click.Path):
         return super().convert(value, param, context)
 
 
+@contextlib.contextmanager
+def of_words() -> Iterator[None]:
+    """Lets faults of words show these as they may be shown: names of files stand among them."""
+    try:
+        yield
+    except click.ClickException as fault:
+        fault.message = escaped(fault.message)
+        raise
+
+
 class Commands(Group):
     """The commands, and one place for faults."""
 
+    def make_context(self, *words: Any, **more: Any) -> click.Context:
+        with of_words():
+            return super().make_context(*words, **more)
+
     def invoke(self, context: click.Context) -> Any:
         try:
-            return super().invoke(context)
+            with of_words():
+                return super().invoke(context)
         except Missing as fault:
-            ended(5, *str(fault).splitlines())
+            ended(5, *fault.lines)
         except Refused as fault:
             ended(fault.status, f"hsplan refuses these files: {fault.line}")
         except OSError as fault:
@@ -121,7 +137,7 @@ def ended(status: int, *lines: str) -> None:
     """Prints lines on standard error, where these can be written, and ends with a status."""
     try:
         for line in lines:
-            click.echo(f"hsp: {line}", err=True)
+            say(f"hsp: {line}", err=True)
     except OSError:
         to_nowhere(2)
     sys.exit(status)
@@ -144,8 +160,8 @@ def main(context: click.Context) -> None:
     if context.invoked_subcommand is None:
         if sys.stdout.isatty():
             for line in next_lines(".", Desk()):
-                click.echo(line)
-            click.echo("help  hsp --help")
+                say(line)
+            say("help  hsp --help")
         else:
             click.echo(context.get_help())
 
@@ -178,8 +194,7 @@ def progress(number: int) -> Callable[[], None]:
     def one_more() -> None:
         nonlocal done
         done += 1
-        last = "\r" + " " * 60 + "\r" if done == number else ""
-        click.echo(f"\rplanning: {done} of {number}{last}", err=True, nl=False)
+        show_progress(f"planning: {done} of {number}" if done < number else "")
 
     return one_more
 
@@ -194,14 +209,12 @@ def sound(
     found = examined(folder, desk, given, title, cost)
     if not found.service:
         for line in list(finding_lines(found.errors))[:-1]:
-            click.echo(line, err=True)
+            say(line, err=True)
         sys.exit(found.status)
     warnings = [it for it in found.warnings if it.kind != OLD_PLAN]
     if warnings:
         titles = visible(listed(dict.fromkeys(it.message for it in warnings), 2))
-        click.echo(
-            f"hsp: {some(len(warnings), 'warning')}: {titles} (hsp doctor {visible(shell_word(folder))})", err=True
-        )
+        say(f"hsp: {some(len(warnings), 'warning')}: {titles} (hsp doctor {visible(shell_word(folder))})", err=True)
     return found.service
 
 
@@ -273,11 +286,11 @@ def show_shortage(service: Service, desk: Desk, as_json: bool) -> None:
             {"site": it.site, "server_id": it.id, "more": more} for it, more in (bought or {}).items() if after
         ]
         report = {"title": service.titles.title, "served": False, "queries": service.asked, "lack": short.lack}
-        click.echo(json.dumps({**report, "least_purchase": purchase or None}, indent=2, ensure_ascii=False))
+        give(json.dumps({**report, "least_purchase": purchase or None}, indent=2, ensure_ascii=False) + "\n")
     else:
-        click.echo(head(service))
+        say(head(service))
         for line in shortage_lines(service, short, bought, after):
-            click.echo(line)
+            say(line)
     sys.exit(3)
 
 
@@ -320,15 +333,15 @@ def plan(
     if not no_save:
         write(path, service.certificate.text)
     if as_csv or as_json:
-        click.echo(csv_of(found) if as_csv else json_of(found, reference), nl=False)
+        give(csv_of(found) if as_csv else json_of(found, reference))
         return
-    click.echo(head(service))
+    say(head(service))
     for line in plan_lines(found, reference, every):
-        click.echo(line)
+        say(line)
     kept = "" if no_save else f"; kept in {path}"
-    click.echo(f"check {colored(verdict, 'green')}: no plan within these capacities costs less{kept}")
+    say(f"check {colored(verdict, 'green')}: no plan within these capacities costs less{kept}")
     if not (service.sites and service.rows or any(given.values())):
-        click.echo(next_step(service, desk))
+        say(next_step(service, desk))
 
 
 def name_of_earlier(old: Service, now: Service) -> str:
@@ -400,7 +413,7 @@ def view(
     service = sound(folder, desk, given, title, unit)
     text = render(view_of(service, desk, before))
     write(path, text)
-    click.echo(f"{path}  {len(text.encode()) / 1024:,.0f} KiB, {some(len(service.rows), 'row')}")
+    say(f"{path}  {len(text.encode()) / 1024:,.0f} KiB, {some(len(service.rows), 'row')}")
     sys.exit(0 if service.certificate.is_plan else 3)
 
 
@@ -446,10 +459,10 @@ def whatif(
         number = len(full_servers(service)) + len(service.sites) + 1
         cases = standard(Changes(service, desk, progress(number)), step)
     if as_csv:
-        click.echo(cases_csv(cases), nl=False)
+        give(cases_csv(cases))
     else:
         for line in case_lines(service, cases, step):
-            click.echo(line)
+            say(line)
     if chart:
         write(chart, drawn(service, cases, step))
 
@@ -476,11 +489,11 @@ class WordsBehind(click.Command):
 def shown_findings(found: Examined, summary: str) -> None:
     """Prints findings, and what is there where no fault is."""
     for line in finding_lines(found.findings):
-        click.echo(line)
+        say(line)
     if found.is_cut_short:
-        click.echo("there may be more: mend these, and ask again")
+        say("there may be more: mend these, and ask again")
     if not found.errors:
-        click.echo(summary)
+        say(summary)
 
 
 @main.command(cls=WordsBehind)
@@ -501,7 +514,7 @@ def doctor(context: click.Context, folder: str, strict: bool, as_json: bool, **g
     if found.service:
         summary = f"{colored('no fault', 'green')}  {head(found.service)}"
     if as_json:
-        click.echo(findings_json(found.findings), nl=False)
+        give(findings_json(found.findings))
     else:
         shown_findings(found, summary)
     sys.exit(found.status or int(strict and bool(found.warnings)))

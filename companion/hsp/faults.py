@@ -6,6 +6,8 @@ from typing import Any
 
 import click
 
+from hsp.text import say
+
 
 class Unfit(click.ClickException):
     """A file holds what this command can't use."""
@@ -13,12 +15,7 @@ class Unfit(click.ClickException):
     exit_code = 1
 
     def show(self, file: Any = None) -> None:
-        click.echo(f"hsp: {self.message}", err=True)
-
-
-def printable(line: str) -> str:
-    """The line with octets of file names that are no text written as such."""
-    return line.encode("utf-8", "backslashreplace").decode()
+        say(f"hsp: {self.message}", err=True)
 
 
 def shown(value: Any) -> str:

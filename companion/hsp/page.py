@@ -12,6 +12,7 @@ from hsp import __version__
 from hsp.numbers import average, listed, percent, signed, some
 from hsp.plans import Gain, Host, Planned, Reference, Shortage, above, by_shares
 from hsp.service import Row, Server, Service, dotted
+from hsp.text import escaped
 from hsp.sources import Source, now
 
 # So many rows stand in the page; a script shows the others.
@@ -221,6 +222,7 @@ def environment() -> jinja2.Environment:
         trim_blocks=True,
         lstrip_blocks=True,
         undefined=jinja2.StrictUndefined,
+        finalize=lambda it: escaped(it) if type(it) is str else it,
     )
     made.filters.update(number=lambda it: f"{it:,}", signed=signed, listed=listed)
     made.globals.update(percent=percent, average=average, some=some, version=__version__)

@@ -31,7 +31,11 @@ class Refused(Exception):
 
 
 class Missing(Exception):
-    """A file or a program isn't there; the text says which."""
+    """A file or a program isn't there; one line or several say which."""
+
+    def __init__(self, *lines: str) -> None:
+        super().__init__("; ".join(lines))
+        self.lines = lines
 
 
 def program(name: str) -> str:

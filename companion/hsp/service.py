@@ -12,6 +12,7 @@ from typing import Any
 
 from hsp.paths import path_in
 from hsp.programs import Certificate, Desk, Inputs, Missing, Refused
+from hsp.text import escaped
 
 # The conventional names of the files.
 NAMES = {"settings": "settings.toml", "demand": "demand.csv", "costs": "costs.csv", "capacity": "capacity.csv"}
@@ -108,16 +109,16 @@ class Service:
         return [at for at, site in enumerate(self.sites) if (region, site.name) in self.costs]
 
 
-def _absent(folder: str, paths: list[str]) -> str:
+def _absent(folder: str, paths: list[str]) -> list[str]:
     """Which files are not there, each with a near name where there is one."""
     if len(paths) == len(NAMES):
-        return f"{folder}: none of {', '.join(NAMES.values())} is here"
+        return [f"{folder}: none of {', '.join(NAMES.values())} is here"]
     lines = []
     for path in paths:
         near = difflib.get_close_matches(os.path.basename(path), os.listdir(os.path.dirname(path) or "."), 1, 0.6)
         why = "is a folder, not a file" if os.path.isdir(path) else "no such file"
         lines.append(f"{path}: {why}" + (f"; did you mean {near[0]}?" if near and why == "no such file" else ""))
-    return "\n".join(lines)
+    return lines
 
 
 def inputs_in(folder: str, given: dict[str, str | None]) -> Inputs:
@@ -125,7 +126,7 @@ def inputs_in(folder: str, given: dict[str, str | None]) -> Inputs:
     files = {kind: given.get(kind) or path_in(folder, name) for kind, name in NAMES.items()}
     absent = [path for path in files.values() if not os.path.exists(path) or os.path.isdir(path)]
     if absent:
-        raise Missing(_absent(folder, absent))
+        raise Missing(*_absent(folder, absent))
     values = given.get("values")
     beside = path_in(folder, VALUES)
     if not values and os.path.isfile(beside):
@@ -162,7 +163,7 @@ def titles_in(folder: str, title: str | None, cost: str | None) -> Titles:
     fallback = names[-1] if names else folder
     own_title = title if title else plain.get("title", fallback)
     own_cost = cost if cost else plain.get("cost", "")
-    return Titles(own_title, own_cost, plain.get("time", ""))
+    return Titles(escaped(own_title), escaped(own_cost), escaped(plain.get("time", "")))
 
 
 def site_of(name: str, fields: str, first: int) -> Site:

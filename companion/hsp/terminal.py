@@ -2,34 +2,15 @@
 
 from __future__ import annotations
 
-import os
-import sys
 from collections import Counter
 from collections.abc import Iterator
-
-import click
 
 from hsp.numbers import average, listed, percent, signed, some
 from hsp.plans import Gain, Planned, Reference, Shortage, above, by_shares
 from hsp.service import Server, Service
+from hsp.text import bold, colored, dim, escaped
 
 SHOWN = 5
-
-
-def is_plain() -> bool:
-    return bool(os.environ.get("NO_COLOR")) or not sys.stdout.isatty()
-
-
-def bold(text: str) -> str:
-    return text if is_plain() else click.style(text, bold=True)
-
-
-def dim(text: str) -> str:
-    return text if is_plain() else click.style(text, dim=True)
-
-
-def colored(text: str, colour: str) -> str:
-    return text if is_plain() else click.style(text, fg=colour, bold=True)
 
 
 def head(service: Service) -> str:
@@ -138,7 +119,7 @@ def shortage_lines(
     handles: Counter[str] = Counter()
     for row in short.rows:
         handles[row.handle] += row.count
-    names = listed(f"{name} ({count:,})" for name, count in handles.most_common())
+    names = listed(f"{escaped(name)} ({count:,})" for name, count in handles.most_common())
     yield f"who   {some(len(short.rows), 'row')} of {some(len(handles), 'handle')}: {names}"
     if len(short.servers) == len(service.servers):
         yield f"where all {len(service.servers)} servers together lack room"
@@ -167,4 +148,4 @@ def purchase_lines(
         yield f"      {colored(server.label.ljust(wide), 'yellow')}  {more:>9,} more: {before:,} to {before + more:,}"
 
 
-__all__ = ["Gain", "bold", "colored", "dim", "head", "plan_lines", "shortage_lines"]
+__all__ = ["Gain", "head", "plan_lines", "shortage_lines"]

@@ -12,7 +12,7 @@ from hsp.numbers import average, listed, signed
 from hsp.plans import capacity_file
 from hsp.programs import Desk, Missing
 from hsp.service import Server, Service
-from hsp.terminal import bold, colored
+from hsp.text import bold, colored
 
 # What is changed: room at a full server, a lost site, all demand, or the size of one server.
 MORE, LOST, DEMAND, SIZE = "more", "lost", "demand", "size"

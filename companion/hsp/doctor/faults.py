@@ -19,10 +19,11 @@ from hsp.doctor import (
 from hsp.doctor.commands import FILES, FORMS, Line, line_of, split
 from hsp.doctor.file_faults import file_finding
 from hsp.doctor.findings import Finding, Place, Words, found
-from hsp.doctor.question import ORDER, Diagnosis, Question, Said, draft_of, is_utf8
+from hsp.doctor.question import ORDER, Diagnosis, Question, Said, draft_of
 from hsp.doctor.table_faults import Explained, row_fault
 from hsp.doctor.word_doubts import word_doubts
 from hsp.programs import Desk, program, run
+from hsp.text import is_utf8
 
 # How often hsplan is asked about copies that were mended, and how many octets these may have together.
 TURNS, OCTETS = 120, 100_000_000

@@ -6,6 +6,8 @@ import os
 import re
 from dataclasses import dataclass, field
 
+from hsp.text import visible
+
 ERROR, WARNING = "error", "warning"
 # Octets that no text of a table needs. hsplan reads no larger file whole.
 LARGEST = 67_108_864
@@ -123,13 +125,6 @@ def encoded(text: str) -> bytes:
 def read_text(path: str) -> Text:
     with open(path, "rb") as file:
         return Text(path, file.read(LARGEST + 1))
-
-
-def visible(text: str) -> str:
-    """A text in which each sign has one place: one that is not seen becomes a mark."""
-    return "".join(
-        it if it.isprintable() else "\u2423" if it in "\u00a0\t\u200b\ufeff\r" else "\ufffd" for it in text
-    )
 
 
 def quoted(text: str, most: int = 60) -> str:

@@ -11,7 +11,8 @@ from hsp.numbers import listed, some
 from hsp.paths import shell_word
 from hsp.programs import Desk
 from hsp.service import NAMES, Service
-from hsp.terminal import bold, head
+from hsp.terminal import head
+from hsp.text import bold
 
 
 def step(command: str, why: str) -> str:

@@ -5,9 +5,9 @@ from __future__ import annotations
 import json
 from collections.abc import Iterable, Iterator
 
-from hsp.doctor.findings import ERROR, Finding, visible
+from hsp.doctor.findings import ERROR, Finding
 from hsp.numbers import listed
-from hsp.terminal import bold, colored, dim
+from hsp.text import bold, colored, dim, visible
 
 WIDE = 96
 

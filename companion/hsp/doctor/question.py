@@ -12,6 +12,7 @@ from dataclasses import dataclass, field, replace
 
 from hsp.doctor.findings import Finding, Text, encoded, read_text
 from hsp.programs import Desk, program
+from hsp.text import is_utf8
 
 # The files in the order in which hsplan reads them.
 ORDER = ("settings", "values", "demand", "costs", "capacity", "plan", "log", "file")
@@ -177,7 +178,3 @@ def draft_of(desk: Desk, path: str) -> Draft:
 def is_pipe(path: str) -> bool:
     mode = os.stat(path).st_mode
     return stat.S_ISFIFO(mode) or stat.S_ISCHR(mode)
-
-
-def is_utf8(text: str) -> bool:
-    return not any("\ud800" <= it <= "\udfff" for it in text)

@@ -21,7 +21,7 @@ from hsp.bring import (
     summary,
     with_forms,
 )
-from hsp.faults import Unfit, printable
+from hsp.faults import Unfit
 from hsp.files import locked, replace_all
 from hsp.fleet import kit
 from hsp.fleet.engine import Engine, Reply
@@ -34,6 +34,7 @@ from hsp.programs import Desk, Inputs
 from hsp.queries import Judge, Reading
 from hsp.regions import regions_in
 from hsp.tally import Tally
+from hsp.text import give, say
 
 # So many tables are added up by one part.
 WIDTH = 8
@@ -131,10 +132,10 @@ def demand(logs: tuple[str, ...], regions: str, into: str | None, keep: str | No
                 replace_all({output: text})
             engine.publish([(it.kept, head, host) for it, head, host in zip(named, heads, hosts) if it.kept])
     if not output:
-        click.echo(text, nl=False)
+        give(text)
     lines = [summary(logs, reading, tally), *skipped_lines(reading), rows_line(output, text, is_joined)]
     lacking = tally.without_costs(inputs) if inputs else []
     if inputs and lacking:
         lines.append(f"{inputs.costs} has no cost yet of {listed(lacking)}")
     for line in lines:
-        click.echo(printable(line), err=output is None)
+        say(line, err=output is None)

@@ -13,7 +13,7 @@ from typing import Any
 import click
 
 from hsp.bring import FOLDER
-from hsp.faults import Unfit, printable
+from hsp.faults import Unfit
 from hsp.files import refuse_clashes
 from hsp.fleet import kit
 from hsp.fleet.answers import SUMS, line_of_row
@@ -25,6 +25,7 @@ from hsp.numbers import listed, some
 from hsp.paths import path_in, shell_word
 from hsp.programs import Missing
 from hsp.service import inputs_in
+from hsp.text import say
 
 SUFFIX = ".answers"
 OF_FRONT = re.compile(r"([0-9]+)(?:@([^=/]+))?=(.+)", re.DOTALL)
@@ -169,4 +170,4 @@ def dispatch(folder: str, logs: tuple[str, ...], plan: str | None, **given: Any)
         sums.update(it["sums"])
     answers = [path + SUFFIX for it in fronts for path in it.logs]
     counts = ", ".join(f"{sums[it]:,} {it}" for it in SUMS if sums[it])
-    click.echo(printable(f"{some(sum(sums.values()), 'row')}: {counts}; answers in {listed(answers)}"))
+    say(f"{some(sum(sums.values()), 'row')}: {counts}; answers in {listed(answers)}")

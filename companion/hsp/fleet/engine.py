@@ -15,11 +15,10 @@ from collections.abc import Callable, Mapping, Sequence
 from dataclasses import dataclass
 from typing import Any
 
-import click
-
 from hsp.files import locked
 from hsp.fleet.local import Gone, Local
 from hsp.programs import Missing
+from hsp.text import say
 
 Reply = dict[str, Any]
 NO_WORKER, BROKEN, OUT_OF_MEMORY = 3, 5, 4
@@ -149,7 +148,7 @@ class Engine:
         refusals = self._refusals(self.remote.Mark(sent, self.seal))
         for name, reason in sorted(refusals.items()):
             if reason:
-                click.echo(f"hsp: worker {name} gets no part: {reason}", err=True)
+                say(f"hsp: worker {name} gets no part: {reason}", err=True)
         if all(refusals.values()):
             raise Unfinished(NO_WORKER, "no worker is fit" if refusals else "the scheduler has no worker")
 

@@ -7,10 +7,9 @@ import time
 from collections.abc import Callable
 from typing import Any
 
-import click
-
 from hsp.fleet.engine import Engine, Reply
 from hsp.numbers import some
+from hsp.text import show_progress
 
 
 def shown(engine: Engine, word: str, number: int, rows_of: Callable[[Reply], int]) -> Callable[[list[Reply]], Any]:
@@ -26,6 +25,8 @@ def shown(engine: Engine, word: str, number: int, rows_of: Callable[[Reply], int
         speed = sum(map(rows_of, done)) / max(now - begun, 0.001)
         workers = some(len(engine.workers()), "worker")
         line = f"{len(done):,} of {some(number, word)}, {speed:,.0f} rows a second, {workers}"
-        click.echo(f"\r{line}\033[K" + ("\r\033[K" if len(done) == number else ""), err=True, nl=False)
+        show_progress(line)
+        if len(done) == number:
+            show_progress("")
 
     return show

@@ -9,11 +9,12 @@ from typing import Any, TypeVar
 
 import click
 
-from hsp.faults import Unfit, printable
+from hsp.faults import Unfit
 from hsp.fleet.engine import BROKEN, Engine, Place, Unfinished
 from hsp.fleet.local import Gone
 from hsp.numbers import some
 from hsp.signals import STOPPED, deaf, stopping
+from hsp.text import say, show_progress
 
 Command = TypeVar("Command", bound=Callable[..., Any])
 # Paths whose unpublished files are taken away at the end, and their host.
@@ -47,7 +48,7 @@ def place_of(given: dict[str, Any]) -> Place:
     if not scheduler and any(keys):
         raise click.UsageError("--tls-ca, --tls-cert and --tls-key are for a --scheduler")
     if scheduler and not scheduler.startswith(("tcp://", "tls://")):
-        raise click.UsageError(f"a scheduler is tcp://HOST:PORT or tls://HOST:PORT, not {printable(scheduler)}")
+        raise click.UsageError(f"a scheduler is tcp://HOST:PORT or tls://HOST:PORT, not {scheduler}")
     if scheduler and scheduler.startswith("tls:") != all(keys) or any(keys) != all(keys):
         raise click.UsageError("a scheduler at tls:// needs --tls-ca, --tls-cert and --tls-key, another one none")
     return Place(scheduler, workers, keys, given["patience"])
@@ -82,13 +83,13 @@ def _lost(engine: Engine) -> None:
     many = engine.local.restarts if engine.local else 0
     if many:
         parts = "another one did its parts" if many == 1 else "others did their parts"
-        click.echo(f"hsp: {some(many, 'worker')} ended early; {parts}", err=True)
+        say(f"hsp: {some(many, 'worker')} ended early; {parts}", err=True)
 
 
 def _ended(status: int, line: str) -> None:
     if sys.stderr.isatty():
-        click.echo("\r\033[K", err=True, nl=False)
+        show_progress("")
     if status == 1:
-        raise Unfit(printable(line))
-    click.echo(printable(f"hsp: {line}"), err=True)
+        raise Unfit(line)
+    say(f"hsp: {line}", err=True)
     sys.exit(status)

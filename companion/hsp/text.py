@@ -1,0 +1,72 @@
+"""Text as people see it. No sign of a file steers a terminal, ends a line, or turns the direction of what follows."""
+
+from __future__ import annotations
+
+import os
+import re
+import sys
+import unicodedata
+
+import click
+
+# Kinds of signs that nobody sees: controls, formats such as marks of direction, halves of a letter, ends of lines.
+UNSEEN = ("Cc", "Cf", "Cs", "Zl", "Zp")
+COLOUR = re.compile("(\x1b\\[[0-9;]*m)")
+
+
+def escaped(text: str) -> str:
+    """The text with an escape in place of each sign that isn't seen, as `\\x1b`."""
+    if text.isprintable():
+        return text
+    signs = (it.encode("unicode_escape").decode() if unicodedata.category(it) in UNSEEN else it for it in text)
+    return "".join(signs)
+
+
+def visible(text: str) -> str:
+    """A text in which each sign has one place, so that carets stand below it: one that is not seen becomes a mark."""
+    return "".join(
+        it if it.isprintable() else "\u2423" if it in "\u00a0\t\u200b\ufeff\r" else "\ufffd" for it in text
+    )
+
+
+def is_utf8(text: str) -> bool:
+    """Whether a word or a name of a file is text."""
+    return not any("\ud800" <= it <= "\udfff" for it in text)
+
+
+def is_plain() -> bool:
+    """Whether no colours are shown. A pipe gets the same words as a terminal without them."""
+    return bool(os.environ.get("NO_COLOR")) or not (sys.stdout and sys.stdout.isatty())
+
+
+def bold(text: str) -> str:
+    return text if is_plain() else click.style(text, bold=True)
+
+
+def dim(text: str) -> str:
+    return text if is_plain() else click.style(text, dim=True)
+
+
+def colored(text: str, colour: str) -> str:
+    return text if is_plain() else click.style(text, fg=colour, bold=True)
+
+
+def say(line: str, err: bool = False) -> None:
+    """Prints a line for people. Its own colours stay."""
+    parts = [line] if is_plain() else COLOUR.split(line)
+    click.echo("".join(it if at % 2 else escaped(it) for at, it in enumerate(parts)), err=err)
+
+
+def give(text: str | bytes) -> None:
+    """Prints a text for programs as it is, or by its lines for a person at a terminal."""
+    if not sys.stdout.isatty():
+        click.echo(text, nl=False)
+        return
+    lines = text if isinstance(text, str) else text.decode("utf-8", "replace")
+    for line in lines.removesuffix("\n").split("\n"):
+        click.echo(escaped(line))
+
+
+def show_progress(line: str) -> None:
+    """Shows a line on a terminal in place of the last one; an empty one takes it away."""
+    click.echo(f"\r{escaped(line)}\033[K", err=True, nl=False)
