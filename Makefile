@@ -42,6 +42,7 @@ test:
 	tools/check_docs.py --names
 	tools/list_reading.py --check
 	tools/list_proof.py --check
+	tools/write_vectors.py --check
 	tools/check_manual.py
 	tools/check_completions.py
 	tools/check_modules.py

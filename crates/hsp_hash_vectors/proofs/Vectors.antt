@@ -1,0 +1,35 @@
+-- The vectors, from the proofs of their digests.
+use Rattle.hsp_hash_vectors.specs.Vectors.{PartVectors, StandardVectors}
+use Rattle.hsp_hash_vectors.proofs.Abc as abc
+use Rattle.hsp_hash_vectors.proofs.Empty as empty
+use Rattle.hsp_hash_vectors.proofs.Letters as letters
+use Rattle.hsp_hash_vectors.proofs.LowerA as lower_a
+use Rattle.hsp_hash_vectors.proofs.Message as message
+use Rattle.hsp_hash_vectors.proofs.One as one
+use Rattle.hsp_hash_vectors.proofs.OneTwoThree as one_two_three
+use Rattle.hsp_hash_vectors.proofs.Ten as ten
+use Rattle.hsp_hash_vectors.proofs.Three as three
+use Rattle.hsp_hash_vectors.proofs.Two as two
+use Rattle.hsp_hash_vectors.proofs.UpperA as upper_a
+use Rattle.hsp_hash_vectors.proofs.Zero as zero
+
+pub standard_vectors : StandardVectors
+standard_vectors = record {
+  empty = empty.digits;
+  lower_a = lower_a.digits;
+  abc = abc.digits;
+  message = message.digits;
+  letters = letters.digits;
+}
+
+pub part_vectors : PartVectors
+part_vectors = record {
+  empty = (empty.digits, empty.value);
+  zero = (zero.digits, zero.value);
+  one = (one.digits, one.value);
+  two = (two.digits, two.value);
+  three = (three.digits, three.value);
+  ten = (ten.digits, ten.value);
+  one_two_three = (one_two_three.digits, one_two_three.value);
+  upper_a = (upper_a.digits, upper_a.value);
+}
