@@ -17,12 +17,13 @@ from hsp.files import create, locked, refuse_clashes, replace_all, together
 from hsp.forms import NAMES as FORMS
 from hsp.forms import Form
 from hsp.joining import block, capacity_rows, joined, lines_of, read_back
+from hsp.marks import KINDS, TITLES, Mark, marked
 from hsp.numbers import listed, some
 from hsp.paths import path_in, shell_word
 from hsp.programs import Desk, Inputs
 from hsp.queries import Judge, Reading, field_of, queries
 from hsp.regions import regions_in
-from hsp.service import NAMES, TITLES, VALUES
+from hsp.service import NAMES, VALUES
 from hsp.sitefiles import Files, Found
 from hsp.tally import Tally
 from hsp.text import give, is_utf8, say, show_progress
@@ -216,6 +217,17 @@ def rows_line(output: str | None, text: bytes, is_joined: bool) -> str:
     return f"{output or 'the table'} has {some(text.count(10) - 1, 'row')}{kinds}"
 
 
+def mark_of(tally: Tally, logs: tuple[str, ...], unit: int | None) -> Mark:
+    """What the rows of a joined table stand for."""
+    return Mark(KINDS, unit or 1, logs, tally.asked, tally.handles)
+
+
+def of_folder(folder: str | None, output: str, mark: Mark) -> dict[str, bytes]:
+    """The folder's hsp.toml with a mark, where its own demand is written."""
+    own = path_in(folder, NAMES["demand"]) if folder else ""
+    return marked(folder, mark) if folder and os.path.realpath(own) == os.path.realpath(output) else {}
+
+
 FORM_OPTIONS = [
     click.option(
         "--format", type=click.Choice(["auto", *FORMS]), default="auto", show_default=True, help="of the logs"
@@ -293,7 +305,9 @@ def demand(logs: tuple[str, ...], regions: str, into: str | None, kept: str | No
         text, is_joined = tally.demand(inputs, given["unit"])
         lacking = tally.without_costs(inputs) if inputs else []
         if output:
-            files.open(output).write(text)
+            mark = mark_of(tally, logs, given["unit"]) if is_joined else Mark()
+            for path, octets in {output: text, **of_folder(into, output, mark)}.items():
+                files.open(path).write(octets)
         else:
             give(text)
     lines = [summary(logs, reading, tally), *skipped_lines(reading), rows_line(output, text, is_joined)]

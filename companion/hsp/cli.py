@@ -14,6 +14,7 @@ from typing import Any, TypeVar
 import click
 
 from hsp import __version__, bring
+from hsp.answering import answer_lines, in_units
 from hsp.numbers import listed, some
 from hsp.paths import path_in, shell_word
 from hsp.plans import (
@@ -37,9 +38,10 @@ from hsp.doctor.printing import lines as finding_lines
 from hsp.files import refuse_clashes, replace_all
 from hsp.fleet.command import fleet
 from hsp.groups import Group
+from hsp.marks import TITLES
 from hsp.page import View, changes_between, render
 from hsp.programs import Desk, Missing, Refused
-from hsp.service import NAMES, TITLES, VALUES, Service
+from hsp.service import NAMES, VALUES, Service
 from hsp.signals import Stopped, stopping
 from hsp.sources import sources_of
 from hsp.terminal import head, plan_lines, shortage_lines
@@ -264,6 +266,8 @@ def json_of(plan: Planned, reference: Reference | None) -> str:
     report = {
         "title": plan.service.titles.title,
         "served": True,
+        "rows_are": plan.service.mark.rows,
+        "unit": plan.service.unit,
         "queries": plan.service.asked,
         "cost": plan.cost,
         "cost_at_cheapest_sites": reference.cost if reference else None,
@@ -292,6 +296,18 @@ def show_shortage(service: Service, desk: Desk, as_json: bool) -> None:
         for line in shortage_lines(service, short, bought, after):
             say(line)
     sys.exit(3)
+
+
+def keep(service: Service, desk: Desk, path: str) -> list[str]:
+    """Writes a plan, and beside it what else is needed to answer by it. Returns what is to be said of that."""
+    contents: dict[str, bytes] = {}
+    lines: list[str] = []
+    if not os.path.exists(path) or os.path.isfile(path):
+        inputs, contents = in_units(service, desk, path)
+        lines = answer_lines(service, inputs, path)
+    refuse_clashes(service.inputs.files(), contents)
+    replace_all({path: service.certificate.text.encode(), **contents})
+    return lines
 
 
 @main.command()
@@ -330,8 +346,7 @@ def plan(
     verdict = desk.verdict(service.inputs, service.plan_file)
     if verdict != "yes":
         ended(1, f"hsplan check says {verdict} to hsplan's own plan: please report this with your files")
-    if not no_save:
-        write(path, service.certificate.text)
+    lines = [] if no_save else keep(service, desk, path)
     if as_csv or as_json:
         give(csv_of(found) if as_csv else json_of(found, reference))
         return
@@ -340,6 +355,8 @@ def plan(
         say(line)
     kept = "" if no_save else f"; kept in {path}"
     say(f"check {colored(verdict, 'green')}: no plan within these capacities costs less{kept}")
+    for line in lines:
+        say(line)
     if not (service.sites and service.rows or any(given.values())):
         say(next_step(service, desk))
 
@@ -413,7 +430,8 @@ def view(
     service = sound(folder, desk, given, title, unit)
     text = render(view_of(service, desk, before))
     write(path, text)
-    say(f"{path}  {len(text.encode()) / 1024:,.0f} KiB, {some(len(service.rows), 'row')}")
+    rows = some(len(service.rows), "kind" if service.mark.is_joined else "row")
+    say(f"{path}  {len(text.encode()) / 1024:,.0f} KiB, {rows}")
     sys.exit(0 if service.certificate.is_plan else 3)
 
 

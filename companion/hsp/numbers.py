@@ -28,6 +28,12 @@ def percent(part: int, whole: int) -> str:
     return "<1%" if share < 1 else ">99%" if share > 99 else f"{round(share)}%"
 
 
+def part(share: float) -> str:
+    """A part in percent, as much of it as matters."""
+    each = 100 * share
+    return f"{each:,.0f}%" if each >= 10 else f"{each:.1f}%".replace(".0%", "%")
+
+
 def some(number: int, word: str, many: str = "") -> str:
     """A number of things: `1 site`, `2 sites`."""
     return f"{number:,} {word if number == 1 else many or word + 's'}"

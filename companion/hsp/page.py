@@ -3,6 +3,7 @@ drawn number stands beside it as text."""
 
 from __future__ import annotations
 
+from collections import Counter
 from collections.abc import Iterable, Mapping
 from dataclasses import dataclass, field
 
@@ -127,7 +128,7 @@ def reserve(servers: list[ServerView], hosts: list[Host]) -> str:
     """How full the fullest servers are."""
     full = [it for it in servers if it.is_full]
     words = [f"{len(full)} of {some(len(servers), 'server')}"] if full else []
-    machines = sum(0 < it.limit <= it.load for it in hosts)
+    machines = sum(it.is_full for it in hosts)
     words += [some(machines, "machine")] if machines else []
     said = f"{listed(words)} {'is' if len(full) + machines == 1 else 'are'} full. " if words else ""
     rest = [it for it in servers if not it.is_full and it.capacity]
@@ -176,11 +177,20 @@ def changes_between(old: Service, new: Service) -> list[str]:
     """What was changed between the files of two plans."""
     said = _changed("capacity of {} {}", _texts(old.capacities), _texts(new.capacities))
     said += _changed("cost {} to {}", _texts(old.costs), _texts(new.costs))
-    rows = [{(it.region, it.handle): it.count for it in service.rows} for service in (old, new)]
+    by_kind = old.mark.is_joined or new.mark.is_joined
+    rows = [_counts(service, by_kind) for service in (old, new)]
     other = sum(rows[0].get(key) != rows[1].get(key) for key in {*rows[0], *rows[1]})
     if other:
-        said.append(f"demand: {some(other, 'row')}, {old.asked:,} → {new.asked:,} queries")
+        said.append(f"demand: {some(other, 'kind' if by_kind else 'row')}, {old.asked:,} → {new.asked:,} queries")
     return said + _changed("limit of {}{}", _limits(old), _limits(new))
+
+
+def _counts(service: Service, by_kind: bool) -> Counter[tuple[object, ...]]:
+    """How often each region asks for each handle, or for each kind: a kind is known by its servers."""
+    counts: Counter[tuple[object, ...]] = Counter()
+    for it in service.rows:
+        counts[it.region, service.kind(it) if by_kind else it.handle] += it.count
+    return counts
 
 
 def _texts(table: Mapping[tuple[str, str], int] | Mapping[tuple[str, int], int]) -> dict[tuple[str, str], int]:
@@ -207,12 +217,13 @@ def best_room(plan: Planned, hosts: list[Host]) -> tuple[str, int, bool] | None:
     return max(found, key=lambda it: it[1]) if found else None
 
 
-def lacking(short: Shortage) -> list[tuple[str, list[Row]]]:
-    """The handles of a shortage with their rows, those first that ask for most."""
-    found: dict[str, list[Row]] = {}
+def lacking(service: Service, short: Shortage) -> list[tuple[str, list[Row]]]:
+    """The handles of a shortage with their rows, those first that ask for most. Each kind is one of its own."""
+    found: dict[tuple[str, str], list[Row]] = {}
     for row in short.rows:
-        found.setdefault(row.handle, []).append(row)
-    return sorted(found.items(), key=lambda it: -sum(row.count for row in it[1]))
+        found.setdefault((row.handle, row.region if service.mark.is_joined else ""), []).append(row)
+    named = [(service.like(handle), rows) for (handle, _), rows in found.items()]
+    return sorted(named, key=lambda it: -sum(row.count for row in it[1]))
 
 
 def environment() -> jinja2.Environment:
@@ -238,8 +249,9 @@ def render(view: View) -> str:
         "plan": plan,
         "reference": view.reference,
         "unit": f" {view.service.titles.cost}" if view.service.titles.cost else "",
+        "is_joined": view.service.mark.is_joined,
         "names": names,
-        "lacking": lacking(view.short) if view.short else [],
+        "lacking": lacking(view.service, view.short) if view.short else [],
         "least": {
             it: min((view.service.costs[it, names[at]] for at in view.service.sites_for(it)), default=None)
             for it in view.service.regions

@@ -11,8 +11,9 @@ from dataclasses import dataclass, field, replace
 from fractions import Fraction
 
 from hsp.numbers import some
-from hsp.programs import BOUNDLESS, Bound, Certificate, Desk, Inputs, Missing
+from hsp.programs import Bound, Certificate, Desk, Inputs, Missing
 from hsp.service import Row, Server, Service, dotted
+from hsp.units import hosts_text, settings_text
 
 # The limits of hsplan within which a twin of each site can stand beside it.
 MOST_SITES, MOST_SERVERS, MOST_COST = 32, 1024, 1_000_000
@@ -24,7 +25,7 @@ Shares = dict[tuple[str, int], int]
 
 @dataclass(frozen=True)
 class Gain:
-    """What room at a full server saves: one query more, and as much as is of use."""
+    """What room at a full server saves: each query of the next unit, and as much room as is of use."""
 
     server: Server
     one: int
@@ -41,6 +42,7 @@ class Host:
     load: int
     price: int
     servers: list[Server]
+    is_full: bool
 
 
 @dataclass(frozen=True)
@@ -75,7 +77,7 @@ class Planned:
 
     def is_full(self, server: Server) -> bool:
         room = self.service.capacity(server)
-        return room > 0 and self.loads[server.number] >= room
+        return room > 0 and self.loads[server.number] + self.service.unit > room
 
     @property
     def full(self) -> list[Server]:
@@ -106,17 +108,6 @@ class Shortage:
         return self.demand - self.capacity
 
 
-def _settings_text(service: Service, prefix: str = "", hosts: bool = False) -> str:
-    """The settings' sites, with a prefix before their names, and their hosts or none."""
-    lines = []
-    for it in service.settings.get("site", []):
-        source = f'record = "{it["record"]}"' if "record" in it else f'index = {it["index"]}'
-        lines.append(f'[[site]]\nname = "{prefix}{it["name"]}"\n{source}\n')
-    for it in service.settings.get("host", []) if hosts else []:
-        lines.append(f'[[host]]\naddress = "{it["address"]}"\nlimit = {it["limit"]}\n')
-    return "".join(lines)
-
-
 def capacity_file(desk: Desk, capacities: dict[tuple[str, int], int]) -> str:
     return desk.put_table("site,server_id,capacity", ((site, at, room) for (site, at), room in capacities.items()))
 
@@ -134,9 +125,8 @@ def _hosts(service: Service, loads: list[int]) -> list[Host]:
     found = []
     for it, price in zip(service.settings.get("host", []), prices):
         own = [server for server in service.servers if server.address == it["address"].lower()]
-        found.append(
-            Host(dotted(it["address"]), it["limit"], sum(loads[server.number] for server in own), price, own)
-        )
+        load, limit = sum(loads[server.number] for server in own), it["limit"]
+        found.append(Host(dotted(it["address"]), limit, load, price, own, 0 < limit < load + service.unit))
     return found
 
 
@@ -165,8 +155,8 @@ def planned(service: Service, desk: Desk) -> Planned:
 
 def cheapest(service: Service, desk: Desk) -> Reference | None:
     """Where all queries go to their cheapest site: the plan without any limit. None where a region has no site."""
-    everywhere = {key: BOUNDLESS for key in service.capacities}
-    settings = desk.put(_settings_text(service), ".toml")
+    everywhere = {key: service.boundless for key in service.capacities}
+    settings = desk.put(settings_text(service.settings), ".toml")
     inputs = service.inputs.but(settings=settings, capacity=capacity_file(desk, everywhere))
     certificate, plan = desk.plan(inputs)
     if not certificate.is_plan:
@@ -185,11 +175,11 @@ def _with_room(desk: Desk, service: Service, server: Server, room: int) -> Input
 
 def _gain(desk: Desk, plan: Planned, server: Server) -> Gain:
     service, room = plan.service, plan.service.capacity(server)
-    one, _ = desk.plan(_with_room(desk, service, server, room + 1))
-    inputs = _with_room(desk, service, server, BOUNDLESS)
+    one, _ = desk.plan(_with_room(desk, service, server, room + service.unit))
+    inputs = _with_room(desk, service, server, service.boundless)
     free, path = desk.plan(inputs)
     load = desk.loads(inputs, path)[0][server.number].load
-    return Gain(server, plan.cost - one.cost, load - room, plan.cost - free.cost)
+    return Gain(server, (plan.cost - one.cost) // service.unit, load - room, plan.cost - free.cost)
 
 
 def with_gains(plan: Planned, desk: Desk, done: Callable[[], None] = lambda: None) -> Planned:
@@ -217,24 +207,18 @@ def shortage(service: Service, desk: Desk) -> Shortage:
 
 def _twinned(service: Service, desk: Desk, cost: Callable[[int], int], dear: int) -> Certificate:
     """A plan where each site has a twin without limits, at a cost that is `dear` higher."""
-    settings = _settings_text(service) + _settings_text(service, "hsp-twin-") + _settings_text_hosts(service)
+    sites = settings_text(service.settings) + settings_text(service.settings, "hsp-twin-")
     rows: list[tuple[str, str, int]] = []
     for (region, site), it in service.costs.items():
         rows += [(region, site, cost(it)), (region, f"hsp-twin-{site}", cost(it) + dear)]
     room = dict(service.capacities)
-    room.update({(f"hsp-twin-{site}", at): BOUNDLESS for site, at in service.capacities})
+    room.update({(f"hsp-twin-{site}", at): service.boundless for site, at in service.capacities})
     inputs = service.inputs.but(
-        settings=desk.put(settings, ".toml"),
+        settings=desk.put(sites + hosts_text(service.settings), ".toml"),
         costs=desk.put_table("region,site,cost", rows),
         capacity=capacity_file(desk, room),
     )
     return desk.plan(inputs)[0]
-
-
-def _settings_text_hosts(service: Service) -> str:
-    return "".join(
-        f'[[host]]\naddress = "{it["address"]}"\nlimit = {it["limit"]}\n' for it in service.settings.get("host", [])
-    )
 
 
 def least_purchase(service: Service, desk: Desk) -> dict[Server, int] | None:

@@ -15,6 +15,7 @@ from collections.abc import Iterable, Iterator
 from dataclasses import dataclass, replace
 from typing import NamedTuple
 
+from hsp import units
 from hsp.signals import uncut
 
 # A capacity that no demand within hsplan's limits can fill.
@@ -72,13 +73,18 @@ def asked(name: str, *words: str) -> str:
 
 @dataclass(frozen=True)
 class Inputs:
-    """The files of a plan, by their paths."""
+    """The files of a plan, by their paths. The demand counts in units of so many queries; the others never do."""
 
     settings: str
     demand: str
     costs: str
     capacity: str
     values: str | None = None
+    unit: int = 1
+
+    def files(self) -> list[str]:
+        """The paths of all files."""
+        return [self.settings, *([self.values] if self.values else []), self.demand, self.costs, self.capacity]
 
     def of_sites(self) -> list[str]:
         """The options that say which sites there are."""
@@ -103,14 +109,17 @@ class Use(NamedTuple):
 
 
 class Certificate:
-    """The text of a plan or of a shortage. Its sums are read at once, its lines when they are asked for."""
+    """The text of a plan or of a shortage. Its sums are read at once, its lines when they are asked for.
 
-    def __init__(self, text: str) -> None:
-        self.text = text
+    The text counts in units; what is read of it is in queries.
+    """
+
+    def __init__(self, text: str, unit: int = 1) -> None:
+        self.text, self._unit = text, unit
         head = text[:200].split("\n")
         said = dict(it.split(" ") for it in head[2:4] if it.count(" ") == 1)
         self.is_plan = head[1] == "PLAN"
-        self.cost, self.demand, self.capacity = (int(said.get(it, 0)) for it in ("cost", "demand", "capacity"))
+        self.cost, self.demand, self.capacity = (unit * int(said.get(it, 0)) for it in ("cost", "demand", "capacity"))
 
     @functools.cached_property
     def _lines(self) -> dict[str, list[tuple[int, ...]]]:
@@ -123,7 +132,7 @@ class Certificate:
 
     @property
     def uses(self) -> list[Use]:
-        return [Use(*it) for it in self._lines["use"]]
+        return [Use(row, site, self._unit * number) for row, site, number in self._lines["use"]]
 
     def prices(self, of: str) -> list[int]:
         """The prices of the rows, the servers or the hosts of a plan: `row`, `server` or `host`."""
@@ -175,6 +184,7 @@ class Desk:
         with _temporary("TMPDIR"), uncut():
             self._folder = tempfile.TemporaryDirectory(prefix="hsp-")
         self._numbers = itertools.count(1)
+        self._divided: dict[tuple[str, int], str] = {}
 
     def put(self, text: str | bytes, suffix: str = ".txt") -> str:
         """Writes a file, and returns its path."""
@@ -190,32 +200,59 @@ class Desk:
     def put_table(self, header: str, rows: Iterable[Iterable[object]]) -> str:
         return self.put(table_of(header, rows), ".csv")
 
+    def in_units(self, inputs: Inputs) -> Inputs:
+        """The inputs as hsplan takes them: capacities and limits in the units of the demand, rounded down."""
+        if inputs.unit == 1:
+            return inputs
+        settings, capacity = self._settings_in_units(inputs), inputs.capacity
+        if (capacity, inputs.unit) not in self._divided:
+            with open(capacity, "rb") as file:
+                octets = units.capacities_in_units(file.read(), inputs.unit)
+            self._divided[capacity, inputs.unit] = self.put(octets, ".csv")
+        return replace(inputs, unit=1, settings=settings, capacity=self._divided[capacity, inputs.unit])
+
+    def _settings_in_units(self, inputs: Inputs) -> str:
+        """The settings, or a copy of them where hosts have limits. hsplan reads them first, so a fault is its own."""
+        key = inputs.settings, inputs.unit
+        if key not in self._divided:
+            with open(inputs.settings, "rb") as file:
+                octets = file.read()
+            if not units.has_hosts(octets):
+                return inputs.settings
+            self.places(inputs, ["0.NA/0"])
+            self._divided[key] = self.put(units.settings_in_units(octets, inputs.unit), ".toml")
+        return self._divided[key]
+
     def plan(self, inputs: Inputs) -> tuple[Certificate, str]:
         """The certificate of a plan or of a shortage, and the path of its file."""
-        printed = run("hsplan", "plan", *inputs.words())
+        printed = run("hsplan", "plan", *self.in_units(inputs).words())
         if printed.status not in (0, 3):
             raise Refused(printed.status, printed.line.removeprefix("hsplan: "))
         if not printed.out.startswith("HSPLAN "):
             raise Missing(f"{program('hsplan')} printed no plan: is it hsplan?")
-        return Certificate(printed.out), self.put(printed.out)
+        return Certificate(printed.out, inputs.unit), self.put(printed.out)
 
     def verdict(self, inputs: Inputs, plan: str) -> str:
         """What the checker says of a certificate: `yes`, or `no` and why."""
-        return run("hsplan", "check", *inputs.words(), "--plan", plan).out.strip()
+        return run("hsplan", "check", *self.in_units(inputs).words(), "--plan", plan).out.strip()
 
     def _report(self, inputs: Inputs, plan: str, kind: str) -> list[str]:
-        return asked("hsplan", "report", *inputs.words(), "--plan", plan, "--kind", kind).splitlines()
+        words = self.in_units(inputs).words()
+        return asked("hsplan", "report", *words, "--plan", plan, "--kind", kind).splitlines()
 
     def loads(self, inputs: Inputs, plan: str) -> tuple[list[Load], Bound]:
         """The load of each server, in the order of the settings, and the sums that show the cost."""
         *lines, bound = self._report(inputs, plan, "load")[1:]
-        _, rows, _, full, _, cost = bound.split()
-        return [Load(*map(int, it.split()[2:5])) for it in lines], Bound(int(rows), int(full), int(cost))
+        unit, sums = inputs.unit, bound.split()[1::2]
+        loads = [(int(load), int(room), int(price)) for _, _, load, room, price, _ in map(str.split, lines)]
+        return [Load(unit * load, unit * room, price) for load, room, price in loads], Bound(
+            *(unit * int(it) for it in sums)
+        )
 
     def regions(self, inputs: Inputs, plan: str) -> dict[str, tuple[int, int]]:
         """The demand and the cost of each region."""
         lines = (it.split() for it in self._report(inputs, plan, "region")[1:-1])
-        return {name: (int(demand), int(cost)) for demand, cost, name in lines}
+        return {name: (inputs.unit * int(demand), inputs.unit * int(cost)) for demand, cost, name in lines}
 
     def reached(self, inputs: Inputs, plan: str) -> set[tuple[str, int]]:
         """The servers that the rows of a shortage may use, by site and identifier."""
@@ -240,9 +277,9 @@ class Desk:
 
     def without_sites(self, demand: bytes = b"") -> Inputs:
         """The inputs of a service that has no site and no cost, with the rows of a demand."""
-        tables = [self.put_table(it, []) for it in ("region,site,cost", "site,server_id,capacity")]
+        costs, capacity = (self.put_table(it, []) for it in ("region,site,cost", "site,server_id,capacity"))
         table = demand or b"region,handle,count\n"
-        return Inputs(self.put(b"", ".toml"), self.put(table, ".csv"), *tables)
+        return Inputs(self.put(b"", ".toml"), self.put(table, ".csv"), costs, capacity)
 
     @functools.cached_property
     def _bare(self) -> list[str]:

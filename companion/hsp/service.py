@@ -10,14 +10,15 @@ import tomllib
 from dataclasses import dataclass, field
 from typing import Any
 
+from hsp.marks import Mark, mark_in, titles_of
+from hsp.numbers import part, some
 from hsp.paths import path_in
-from hsp.programs import Certificate, Desk, Inputs, Missing, Refused
+from hsp.programs import BOUNDLESS, Certificate, Desk, Inputs, Missing, Refused
 from hsp.text import escaped
 
 # The conventional names of the files.
 NAMES = {"settings": "settings.toml", "demand": "demand.csv", "costs": "costs.csv", "capacity": "capacity.csv"}
 VALUES = "sites.values"
-TITLES = "hsp.toml"
 TITLE_KEYS = ("title", "cost", "time")
 
 
@@ -46,7 +47,7 @@ class Site:
 
 @dataclass(frozen=True)
 class Row:
-    """How many queries for a handle come from a region."""
+    """How many queries for a handle come from a region; or for all handles of a kind, of which one is named."""
 
     region: str
     handle: str
@@ -77,6 +78,47 @@ class Service:
     certificate: Certificate
     plan_file: str
     places: dict[tuple[str, str], int] = field(repr=False)
+    mark: Mark = Mark()
+
+    @property
+    def unit(self) -> int:
+        """How many queries a count of the demand stands for."""
+        return self.inputs.unit
+
+    @property
+    def boundless(self) -> int:
+        """A capacity, in queries, that no demand can fill."""
+        return BOUNDLESS * self.unit
+
+    @property
+    def rows_words(self) -> str:
+        """How many handles there are, or how many kinds of them."""
+        if not self.mark.is_joined:
+            return some(self.handles, "handle")
+        handles = some(self.mark.handles, "handle") if self.mark.handles else "handles"
+        return f"{some(len(self.rows), 'kind')} of {handles}"
+
+    @property
+    def added(self) -> float | None:
+        """The share that rounding up to units adds to the queries of the log, where their number is known."""
+        known = self.mark.queries
+        return (self.asked - known) / known if self.unit > 1 and known and self.asked >= known else None
+
+    @property
+    def counted(self) -> str:
+        """The unit of the demand, and what rounding up to it adds, where it isn't one query."""
+        if self.unit == 1:
+            return ""
+        return f" in units of {self.unit:,}" + (f", which add {part(self.added)}" if self.added is not None else "")
+
+    @property
+    def one_more(self) -> str:
+        """The least room that is of use: a query, or each of those of a unit."""
+        return "one query more" if self.unit == 1 else f"each of {self.unit:,} queries more"
+
+    def like(self, handle: str) -> str:
+        """What a row with this handle is of."""
+        return f"handles like {handle}" if self.mark.is_joined else handle
 
     @property
     def servers(self) -> list[Server]:
@@ -108,6 +150,11 @@ class Service:
         """The numbers of the sites that a region may use."""
         return [at for at, site in enumerate(self.sites) if (region, site.name) in self.costs]
 
+    def kind(self, row: Row) -> tuple[tuple[str, int], ...]:
+        """The server that a row has at each site that its region may use: the same for all handles of a kind."""
+        servers = (self.server(at, row.handle) for at in self.sites_for(row.region))
+        return tuple((it.site, it.id) for it in servers)
+
 
 def _absent(folder: str, paths: list[str]) -> list[str]:
     """Which files are not there, each with a near name where there is one."""
@@ -121,7 +168,7 @@ def _absent(folder: str, paths: list[str]) -> list[str]:
     return lines
 
 
-def inputs_in(folder: str, given: dict[str, str | None]) -> Inputs:
+def inputs_in(folder: str, given: dict[str, str | None], unit: int) -> Inputs:
     """The files of a folder by their conventional names, or those that were given instead."""
     files = {kind: given.get(kind) or path_in(folder, name) for kind, name in NAMES.items()}
     absent = [path for path in files.values() if not os.path.exists(path) or os.path.isdir(path)]
@@ -131,7 +178,7 @@ def inputs_in(folder: str, given: dict[str, str | None]) -> Inputs:
     beside = path_in(folder, VALUES)
     if not values and os.path.isfile(beside):
         values = beside
-    return Inputs(**files, values=values)
+    return Inputs(**files, values=values, unit=unit)
 
 
 def table(path: str) -> list[list[str]]:
@@ -150,14 +197,7 @@ def dotted(address: str) -> str:
 
 def titles_in(folder: str, title: str | None, cost: str | None) -> Titles:
     """The names of the service and its units: those given, or those of `hsp.toml`, or the folder's name."""
-    path = os.path.join(folder, TITLES)
-    said: dict[str, Any] = {}
-    if os.path.isfile(path):
-        with open(path, "rb") as file:
-            try:
-                said = tomllib.load(file)
-            except (tomllib.TOMLDecodeError, UnicodeDecodeError) as error:
-                raise Missing(f"{path}: not TOML: {error}") from error
+    said = titles_of(folder)
     names = [it for it in os.path.abspath(folder).split(os.sep) if it not in ("out", "")]
     plain: dict[str, str] = {key: str(said[key]) for key in TITLE_KEYS if key in said}
     fallback = names[-1] if names else folder
@@ -193,18 +233,29 @@ def sites_of(desk: Desk, inputs: Inputs, settings: dict[str, Any]) -> list[Site]
     return sites
 
 
+def mark_of(folder: str, given: dict[str, str | None]) -> Mark:
+    """The mark of a folder's demand. A demand that is given in its place has none."""
+    own, other = path_in(folder, NAMES["demand"]), given.get("demand")
+    return Mark() if other and os.path.realpath(other) != os.path.realpath(own) else mark_in(folder)
+
+
 def read_service(
     folder: str, desk: Desk, given: dict[str, str | None], title: str | None = None, cost: str | None = None
 ) -> Service:
     """Reads a folder. hsplan plans it first, so any fault of the files is hsplan's."""
-    inputs = inputs_in(folder, given)
+    mark = mark_of(folder, given)
+    return service_of(folder, desk, inputs_in(folder, given, mark.unit), titles_in(folder, title, cost), mark)
+
+
+def service_of(folder: str, desk: Desk, inputs: Inputs, titles: Titles, mark: Mark) -> Service:
+    """Reads files, as `read_service` does."""
     certificate, plan_file = desk.plan(inputs)
     with open(inputs.settings, encoding="utf-8-sig", newline="") as file:
         settings = tomllib.loads(file.read())
-    rows = [Row(region, handle, int(count)) for region, handle, count in table(inputs.demand)]
+    rows = [Row(region, handle, inputs.unit * int(count)) for region, handle, count in table(inputs.demand)]
     return Service(
         folder,
-        titles_in(folder, title, cost),
+        titles,
         inputs,
         settings,
         sites_of(desk, inputs, settings),
@@ -214,6 +265,7 @@ def read_service(
         certificate,
         plan_file,
         desk.places(inputs, dict.fromkeys(row.handle for row in rows)),
+        mark,
     )
 
 
@@ -226,8 +278,11 @@ __all__ = [
     "Titles",
     "dotted",
     "inputs_in",
+    "mark_of",
     "read_service",
+    "service_of",
     "site_of",
     "sites_of",
     "table",
+    "titles_in",
 ]

@@ -6,9 +6,10 @@ import ipaddress
 from collections.abc import Sequence
 from importlib.resources import files
 
+from hsp.marks import TITLES
 from hsp.programs import table_of
 from hsp.records import Interface, ServerRecord, SiteRecord
-from hsp.service import NAMES, TITLES
+from hsp.service import NAMES
 
 README = "README.txt"
 HEADERS = {"demand": "region,handle,count", "costs": "region,site,cost", "capacity": "site,server_id,capacity"}

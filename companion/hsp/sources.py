@@ -7,8 +7,8 @@ import hashlib
 import os
 from dataclasses import dataclass
 
+from hsp.marks import TITLES
 from hsp.programs import Inputs
-from hsp.service import TITLES
 
 EPOCH = "SOURCE_DATE_EPOCH"
 

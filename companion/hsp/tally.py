@@ -49,6 +49,8 @@ class Tally:
         self._spilled: str | None = None
         self.asked = 0
         self.regions: set[bytes] = set()
+        # How many handles there are, where all were in memory at once.
+        self.handles: int | None = None
 
     def add(self, queries: Iterable[Query]) -> Iterator[list[Query]]:
         """Counts queries, and passes them on in pieces."""
@@ -73,14 +75,10 @@ class Tally:
         self._desk.add(self._spilled, rows_of(self._counts.items()))
         self._counts.clear()
 
-    @property
-    def handles(self) -> int | None:
-        """How many handles there are, where all are still in memory."""
-        return None if self._spilled else len({handle for _, handle in self._counts})
-
     def demand(self, inputs: Inputs | None, unit: int | None) -> tuple[bytes, bool]:
         """The table of demand, and whether rows of one kind were joined. `inputs` are those of the service."""
         self.regions.update(region for region, _ in self._counts)
+        self.handles = None if self._spilled else len({handle for _, handle in self._counts})
         rows = len(self._counts)
         large = max(self._counts.values(), default=0) > MOST_COUNT
         if not self._spilled and rows <= MOST_ROWS and not large and unit is None:

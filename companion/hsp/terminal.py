@@ -19,8 +19,8 @@ def head(service: Service) -> str:
         some(len(service.sites), "site"),
         some(len(service.servers), "server"),
         some(len(service.regions), "region"),
-        some(service.handles, "handle"),
-        some(service.asked, "query", "queries"),
+        service.rows_words,
+        some(service.asked, "query", "queries") + service.counted,
     ]
     time = f" in {service.titles.time}" if service.titles.time else ""
     return bold(service.titles.title) + dim(f"  {', '.join(sizes)}{time}")
@@ -50,7 +50,7 @@ def plan_lines(plan: Planned, reference: Reference | None, every: bool = False) 
     yield f"cost  {bold(f'{plan.cost:,}{unit}')}, {each}{unit} a query{beside}"
     yield from full_lines(plan, every)
     for host in plan.hosts:
-        note = f"; one query more saves at most {host.price:,}{unit}" if host.price else ""
+        note = f"; {service.one_more} saves at most {host.price:,}{unit}" if host.price else ""
         yield f"host  {host.address} takes {host.load:,} of {host.limit:,}{note}"
     yield from region_lines(plan, reference, every)
     yield f"by shares of regions alone  {by_shares(plan).words}"
@@ -68,7 +68,8 @@ def full_lines(plan: Planned, every: bool = False) -> Iterator[str]:
     wide = max((len(it.server.label) for it in shown), default=0)
     for it in shown:
         label = colored(it.server.label.ljust(wide), "yellow")
-        yield f"      {label}  one query more {it.one:,}{unit}; {it.room:,} more {it.all:,}{unit} in all"
+        one = f"{plan.service.one_more} {it.one:,}{unit}"
+        yield f"      {label}  {one}; {it.room:,} more {it.all:,}{unit} in all"
     if len(worth) > len(shown):
         yield dim(f"      and {len(worth) - len(shown)} more, up to {worth[len(shown)].one:,}{unit} each (--all)")
 
@@ -116,11 +117,7 @@ def shortage_lines(
         verb = "has" if len(short.stranded) == 1 else "have"
         why = f"{listed(short.stranded)} {verb} no cost for any site, so no site may serve them"
         yield f"why   {why}: give costs, or mend the name"
-    handles: Counter[str] = Counter()
-    for row in short.rows:
-        handles[row.handle] += row.count
-    names = listed(f"{escaped(name)} ({count:,})" for name, count in handles.most_common())
-    yield f"who   {some(len(short.rows), 'row')} of {some(len(handles), 'handle')}: {names}"
+    yield f"who   {_who(service, short)}"
     if len(short.servers) == len(service.servers):
         yield f"where all {len(service.servers)} servers together lack room"
     elif short.servers:
@@ -128,6 +125,18 @@ def shortage_lines(
         verb = "is" if len(short.servers) == 1 else "are"
         yield f"where {servers} {verb} all that these may use; room elsewhere doesn't help"
     yield from purchase_lines(service, short, bought, after)
+
+
+def _who(service: Service, short: Shortage) -> str:
+    """The handles that lack room, or the kinds of them, those first that ask for most."""
+    asked: Counter[str] = Counter()
+    for row in short.rows:
+        name = f"{service.like(row.handle)} of {row.region}" if service.mark.is_joined else row.handle
+        asked[name] += row.count
+    names = listed(f"{escaped(name)} ({count:,})" for name, count in asked.most_common())
+    if service.mark.is_joined:
+        return f"{some(len(short.rows), 'kind')}: {names}"
+    return f"{some(len(short.rows), 'row')} of {some(len(asked), 'handle')}: {names}"
 
 
 def purchase_lines(

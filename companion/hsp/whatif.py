@@ -58,8 +58,9 @@ class Changes:
         return self.planned(LOST, site, costs=self.desk.put_table("region,site,cost", costs))
 
     def with_demand(self, percent: float) -> Case:
-        """Each row asks for more queries, rounded up."""
-        rows = ((it.region, it.handle, -int(-it.count * (100 + percent) // 100)) for it in self.service.rows)
+        """Each row asks for more queries, rounded up to units."""
+        unit = self.service.unit
+        rows = ((it.region, it.handle, -int(-it.count * (100 + percent) // (100 * unit))) for it in self.service.rows)
         what = f"{percent:g}% more demand"
         return self.planned(DEMAND, what, demand=self.desk.put_table("region,handle,count", rows))
 
@@ -78,7 +79,7 @@ def standard(changes: Changes, step: float) -> list[Case]:
     more = []
     for server in full_servers(service):
         room = service.capacity(server)
-        more.append(changes.with_room(MORE, server, room + max(1, round(room * step / 100))))
+        more.append(changes.with_room(MORE, server, room + max(service.unit, round(room * step / 100))))
     more.sort(key=lambda it: (it.cost is None, it.cost or it.lack))
     lost = [changes.without(site.name) for site in service.sites]
     lost.sort(key=lambda it: (it.cost is not None, -(it.cost or it.lack)))

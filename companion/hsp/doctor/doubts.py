@@ -12,12 +12,15 @@ from dataclasses import dataclass, field
 from urllib.parse import unquote
 
 from hsp.doctor.findings import WARNING, Finding, Place, Text, Words, decoded, found, quoted, read_text
+from hsp.doctor.mark_doubts import mark_doubts
 from hsp.doctor.rows import Row, Table, near, table_of
 from hsp.doctor.toml_places import value_of
+from hsp.marks import KEYS as MARK_KEYS
+from hsp.marks import TABLE, TITLES
 from hsp.numbers import listed, some
 from hsp.paths import path_in, shell_word
 from hsp.programs import Desk
-from hsp.service import NAMES, TITLE_KEYS, TITLES, VALUES, Service, dotted
+from hsp.service import NAMES, TITLE_KEYS, VALUES, Service, dotted
 
 # A demand beyond so many times all capacity, or a capacity beyond so many times the demand, has likely another unit.
 FAR_ABOVE, FAR_BELOW = 10, 1000
@@ -214,7 +217,7 @@ def zeros(it: Read) -> None:
     for row in it.demand.rows:
         if row.fields[2] == "0":
             words = Words(
-                f"{row.fields[0]} asks 0 times for {quoted(row.fields[1])}",
+                f"{row.fields[0]} asks 0 times for {it.service.like(quoted(row.fields[1]))}",
                 "take the row out, or write its count",
                 "the row asks for nothing",
                 "",
@@ -368,18 +371,15 @@ def titles(it: Read) -> None:
     if not os.path.isfile(path):
         return
     text = read_text(path)
-    for key in tomllib.loads(decoded(text.octets)):
-        meant = near(key, TITLE_KEYS, 0.6)
-        if key in TITLE_KEYS:
-            continue
-        remedy = f"write {meant}" if meant else "take it out"
-        mark = f"did you mean {meant}?" if meant else ""
-        place = text.match(rf"^\s*\[?\"?({re.escape(key)})\b") or Place()
-        it.doubt(
-            text,
-            place,
-            Words(f"the key {quoted(key)} of {TITLES} is not read", remedy, f"hsp reads {listed(TITLE_KEYS)}", mark),
-        )
+    said = tomllib.loads(decoded(text.octets))
+    for own, known in ((said, (*TITLE_KEYS, TABLE)), (said.get(TABLE, {}), MARK_KEYS)):
+        for key in [name for name in own if name not in known]:
+            meant = near(key, known, 0.6)
+            remedy = f"write {meant}" if meant else "take it out"
+            mark = f"did you mean {meant}?" if meant else ""
+            place = text.match(rf"^\s*\[?\"?({re.escape(key)})\b") or Place()
+            message = f"the key {quoted(key)} of {TITLES} is not read"
+            it.doubt(text, place, Words(message, remedy, f"hsp reads {listed(known, 9)}", mark))
 
 
 def doubts(service: Service, desk: Desk, of_folder: bool = True) -> Iterator[Finding]:
@@ -389,6 +389,7 @@ def doubts(service: Service, desk: Desk, of_folder: bool = True) -> Iterator[Fin
     it = Read(service, demand, costs, capacity, read_text(inputs.settings))
     for look in (sites, hosts, handles, twins, priceless, idle, pairs, zeros, units, unused):
         look(it)
+    it.findings += mark_doubts(service, demand.text)
     if of_folder:
         titles(it)
         old_plan(it, desk)

@@ -10,10 +10,13 @@ from dataclasses import dataclass
 from hsp.doctor.doubts import doubts
 from hsp.doctor.findings import ERROR, Finding, Place, Words, found, read_text
 from hsp.doctor.question import Diagnosis, Question, draft_of
+from hsp.doctor.toml_places import value_of
+from hsp.faults import Unfit
+from hsp.marks import TABLE, TITLES, bad_keys
 from hsp.numbers import listed
 from hsp.paths import path_in, shell_word
 from hsp.programs import Desk, Missing, Refused
-from hsp.service import NAMES, TITLES, VALUES, Service, read_service
+from hsp.service import NAMES, VALUES, Service, inputs_in, mark_of, service_of, titles_in
 
 
 @dataclass(frozen=True)
@@ -55,8 +58,10 @@ def examined(
     question = Question(desk, "plan", {kind: draft_of(desk, path) for kind, path in paths.items()})
     copies = {kind: it.copy for kind, it in question.files.items() if it.copy}
     try:
-        service = read_service(folder, desk, {**given, **copies}, title, cost)
-    except (Refused, Missing) as fault:
+        mark = mark_of(folder, given)
+        inputs = inputs_in(folder, {**given, **copies}, mark.unit)
+        service = service_of(folder, desk, inputs, titles_in(folder, title, cost), mark)
+    except (Refused, Missing, Unfit, OSError) as fault:
         return _refused(question, folder, fault)
     return Examined(list(doubts(service, desk)), 0, False, service)
 
@@ -96,7 +101,7 @@ def titles_faults(folder: str) -> list[Finding]:
         return []
     text = read_text(path)
     try:
-        tomllib.loads(text.octets.decode("utf-8"))
+        said = tomllib.loads(text.octets.decode("utf-8"))
     except UnicodeDecodeError:
         words = Words(
             f"{TITLES} isn't UTF-8",
@@ -114,7 +119,10 @@ def titles_faults(folder: str) -> list[Finding]:
         why = re.sub(r" \(at .*\)", "", str(fault)).lower()
         words = Words(f"{TITLES} isn't TOML", 'write lines as title = "Films", cost = "ms", time = "an hour"', why)
         return [found(path, text.whole(number), words)]
-    return []
+    return [
+        found(path, value_of(text, TABLE, 0, it.key), Words(it.message, it.remedy))
+        for it in bad_keys(said.get(TABLE, {}))
+    ]
 
 
 def examined_words(words: list[str], desk: Desk) -> Examined:

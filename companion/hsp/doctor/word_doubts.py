@@ -9,11 +9,13 @@ from collections.abc import Iterator
 from hsp.doctor.commands import FORMS, Line, split
 from hsp.doctor.doubts import bare, doubts, handle_words
 from hsp.doctor.findings import WARNING, Finding, Place, Text, Words, found, quoted
+from hsp.doctor.log_doubts import absent_in, mark_of_words, of_absent, of_mark
 from hsp.doctor.question import Question
 from hsp.doctor.rows import Row, Table, near, table_of
+from hsp.marks import Mark
 from hsp.numbers import some
-from hsp.programs import Missing
-from hsp.service import NAMES, read_service
+from hsp.programs import Inputs
+from hsp.service import NAMES, Service, Titles, service_of
 
 # A log may be long: so many octets of it are looked at.
 LOOKED_AT = 1 << 20
@@ -29,19 +31,17 @@ def of_handle(line: Line) -> Iterator[Finding]:
             yield found("", place, Words(message, f"write {bare(word.text)}", why, "", f"handle {kind}"), "", WARNING)
 
 
-def of_inputs(question: Question) -> Iterator[Finding]:
-    """What is doubtful in the four files of a plan. Pipes can't be read once more."""
+def service_in(question: Question, mark: Mark) -> Service | None:
+    """The service of the four files of a plan, with their numbers as they are. Pipes can't be read once more."""
     files = {kind: it.original.path for kind, it in question.files.items() if not it.copy}
-    if set(NAMES) <= set(files):
-        folder = os.path.dirname(files["settings"]) or "."
-        try:
-            service = read_service(folder, question.desk, {kind: files.get(kind) for kind in (*NAMES, "values")})
-        except Missing:  # of a broken hsp.toml, which no command of hsplan reads
-            return
-        yield from doubts(service, question.desk, of_folder=False)
+    if not set(NAMES) <= set(files):
+        return None
+    folder = os.path.dirname(files["settings"]) or "."
+    inputs = Inputs(files["settings"], files["demand"], files["costs"], files["capacity"], files.get("values"))
+    return service_of(folder, question.desk, inputs, Titles(folder), mark)
 
 
-def of_log(question: Question) -> Iterator[Finding]:
+def of_log(question: Question, service: Service | None, mark: Mark) -> Iterator[Finding]:
     """Rows of a log that are answered `unknown`: their region or their handle is spelt otherwise in the demand."""
     if question.command not in ("dispatch", "answer") or not {"log", "demand"} <= set(question.files):
         return
@@ -49,9 +49,10 @@ def of_log(question: Question) -> Iterator[Finding]:
     log = Table(Text(text.path, text.octets[:LOOKED_AT].rpartition(b"\n")[0] or text.octets))
     if "region" in log.header:
         yield from _of_regions(log, log.header.index("region"), set(demand.column("region")))
-    if "handle" in log.header and question.command == "dispatch":
+    if "handle" in log.header and question.command == "dispatch" and not mark.is_joined:
         yield from _of_handles(log, log.header.index("handle"), demand.column("handle"))
-        yield from _of_pairs(log, log.header.index("handle"), {(it.fields[0], it.fields[1]) for it in demand.rows})
+        pairs = {(it.fields[0], it.fields[1]) for it in demand.rows}
+        yield from of_absent(question, service, absent_in(log, log.header.index("handle"), pairs))
 
 
 def _of_regions(log: Table, at: int, regions: set[str]) -> Iterator[Finding]:
@@ -85,23 +86,9 @@ def _of_handles(log: Table, at: int, handles: list[str]) -> Iterator[Finding]:
             yield found(log.text.path, log.place(row, at), words, "", WARNING)
 
 
-def _of_pairs(log: Table, at: int, pairs: set[tuple[str, str]]) -> Iterator[Finding]:
-    """A log of which half or more is in no row of the demand, though its regions are."""
-    regions = {region for region, _ in pairs}
-    absent = [
-        it
-        for it in log.rows
-        if len(it.fields) > at and it.fields[at - 1] in regions and (it.fields[at - 1], it.fields[at]) not in pairs
-    ]
-    if len(absent) * 2 >= len(log.rows) > 0:
-        words = Words(
-            f"{len(absent):,} of the first {some(len(log.rows), 'row')} of the log are in no row of the demand",
-            "hsplan-stream answer goes by the kind of a handle; or count the demand from this log, and plan again",
-            "a demand joined by kinds, or of another log: dispatch finds a row by its region and its handle",
-        )
-        yield found(log.text.path, log.place(absent[0], at), words, "", WARNING)
-
-
 def word_doubts(question: Question, line: Line) -> list[Finding]:
     """All that is accepted and seldom meant, where a command has no fault."""
-    return [*of_handle(line), *of_inputs(question), *of_log(question)]
+    mark = mark_of_words(question)
+    service = service_in(question, mark)
+    of_files = doubts(service, question.desk, of_folder=False) if service else []
+    return [*of_handle(line), *of_mark(question, mark), *of_files, *of_log(question, service, mark)]

@@ -12,6 +12,8 @@ import click
 from hsp.bring import (
     FOLDER,
     form_of,
+    mark_of,
+    of_folder,
     output_of,
     refuse_own,
     rows_line,
@@ -29,6 +31,7 @@ from hsp.fleet.parts import fields_of_form
 from hsp.fleet.progress import shown
 from hsp.fleet.session import Targets, place_of, session, with_cluster
 from hsp.fleet.tables import counts_in, skipped_of
+from hsp.marks import Mark
 from hsp.numbers import listed
 from hsp.programs import Desk, Inputs
 from hsp.queries import Judge, Reading
@@ -129,7 +132,8 @@ def demand(logs: tuple[str, ...], regions: str, into: str | None, keep: str | No
         engine.is_publishing = True
         with locked(os.path.dirname(os.path.realpath(it)) for it in [output] if it):
             if output:
-                replace_all({output: text})
+                mark = mark_of(tally, tuple(logs), given["unit"]) if is_joined else Mark()
+                replace_all({output: text, **of_folder(into, output, mark)})
             engine.publish([(it.kept, head, host) for it, head, host in zip(named, heads, hosts) if it.kept])
     if not output:
         give(text)

@@ -5,9 +5,10 @@ from __future__ import annotations
 import contextlib
 import os
 import re
+import shlex
 import tempfile
 from collections import Counter
-from dataclasses import astuple, dataclass, field
+from dataclasses import dataclass, field
 from typing import Any
 
 import click
@@ -21,10 +22,11 @@ from hsp.fleet.engine import Engine, Reply
 from hsp.fleet.progress import shown
 from hsp.fleet.session import Targets, place_of, session, with_cluster
 from hsp.fleet.split import Parted
+from hsp.marks import Mark, mark_in
 from hsp.numbers import listed, some
 from hsp.paths import path_in, shell_word
-from hsp.programs import Missing
-from hsp.service import inputs_in
+from hsp.programs import Desk, Missing
+from hsp.service import NAMES, inputs_in
 from hsp.text import say
 
 SUFFIX = ".answers"
@@ -131,6 +133,26 @@ def _in_one(engine: Engine, own: Front, options: dict[str, Any]) -> list[Reply]:
     return replies
 
 
+def unit_of(given: dict[str, Any], mark: Mark) -> int | None:
+    """The unit of the answers: that of the demand, where hsp.toml has it."""
+    unit: int | None = given["unit"]
+    if unit and not given["any_handle"]:
+        raise click.UsageError("--unit needs --any-handle")
+    if unit and mark.unit > 1 and unit != mark.unit:
+        raise click.UsageError(f"--unit is {unit:,}, and the demand counts in units of {mark.unit:,} by hsp.toml")
+    return mark.unit if given["any_handle"] and mark.unit > 1 else unit
+
+
+def any_handle_line(folder: str, logs: tuple[str, ...], plan: str | None, fronts: int) -> str:
+    """What to do where a front's rows are looked up by their handles, and the demand isn't one of handles."""
+    options = ["--fronts", str(fronts), "--any-handle", *(["--plan", plan] if plan else [])]
+    words = " ".join([shell_word(folder), *map(shlex.quote, [*options, *logs])])
+    return (
+        f"a row of {path_in(folder, NAMES['demand'])} isn't of one handle, so most rows are 'unknown'; "
+        f"hsplan-stream answer goes by kinds: hsp fleet dispatch {words}"
+    )
+
+
 @click.command()
 @click.argument("folder", metavar="DIR", type=FOLDER)
 @click.argument("logs", metavar="[FRONT[@HOST]=]LOG..", nargs=-1, required=True)
@@ -147,15 +169,17 @@ def dispatch(folder: str, logs: tuple[str, ...], plan: str | None, **given: Any)
     front,region,handle.
     """
     place, fronts = place_of(given), fronts_of(logs, given["fronts"])
-    if given["unit"] and not given["any_handle"]:
-        raise click.UsageError("--unit needs --any-handle")
+    mark, desk = mark_in(folder), Desk()
+    given["unit"] = unit_of(given, mark)
     certificate = plan or path_in(folder, "plan.txt")
     if not os.path.isfile(certificate):
         raise Missing(f"{certificate}: no such file: hsp plan {shell_word(folder)} makes it")
-    inputs, own = inputs_in(folder, {}), [it for it in fronts if not it.host]
-    read = [certificate, *filter(None, astuple(inputs)), *(path for it in own for path in it.logs)]
+    inputs, own = inputs_in(folder, {}, mark.unit), [it for it in fronts if not it.host]
+    read = [certificate, *inputs.files(), *(path for it in own for path in it.logs)]
     refuse_clashes(read, [path for it in own for path in it.targets])
-    files = {**kit.files_of(inputs, certificate), **kit.programs(), "hsp.zip": kit.companion()}
+    if not mark.is_plain and not given["any_handle"]:
+        say(f"hsp: {any_handle_line(folder, logs, plan, given['fronts'])}", err=True)
+    files = {**kit.files_of(desk.in_units(inputs), certificate), **kit.programs(), "hsp.zip": kit.companion()}
     targets: Targets = [(it.targets, it.host) for it in fronts]
     with contextlib.ExitStack() as stack:
         folder = stack.enter_context(beside(fronts[0])) if fronts[0].number is None else ""

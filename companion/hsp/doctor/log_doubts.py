@@ -1,0 +1,124 @@
+"""A log whose rows the demand has only by their kinds: hsplan-stream answer answers it, dispatch doesn't."""
+
+from __future__ import annotations
+
+import os
+from collections.abc import Iterator
+from dataclasses import dataclass, replace
+
+from hsp.answering import answer_command, kept_beside
+from hsp.doctor.findings import WARNING, Finding, Place, Words, found
+from hsp.doctor.mark_doubts import JOINED, looks_joined
+from hsp.doctor.question import Question
+from hsp.doctor.rows import Row, Table
+from hsp.faults import Unfit
+from hsp.marks import Mark, mark_in
+from hsp.numbers import some
+from hsp.paths import path_in, shell_word
+from hsp.programs import Inputs
+from hsp.service import NAMES, Service
+from hsp.service import Row as Asked
+
+ANSWERED = "dispatch finds a row by its region and its handle, hsplan-stream answer by the kind of a handle"
+
+
+def folder_of(question: Question) -> str | None:
+    """The folder of the words' demand, where that is the one of a folder."""
+    demand = question.files.get("demand")
+    if not demand or demand.copy or os.path.basename(demand.original.path) != NAMES["demand"]:
+        return None
+    return os.path.dirname(demand.original.path) or "."
+
+
+def mark_of_words(question: Question) -> Mark:
+    """What the rows of the words' demand stand for. No command of hsplan reads hsp.toml."""
+    folder = folder_of(question)
+    try:
+        return mark_in(folder) if folder else Mark()
+    except Unfit:
+        return Mark()
+
+
+def _is_own(question: Question, kind: str) -> bool:
+    """Whether a file of the words is that of the demand's folder, so that it isn't in units."""
+    own = path_in(folder_of(question) or "", NAMES[kind])
+    return os.path.realpath(question.files[kind].original.path) == os.path.realpath(own)
+
+
+def answering(question: Question, mark: Mark) -> str:
+    """The command that answers the log of the words."""
+    paths = {kind: it.original.path for kind, it in question.files.items()}
+    inputs = Inputs(paths["settings"], paths["demand"], paths["costs"], paths["capacity"], paths.get("values"))
+    beside = kept_beside(paths["plan"], inputs)
+    for kind in ("settings", "capacity") if mark.unit > 1 else ():
+        path = getattr(beside, kind)
+        inputs = replace(inputs, **{kind: path}) if os.path.isfile(path) and _is_own(question, kind) else inputs
+    return answer_command(inputs, paths["plan"], mark.unit, paths["log"])
+
+
+def of_mark(question: Question, mark: Mark) -> Iterator[Finding]:
+    """Capacities in queries beside a demand in units, and a dispatch over a demand that isn't one of handles."""
+    files = question.files
+    if mark.unit > 1 and "capacity" in files and _is_own(question, "capacity"):
+        folder = shell_word(folder_of(question) or ".")
+        words = Words(
+            f"the demand counts in units of {mark.unit:,}, and these capacities count in queries",
+            f"give the ones in units, which hsp plan {folder} keeps beside its plan",
+            f"each server would take {mark.unit:,} times what it can",
+            kind="capacity unit",
+        )
+        yield found(files["capacity"].original.path, Place(), words, "", WARNING)
+    if question.command == "dispatch" and not mark.is_plain:
+        words = Words(
+            "a row of the demand isn't of one handle, so most of the log is 'unknown'",
+            answering(question, mark),
+            ANSWERED,
+            kind="dispatch",
+        )
+        yield found(files["demand"].original.path, Place(), words, "", WARNING)
+
+
+@dataclass(frozen=True)
+class Absent:
+    """The rows of a log's beginning that are in no row of the demand, and the place of their handle."""
+
+    log: Table
+    at: int
+    rows: list[Row]
+
+    def asked(self) -> list[Asked]:
+        return [Asked(it.fields[self.at - 1], it.fields[self.at], 1) for it in self.rows]
+
+
+def absent_in(log: Table, at: int, pairs: set[tuple[str, str]]) -> Absent:
+    """The rows whose region the demand has."""
+    regions = {region for region, _ in pairs}
+    rows = [it for it in log.rows if len(it.fields) > at and it.fields[at - 1] in regions]
+    return Absent(log, at, [it for it in rows if (it.fields[at - 1], it.fields[at]) not in pairs])
+
+
+def _by_kind(question: Question, service: Service, absent: Absent) -> int:
+    """How many of the rows are of a kind that the demand has."""
+    asked = absent.asked()
+    places = question.desk.places(service.inputs, dict.fromkeys(it.handle for it in asked))
+    of_log = replace(service, places=places)
+    known = {(it.region, service.kind(it)) for it in service.rows}
+    return sum((it.region, of_log.kind(it)) in known for it in asked)
+
+
+def of_absent(question: Question, service: Service | None, absent: Absent) -> Iterator[Finding]:
+    """A log of which half or more is in no row of the demand, though its regions are."""
+    if not 0 < len(absent.log.rows) <= len(absent.rows) * 2:
+        return
+    first = f"{len(absent.rows):,} of the first {some(len(absent.log.rows), 'row')} of the log"
+    words = Words(
+        f"{first} are in no row of the demand",
+        "hsplan-stream answer goes by the kind of a handle; or count the demand from this log, and plan again",
+        "a demand joined by kinds, or of another log: dispatch finds a row by its region and its handle",
+    )
+    if service and looks_joined(service) and _by_kind(question, service, absent) * 2 > len(absent.rows):
+        remedy = f"{answering(question, service.mark)}; and {JOINED}"
+        message = f"{first} are in the demand only by their kinds"
+        words = Words(message, remedy, f"the demand looks joined by kinds: {ANSWERED}")
+    place = absent.log.place(absent.rows[0], absent.at)
+    yield found(absent.log.text.path, place, words, "", WARNING)

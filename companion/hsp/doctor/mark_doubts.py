@@ -1,0 +1,61 @@
+"""What is doubtful in what a demand's rows stand for: units that add much, and a joined table without its mark."""
+
+from __future__ import annotations
+
+from collections.abc import Iterator
+
+from hsp.doctor.findings import WARNING, Finding, Place, Text, Words, found, read_text
+from hsp.doctor.toml_places import value_of
+from hsp.kinds import most_of_region
+from hsp.marks import TABLE, TITLES
+from hsp.numbers import part, some
+from hsp.paths import path_in
+from hsp.service import Row, Service
+from hsp.tally import MOST_COUNT
+
+# From this share on, what rounding adds is worth a smaller unit.
+MUCH = 0.05
+# Rows whose kinds all differ by chance less often than once in e^7, which is once in 1,100, are joined ones.
+UNLIKELY = 7.0
+JOINED = 'write rows = "kinds" below [demand] in hsp.toml, and unit = N where it counts in units'
+
+
+def rounding(service: Service) -> Iterator[Finding]:
+    """A unit that makes the demand larger by much."""
+    if service.added is None or service.added < MUCH:
+        return
+    least = -(-max(row.count for row in service.rows) // MOST_COUNT)
+    remedy = f"count again with --unit {least}" if least > 1 else "count again without --unit"
+    if least >= service.unit:
+        remedy = "count a shorter time, as --busiest-hour does; no smaller unit has room for these counts"
+    path = path_in(service.folder, TITLES)
+    why = f"each of {some(len(service.rows), 'row')} is rounded up; the log had {service.mark.queries:,} queries"
+    words = Words(f"units of {service.unit:,} add {part(service.added)} to the demand", remedy, why, kind="unit")
+    yield found(path, value_of(read_text(path), TABLE, 0, "unit"), words, "", WARNING)
+
+
+def looks_joined(service: Service) -> bool:
+    """Whether all rows of a region are of kinds that differ, which those of handles seldom are."""
+    own: dict[str, list[Row]] = {}
+    for row in service.rows:
+        own.setdefault(row.region, []).append(row)
+    chance = 0.0
+    for region, rows in own.items():
+        if len({service.kind(row) for row in rows}) < len(rows):
+            return False
+        kinds = most_of_region(service.sites[at] for at in service.sites_for(region))
+        chance += len(rows) * (len(rows) - 1) / (2 * kinds)
+    return chance > UNLIKELY
+
+
+def unmarked(service: Service, demand: Text) -> Iterator[Finding]:
+    """A table of kinds that hsp.toml doesn't call one."""
+    if service.mark.is_joined or not looks_joined(service):
+        return
+    why = f"each of its {some(len(service.rows), 'row')} has servers of its own, which so many handles seldom have"
+    message = "the demand looks joined by kinds, and hsp.toml doesn't say so"
+    yield found(demand.path, Place(), Words(message, JOINED, why, kind="unmarked"), "", WARNING)
+
+
+def mark_doubts(service: Service, demand: Text) -> list[Finding]:
+    return [*rounding(service), *unmarked(service, demand)]

@@ -1,0 +1,195 @@
+"""Demands that count in units: plans, what is kept of them and what is printed, added up here in queries."""
+
+from __future__ import annotations
+
+import csv
+import ipaddress
+import random
+import shlex
+import subprocess
+from collections import Counter
+from dataclasses import dataclass
+from pathlib import Path
+
+import pytest
+
+from hsp.programs import Desk, program
+from hsp.records import Interface, ServerRecord, SiteRecord
+from hsp.service import read_service
+from hsp.skeleton import BOTH
+
+from conftest import Hsp
+from test_sites import invoke
+
+NETWORKS = "network,region\n10.1.0.0/16,eu\n10.2.0.0/16,us\n10.3.0.0/16,asia\n"
+CLIENTS = {"10.1.0.1": "eu", "10.2.0.1": "us", "10.3.0.1": "asia"}
+
+
+@dataclass(frozen=True)
+class Place:
+    """A site of a test: what it hashes, and the address of each server."""
+
+    name: str
+    option: int
+    addresses: list[str]
+
+    def block(self) -> str:
+        octets = [ipaddress.ip_address(it).packed.rjust(16, b"\0") for it in self.addresses]
+        interfaces = (Interface(BOTH, 0, 2641),)
+        servers = tuple(ServerRecord(at, it, b"", interfaces) for at, it in enumerate(octets, 1))
+        record = SiteRecord(1, (2, 11), 1, 0, self.option, b"", (), servers).octets().hex()
+        return f'[[site]]\nname = "{self.name}"\nrecord = "{record}"\n'
+
+
+def host(address: str, limit: int) -> str:
+    return f'[[host]]\naddress = "{ipaddress.ip_address(address).packed.rjust(16, bytes(1)).hex()}"\nlimit = {limit}\n'
+
+
+def written(folder: Path, **texts: str) -> Path:
+    """A folder with settings, and tables without their headers."""
+    folder.mkdir(exist_ok=True)
+    heads = {"demand": "region,handle,count", "costs": "region,site,cost", "capacity": "site,server_id,capacity"}
+    for name, text in texts.items():
+        path = folder / {"settings": "settings.toml", "titles": "hsp.toml"}.get(name, f"{name}.csv")
+        path.write_text(f"{heads[name]}\n{text}" if name in heads else text)
+    return folder
+
+
+def rows(path: Path) -> list[list[str]]:
+    return list(csv.reader(path.read_text().splitlines()))[1:]
+
+
+def loads_of(folder: Path) -> Counter[tuple[str, int]]:
+    """The load of each server by the uses of plan.txt and the places of hsplan-stream, in the units of the plan."""
+    demand = rows(folder / "demand.csv")
+    places = Desk().places(read_service(str(folder), Desk(), {}).inputs, [it[1] for it in demand])
+    sites = [it.name for it in read_service(str(folder), Desk(), {}).sites]
+    loads: Counter[tuple[str, int]] = Counter()
+    for line in (folder / "plan.txt").read_text().splitlines():
+        if line.startswith("use "):
+            row, site, queries = map(int, line.split()[1:])
+            loads[sites[site], places[demand[row][1], sites[site]] + 1] += queries
+    return loads
+
+
+TWO_IN_ONE = Place("north", 2, ["192.0.2.1", "192.0.2.1"])
+OTHER = Place("south", 2, ["198.51.100.1"])
+
+
+def one_machine(folder: Path) -> Path:
+    """10,000 queries that all prefer a machine with two servers, of the limit 8,000, counted in thousands."""
+    handles = "".join(f"eu,20.500.1/item-{number},1\n" for number in range(10))
+    return written(
+        folder,
+        settings=TWO_IN_ONE.block() + OTHER.block() + host("192.0.2.1", 8_000),
+        demand=handles,
+        costs="eu,north,1\neu,south,100\n",
+        capacity="north,1,9999\nnorth,2,9999\nsouth,1,9999\n",
+        titles='title = "One machine"\n\n[demand]\nunit = 1000\n',
+    )
+
+
+def test_a_limit_is_divided_by_the_unit(hsp: Hsp, tmp_path: Path) -> None:
+    """In thousands the machine takes 8, whatever each server takes. The other two thousand go south."""
+    folder = one_machine(tmp_path / "s")
+    lines = hsp("plan", str(folder)).stdout.splitlines()
+    assert lines[0] == "One machine  2 sites, 3 servers, 1 region, 10 handles, 10,000 queries in units of 1,000"
+    loads = loads_of(folder)
+    assert loads["north", 1] + loads["north", 2] == 8 and loads["south", 1] == 2
+    assert "host  192.0.2.1 takes 8,000 of 8,000; each of 1,000 queries more saves at most 99" in lines
+    assert "cost  208,000, 20.8 a query; 1.0 if all asked their cheapest site" in lines
+    assert rows(folder / "capacity-in-units.csv") == [["north", "1", "9"], ["north", "2", "9"], ["south", "1", "9"]]
+    assert (folder / "settings-in-units.toml").read_text().endswith("limit = 8\n")
+    assert lines[-2] == (
+        f"units {folder}/capacity-in-units.csv and {folder}/settings-in-units.toml: "
+        "the capacities and limits in units of 1,000 queries, rounded down"
+    )
+
+
+def test_sizes_of_a_what_if_are_in_queries(hsp: Hsp, tmp_path: Path) -> None:
+    """A server in the south that takes 1,999 takes one unit of the two that it has to."""
+    folder = one_machine(tmp_path / "s")
+    words = ["whatif", str(folder), "--server", "south:1", "--from", "1999", "--to", "2001", "--points", "3", "--csv"]
+    found = list(csv.DictReader(hsp(*words).stdout.splitlines()))
+    assert [(it["room"], it["cost"], it["lack"]) for it in found] == [
+        ("1999", "", "1000"),
+        ("2000", "208000", ""),
+        ("2001", "208000", ""),
+    ]
+
+
+def test_a_unit_of_more_than_a_capacity_leaves_no_room(hsp: Hsp, tmp_path: Path) -> None:
+    folder = one_machine(tmp_path / "s")
+    (folder / "capacity.csv").write_text("site,server_id,capacity\nnorth,1,999\nnorth,2,999\nsouth,1,9999\n")
+    lines = hsp("plan", str(folder), "--no-save", status=3).stdout.splitlines()
+    assert lines[1] == (
+        "short 1,000 queries can't be served, whatever the plan: 10,000 may only go to servers that take 9,000"
+    )
+
+
+@dataclass
+class Random:
+    """A service of random sites, and the queries of its log."""
+
+    folder: Path
+    log: Path
+    hosts: dict[str, int]
+    sites: list[Place]
+
+
+def random_service(tmp_path: Path, seed: int, handles: int = 400, share: float = 0.75) -> Random:
+    """Sites of a few servers, of which the first two of each stand on one machine with a limit."""
+    draw = random.Random(seed)
+    sites = [
+        Place(f"s{at}", draw.choice((0, 1, 2, 2)), [f"192.0.{at}.{draw.choice((1, 2, 3, 4))}" for _ in range(size)])
+        for at, size in enumerate(draw.choices((2, 3, 4), k=3))
+    ]
+    names = [f"20.{draw.randrange(40)}/item-{number}" for number in range(handles)]
+    ranks = [min(int(draw.paretovariate(0.6)), handles) - 1 for _ in range(20_000)]
+    asked = [(draw.choice(list(CLIENTS)), names[it]) for it in ranks]
+    log = tmp_path / f"log-{seed}.csv"
+    log.write_text("client,handle\n" + "".join(f"{client},{handle}\n" for client, handle in asked))
+    servers = [(it, at) for it in sites for at in range(1, len(it.addresses) + 1)]
+    each = {it.name: 20_000 * share / len(it.addresses) for it in sites}
+    room = [(it.name, at, int(each[it.name] * draw.uniform(0.8, 1.6)) + draw.randrange(99)) for it, at in servers]
+    hosts = {it.addresses[0]: int(20_000 * share * draw.uniform(0.4, 0.9)) + 7 for it in sites}
+    costs = [(region, it.name, draw.randint(1, 200)) for region in CLIENTS.values() for it in sites]
+    folder = written(
+        tmp_path / f"service-{seed}",
+        settings="".join(it.block() for it in sites) + "".join(host(*it) for it in hosts.items()),
+        costs="".join(f"{a},{b},{c}\n" for a, b, c in costs),
+        capacity="".join(f"{a},{b},{c}\n" for a, b, c in room),
+    )
+    (tmp_path / "networks.csv").write_text(NETWORKS)
+    return Random(folder, log, hosts, sites)
+
+
+def machines(service: Random, loads: Counter[tuple[str, int]]) -> Counter[str]:
+    """What each machine takes."""
+    sums: Counter[str] = Counter()
+    for it in service.sites:
+        for at, address in enumerate(it.addresses, 1):
+            sums[address] += loads[it.name, at]
+    return sums
+
+
+@pytest.mark.parametrize("seed", range(12))
+def test_a_plan_in_units_keeps_to_what_servers_and_machines_take(hsp: Hsp, tmp_path: Path, seed: int) -> None:
+    service, unit = random_service(tmp_path, seed), random.Random(seed).choice((3, 7, 10, 50))
+    folder, kept = service.folder, tmp_path / "queries.csv"
+    words = ["--regions", str(tmp_path / "networks.csv"), "--into", str(folder), "--log", str(kept)]
+    invoke("demand", service.log, *words, "--unit", unit)
+    lines = hsp("plan", str(folder)).stdout.splitlines()
+    loads = Counter({key: unit * count for key, count in loads_of(folder).items()})
+    room = {(site, int(number)): int(count) for site, number, count in rows(folder / "capacity.csv")}
+    assert sum(loads.values()) >= 20_000 and all(loads[key] <= room[key] for key in loads)
+    sums = machines(service, loads)
+    assert all(sums[address] <= limit for address, limit in service.hosts.items())
+    command = lines[-1].removeprefix("answer ").replace("/dev/stdin", shlex.quote(str(kept)))
+    assert f" --unit {unit} " in command
+    words = [program("hsplan-stream"), *shlex.split(command)[1:]]
+    done = subprocess.run(words, capture_output=True, text=True, check=True)
+    assert done.stderr == "assigned 20000 spent 0 unknown 0 refused 0\n"
+    answers = Counter((it.split()[1], int(it.split()[3])) for it in done.stdout.splitlines())
+    assert all(answers[key] <= loads[key] for key in answers)
+
