@@ -43,5 +43,5 @@ def listed(words: Iterable[str], most: int = 4) -> str:
     """Words in a list, of which the last ones are only counted where there are more than `most`."""
     shown = list(words)
     if len(shown) > most:
-        shown = shown[: most - 1] + [f"{len(shown) - most + 1} more"]
+        shown = shown[: most - 1] + [f"{len(shown) - most + 1:,} more"]
     return " and ".join(filter(None, [", ".join(shown[:-1]), *shown[-1:]]))

@@ -20,6 +20,8 @@ from hsp.sources import Source, now
 ROWS_SHOWN = 100
 # Above so many servers of a site, only those with something to see are shown, until the reader opens the others.
 SERVERS_SHOWN = 24
+# So many servers of a purchase are named in its sentence; each is drawn below.
+BOUGHT_SHOWN = 6
 
 
 @dataclass
@@ -251,6 +253,7 @@ def render(view: View) -> str:
         "unit": f" {view.service.titles.cost}" if view.service.titles.cost else "",
         "is_joined": view.service.mark.is_joined,
         "names": names,
+        "bought_shown": BOUGHT_SHOWN,
         "lacking": lacking(view.service, view.short) if view.short else [],
         "least": {
             it: min((view.service.costs[it, names[at]] for at in view.service.sites_for(it)), default=None)

@@ -253,6 +253,21 @@ def test_a_shortage_is_short_on_a_phone(browser: Any, pages: dict[str, Path]) ->
     assert [it.strip() for it in rows[0][0].split("\n") if it.strip()][-1] == "asia 488, eu 376, us 432"
 
 
+def test_a_long_purchase_names_its_largest_parts(hsp: Hsp, browser: Any, twelve: Path, tmp_path: Path) -> None:
+    """Six servers are named, and the others are counted and marked below."""
+    folder = Path(shutil.copytree(twelve, tmp_path / "less"))
+    lines = (folder / "capacity.csv").read_text().splitlines()
+    rows = [line.rsplit(",", 1) for line in lines[1:]]
+    (folder / "capacity.csv").write_text("\n".join([lines[0], *(f"{own},{int(room) // 2}" for own, room in rows)]) + "\n")
+    bought = json.loads(hsp("plan", str(folder), "--json", status=3).stdout)["least_purchase"]
+    assert len(bought) > 6
+    hsp("view", str(folder), status=3)
+    page = Page(browser, folder / "plan.html", 1200, "light")
+    more = sorted((it["more"] for it in bought), reverse=True)[6:]
+    assert f" and {sum(more):,} at {len(more)} more server" in page.text()
+    assert page.run("return document.querySelectorAll('.bar .bought').length") == len(bought)
+
+
 def test_two_plans_of_one_title_have_distinct_names(hsp: Hsp, browser: Any, example: Example) -> None:
     folder = example("two-sites")
     (folder / "hsp.toml").write_text('title = "Films"\n')
