@@ -19,10 +19,11 @@ from hsp.forms import Form
 from hsp.joining import block, capacity_rows, joined, lines_of, read_back
 from hsp.marks import KINDS, TITLES, Mark, marked
 from hsp.numbers import listed, some
+from hsp.outlook import may_be_long, outlook
 from hsp.paths import path_in, shell_word
 from hsp.programs import Desk, Inputs
 from hsp.queries import Judge, Reading, field_of, queries
-from hsp.regions import regions_in
+from hsp.regions import named_in, regions_in
 from hsp.service import NAMES, VALUES
 from hsp.sitefiles import Files, Found
 from hsp.tally import Tally
@@ -182,6 +183,12 @@ def service_of(folder: str | None, given: dict[str, Any]) -> Inputs | None:
     return Inputs(settings, "", costs, "", path_of("values", VALUES))
 
 
+def expect(lines: list[str]) -> None:
+    """Says what is lacking before logs are read, which takes long."""
+    for line in lines:
+        say(f"hsp: {line}", err=True)
+
+
 def counted(logs: tuple[str, ...], reading: Reading, tally: Tally, into: Any) -> None:
     """Counts the queries of all logs. Writes them into a file, too, where one is given."""
     if into:
@@ -300,6 +307,9 @@ def demand(logs: tuple[str, ...], regions: str, into: str | None, kept: str | No
     if sys.stderr.isatty():
         reading.progress = shown_progress()
     tally, inputs = Tally(desk), service_of(into, given)
+    if given["unit"] or any(map(may_be_long, logs)):
+        expect(outlook(inputs, named_in(regions, given["elsewhere"]), into, desk))
+        tally.joins_by(inputs)
     with together() as files:
         counted(logs, reading, tally, files.open(kept) if kept else None)
         text, is_joined = tally.demand(inputs, given["unit"])

@@ -9,6 +9,8 @@ from collections.abc import Iterable, Mapping
 
 from hsp.service import Site
 
+# The most kinds of a demand, which are its rows.
+MOST_KINDS = 8192
 # The sites that each region may use, with what a query costs there.
 Costs = Mapping[str, Mapping[str, int]]
 

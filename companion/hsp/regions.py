@@ -170,6 +170,22 @@ class Database:
         return NO_REGION if found is None else found
 
 
+def is_table(path: str) -> bool:
+    """Whether a file begins as a table of networks does."""
+    with open(path, "rb") as file:
+        return file.read(32).removeprefix(b"\xef\xbb\xbf").splitlines()[:1] == [b"network,region"]
+
+
+def named_in(path: str, elsewhere: str | None) -> list[str]:
+    """The regions of a table of networks, as far as they are text. A database doesn't say which it has."""
+    with open(path, "rb") as file:
+        octets = file.read()
+    if DATABASE_MARK in octets[-(1 << 17) :]:
+        return []
+    names = dict.fromkeys(region.decode() for _, _, region in Networks._rows(path, octets))
+    return [*names, *([elsewhere] if elsewhere and elsewhere not in names else [])]
+
+
 def regions_in(path: str, by: str, elsewhere: str | None) -> Seek:
     """How regions are found by a file: a table of networks or a database."""
     with open(path, "rb") as file:

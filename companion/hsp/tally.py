@@ -9,21 +9,22 @@ import csv
 import itertools
 import re
 from collections import Counter
-from collections.abc import Iterable, Iterator
+from collections.abc import Callable, Iterable, Iterator
 
 from hsp.faults import Unfit
+from hsp.kinds import MOST_KINDS
 from hsp.numbers import listed, some
+from hsp.outlook import too_many
 from hsp.programs import Desk, Inputs, Refused
 from hsp.queries import Query, field_of
 from hsp.service import table
 
 HEADER = b"region,handle,count\n"
-MOST_ROWS, MOST_COUNT = 8192, 1_000_000
+MOST_ROWS, MOST_COUNT = MOST_KINDS, 1_000_000
 CHUNK = 1 << 16
 REMEDIES = {
     "BadName": "a region's name has ASCII letters, digits, -, _ and . only, at most 64 of them",
     "TooManyRegions": "join networks to at most 64 regions",
-    "TooManyKinds": "give costs to only the three or four sites that a region really uses",
 }
 # So many pairs are counted in memory, before they are put into a file.
 MOST_PAIRS = 1 << 20
@@ -51,6 +52,12 @@ class Tally:
         self.regions: set[bytes] = set()
         # How many handles there are, where all were in memory at once.
         self.handles: int | None = None
+        # Whether rows can be joined is asked as soon as there are too many, where it is known by what.
+        self._joinable: Callable[[], object] = lambda: None
+
+    def joins_by(self, inputs: Inputs | None) -> None:
+        """Refuses too many rows as soon as they are counted, where the sites or the costs to join them lack."""
+        self._joinable = lambda: self._can_join(inputs)
 
     def add(self, queries: Iterable[Query]) -> Iterator[list[Query]]:
         """Counts queries, and passes them on in pieces."""
@@ -58,6 +65,9 @@ class Tally:
         while chunk := list(itertools.islice(rows, CHUNK)):
             self._counts.update(chunk)
             self.asked += len(chunk)
+            if len(self._counts) > MOST_ROWS:
+                self.regions.update({region for region, _ in chunk})
+                self._joinable()
             if len(self._counts) > self._most:
                 self._spill()
             yield chunk
@@ -85,29 +95,31 @@ class Tally:
             text = HEADER + b"".join(rows_of(_most_first(self._counts)))
             self._accepted(text)
             return text, False
+        service = self._can_join(inputs)
+        self._spill()
+        try:
+            joined = self._desk.kinds(service, self._spilled or "", unit).encode()
+        except Refused as fault:
+            raise Unfit(advice(fault, service, self._desk)) from None
+        self._accepted(joined)
+        return joined, True
+
+    def _can_join(self, inputs: Inputs | None) -> Inputs:
+        """Rows are joined by the sites that their regions may use, so these have to be known."""
         if not inputs:
+            rows = len(self._counts)
             what = f"{some(rows, 'row')}" if not self._spilled else f"more than {self._most:,} rows"
             raise Unfit(
                 f"{what} of demand; hsplan takes {MOST_ROWS:,}, with counts up to {MOST_COUNT:,}. "
                 "Give --into DIR with settings.toml and costs.csv, so that rows of one kind are joined"
             )
-        self._all_have_costs(inputs)
-        self._spill()
-        try:
-            joined = self._desk.kinds(inputs, self._spilled or "", unit).encode()
-        except Refused as fault:
-            raise Unfit(advice(fault)) from None
-        self._accepted(joined)
-        return joined, True
-
-    def _all_have_costs(self, inputs: Inputs) -> None:
-        """Rows are joined by the sites that their regions may use, so these have to be known."""
         lacking = self.without_costs(inputs)
         if lacking:
             raise Unfit(
                 f"{inputs.costs}: no cost of {listed(lacking)}. Put in the costs first: "
                 "rows are joined by the sites that their regions may use"
             )
+        return inputs
 
     def without_costs(self, inputs: Inputs) -> list[str]:
         """The regions that have no cost for any site."""
@@ -134,9 +146,10 @@ def _remedy(fault: Refused) -> str:
     return f"; {found}" if found else ""
 
 
-def advice(fault: Refused) -> str:
+def advice(fault: Refused, inputs: Inputs, desk: Desk) -> str:
     """What an operator does where rows can't be joined."""
     unit = re.search(r"CountTooLarge.* unit ([0-9]+)", fault.line)
     if unit:
         return f"a row of the demand has more than {MOST_COUNT:,} queries; give --unit {unit[1]} or a larger one"
-    return f"hsplan-stream can't join the rows: {fault.line}{_remedy(fault)}"
+    many = too_many(inputs, desk) if "TooManyKinds" in fault.line else ""
+    return f"hsplan-stream can't join the rows: {fault.line}{'; ' + many if many else _remedy(fault)}"

@@ -562,7 +562,11 @@ def test_more_kinds_than_hsplan_takes(tmp_path: Path) -> None:
     rows = [Asked(CLIENTS[at % 4], "", f"20.1/{at // 4}") for at in range(60_000)]
     (tmp_path / "log").write_text("\n".join(map(server_line, rows)))
     words = ("demand", tmp_path / "log", "--regions", regions_file(tmp_path), "--into", folder)
-    assert "; give costs to only the three or four sites" in invoke(*words, status=1).stderr
+    said = invoke(*words, status=1).stderr.splitlines()
+    assert said[0].startswith("hsp: this service can have 10,080 kinds of handles, and hsplan takes 8,192 rows: ")
+    # Without s9 the other three have 280 kinds in a region.
+    assert said[-1].startswith("hsp: hsplan-stream can't join the rows: log: TooManyKinds row ")
+    assert "; 1,120 remain without costs to s9, the site that brings most" in said[-1]
 
 
 def test_a_plan_of_the_demand_answers_the_whole_log(hsp: Hsp, tmp_path: Path) -> None:

@@ -2,14 +2,18 @@
 
 from __future__ import annotations
 
+import contextlib
+import glob
 import os
 from collections.abc import Iterator
 
 from hsp.doctor.doubts import stale_plan
 from hsp.doctor.examine import examined
+from hsp.faults import Unfit
 from hsp.numbers import listed, some
 from hsp.paths import shell_word
 from hsp.programs import Desk
+from hsp.regions import is_table, named_in
 from hsp.service import NAMES, Service
 from hsp.terminal import head
 from hsp.text import bold
@@ -44,6 +48,27 @@ def _behind(folder: str) -> str:
     return "" if folder in ("", ".") else f" {shell_word(folder)}"
 
 
+def networks_in(folder: str) -> list[str]:
+    """The regions of the tables of networks that lie in a folder."""
+    found: list[str] = []
+    for path in sorted(glob.glob(os.path.join(glob.escape(folder), "*.csv"))):
+        with contextlib.suppress(Unfit, OSError):
+            if is_table(path):
+                found += named_in(path, None)
+    return list(dict.fromkeys(found))
+
+
+def costs_first(service: Service) -> str:
+    """What the costs lack before a demand is counted: many handles are joined by them. Nothing where all is there."""
+    paying = {region for region, _ in service.costs}
+    lacking = [it for it in networks_in(service.folder) if it not in paying]
+    if paying and not lacking:
+        return ""
+    which = f" of {listed(lacking, 6)}" if lacking else ""
+    example = f"{lacking[0] if lacking else 'REGION'},{service.sites[0].name},N"
+    return f"has no cost{which} yet: write rows as {example}; hsp demand joins many handles by them"
+
+
 def next_step(service: Service, desk: Desk) -> str:
     """The step for a folder without a fault: whether there is a plan, and whether it is one of these inputs."""
     at = _behind(service.folder)
@@ -52,6 +77,8 @@ def next_step(service: Service, desk: Desk) -> str:
             f"hsp sites FILE.. --into {shell_word(service.folder)}",
             "brings the sites in, of a proxy's JSON or their records",
         )
+    if not service.rows and (lacking := costs_first(service)):
+        return step(NAMES["costs"], lacking)
     if not service.rows:
         command = f"hsp demand LOG.. --regions FILE --into {shell_word(service.folder)}"
         return step(command, "counts the queries of access logs, by a table network,region")

@@ -11,6 +11,7 @@ import click
 
 from hsp.bring import (
     FOLDER,
+    expect,
     form_of,
     mark_of,
     of_folder,
@@ -33,9 +34,10 @@ from hsp.fleet.session import Targets, place_of, session, with_cluster
 from hsp.fleet.tables import counts_in, skipped_of
 from hsp.marks import Mark
 from hsp.numbers import listed
+from hsp.outlook import outlook
 from hsp.programs import Desk, Inputs
 from hsp.queries import Judge, Reading
-from hsp.regions import regions_in
+from hsp.regions import named_in, regions_in
 from hsp.tally import Tally
 from hsp.text import give, say
 
@@ -118,6 +120,7 @@ def demand(logs: tuple[str, ...], regions: str, into: str | None, keep: str | No
     _checked(named, regions, into, output, given)
     form, seek = form_of(given), regions_in(regions, given["by"], given["elsewhere"])
     reading, tally, inputs = Reading(form, seek, Judge(desk)), Tally(desk), service_of(into, given)
+    expect(outlook(inputs, named_in(regions, given["elsewhere"]), into, desk))
     asked = {"form": fields_of_form(form), "by": given["by"], "elsewhere": given["elsewhere"]}
     targets: Targets = [(it.kept, it.host) for it in named]
     with session(place, targets) as engine:

@@ -74,7 +74,7 @@ class Table:
         try:
             self.counts = dict(joined(self.desk, self.inputs, list(self.counts.items())))
         except Refused as fault:
-            raise Unfit(advice(fault)) from None
+            raise Unfit(advice(fault, self.inputs, self.desk)) from None
         self.is_joined = True
 
     def said(self) -> dict[str, object]:
