@@ -5,7 +5,6 @@ from __future__ import annotations
 import os
 import re
 import sys
-import time
 from collections.abc import Callable, Sequence
 from typing import Any, TypeVar
 
@@ -22,6 +21,7 @@ from hsp.numbers import listed, some
 from hsp.outlook import may_be_long, outlook
 from hsp.paths import path_in, shell_word
 from hsp.programs import Desk, Inputs
+from hsp.progress import Gauge, Progress
 from hsp.queries import Judge, Reading, field_of, queries
 from hsp.regions import named_in, regions_in
 from hsp.service import NAMES, VALUES
@@ -146,21 +146,6 @@ def form_of(given: dict[str, Any]) -> Form:
     return Form(given["format"], given["client"], given["handle"], given["path"] or "", pattern, prefixes)
 
 
-def shown_progress() -> Callable[[str, int], None]:
-    """Shows on a terminal how many lines were read, twice a second."""
-    begun, last = time.monotonic(), 0.0
-
-    def show(path: str, lines: int) -> None:
-        nonlocal last
-        now = time.monotonic()
-        if now - last > 0.5:
-            last = now
-            speed = lines / max(now - begun, 0.001)
-            show_progress(f"{path}: {lines:,} lines, {speed:,.0f} a second")
-
-    return show
-
-
 def skipped_lines(reading: Reading) -> list[str]:
     """How many lines were passed over, why, and where the first one of each reason stands."""
     if not reading.skipped.counts:
@@ -187,6 +172,21 @@ def expect(lines: list[str]) -> None:
     """Says what is lacking before logs are read, which takes long."""
     for line in lines:
         say(f"hsp: {line}", err=True)
+
+
+def twice(paths: Sequence[str]) -> list[str]:
+    """Names the files that are given twice, by one path or by two."""
+    seen: dict[tuple[int, int], str] = {}
+    lines = []
+    for path in paths:
+        if not os.path.isfile(path):
+            continue
+        found = os.stat(path)
+        first = seen.setdefault((found.st_dev, found.st_ino), path)
+        if first is not path:
+            what = f"{path} is given twice" if first == path else f"{first} and {path} are one file"
+            lines.append(f"{what}: its queries count twice")
+    return lines
 
 
 def counted(logs: tuple[str, ...], reading: Reading, tally: Tally, into: Any) -> None:
@@ -305,8 +305,10 @@ def demand(logs: tuple[str, ...], regions: str, into: str | None, kept: str | No
     refuse_clashes([path_in(into, NAMES["demand"])] if into else [], [kept] if kept else [])
     reading = Reading(form_of(given), regions_in(regions, given["by"], given["elsewhere"]), Judge(desk))
     if sys.stderr.isatty():
-        reading.progress = shown_progress()
+        gauge = Gauge(logs)
+        reading.watch, reading.progress = gauge.watch, Progress(gauge).show
     tally, inputs = Tally(desk), service_of(into, given)
+    expect(twice(logs))
     if given["unit"] or any(map(may_be_long, logs)):
         expect(outlook(inputs, named_in(regions, given["elsewhere"]), into, desk))
         tally.joins_by(inputs)
@@ -320,7 +322,9 @@ def demand(logs: tuple[str, ...], regions: str, into: str | None, kept: str | No
                 files.open(path).write(octets)
         else:
             give(text)
-    lines = [summary(logs, reading, tally), *skipped_lines(reading), rows_line(output, text, is_joined)]
+    lines = [summary(logs, reading, tally), *skipped_lines(reading)]
+    lines += [] if given["prefix"] else tally.prefixes.lines()
+    lines.append(rows_line(output, text, is_joined))
     if inputs and lacking:
         lines.append(f"{inputs.costs} has no cost yet of {listed(lacking)}")
     for line in lines:

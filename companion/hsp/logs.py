@@ -25,6 +25,8 @@ PACKED: dict[bytes, Callable[[IO[bytes]], Any]] = {
 }
 UTF_8_MARK = b"\xef\xbb\xbf"
 UTF_16 = (b"\xff\xfe", b"\xfe\xff")
+# What looks at the file of a log, so that it is known how much of it was read.
+Watch = Callable[[io.BufferedReader], None]
 DAMAGE = (EOFError, zlib.error, lzma.LZMAError, gzip.BadGzipFile)
 
 
@@ -45,10 +47,11 @@ class Skipped:
         return sum(self.counts.values())
 
 
-def opened(path: str) -> io.BufferedReader:
+def opened(path: str, watch: Watch = lambda file: None) -> io.BufferedReader:
     """A log, unpacked where its first octets are those of gzip, bzip2 or xz. The path `-` is standard input."""
     plain: Any = sys.stdin.buffer if path == "-" else open(path, "rb")
     file = plain if isinstance(plain, io.BufferedReader) else io.BufferedReader(plain)
+    watch(file)
     head = file.peek(8)[:8]
     if head.startswith(UTF_16):
         raise Unfit(f"{path}: line 1: this text is in UTF-16; turn it into UTF-8 first")
@@ -58,9 +61,9 @@ def opened(path: str) -> io.BufferedReader:
     return file
 
 
-def _blocks(path: str, numbers: list[int]) -> Iterator[bytes]:
+def _blocks(path: str, numbers: list[int], watch: Watch) -> Iterator[bytes]:
     """The blocks of a log. `numbers` holds the number of the line that the next block goes on with."""
-    with opened(path) as file:
+    with opened(path, watch) as file:
         while True:
             try:
                 block = file.read1(BLOCK)
@@ -75,10 +78,10 @@ def _blocks(path: str, numbers: list[int]) -> Iterator[bytes]:
             yield block
 
 
-def numbered(path: str, skipped: Skipped) -> Iterator[tuple[int, bytes]]:
+def numbered(path: str, skipped: Skipped, watch: Watch = lambda file: None) -> Iterator[tuple[int, bytes]]:
     """The lines of a log that aren't empty, with their numbers from 1 on."""
     numbers, rest, is_long = [1], b"", False
-    for at, block in enumerate(_blocks(path, numbers)):
+    for at, block in enumerate(_blocks(path, numbers, watch)):
         block = block.removeprefix(UTF_8_MARK) if not at else block
         lines = (rest + block).split(b"\n")
         rest = lines.pop()

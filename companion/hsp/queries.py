@@ -12,7 +12,7 @@ from dataclasses import dataclass, field, replace
 
 from hsp.faults import Unfit
 from hsp.forms import NAMES, ODD, Form, Odd, Remembered, Take, likeliest
-from hsp.logs import Skipped, numbered
+from hsp.logs import Skipped, Watch, numbered
 from hsp.programs import Desk
 from hsp.regions import Seek
 
@@ -70,6 +70,7 @@ class Reading:
     skipped: Skipped = field(default_factory=Skipped)
     lines: int = 0
     progress: Callable[[str, int], None] = lambda path, lines: None
+    watch: Watch = lambda file: None
 
 
 def _taker(path: str, form: Form, first: list[tuple[int, bytes]]) -> tuple[Form, Take]:
@@ -90,7 +91,7 @@ def _taker(path: str, form: Form, first: list[tuple[int, bytes]]) -> tuple[Form,
 
 def queries(path: str, reading: Reading) -> Iterator[Query]:
     """Region and handle of each query of a log, in their order."""
-    lines = numbered(path, reading.skipped)
+    lines = numbered(path, reading.skipped, reading.watch)
     first = list(itertools.islice(lines, SEEN_FIRST))
     if not first:
         return

@@ -15,6 +15,7 @@ from hsp.faults import Unfit
 from hsp.kinds import MOST_KINDS
 from hsp.numbers import listed, some
 from hsp.outlook import too_many
+from hsp.prefixes import Prefixes
 from hsp.programs import Desk, Inputs, Refused
 from hsp.queries import Query, field_of
 from hsp.service import table
@@ -52,6 +53,7 @@ class Tally:
         self.regions: set[bytes] = set()
         # How many handles there are, where all were in memory at once.
         self.handles: int | None = None
+        self.prefixes = Prefixes()
         # Whether rows can be joined is asked as soon as there are too many, where it is known by what.
         self._joinable: Callable[[], object] = lambda: None
 
@@ -77,10 +79,12 @@ class Tally:
         self._counts.update(counts)
         if is_joined:
             self._spill()
+            self.prefixes = Prefixes()
 
     def _spill(self) -> None:
         """Puts the counts into a file in their order, since a table is a log of `kinds`."""
         self.regions.update(region for region, _ in self._counts)
+        self.prefixes.add(self._counts)
         self._spilled = self._spilled or self._desk.put(HEADER, ".csv")
         self._desk.add(self._spilled, rows_of(self._counts.items()))
         self._counts.clear()
@@ -92,6 +96,7 @@ class Tally:
         rows = len(self._counts)
         large = max(self._counts.values(), default=0) > MOST_COUNT
         if not self._spilled and rows <= MOST_ROWS and not large and unit is None:
+            self.prefixes.add(self._counts)
             text = HEADER + b"".join(rows_of(_most_first(self._counts)))
             self._accepted(text)
             return text, False

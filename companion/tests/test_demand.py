@@ -625,9 +625,11 @@ def test_a_hundred_thousand_lines_take_less_than_a_second_of_the_processor(tmp_p
     assert any(processor_seconds(tmp_path / "log", seek) < 2 for _ in range(3))
 
 
-def test_progress_is_shown_on_a_terminal(tmp_path: Path) -> None:
+@pytest.mark.parametrize("is_packed", [False, True])
+def test_progress_is_shown_on_a_terminal(tmp_path: Path, is_packed: bool) -> None:
     rows = asked(LINES, 22) * 4
-    (tmp_path / "log").write_text("\n".join(map(server_line, rows)), encoding="utf-8")
+    octets = "\n".join(map(server_line, rows)).encode()
+    (tmp_path / "log").write_bytes(gzip.compress(octets) if is_packed else octets)
     words = [
         sys.executable,
         "-m",
@@ -645,7 +647,7 @@ def test_progress_is_shown_on_a_terminal(tmp_path: Path) -> None:
     os.close(its)
     shown = os.read(own, 1 << 16).decode()
     os.close(own)
-    assert re.match(rf"\r{tmp_path}/log: \d+,\d+ lines, [\d,]+ a second", shown) and shown.endswith("\r\x1b[K")
+    assert re.match(rf"\r{tmp_path}/log: \d+,\d+ lines, [\d,]+ a second, \d+%, until \d\d:\d\d:\d\d", shown) and shown.endswith("\r\x1b[K")
     assert done.stdout.decode().splitlines()[-1].startswith("out.csv has ")
 
 

@@ -22,6 +22,7 @@ from hsp.bring import (
     skipped_lines,
     some_in,
     summary,
+    twice,
     with_forms,
 )
 from hsp.faults import Unfit
@@ -120,6 +121,7 @@ def demand(logs: tuple[str, ...], regions: str, into: str | None, keep: str | No
     _checked(named, regions, into, output, given)
     form, seek = form_of(given), regions_in(regions, given["by"], given["elsewhere"])
     reading, tally, inputs = Reading(form, seek, Judge(desk)), Tally(desk), service_of(into, given)
+    expect(twice([it.path for it in named if not it.host]))
     expect(outlook(inputs, named_in(regions, given["elsewhere"]), into, desk))
     asked = {"form": fields_of_form(form), "by": given["by"], "elsewhere": given["elsewhere"]}
     targets: Targets = [(it.kept, it.host) for it in named]
@@ -140,7 +142,9 @@ def demand(logs: tuple[str, ...], regions: str, into: str | None, keep: str | No
             engine.publish([(it.kept, head, host) for it, head, host in zip(named, heads, hosts) if it.kept])
     if not output:
         give(text)
-    lines = [summary(logs, reading, tally), *skipped_lines(reading), rows_line(output, text, is_joined)]
+    lines = [summary(logs, reading, tally), *skipped_lines(reading)]
+    lines += [] if given["prefix"] else tally.prefixes.lines()
+    lines.append(rows_line(output, text, is_joined))
     lacking = tally.without_costs(inputs) if inputs else []
     if inputs and lacking:
         lines.append(f"{inputs.costs} has no cost yet of {listed(lacking)}")
