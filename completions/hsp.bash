@@ -8,7 +8,8 @@ _hsp_words() {
 
 _hsp_options() {
     local files="--settings --values --demand --costs --capacity --unit --help"
-    local lines="--format --regex --client --handle --path --prefix --elsewhere --by --unit --settings --values --costs"
+    local lines="--format --regex --client --handle --path --from --to --busiest-hour --time"
+    lines+=" --prefix --elsewhere --by --unit --settings --values --costs"
     local place="--workers --scheduler --tls-ca --tls-cert --tls-key --installed --patience --help"
     case $1 in
         plan) echo "$files --all --output --no-save --csv --json" ;;
@@ -44,7 +45,7 @@ _hsp() {
         COMPREPLY=($(compgen -W "auto server proxy json csv" -- "$current"))
     elif [[ " --unit --title --server --from --to --points --step " == *" $before "* ]]; then
         COMPREPLY=()
-    elif [[ " --name --regex --client --handle --path --prefix --elsewhere --by " == *" $before "* ]]; then
+    elif [[ " --name --regex --client --handle --path --time --prefix --elsewhere --by " == *" $before "* ]]; then
         COMPREPLY=()
     elif [[ " --fronts --workers --scheduler --patience --keep " == *" $before "* ]]; then
         COMPREPLY=()

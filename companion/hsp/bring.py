@@ -11,10 +11,11 @@ from typing import Any, TypeVar
 import click
 
 from hsp import skeleton
+from hsp.busiest import busiest_hour, refuse_pipes
 from hsp.faults import Unfit
 from hsp.files import create, locked, refuse_clashes, replace_all, together
 from hsp.forms import NAMES as FORMS
-from hsp.forms import Form
+from hsp.forms import Form, within
 from hsp.joining import block, capacity_rows, joined, lines_of, read_back
 from hsp.marks import KINDS, TITLES, Mark, marked
 from hsp.numbers import listed, some
@@ -27,6 +28,7 @@ from hsp.regions import named_in, regions_in
 from hsp.service import NAMES, VALUES
 from hsp.sitefiles import Files, Found
 from hsp.tally import Tally
+from hsp.times import FIRST, LAST, Span, iso_seconds
 from hsp.text import give, is_utf8, say, show_progress
 
 FOLDER = click.Path(exists=True, file_okay=False)
@@ -143,7 +145,29 @@ def form_of(given: dict[str, Any]) -> Form:
             wanted = "it needs the groups (?P<client>..), and either (?P<handle>..) or (?P<path>..)"
             raise click.BadParameter(wanted, param_hint="--regex")
     prefixes = frozenset(os.fsencode(it.rstrip("/").upper()) for it in given["prefix"])
-    return Form(given["format"], given["client"], given["handle"], given["path"] or "", pattern, prefixes)
+    names = given["client"], given["handle"], given["path"] or ""
+    return Form(given["format"], *names, pattern, prefixes, given["time"])
+
+
+class Moment(click.ParamType):
+    """A time in ISO 8601, in seconds since 1970. Without an offset it is UTC."""
+
+    name = "time"
+
+    def convert(self, value: Any, param: click.Parameter | None, context: click.Context | None) -> int:
+        try:
+            return iso_seconds(value)
+        except ValueError:
+            self.fail(f"'{value}' is no time such as 2026-11-26T10:00 or 2026-11-26T10:00+01:00", param, context)
+
+
+def span_of(given: dict[str, Any]) -> Span:
+    """The span of time by the options."""
+    first, last = given["first"], given["last"]
+    span = Span(FIRST if first is None else first, LAST if last is None else last)
+    if span.first >= span.last:
+        raise click.BadParameter("it isn't after --from", param_hint="--to")
+    return span
 
 
 def skipped_lines(reading: Reading) -> list[str]:
@@ -199,12 +223,24 @@ def counted(logs: tuple[str, ...], reading: Reading, tally: Tally, into: Any) ->
                 into.write(b"".join(b"%b,%b\n" % (field_of(region), field_of(handle)) for region, handle in chunk))
     if sys.stderr.isatty():
         show_progress("")
-    some_in(logs, reading, tally)
+    some_in(logs, reading, tally.asked > 0)
 
 
-def some_in(logs: tuple[str, ...], reading: Reading, tally: Tally) -> None:
+def by_time(logs: tuple[str, ...], reading: Reading, given: dict[str, Any]) -> list[str]:
+    """Has only the lines of the wanted time counted. Returns which hour that is, where it was found here."""
+    span, lines = span_of(given), []
+    if given["busiest_hour"]:
+        refuse_pipes(logs)
+        span, first, line = busiest_hour(logs, reading, span)
+        some_in(logs, first, bool(line))
+        lines.append(line)
+    reading.wrap = None if span.is_all else within(span)
+    return lines
+
+
+def some_in(logs: tuple[str, ...], reading: Reading, is_some: bool) -> None:
     """Refuses logs that have no query."""
-    if not tally.asked:
+    if not is_some:
         none = "it has no line" if len(logs) == 1 else "they have no line"
         first = (skipped_lines(reading) + ["", none])[1].strip()
         raise Unfit(f"no query is in {listed(logs)}: {first}")
@@ -247,6 +283,12 @@ FORM_OPTIONS = [
     ),
     click.option("--handle", metavar="NAME", default="handle", show_default=True, help="the field with the handle"),
     click.option("--path", metavar="NAME", help="the field with the path of a request, in place of a handle"),
+    click.option(
+        "--from", "first", metavar="TIME", type=Moment(), help="count from this time on, as 2026-11-26T10:00+01:00"
+    ),
+    click.option("--to", "last", metavar="TIME", type=Moment(), help="count what is before this time"),
+    click.option("--busiest-hour", is_flag=True, help="count only the hour with most queries"),
+    click.option("--time", metavar="NAME", default="time", show_default=True, help="the field with the time"),
     click.option("--prefix", metavar="PREFIX", multiple=True, help="count only handles of this prefix"),
     click.option("--elsewhere", metavar="REGION", help="of clients that have no region"),
     click.option("--by", metavar="FIELD", default="continent.code", show_default=True, help="of a MaxMind database"),
@@ -305,13 +347,14 @@ def demand(logs: tuple[str, ...], regions: str, into: str | None, kept: str | No
     refuse_clashes([path_in(into, NAMES["demand"])] if into else [], [kept] if kept else [])
     reading = Reading(form_of(given), regions_in(regions, given["by"], given["elsewhere"]), Judge(desk))
     if sys.stderr.isatty():
-        gauge = Gauge(logs)
+        gauge = Gauge(logs, 2 if given["busiest_hour"] else 1)
         reading.watch, reading.progress = gauge.watch, Progress(gauge).show
     tally, inputs = Tally(desk), service_of(into, given)
     expect(twice(logs))
     if given["unit"] or any(map(may_be_long, logs)):
         expect(outlook(inputs, named_in(regions, given["elsewhere"]), into, desk))
         tally.joins_by(inputs)
+    busiest = by_time(logs, reading, given)
     with together() as files:
         counted(logs, reading, tally, files.open(kept) if kept else None)
         text, is_joined = tally.demand(inputs, given["unit"])
@@ -322,7 +365,7 @@ def demand(logs: tuple[str, ...], regions: str, into: str | None, kept: str | No
                 files.open(path).write(octets)
         else:
             give(text)
-    lines = [summary(logs, reading, tally), *skipped_lines(reading)]
+    lines = [*busiest, summary(logs, reading, tally), *skipped_lines(reading)]
     lines += [] if given["prefix"] else tally.prefixes.lines()
     lines.append(rows_line(output, text, is_joined))
     if inputs and lacking:

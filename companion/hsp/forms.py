@@ -10,15 +10,20 @@ from dataclasses import dataclass
 from typing import Any
 from urllib.parse import unquote_to_bytes
 
+from hsp.times import Span, seconds_of
+
 # The client's address, and its handle, or the reason why there is none.
 Taken = tuple[bytes, "bytes | str"]
 Take = Callable[[bytes], Taken]
+# From a line to its time in seconds, or none.
+Clock = Callable[[bytes], "int | None"]
 
 ODD = "not a line of this form"
 OTHER_OPERATION = "another operation than a resolution"
 OTHER_REQUEST = "another request than GET or HEAD"
 OTHER_PREFIX = "a handle of another prefix"
 LINE_END = "a line end in the handle"
+NO_TIME, OTHER_TIME = "no time in the line", "another time than the wanted one"
 RESOLUTION = b"1"
 NAMES = ("server", "proxy", "json", "csv")
 # So many values are remembered, so that what comes again costs a look-up.
@@ -63,6 +68,7 @@ class Form:
     path: str = ""
     pattern: re.Pattern[bytes] | None = None
     prefixes: frozenset[bytes] = frozenset()
+    time: str = "time"
 
     def handle_of(self, handle: bytes) -> bytes | str:
         """The handle, where it is one of the wanted prefixes and stands in one line."""
@@ -93,6 +99,51 @@ class Form:
         if self.name == "csv":
             return self._of_table(first)
         return {"server": self._of_server, "proxy": self._of_proxy, "json": self._of_json}[self.name]()
+
+    def clock(self, first: bytes) -> Clock:
+        """How the time of a line is read. `first` is the first line, the header of a table."""
+        if self.pattern:
+            return self._clock_of_pattern(self.pattern)
+        if self.name == "csv":
+            return self._clock_of_table(first)
+        if self.name == "json":
+            return self._clock_of_json()
+        begin, end = (b"[", b"]") if self.name == "proxy" else (b'"', b'"')
+        return lambda line: seconds_of(line.partition(begin)[2].partition(end)[0])
+
+    def _clock_of_table(self, first: bytes) -> Clock:
+        header = _row(first)
+        if self.time not in header:
+            raise Odd
+        at = header.index(self.time)
+
+        def clock(line: bytes) -> int | None:
+            row = [it.encode() for it in _row(line)] if b'"' in line else line.split(b",")
+            return seconds_of(row[at]) if at < len(row) else None
+
+        return clock
+
+    def _clock_of_json(self) -> Clock:
+        name, load = self.time, json.JSONDecoder().decode
+
+        def clock(line: bytes) -> int | None:
+            try:
+                return seconds_of(str(load(line.decode())[name]).encode())
+            except (ValueError, KeyError, TypeError, RecursionError):
+                return None
+
+        return clock
+
+    def _clock_of_pattern(self, pattern: re.Pattern[bytes]) -> Clock:
+        search = pattern.search
+        if "time" not in pattern.groupindex:
+            raise Odd
+
+        def clock(line: bytes) -> int | None:
+            match = search(line)
+            return seconds_of(match["time"]) if match and match["time"] is not None else None
+
+        return clock
 
     def _of_server(self) -> Take:
         """A handle server's own log: `ADDRESS TYPE "DAY TIME" OPERATION RESPONSE DURATIONms HANDLE`."""
@@ -178,6 +229,22 @@ class Form:
             return match["client"], handles[match[name]]
 
         return take
+
+
+def within(span: Span) -> Callable[[Take, Clock], Take]:
+    """Takes only the lines of a span of time."""
+
+    def wrapped(take: Take, clock: Clock) -> Take:
+        def taken(line: bytes) -> Taken:
+            seconds = clock(line)
+            if seconds is not None:
+                return take(line) if span.has(seconds) else (b"", OTHER_TIME)
+            address, handle = take(line)
+            return address, handle if handle.__class__ is str else NO_TIME
+
+        return taken
+
+    return wrapped
 
 
 def _unescaped(match: re.Match[bytes]) -> bytes:

@@ -11,7 +11,7 @@ from collections.abc import Callable, Iterable, Iterator
 from dataclasses import dataclass, field, replace
 
 from hsp.faults import Unfit
-from hsp.forms import NAMES, ODD, Form, Odd, Remembered, Take, likeliest
+from hsp.forms import NAMES, ODD, Clock, Form, Odd, Remembered, Take, likeliest
 from hsp.logs import Skipped, Watch, numbered
 from hsp.programs import Desk
 from hsp.regions import Seek
@@ -23,6 +23,7 @@ REFUSED = "refused "
 BAD_HANDLE = "BadHandle "
 
 Query = tuple[bytes, bytes]
+Wrap = Callable[[Take, Clock], Take]
 
 
 _is_odd = re.compile(rb'[",\r\n]').search
@@ -68,6 +69,8 @@ class Reading:
     seek: Seek
     judge: Judge
     skipped: Skipped = field(default_factory=Skipped)
+    # How lines are taken by their time; None where it doesn't matter.
+    wrap: Wrap | None = None
     lines: int = 0
     progress: Callable[[str, int], None] = lambda path, lines: None
     watch: Watch = lambda file: None
@@ -89,6 +92,15 @@ def _taker(path: str, form: Form, first: list[tuple[int, bytes]]) -> tuple[Form,
         raise Unfit(f"{path}: line {first[0][0]}: no header with {wanted}") from None
 
 
+def _wrapped(path: str, form: Form, take: Take, line: bytes, wrap: Wrap) -> Take:
+    """How lines are taken by their time, where the log has times."""
+    try:
+        return wrap(take, form.clock(line))
+    except Odd:
+        remedy = "give the pattern a group (?P<time>..)" if form.pattern else "name the field of the time by --time"
+        raise Unfit(f"{path}: line 1: no field {form.time}; {remedy}") from None
+
+
 def queries(path: str, reading: Reading) -> Iterator[Query]:
     """Region and handle of each query of a log, in their order."""
     lines = numbered(path, reading.skipped, reading.watch)
@@ -96,6 +108,8 @@ def queries(path: str, reading: Reading) -> Iterator[Query]:
     if not first:
         return
     form, take = _taker(path, reading.form, first)
+    if reading.wrap:
+        take = _wrapped(path, form, take, first[0][1], reading.wrap)
     regions, skip = Remembered(reading.seek), reading.skipped.add
     rows: list[Query] = []
     places: list[tuple[int, bytes]] = []

@@ -4,7 +4,7 @@ from __future__ import annotations
 
 import os
 import re
-from dataclasses import dataclass
+from dataclasses import astuple, dataclass
 from typing import Any
 
 import click
@@ -21,6 +21,7 @@ from hsp.bring import (
     service_of,
     skipped_lines,
     some_in,
+    span_of,
     summary,
     twice,
     with_forms,
@@ -119,18 +120,22 @@ def demand(logs: tuple[str, ...], regions: str, into: str | None, keep: str | No
     place, output = place_of(given), output_of(given, into)
     named = [log_of(it, keep) for it in logs]
     _checked(named, regions, into, output, given)
+    span = span_of(given)
+    if given["busiest_hour"]:
+        raise click.UsageError("--busiest-hour reads logs twice: find the hour by hsp demand, and give --from and --to")
     form, seek = form_of(given), regions_in(regions, given["by"], given["elsewhere"])
     reading, tally, inputs = Reading(form, seek, Judge(desk)), Tally(desk), service_of(into, given)
     expect(twice([it.path for it in named if not it.host]))
     expect(outlook(inputs, named_in(regions, given["elsewhere"]), into, desk))
     asked = {"form": fields_of_form(form), "by": given["by"], "elsewhere": given["elsewhere"]}
+    asked["span"] = astuple(span)
     targets: Targets = [(it.kept, it.host) for it in named]
     with session(place, targets) as engine:
         engine.ship(_files(regions, inputs), given["installed"])
         heads, whole = counted(engine, named, asked)
         reading.skipped = skipped_of(whole["skipped"])
         tally.asked = whole["asked"]
-        some_in(logs, reading, tally)
+        some_in(logs, reading, tally.asked > 0)
         tally.take(dict(counts_in(whole["table"])), whole["is_joined"])
         text, is_joined = tally.demand(inputs, given["unit"])
         hosts = [engine.host(it.host) if it.host else None for it in named]

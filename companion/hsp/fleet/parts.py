@@ -15,10 +15,11 @@ from hsp.faults import Unfit
 from hsp.files import created
 from hsp.fleet import answers
 from hsp.fleet.tables import Table, merged
-from hsp.forms import Form
+from hsp.forms import Form, within
 from hsp.programs import Desk, Inputs, Missing, Refused
 from hsp.queries import Judge, Query, Reading, field_of, queries
 from hsp.regions import regions_in
+from hsp.times import Span
 
 CHUNK = 1 << 16
 LOG_HEADER = b"region,handle\n"
@@ -36,14 +37,14 @@ def inputs_of(files: dict[str, str]) -> Inputs | None:
 def form_of(said: Request) -> Form:
     pattern = re.compile(os.fsencode(said["pattern"])) if said["pattern"] else None
     prefixes = frozenset(os.fsencode(it) for it in said["prefixes"])
-    return Form(said["name"], said["client"], said["handle"], said["path"], pattern, prefixes)
+    return Form(said["name"], said["client"], said["handle"], said["path"], pattern, prefixes, said["time"])
 
 
 def fields_of_form(form: Form) -> Request:
     """A form as a request has it."""
     pattern = os.fsdecode(form.pattern.pattern) if form.pattern else None
     prefixes = sorted(map(os.fsdecode, form.prefixes))
-    names = {"name": form.name, "client": form.client, "handle": form.handle, "path": form.path}
+    names = {"name": form.name, "client": form.client, "handle": form.handle, "path": form.path, "time": form.time}
     return {**names, "pattern": pattern, "prefixes": prefixes}
 
 
@@ -51,7 +52,8 @@ def count(request: Request) -> Reply:
     """Counts a log. Its queries are kept beside it where a file for them is named."""
     desk = Desk()
     seek = regions_in(request["files"]["networks"], request["by"], request["elsewhere"])
-    reading = Reading(form_of(request["form"]), seek, Judge(desk))
+    span = Span(*request["span"])
+    reading = Reading(form_of(request["form"]), seek, Judge(desk), wrap=None if span.is_all else within(span))
     table, asked = Table(desk, inputs_of(request["files"])), 0
     rows = iter(queries(request["log"], reading))
     kept = created(request["staged"][0]) if request["staged"] else None

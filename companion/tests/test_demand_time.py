@@ -1,0 +1,251 @@
+"""hsp demand by the times of lines, against sums made here; rare prefixes; files that are given twice."""
+
+from __future__ import annotations
+
+import csv
+import datetime
+import io
+import json
+import os
+import random
+import shutil
+from collections import Counter
+from collections.abc import Callable
+from pathlib import Path
+from typing import NamedTuple
+
+import pytest
+
+from hsp.prefixes import MOST_PREFIXES, Prefixes
+from hsp.times import seconds_of
+
+from conftest import Hsp
+from test_demand import counts_of
+from test_sites import invoke
+
+BEGIN = datetime.datetime(2026, 11, 26, 0, 0, tzinfo=datetime.UTC)
+ZONES = [datetime.timezone(datetime.timedelta(minutes=it)) for it in (0, 60, -480, 330)]
+CLIENTS = {"10.1.0.1": "eu", "10.2.0.1": "us"}
+
+
+class Asked(NamedTuple):
+    """A query at a time, which its line has with an offset of its own."""
+
+    time: datetime.datetime
+    client: str
+    handle: str
+
+
+def asked(number: int, seed: int) -> list[Asked]:
+    """Queries of two days, with most of them about noon."""
+    draw = random.Random(seed)
+    found = []
+    for _ in range(number):
+        hours = draw.choice((draw.uniform(0, 48), draw.gauss(12, 2), draw.gauss(36, 3)))
+        time = BEGIN + datetime.timedelta(seconds=int(3600 * max(0.0, hours)))
+        handle = f"20.500.1/item-{draw.randrange(40)}"
+        found.append(Asked(time.astimezone(draw.choice(ZONES)), draw.choice(list(CLIENTS)), handle))
+    return found
+
+
+def row(*fields: str) -> str:
+    out = io.StringIO()
+    csv.writer(out, lineterminator="").writerow(fields)
+    return out.getvalue()
+
+
+# Each form: the lines before the first one, a line, and the options that it needs.
+FORMS: dict[str, tuple[list[str], Callable[[Asked], str], list[str]]] = {
+    "server": (
+        [],
+        lambda it: f'{it.client} UDP:HDL "{it.time:%Y-%m-%d %H:%M:%S.123%z}" 1 1 3ms {it.handle}',
+        [],
+    ),
+    "proxy": (
+        [],
+        lambda it: f'{it.client} - - [{it.time:%d/%b/%Y:%H:%M:%S %z}] "GET /{it.handle} HTTP/1.1" 302 - "-" "[x]"',
+        [],
+    ),
+    "json": (
+        [],
+        lambda it: json.dumps({"client": it.client, "handle": it.handle, "at": it.time.isoformat()}),
+        ["--time", "at"],
+    ),
+    "json of seconds": (
+        [],
+        lambda it: json.dumps({"client": it.client, "handle": it.handle, "time": it.time.timestamp()}),
+        [],
+    ),
+    "csv": (
+        ["when,client,handle"],
+        lambda it: row(f"{it.time:%Y-%m-%dT%H:%M:%S%z}", it.client, it.handle),
+        ["--time", "when"],
+    ),
+    "csv of thousandths": (
+        ["client,handle,time"],
+        lambda it: row(it.client, it.handle, str(int(it.time.timestamp() * 1000))),
+        [],
+    ),
+    "regex": (
+        [],
+        lambda it: f"<{it.time:%d/%b/%Y:%H:%M:%S %z}> {it.client} asks {it.handle}",
+        ["--regex", r"^<(?P<time>[^>]+)> (?P<client>\S+) asks (?P<handle>\S+)$"],
+    ),
+}
+
+
+def written(tmp_path: Path, name: str, rows: list[Asked]) -> list[str]:
+    head, line, options = FORMS[name]
+    (tmp_path / "log").write_text("\n".join(head + [line(it) for it in rows]) + "\n")
+    (tmp_path / "networks.csv").write_text("network,region\n10.1.0.0/16,eu\n10.2.0.0/16,us\n")
+    return ["demand", str(tmp_path / "log"), "--regions", str(tmp_path / "networks.csv"), *options]
+
+
+def wanted(rows: list[Asked], first: datetime.datetime, last: datetime.datetime) -> dict[tuple[str, str], int]:
+    return dict(Counter((CLIENTS[it.client], it.handle) for it in rows if first <= it.time < last))
+
+
+@pytest.mark.parametrize("name", FORMS)
+def test_a_span_of_time_in_each_form(tmp_path: Path, name: str) -> None:
+    """The offset of each line counts, and that of the options."""
+    rows = asked(4000, 1)
+    words = written(tmp_path, name, rows)
+    first, last = BEGIN + datetime.timedelta(hours=9, minutes=30), BEGIN + datetime.timedelta(hours=13)
+    found = invoke(*words, "--from", "2026-11-26T10:30+01:00", "--to", "2026-11-26T13:00")
+    own = wanted(rows, first, last)
+    assert counts_of(found.stdout) == own and 0 < sum(own.values()) < 4000
+    assert f"{4000 - sum(own.values()):,}  another time than the wanted one; first {tmp_path}/log:" in found.stderr
+    later = invoke(*words, "--from", "2026-11-26 13:00Z")
+    assert counts_of(later.stdout) == wanted(rows, last, BEGIN + datetime.timedelta(days=9))
+
+
+@pytest.mark.parametrize("name", FORMS)
+def test_the_busiest_hour_in_each_form(tmp_path: Path, name: str) -> None:
+    rows = asked(4000, 2)
+    words = written(tmp_path, name, rows)
+    hours = Counter(it.time.astimezone(datetime.UTC).replace(minute=0, second=0) for it in rows)
+    first = min(hours, key=lambda it: (-hours[it], it))
+    last = first + datetime.timedelta(hours=1)
+    found = invoke(*words, "--busiest-hour")
+    assert counts_of(found.stdout) == wanted(rows, first, last)
+    shown = f"busiest hour {first:%Y-%m-%d %H:%M} to {last:%Y-%m-%d %H:%M} UTC: {hours[first]} of 4,000 queries"
+    assert found.stderr.splitlines()[0] == shown
+
+
+def test_the_busiest_hour_is_of_queries_that_count(tmp_path: Path) -> None:
+    """An hour with more lines that are no queries isn't busier, and --from and --to bound the hour."""
+    rows = [f'10.1.0.1 - - [26/Nov/2026:10:{at:02}:00 +0000] "GET /20.1/a HTTP/1.1" 302 -' for at in range(5)]
+    rows += [f'10.1.0.1 - - [26/Nov/2026:11:{at:02}:00 +0000] "GET /favicon.ico HTTP/1.1" 404 -' for at in range(50)]
+    rows += [f'10.9.0.1 - - [26/Nov/2026:12:{at:02}:00 +0000] "GET /20.1/a HTTP/1.1" 302 -' for at in range(50)]
+    rows += [f'10.1.0.1 - - [26/Nov/2026:14:{at:02}:00 +0000] "GET /20.1/b HTTP/1.1" 302 -' for at in range(4)]
+    words = written(tmp_path, "proxy", [])
+    (tmp_path / "log").write_text("\n".join(rows))
+    found = invoke(*words, "--busiest-hour")
+    assert found.stderr.startswith("busiest hour 2026-11-26 10:00 to 2026-11-26 11:00 UTC: 5 of 9 queries\n")
+    assert counts_of(found.stdout) == {("eu", "20.1/a"): 5}
+    found = invoke(*words, "--busiest-hour", "--from", "2026-11-26T11:00")
+    assert counts_of(found.stdout) == {("eu", "20.1/b"): 4}
+    assert "no query is in" in invoke(*words, "--busiest-hour", "--from", "2027-01-01", status=1).stderr
+
+
+def test_lines_without_a_time_are_counted_with_the_reason(tmp_path: Path) -> None:
+    words = written(tmp_path, "proxy", asked(50, 3))
+    with open(tmp_path / "log", "a") as file:
+        file.write('10.1.0.1 - - [26/Nov/2026] "GET /20.1/a HTTP/1.1" 302 -\n' * 3)
+        file.write('10.1.0.1 - - [31/Feb/2026:10:00:00 +0000] "GET /20.1/a HTTP/1.1" 302 -\nno line\n')
+    found = invoke(*words, "--from", "2026-11-26")
+    assert "  4  no time in the line; first " in found.stderr and "  1  not a line of this form; " in found.stderr
+    assert sum(counts_of(found.stdout).values()) == 50
+    assert sum(counts_of(invoke(*words).stdout).values()) == 54
+
+
+TIMES = {
+    "2026-11-26 10:00:00.999+0100": 1_795_683_600,
+    "2026-11-26T09:00:00Z": 1_795_683_600,
+    "2026-11-26T09:00:00": 1_795_683_600,
+    "26/Nov/2026:10:00:00 +0100": 1_795_683_600,
+    "26/Nov/2026:09:00:00": 1_795_683_600,
+    "1795683600": 1_795_683_600,
+    "1795683600.75": 1_795_683_600,
+    "1795683600750": 1_795_683_600,
+    "26/Foo/2026:10:00:00 +0100": None,
+    "2026-13-01T00:00:00": None,
+    "": None,
+    "yesterday": None,
+    "0001-01-01T00:00:00+14:00": None,
+    "9999-12-31T23:59:59-14:00": None,
+}
+
+
+@pytest.mark.parametrize("text", TIMES)
+def test_times_of_every_form(text: str) -> None:
+    """The numbers are those of `date -u -d '2026-11-26 09:00' +%s`."""
+    assert seconds_of(text.encode()) == TIMES[text]
+
+
+def test_words_about_times_that_are_no_command(hsp: Hsp, tmp_path: Path) -> None:
+    words = written(tmp_path, "proxy", asked(5, 4))
+    said = invoke(*words, "--from", "noon", status=2).stderr
+    assert "'noon' is no time such as 2026-11-26T10:00 or 2026-11-26T10:00+01:00" in said
+    said = invoke(*words, "--from", "2026-11-27", "--to", "2026-11-27", status=2).stderr
+    assert "it isn't after --from" in said
+    table = tmp_path / "table.csv"
+    table.write_text("client,handle\n10.1.0.1,20.1/a\n")
+    said = invoke(words[0], table, *words[2:], "--busiest-hour", status=1).stderr
+    assert said == f"hsp: {table}: line 1: no field time; name the field of the time by --time\n"
+    pattern = r"(?P<client>[^,]+),(?P<handle>.+)"
+    said = invoke(words[0], table, *words[2:], "--from", "2026-11-26", "--regex", pattern, status=1).stderr
+    assert said.endswith("give the pattern a group (?P<time>..)\n")
+    os.mkfifo(tmp_path / "pipe")
+    for path in ("-", str(tmp_path / "pipe")):
+        said = hsp("demand", path, *words[2:], "--busiest-hour", status=1).stderr
+        assert said == f"hsp: {path}: --busiest-hour reads a log twice, and this one can be read only once; give a file\n"
+    said = hsp("fleet", *words, "--busiest-hour", status=2).stderr
+    assert "find the hour by hsp demand, and give --from and --to" in said
+
+
+def test_fleet_counts_the_same_span(hsp: Hsp, tmp_path: Path) -> None:
+    words = written(tmp_path, "proxy", asked(4000, 5))
+    span = ["--from", "2026-11-26T09:00", "--to", "2026-11-26T12:00"]
+    one = invoke(*words, *span).stdout
+    assert counts_of(hsp("fleet", *words, *span, "--workers", "1").stdout) == counts_of(one)
+
+
+def test_rare_prefixes_are_named_with_a_remedy(tmp_path: Path) -> None:
+    """Of 1,000 queries each of six prefixes has less than ten, and five of these are named."""
+    paths = [f"20.500.7777/item-{at}" for at in range(500)] + [f"21.T1/item-{at}" for at in range(460)]
+    paths += ["static/css/proxy.css"] * 9 + ["wp/x"] * 8 + ["a/b"] * 7 + ["c/d"] * 6 + ["e/f"] * 6 + ["g/h"] * 4
+    words = written(tmp_path, "proxy", [Asked(BEGIN, "10.1.0.1", it) for it in paths])
+    said = invoke(*words).stderr.splitlines()
+    assert said[1] == (
+        "6 prefixes have each less than 1% of the queries; where these are no handles of yours, "
+        "give --prefix 20.500.7777 --prefix 21.T1"
+    )
+    assert said[2] == "  9 queries of static, as static/css/proxy.css" and said[6] == "  6 queries of e, as e/f"
+    assert len(said) == 8
+    said = invoke(*words, "--prefix", "20.500.7777", "--prefix", "21.t1").stderr.splitlines()
+    assert said[0].endswith("960 queries of 1 region for 960 handles") and "prefixes" not in said[1]
+
+
+def test_any_number_of_prefixes_is_counted_within_bounds() -> None:
+    """What is rarest is left out, and the common ones keep their counts."""
+    found = Prefixes()
+    found.add({(b"eu", b"20.1/a"): 10**6, (b"eu", b"static/a"): 5000})
+    found.add({(b"eu", b"%d/a" % at): 1 for at in range(3 * MOST_PREFIXES)})
+    lines = found.lines()
+    assert lines[0].endswith("give --prefix 20.1") and lines[1] == "  5,000 queries of static, as static/a"
+    assert len(found._counts) <= MOST_PREFIXES
+
+
+def test_a_file_that_is_given_twice_is_warned_of(tmp_path: Path) -> None:
+    words = written(tmp_path, "proxy", asked(10, 6))
+    log = tmp_path / "log"
+    os.link(log, tmp_path / "linked")
+    shutil.copy(log, tmp_path / "copied")
+    said = invoke(*words, log, tmp_path / "linked", tmp_path / "copied").stderr.splitlines()
+    assert said[:2] == [
+        f"hsp: {log} is given twice: its queries count twice",
+        f"hsp: {log} and {tmp_path}/linked are one file: its queries count twice",
+    ]
+    assert said[2].startswith("4 logs, 40 lines: 40 queries ")
+    assert "twice" not in invoke(*words, tmp_path / "copied").stderr
