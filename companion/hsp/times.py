@@ -36,7 +36,7 @@ def _of_iso(text: str) -> int | None:
 
 @functools.lru_cache(maxsize=1 << 12)
 def seconds_of(octets: bytes) -> int | None:
-    """The seconds of a time: ISO 8601, that of HTTP servers, or a number of seconds or thousandths. None of another."""
+    """The seconds of a time in ISO 8601, as HTTP servers write it, or in seconds or thousandths. None of another."""
     text = octets.decode("ascii", "replace").strip()
     if SECONDS.fullmatch(text):
         return int(float(text))

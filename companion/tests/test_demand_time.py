@@ -199,7 +199,8 @@ def test_words_about_times_that_are_no_command(hsp: Hsp, tmp_path: Path) -> None
     os.mkfifo(tmp_path / "pipe")
     for path in ("-", str(tmp_path / "pipe")):
         said = hsp("demand", path, *words[2:], "--busiest-hour", status=1).stderr
-        assert said == f"hsp: {path}: --busiest-hour reads a log twice, and this one can be read only once; give a file\n"
+        why = "--busiest-hour reads a log twice, and this one can be read only once"
+        assert said == f"hsp: {path}: {why}; give a file\n"
     said = hsp("fleet", *words, "--busiest-hour", status=2).stderr
     assert "find the hour by hsp demand, and give --from and --to" in said
 

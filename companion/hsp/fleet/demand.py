@@ -122,7 +122,8 @@ def demand(logs: tuple[str, ...], regions: str, into: str | None, keep: str | No
     _checked(named, regions, into, output, given)
     span = span_of(given)
     if given["busiest_hour"]:
-        raise click.UsageError("--busiest-hour reads logs twice: find the hour by hsp demand, and give --from and --to")
+        remedy = "find the hour by hsp demand, and give --from and --to"
+        raise click.UsageError(f"--busiest-hour reads logs twice: {remedy}")
     form, seek = form_of(given), regions_in(regions, given["by"], given["elsewhere"])
     reading, tally, inputs = Reading(form, seek, Judge(desk)), Tally(desk), service_of(into, given)
     expect(twice([it.path for it in named if not it.host]))
