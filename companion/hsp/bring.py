@@ -11,6 +11,7 @@ from typing import Any, TypeVar
 import click
 
 from hsp import skeleton
+from hsp.bounds import whole
 from hsp.busiest import busiest_hour, refuse_pipes
 from hsp.faults import Unfit
 from hsp.files import create, locked, refuse_clashes, replace_all, together
@@ -62,10 +63,7 @@ def octets_of(path: str) -> bytes:
     """The octets of a file, or of standard input where it is `-`."""
     if re.match("https?://", path):
         raise Unfit(f"{path}: hsp opens no connection. Fetch it first: curl -o answer.json {shell_word(path)}")
-    if path == "-":
-        return sys.stdin.buffer.read()
-    with open(path, "rb") as file:
-        return file.read()
+    return whole(path)
 
 
 def gathered(paths: tuple[str, ...], names: tuple[str, ...], files: Files) -> list[Found]:

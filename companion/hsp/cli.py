@@ -508,8 +508,10 @@ def shown_findings(found: Examined, summary: str) -> None:
     """Prints findings, and what is there where no fault is."""
     for line in finding_lines(found.findings):
         say(line)
-    if found.is_cut_short:
-        say("there may be more: mend these, and ask again")
+    if found.is_cut_short and found.findings:
+        say(f"the first {some(len(found.findings), 'finding')}; there may be more: mend these, and ask again")
+    elif found.is_cut_short:
+        say("the files are too large to be looked at for warnings")
     if not found.errors:
         say(summary)
 

@@ -26,8 +26,8 @@ LINE_END = "a line end in the handle"
 NO_TIME, OTHER_TIME = "no time in the line", "another time than the wanted one"
 RESOLUTION = b"1"
 NAMES = ("server", "proxy", "json", "csv")
-# So many values are remembered, so that what comes again costs a look-up.
-MOST_REMEMBERED = 1 << 18
+# Values of so many octets are remembered, so that what comes again costs a look-up; and what each takes beside its own.
+MOST_REMEMBERED, BESIDE = 1 << 26, 250
 LONGEST_REMEMBERED = 1 << 10
 
 REQUEST = re.compile(rb"(?:GET|HEAD) +(?:https?://[^/ ]*)?(/[^ ]*)(?: HTTP/\d(?:\.\d)?)?", re.IGNORECASE)
@@ -47,14 +47,16 @@ class Remembered(dict[bytes, "bytes | str"]):
 
     def __init__(self, function: Callable[[bytes], bytes | str]) -> None:
         super().__init__()
-        self._function = function
+        self._function, self._octets = function, 0
 
     def __missing__(self, key: bytes) -> bytes | str:
         found = self._function(key)
-        if len(self) >= MOST_REMEMBERED:
+        if self._octets > MOST_REMEMBERED:
             self.clear()
+            self._octets = 0
         if len(key) <= LONGEST_REMEMBERED:
             self[key] = found
+            self._octets += len(key) + len(found) + BESIDE
         return found
 
 

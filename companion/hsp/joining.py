@@ -10,6 +10,7 @@ import re
 import tomllib
 from dataclasses import dataclass, field
 
+from hsp.bounds import whole
 from hsp.faults import Unfit
 from hsp.numbers import some
 from hsp.paths import path_in
@@ -46,8 +47,7 @@ def lines_of(found: Found) -> list[str]:
 def _octets(path: str) -> bytes:
     if not os.path.exists(path):
         return b""
-    with open(path, "rb") as file:
-        octets = file.read()
+    octets = whole(path)
     return octets if not octets or octets.endswith(b"\n") else octets + b"\n"
 
 

@@ -17,17 +17,18 @@ from hsp.faults import Unfit, shown
 BLOCK = 1 << 20
 # A longer line is no query: a handle has at most 4,096 octets, and servers take no longer requests.
 LONGEST = 1 << 15
+# No more octets of a line are held, and the memory that an xz file may ask for.
+MOST_OF_LINE, MOST_XZ = 1 << 20, 1 << 27
 TOO_LONG = f"longer than {LONGEST:,} octets"
-PACKED: dict[bytes, Callable[[IO[bytes]], Any]] = {
-    b"\x1f\x8b": gzip.open,
-    b"BZh": bz2.open,
-    b"\xfd7zXZ\x00": lzma.open,
-}
 UTF_8_MARK = b"\xef\xbb\xbf"
 UTF_16 = (b"\xff\xfe", b"\xfe\xff")
 # What looks at the file of a log, so that it is known how much of it was read.
 Watch = Callable[[io.BufferedReader], None]
 DAMAGE = (EOFError, zlib.error, lzma.LZMAError, gzip.BadGzipFile)
+
+
+def unwatched(_: io.BufferedReader) -> None:
+    """Nobody asks how much of a log was read."""
 
 
 class Skipped:
@@ -47,7 +48,47 @@ class Skipped:
         return sum(self.counts.values())
 
 
-def opened(path: str, watch: Watch = lambda file: None) -> io.BufferedReader:
+class _Xz(io.RawIOBase):
+    """The streams of an xz file, unpacked in bounded memory, whatever their heads ask for."""
+
+    def __init__(self, file: IO[bytes]) -> None:
+        self._file, self._stream = file, lzma.LZMADecompressor(lzma.FORMAT_XZ, MOST_XZ)
+
+    def readable(self) -> bool:
+        return True
+
+    def readinto(self, room: Any) -> int:
+        octets = b""
+        while not octets:
+            if self._stream.eof:
+                rest = self._stream.unused_data.lstrip(b"\0")  # zeros may stand between streams
+                while not rest:
+                    block = self._file.read(io.DEFAULT_BUFFER_SIZE)
+                    if not block:
+                        return 0
+                    rest = block.lstrip(b"\0")
+                self._stream = lzma.LZMADecompressor(lzma.FORMAT_XZ, MOST_XZ)
+            else:
+                rest = self._file.read(io.DEFAULT_BUFFER_SIZE) if self._stream.needs_input else b""
+                if not rest and self._stream.needs_input:
+                    raise EOFError("the file ends before its stream does")
+            octets = self._stream.decompress(rest, len(room))
+        room[: len(octets)] = octets
+        return len(octets)
+
+
+def _unpacked_xz(file: IO[bytes]) -> io.BufferedReader:
+    return io.BufferedReader(_Xz(file), BLOCK)
+
+
+PACKED: dict[bytes, Callable[[IO[bytes]], Any]] = {
+    b"\x1f\x8b": gzip.open,
+    b"BZh": bz2.open,
+    b"\xfd7zXZ\x00": _unpacked_xz,
+}
+
+
+def opened(path: str, watch: Watch = unwatched) -> io.BufferedReader:
     """A log, unpacked where its first octets are those of gzip, bzip2 or xz. The path `-` is standard input."""
     plain: Any = sys.stdin.buffer if path == "-" else open(path, "rb")
     file = plain if isinstance(plain, io.BufferedReader) else io.BufferedReader(plain)
@@ -61,12 +102,12 @@ def opened(path: str, watch: Watch = lambda file: None) -> io.BufferedReader:
     return file
 
 
-def _blocks(path: str, numbers: list[int], watch: Watch) -> Iterator[bytes]:
+def blocks(path: str, numbers: list[int], watch: Watch = unwatched, size: int = BLOCK) -> Iterator[bytes]:
     """The blocks of a log. `numbers` holds the number of the line that the next block goes on with."""
     with opened(path, watch) as file:
         while True:
             try:
-                block = file.read1(BLOCK)
+                block = file.read1(size)
             except DAMAGE as error:
                 raise Unfit(f"{path}: line {numbers[0]}: it can't be unpacked further: {error}") from None
             except OSError as error:
@@ -78,10 +119,10 @@ def _blocks(path: str, numbers: list[int], watch: Watch) -> Iterator[bytes]:
             yield block
 
 
-def numbered(path: str, skipped: Skipped, watch: Watch = lambda file: None) -> Iterator[tuple[int, bytes]]:
+def numbered(path: str, skipped: Skipped, watch: Watch = unwatched) -> Iterator[tuple[int, bytes]]:
     """The lines of a log that aren't empty, with their numbers from 1 on."""
     numbers, rest, is_long = [1], b"", False
-    for at, block in enumerate(_blocks(path, numbers, watch)):
+    for at, block in enumerate(blocks(path, numbers, watch)):
         block = block.removeprefix(UTF_8_MARK) if not at else block
         lines = (rest + block).split(b"\n")
         rest = lines.pop()

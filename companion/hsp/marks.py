@@ -9,6 +9,7 @@ import tomllib
 from dataclasses import dataclass
 from typing import Any
 
+from hsp.bounds import whole
 from hsp.faults import Unfit
 from hsp.paths import path_in
 from hsp.text import escaped
@@ -18,6 +19,9 @@ HANDLES, KINDS = "handles", "kinds"
 KEYS = ("rows", "log", "unit", "queries", "handles")
 MOST_UNIT = 1_000_000
 HEAD = re.compile(r"\s*\[\s*[\"']?demand[\"']?\s*\]\s*(#.*)?")
+# A text between quotes; and no more points stand beside such texts in a line, since long keys take long to be read.
+QUOTED = re.compile(r"\"(?:\\.|[^\"\\])*\"|'[^']*'")
+MOST_OF_TITLES, MOST_POINTS = 1 << 18, 100
 OTHER_HEAD = re.compile(r"\s*\[")
 
 
@@ -78,11 +82,15 @@ def titles_of(folder: str) -> dict[str, Any]:
     path = os.path.join(folder, TITLES)
     if not os.path.isfile(path):
         return {}
-    with open(path, "rb") as file:
-        try:
-            return tomllib.load(file)
-        except (tomllib.TOMLDecodeError, UnicodeDecodeError) as error:
-            raise Unfit(f"{path}: not TOML: {error}") from error
+    if os.stat(path).st_size > MOST_OF_TITLES:
+        raise Unfit(f"{path}: more than {MOST_OF_TITLES:,} octets")
+    try:
+        text = whole(path).decode()
+        if any(QUOTED.sub("", line).count(".") > MOST_POINTS for line in text.splitlines()):
+            raise Unfit(f"{path}: a key of more than {MOST_POINTS} parts")
+        return tomllib.loads(text)
+    except (tomllib.TOMLDecodeError, UnicodeDecodeError) as error:
+        raise Unfit(f"{path}: not TOML: {error}") from error
 
 
 def mark_in(folder: str) -> Mark:

@@ -11,6 +11,8 @@ from hsp.numbers import some
 RARE, MOST_NAMED = 0.01, 5
 # So many prefixes are counted; then the rarer half is left out.
 MOST_PREFIXES = 1 << 16
+# So many octets of a handle are held and shown.
+MOST_SHOWN = 256
 
 
 class Prefixes:
@@ -23,9 +25,9 @@ class Prefixes:
     def add(self, counts: Mapping[tuple[bytes, bytes], int]) -> None:
         """Adds the counts of pairs of region and handle."""
         for (_, handle), count in counts.items():
-            prefix = handle.partition(b"/")[0]
+            prefix = handle.partition(b"/")[0][:MOST_SHOWN]
             self._counts[prefix] += count
-            self._first.setdefault(prefix, handle)
+            self._first.setdefault(prefix, handle[:MOST_SHOWN])
             if len(self._counts) > MOST_PREFIXES:
                 self._counts = Counter(dict(self._counts.most_common(MOST_PREFIXES // 2)))
                 self._first = {it: self._first[it] for it in self._counts}

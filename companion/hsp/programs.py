@@ -188,7 +188,7 @@ class Desk:
 
     def put(self, text: str | bytes, suffix: str = ".txt") -> str:
         """Writes a file, and returns its path."""
-        path = os.path.join(self._folder.name, f"{next(self._numbers)}{suffix}")
+        path = os.path.join(self._folder.name, f"{os.getpid()}-{next(self._numbers)}{suffix}")
         self.add(path, [text if isinstance(text, bytes) else text.encode()])
         return path
 
@@ -262,7 +262,11 @@ class Desk:
 
     def site(self, octets: bytes) -> str:
         """The fields of a site's record."""
-        return asked("hsplan", "site", self.put(octets, ".site"))
+        path = self.put(octets, ".site")
+        try:
+            return asked("hsplan", "site", path)
+        finally:
+            os.unlink(path)
 
     def site_of_value(self, values: str, index: int) -> str:
         """The fields of the record that a value list has at an index."""

@@ -10,6 +10,7 @@ import re
 from collections.abc import Callable, Iterable, Iterator
 from dataclasses import dataclass, field, replace
 
+from hsp.bounds import Query
 from hsp.faults import Unfit
 from hsp.forms import NAMES, ODD, Clock, Form, Odd, Remembered, Take, likeliest
 from hsp.logs import Skipped, Watch, numbered
@@ -17,12 +18,13 @@ from hsp.programs import Desk
 from hsp.regions import Seek
 
 NAME_IT = "name one by --format, its fields by --client and --handle or --path, or give --regex"
-BATCH = 1 << 14
+BATCH, BATCH_OCTETS = 1 << 14, 1 << 22
+# What a handle takes beside its octets while it is remembered.
+BESIDE = 120
 SEEN_FIRST = 100
 REFUSED = "refused "
 BAD_HANDLE = "BadHandle "
 
-Query = tuple[bytes, bytes]
 Wrap = Callable[[Take, Clock], Take]
 
 
@@ -57,7 +59,7 @@ class Judge:
                     why = answer.removeprefix(REFUSED).removeprefix(BAD_HANDLE)
                     self._faults[handle] = f"not a handle ({why})"
             self._known.update(fresh)
-            self._octets += sum(map(len, fresh))
+            self._octets += sum(map(len, fresh)) + BESIDE * len(fresh)
         return {it: self._faults[it] for it in asked & self._faults.keys()} if self._faults else {}
 
 
@@ -113,7 +115,7 @@ def queries(path: str, reading: Reading) -> Iterator[Query]:
     regions, skip = Remembered(reading.seek), reading.skipped.add
     rows: list[Query] = []
     places: list[tuple[int, bytes]] = []
-    count = 0
+    count = octets = 0
     rest = itertools.chain(first, lines)
     if form.name == "csv" and not form.pattern:
         next(rest)
@@ -133,9 +135,10 @@ def queries(path: str, reading: Reading) -> Iterator[Query]:
             continue
         rows.append((region, handle))  # type: ignore[arg-type]
         places.append((number, line[:99]))
-        if len(rows) == BATCH:
+        octets += len(line)
+        if len(rows) == BATCH or octets > BATCH_OCTETS:
             yield from _judged(path, reading, rows, places)
-            rows, places = [], []
+            rows, places, octets = [], [], 0
             reading.progress(path, reading.lines + count)
     yield from _judged(path, reading, rows, places)
     reading.lines += count

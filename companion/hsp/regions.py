@@ -12,6 +12,7 @@ from bisect import bisect_right
 from collections.abc import Callable, Iterable
 from typing import Any
 
+from hsp.bounds import whole
 from hsp.faults import Unfit, shown
 from hsp.programs import Missing
 
@@ -22,6 +23,7 @@ NO_ADDRESS, NO_REGION = "the client isn't an IP address", "no region for the cli
 MAPPED = b"\0" * 10 + b"\xff\xff"
 DATABASE_MARK = b"\xab\xcd\xefMaxMind.com"
 BITS = {4: 32, 6: 128}
+TAIL = 1 << 17
 
 
 def packed(address: bytes) -> bytes | None:
@@ -188,9 +190,19 @@ def named_in(path: str, elsewhere: str | None) -> list[str]:
 
 def regions_in(path: str, by: str, elsewhere: str | None) -> Seek:
     """How regions are found by a file: a table of networks or a database."""
-    with open(path, "rb") as file:
-        octets = file.read()
     own = os.fsencode(elsewhere) if elsewhere else None
-    if DATABASE_MARK in octets[-(1 << 17) :]:
+    if DATABASE_MARK in _tail(path):
+        return Database(path, by, own).seek
+    octets = whole(path)
+    if DATABASE_MARK in octets[-TAIL:]:
         return Database(path, by, own).seek
     return Networks(path, octets, own).seek
+
+
+def _tail(path: str) -> bytes:
+    """The last octets of a file, in which a database has its mark; a database may be larger than what is read whole."""
+    with open(path, "rb") as file:
+        if not file.seekable():
+            return b""
+        file.seek(max(0, os.fstat(file.fileno()).st_size - TAIL))
+        return file.read(TAIL)

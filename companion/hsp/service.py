@@ -4,12 +4,15 @@ from __future__ import annotations
 
 import csv
 import difflib
+import io
 import ipaddress
 import os
+import re
 import tomllib
 from dataclasses import dataclass, field
 from typing import Any
 
+from hsp.bounds import whole
 from hsp.marks import Mark, mark_in, titles_of
 from hsp.numbers import part, some
 from hsp.paths import path_in
@@ -183,8 +186,18 @@ def inputs_in(folder: str, given: dict[str, str | None], unit: int) -> Inputs:
 
 def table(path: str) -> list[list[str]]:
     """The records of a table below its header. An empty line is none."""
-    with open(path, encoding="utf-8-sig", newline="") as file:
-        return [row for row in csv.reader(file) if row][1:]
+    text = whole(path).decode("utf-8-sig")
+    if '"' not in text:  # empty lines are no rows, and there may be millions of them
+        text = re.sub(r"[\r\n]{2,}", "\n", text)
+    return [row for row in csv.reader(io.StringIO(text, newline="")) if row][1:]
+
+
+def settings_in(path: str) -> dict[str, Any]:
+    """Settings that hsplan takes."""
+    octets = whole(path).removeprefix(b"\xef\xbb\xbf")
+    if b'"""' not in octets and b"'''" not in octets:  # nor are comments settings
+        octets = b"\n".join(it[0] for it in re.finditer(rb"(?m)^[ \t]*[^#\s][^\r\n]*", octets))
+    return tomllib.loads(octets.decode())
 
 
 def dotted(address: str) -> str:
@@ -250,8 +263,7 @@ def read_service(
 def service_of(folder: str, desk: Desk, inputs: Inputs, titles: Titles, mark: Mark) -> Service:
     """Reads files, as `read_service` does."""
     certificate, plan_file = desk.plan(inputs)
-    with open(inputs.settings, encoding="utf-8-sig", newline="") as file:
-        settings = tomllib.loads(file.read())
+    settings = settings_in(inputs.settings)
     rows = [Row(region, handle, inputs.unit * int(count)) for region, handle, count in table(inputs.demand)]
     return Service(
         folder,

@@ -102,10 +102,14 @@ class Files:
     def _of_list(self, file: str, octets: bytes) -> Iterator[Found]:
         """The sites of a value list. Octets that look like a site are one where hsplan finds it by its index."""
         path = self.desk.put(octets, ".values") if MARKER in octets else ""
+        room = len(octets)
         for match in itertools.islice(re.finditer(re.escape(MARKER), octets), MOST_VALUES):
             index = int.from_bytes(octets[max(0, match.start() - 4) : match.start()], "big")
             begin = match.end() + 4
             record = octets[begin : begin + int.from_bytes(octets[match.end() : begin], "big")]
+            room -= len(record)
+            if room < 0:  # records of a list don't overlap, so these are none
+                return
             fields = self._fields(record)
             try:
                 same = fields is not None and self.desk.site_of_value(path, index) == fields

@@ -122,7 +122,7 @@ def key_of(part: Part) -> bytes:
             return key_of_web_key(value)
         if not isinstance(value, str) or form not in (None, "base64", "hex", "key"):
             raise ValueError(f"neither base64 nor hexadecimal digits nor a web key: {shown(value)}")
-        if form == "hex" or form is None and re.fullmatch(r"([0-9A-Fa-f]{2})+", value):
+        if form == "hex" or form is None and len(value) % 2 == 0 and re.fullmatch(r"[0-9A-Fa-f]+", value):
             return bytes.fromhex(value)
         return from_base64(value)
     except (ValueError, binascii.Error) as error:

@@ -11,18 +11,18 @@ import re
 from collections import Counter
 from collections.abc import Callable, Iterable, Iterator
 
+from hsp.bounds import MOST_HELD, Query, pieces, weight
 from hsp.faults import Unfit
 from hsp.kinds import MOST_KINDS
 from hsp.numbers import listed, some
 from hsp.outlook import too_many
 from hsp.prefixes import Prefixes
 from hsp.programs import Desk, Inputs, Refused
-from hsp.queries import Query, field_of
+from hsp.queries import field_of
 from hsp.service import table
 
 HEADER = b"region,handle,count\n"
 MOST_ROWS, MOST_COUNT = MOST_KINDS, 1_000_000
-CHUNK = 1 << 16
 REMEDIES = {
     "BadName": "a region's name has ASCII letters, digits, -, _ and . only, at most 64 of them",
     "TooManyRegions": "join networks to at most 64 regions",
@@ -48,6 +48,7 @@ class Tally:
     def __init__(self, desk: Desk, most: int = MOST_PAIRS) -> None:
         self._desk, self._most = desk, most
         self._counts: Counter[Query] = Counter()
+        self._octets = self._rows = 0
         self._spilled: str | None = None
         self.asked = 0
         self.regions: set[bytes] = set()
@@ -63,14 +64,15 @@ class Tally:
 
     def add(self, queries: Iterable[Query]) -> Iterator[list[Query]]:
         """Counts queries, and passes them on in pieces."""
-        rows = iter(queries)
-        while chunk := list(itertools.islice(rows, CHUNK)):
+        for chunk in pieces(queries):
+            before = len(self._counts)
             self._counts.update(chunk)
+            self._octets += weight(itertools.islice(reversed(self._counts), len(self._counts) - before))
             self.asked += len(chunk)
             if len(self._counts) > MOST_ROWS:
                 self.regions.update({region for region, _ in chunk})
                 self._joinable()
-            if len(self._counts) > self._most:
+            if len(self._counts) > self._most or self._octets > MOST_HELD:
                 self._spill()
             yield chunk
 
@@ -87,7 +89,9 @@ class Tally:
         self.prefixes.add(self._counts)
         self._spilled = self._spilled or self._desk.put(HEADER, ".csv")
         self._desk.add(self._spilled, rows_of(self._counts.items()))
+        self._rows = self._rows or len(self._counts)
         self._counts.clear()
+        self._octets = 0
 
     def demand(self, inputs: Inputs | None, unit: int | None) -> tuple[bytes, bool]:
         """The table of demand, and whether rows of one kind were joined. `inputs` are those of the service."""
@@ -113,7 +117,7 @@ class Tally:
         """Rows are joined by the sites that their regions may use, so these have to be known."""
         if not inputs:
             rows = len(self._counts)
-            what = f"{some(rows, 'row')}" if not self._spilled else f"more than {self._most:,} rows"
+            what = f"{some(rows, 'row')}" if not self._spilled else f"more than {self._rows - 1:,} rows"
             raise Unfit(
                 f"{what} of demand; hsplan takes {MOST_ROWS:,}, with counts up to {MOST_COUNT:,}. "
                 "Give --into DIR with settings.toml and costs.csv, so that rows of one kind are joined"

@@ -2,11 +2,15 @@
 
 from __future__ import annotations
 
+import bz2
+import contextlib
 import csv
 import gzip
 import json
+import lzma
 import os
 import random
+import re
 import shutil
 import signal
 import subprocess
@@ -18,7 +22,7 @@ from typing import NamedTuple
 
 import pytest
 
-from hsp.fleet import answers, remote, tables
+from hsp.fleet import answers, parts, remote, tables
 from hsp.fleet.split import Parted
 from hsp.programs import Desk, Inputs
 
@@ -383,6 +387,49 @@ def test_an_interrupted_run_leaves_nothing(million: Million, tmp_path: Path, num
     assert ended(run, 128 + number) == "hsp: interrupted; nothing was written\n"
     assert sorted(it.name for it in tmp_path.iterdir()) == before
     assert not Path(f"/proc/{worker}").exists()
+
+
+def listening(process: int) -> set[str]:
+    """The addresses at which a process listens, as the kernel writes them."""
+    links = []
+    for it in Path(f"/proc/{process}/fd").iterdir():
+        with contextlib.suppress(OSError):
+            links.append(os.readlink(it))
+    own = {it.removeprefix("socket:[").removesuffix("]") for it in links}
+    rows = [row.split() for name in ("tcp", "tcp6") for row in Path(f"/proc/net/{name}").read_text().splitlines()[1:]]
+    return {row[1].partition(":")[0] for row in rows if row[3] == "0A" and row[9] in own}
+
+
+def test_a_machine_by_itself_listens_on_the_loopback_address_only(million: Million, tmp_path: Path) -> None:
+    logs = million.all_written(tmp_path)
+    run = started("dispatch", million.folder, "--fronts", FRONTS, "--workers", 2, *logs)
+    at_work(run)
+    processes = [it for it in children(run.pid) if named(it, "distributed.cli")]
+    found = [listening(it) for it in processes]
+    run.send_signal(signal.SIGINT)
+    ended(run, 130)
+    assert len(found) == 3 and all(found), found
+    assert set.union(*found) == {"0100007F"}
+
+
+@pytest.mark.parametrize("damage", ["gzip", "xz", "xz inside", "bzip2"])
+def test_a_damaged_log_is_named_and_not_tried_again(million: Million, tmp_path: Path, damage: str) -> None:
+    pack = {"gzip": gzip.compress, "bzip2": bz2.compress}.get(damage, lzma.compress)
+    for name, header, begin in (("front", b"region,handle\n", b""), ("all", b"front,region,handle\n", b"0,")):
+        octets = pack(header + b"".join(b"%beu,20.500.1/%d\n" % (begin, it) for it in range(50_000)))
+        middle = len(octets) // 2
+        octets = octets[:middle] + (b"damage" + octets[middle + 6 :] if damage == "xz inside" else b"")
+        (tmp_path / name).write_bytes(octets)
+    options = ["--workers", 1, "--fronts", FRONTS]
+    for name, word in (("front", f"0={tmp_path}/front"), ("all", f"{tmp_path}/all")):
+        said = fleet("dispatch", million.folder, *options, word, status=1)
+        assert re.fullmatch(rf"hsp: {tmp_path}/{name}: line \d+: it can't be unpacked further: .+\n", said), said
+    assert sorted(it.name for it in tmp_path.iterdir()) == ["all", "front"]
+    files = {it.split(".")[0]: str(million.folder / it) for it in ("settings.toml", "demand.csv", "plan.txt")}
+    files |= {it: str(million.folder / f"{it}.csv") for it in ("costs", "capacity")}
+    asked = {"fronts": FRONTS, "any_handle": False, "unit": None, "files": files, "front": 0, "what": "answer"}
+    reply = parts.replied({**asked, "logs": [f"{tmp_path}/front"], "staged": [f"{tmp_path}/out"]})
+    assert reply["status"] == 1 and "can't be unpacked further" in reply["fault"]
 
 
 def test_a_scheduler_that_goes_away_is_one_line(million: Million, tmp_path: Path) -> None:

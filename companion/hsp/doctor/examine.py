@@ -5,14 +5,16 @@ from __future__ import annotations
 import os
 import re
 import tomllib
+from collections.abc import Iterable
 from dataclasses import dataclass
 
 from hsp.doctor.doubts import doubts
 from hsp.doctor.findings import ERROR, Finding, Place, Words, found, read_text
-from hsp.doctor.question import Diagnosis, Question, draft_of
+from hsp.doctor.guard import SECONDS, guarded
+from hsp.doctor.question import Diagnosis, Question, Said, Show, draft_of
 from hsp.doctor.toml_places import value_of
 from hsp.faults import Unfit
-from hsp.marks import TABLE, TITLES, bad_keys
+from hsp.marks import MOST_OF_TITLES, TABLE, TITLES, bad_keys
 from hsp.numbers import listed
 from hsp.paths import path_in, shell_word
 from hsp.programs import Desk, Missing, Refused
@@ -63,18 +65,42 @@ def examined(
         service = service_of(folder, desk, inputs, titles_in(folder, title, cost), mark)
     except (Refused, Missing, Unfit, OSError) as fault:
         return _refused(question, folder, fault)
-    return Examined(list(doubts(service, desk)), 0, False, service)
+    work = guarded(lambda show: _all(doubts(service, desk), show))
+    return Examined(work.findings, 0, work.is_ended, service)
+
+
+def _all(findings: Iterable[Finding], show: Show) -> None:
+    for it in findings:
+        show(it)
 
 
 def _refused(question: Question, folder: str, fault: Exception) -> Examined:
     """All faults of a folder. What explains them is loaded only where there are some."""
     from hsp.doctor.faults import diagnosed
 
-    result = diagnosed(question)
-    findings = result.findings + titles_faults(folder)
-    if not findings:
+    said = question.ask()
+
+    def explain(show: Show) -> bool:
+        result = diagnosed(question, None, show)
+        _all(titles_faults(folder), show)
+        return result.is_cut_short
+
+    work = guarded(explain)
+    if not work.findings and not work.is_ended:
         raise fault
-    return Examined(findings, status_of(result) or 1, result.is_cut_short)
+    own = question.files[said.where].original.path if said.where in question.files else folder
+    findings = work.findings or [_unexplained(own, said)]
+    return Examined(findings, status_of(Diagnosis(findings, said.status)) or 1, work.is_ended or work.end)
+
+
+def _unexplained(path: str, said: Said) -> Finding:
+    """What is said where time or memory ran out before the first fault was explained."""
+    words = Words(
+        f"hsplan says {said.line or 'nothing'}",
+        "look at the files there; FAULTS, which is installed with hsplan, has the word",
+        f"they are too large or too odd to be explained within {SECONDS:.0f} seconds",
+    )
+    return found(path, Place(), words, said.line)
 
 
 def _no_service(folder: str) -> Finding:
@@ -99,6 +125,9 @@ def titles_faults(folder: str) -> list[Finding]:
     path = path_in(folder, TITLES)
     if not os.path.isfile(path):
         return []
+    if os.stat(path).st_size > MOST_OF_TITLES:
+        words = Words(f"{TITLES} has more than {MOST_OF_TITLES:,} octets", "keep title, cost and time", "another file?")
+        return [found(path, Place(), words)]
     text = read_text(path)
     try:
         said = tomllib.loads(text.octets.decode("utf-8"))
@@ -127,7 +156,22 @@ def titles_faults(folder: str) -> list[Finding]:
 
 def examined_words(words: list[str], desk: Desk) -> Examined:
     """What is wrong with the words of a command, and with its files, or what is doubtful where nothing is wrong."""
-    from hsp.doctor.faults import of_words
+    from hsp.doctor.faults import of_words, said_of_words
 
-    result = of_words(desk, words)
-    return Examined(result.findings, status_of(result), result.is_cut_short)
+    def explain(show: Show) -> Diagnosis:
+        streamed: list[Finding] = []
+
+        def once(it: Finding) -> None:
+            streamed.append(it)
+            show(it)
+
+        result = of_words(desk, words, once)
+        _all((it for it in result.findings if it not in streamed), show)
+        return Diagnosis([], status_of(result), result.is_cut_short)
+
+    work = guarded(explain)
+    if not work.is_ended:
+        return Examined(work.findings, work.end.status, work.end.is_cut_short)
+    said = said_of_words(words)
+    findings = work.findings or ([_unexplained("", said)] if said.line else [])
+    return Examined(findings, status_of(Diagnosis(findings, said.status)), True)

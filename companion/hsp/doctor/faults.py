@@ -19,7 +19,7 @@ from hsp.doctor import (
 from hsp.doctor.commands import FILES, FORMS, Line, line_of, split
 from hsp.doctor.file_faults import file_finding
 from hsp.doctor.findings import Finding, Place, Words, found
-from hsp.doctor.question import ORDER, Diagnosis, Question, Said, draft_of
+from hsp.doctor.question import ORDER, Diagnosis, Question, Said, Show, draft_of, said_of, unheard
 from hsp.doctor.table_faults import Explained, row_fault
 from hsp.doctor.word_doubts import word_doubts
 from hsp.programs import Desk, program, run
@@ -127,7 +127,8 @@ def _files_first(question: Question, line: str) -> tuple[Question, list[Finding]
     findings = []
     for kind in ORDER:
         if kind in question.files:
-            it = file_finding(question.files[kind].original.path, kind, line)
+            text = question.files[kind].original
+            it = file_finding(text.path, kind, line, len(text.octets))
             if it:
                 findings.append(it)
                 question = question.with_stand_in(kind)
@@ -175,21 +176,23 @@ def _is_known(findings: list[Finding], new: Finding) -> bool:
     return new in findings or new.said.startswith("settings: ") and (new.file, new.line) in lines
 
 
-def diagnosed(question: Question, line: Line | None = None) -> Diagnosis:
-    """Asks, explains, mends a copy, and asks again until hsplan has no fault."""
+def diagnosed(question: Question, line: Line | None = None, show: Show = unheard) -> Diagnosis:
+    """Asks, explains, mends a copy, and asks again until hsplan has no fault. Shows each finding at once."""
     said = question.ask()
-    result = Diagnosis([], said.status)
+    result = Diagnosis([], said.status, show=show)
     if not said.line:
         return result
     if said.word == "read failed":
-        question, result.findings = _files_first(question, said.line)
+        question, findings = _files_first(question, said.line)
+        for it in findings:
+            result.add(it)
         if not result.findings:
             words = Words(
                 "a file can't be read",
                 "look at the files one by one: cat FILE > /dev/null",
                 "a file that changes, or a disk that fails",
             )
-            result.findings.append(found("", Place(), words, said.line))
+            result.add(found("", Place(), words, said.line))
             return result
         if any(it in question.absent for it in ("plan", "log", "file", "values")):
             question = without_answers(question)
@@ -198,10 +201,10 @@ def diagnosed(question: Question, line: Line | None = None) -> Diagnosis:
     for _ in range(max(3, min(TURNS, OCTETS // max(1, octets)))):
         if not said.line or _is_consequence(question, said):
             return result
-        it = explained(question, said, line)
-        if it.finding and not _is_known(result.findings, it.finding):
-            result.findings.append(it.finding)
-        then = _next(question, said, it, line)
+        one = explained(question, said, line)
+        if one.finding and not _is_known(result.findings, one.finding):
+            result.add(one.finding)
+        then = _next(question, said, one, line)
         if not then:
             return result
         question, said = then
@@ -234,7 +237,7 @@ def question_of(desk: Desk, line: Line) -> Question:
     return Question(desk, line.command, files, rest, tuple(it.text for it in others), line.program)
 
 
-def of_words(desk: Desk, words: list[str]) -> Diagnosis:
+def of_words(desk: Desk, words: list[str], show: Show = unheard) -> Diagnosis:
     """All faults of the words of a command, and of its files; or what is doubtful where nothing is wrong."""
     line = line_of(words)
     if word_faults.command_fault(line):
@@ -246,8 +249,15 @@ def of_words(desk: Desk, words: list[str]) -> Diagnosis:
     status = _status(line, question)
     if status == USAGE_STATUS:
         return Diagnosis(word_faults.usage(line) + _of_files(question), status)
-    result = diagnosed(question, line)
+    result = diagnosed(question, line, show)
     return result if result.findings else Diagnosis(word_doubts(question, line), 0)
+
+
+def said_of_words(words: list[str]) -> Said:
+    """What the program says of words as they are."""
+    line = line_of(words)
+    printed = run(line.program, *[it.text for it in line.words])
+    return said_of(printed.status, printed.line.removeprefix(f"{line.program}: "))
 
 
 def _status(line: Line, question: Question) -> int:

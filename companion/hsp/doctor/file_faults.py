@@ -6,10 +6,16 @@ import difflib
 import os
 import stat
 
-from hsp.doctor.findings import LARGEST, Finding, Place, Words, found
+from hsp.bounds import LARGEST
+from hsp.doctor.findings import Finding, Place, Words, found
 from hsp.paths import shell_word
 
 CONVENTIONS = {"settings": "settings.toml", "demand": "demand.csv", "costs": "costs.csv", "capacity": "capacity.csv"}
+TOO_LARGE = Words(
+    f"the file has more than {LARGEST:,} octets",
+    "give a smaller file: this is likely another one",
+    "hsplan reads it whole",
+)
 
 
 def unreadable(path: str, kind: str) -> Words | None:
@@ -47,11 +53,7 @@ def _of_kind(path: str, kind: str, mode: int) -> Words | None:
             "a folder, not a file", f"give the file in it, as {os.path.join(path, name)}", "hsplan reads files"
         )
     if stat.S_ISREG(mode) and kind != "log" and os.stat(path).st_size > LARGEST:
-        return Words(
-            f"the file has more than {LARGEST:,} octets",
-            "give a smaller file: this is likely another one",
-            "hsplan reads it whole",
-        )
+        return TOO_LARGE
     if not os.access(path, os.R_OK):
         return Words(
             "you may not read this file",
@@ -96,7 +98,7 @@ def _absent(path: str, kind: str) -> Words:
     return Words("no such file", remedy, f"{folder} has {', '.join(names[:6]) or 'no file'}")
 
 
-def file_finding(path: str, kind: str, said: str) -> Finding | None:
-    """What is wrong with a file by itself, before its text is read."""
-    words = unreadable(path, kind)
+def file_finding(path: str, kind: str, said: str, read: int = 0) -> Finding | None:
+    """What is wrong with a file by itself, of which so many octets were read."""
+    words = TOO_LARGE if read > LARGEST and kind != "log" else unreadable(path, kind)
     return found(path or f"--{kind}", Place(), words, said) if words else None

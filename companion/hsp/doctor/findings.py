@@ -2,15 +2,15 @@
 
 from __future__ import annotations
 
+import functools
 import os
 import re
-from dataclasses import dataclass, field
+from dataclasses import dataclass
 
+from hsp.bounds import LARGEST
 from hsp.text import visible
 
 ERROR, WARNING = "error", "warning"
-# Octets that no text of a table needs. hsplan reads no larger file whole.
-LARGEST = 67_108_864
 
 
 @dataclass(frozen=True)
@@ -81,10 +81,10 @@ class Text:
 
     path: str
     octets: bytes
-    lines: list[str] = field(init=False, repr=False)
 
-    def __post_init__(self) -> None:
-        self.lines = re.split(r"\r\n|\n|\r", decoded(self.octets))
+    @functools.cached_property
+    def lines(self) -> list[str]:
+        return re.split(r"\r\n|\n|\r", decoded(self.octets))
 
     @property
     def name(self) -> str:

@@ -5,9 +5,9 @@ from __future__ import annotations
 import functools
 import os
 import re
-import shutil
 import stat
 import subprocess
+from collections.abc import Callable
 from dataclasses import dataclass, field, replace
 
 from hsp.doctor.findings import Finding, Text, encoded, read_text
@@ -68,6 +68,13 @@ class Said:
     numbers: dict[str, int] = field(default_factory=dict)
 
 
+Show = Callable[[Finding], None]
+
+
+def unheard(_: Finding) -> None:
+    """Nobody waits for findings one by one."""
+
+
 @dataclass
 class Diagnosis:
     """All faults that were found, hsplan's status for the files as they are, and whether there may be more."""
@@ -75,6 +82,11 @@ class Diagnosis:
     findings: list[Finding]
     status: int
     is_cut_short: bool = False
+    show: Show = unheard
+
+    def add(self, it: Finding) -> None:
+        self.findings.append(it)
+        self.show(it)
 
 
 def said_of(status: int, line: str) -> Said:
@@ -166,10 +178,8 @@ def draft_of(desk: Desk, path: str) -> Draft:
     """A file as it is read. A pipe can be read once, and hsplan takes no name that isn't UTF-8: these are copied."""
     try:
         if path != "/dev/null" and (is_pipe(path) or not is_utf8(path) and os.path.isfile(path)):
-            copy = desk.put(b"")
-            with open(path, "rb") as source, open(copy, "wb") as target:
-                shutil.copyfileobj(source, target)
-            return Draft(Text(path, read_text(copy).octets), copy=copy)
+            text = read_text(path)
+            return Draft(text, copy=desk.put(text.octets))
         return Draft(read_text(path))
     except (OSError, ValueError):
         return Draft(Text(path, b""))

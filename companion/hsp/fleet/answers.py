@@ -12,9 +12,9 @@ import subprocess
 from collections.abc import Iterator
 from typing import IO, Any
 
+from hsp import logs
 from hsp.faults import Unfit
 from hsp.files import created
-from hsp.logs import opened
 from hsp.programs import program
 
 HEADER = b"region,handle"
@@ -38,15 +38,17 @@ class Again(Exception):
 
 def blocks(path: str) -> Iterator[bytes]:
     """A log, unpacked, in blocks of whole lines. The last line gets its end."""
-    rest = b""
-    with opened(path) as file:
-        while block := file.read(BLOCK):
-            end = block.rfind(b"\n") + 1
-            if end:
-                yield rest + block[:end]
-                rest = block[end:]
-            else:
-                rest += block
+    rest, numbers = b"", [1]
+    for block in logs.blocks(path, numbers, size=BLOCK):
+        end = block.rfind(b"\n") + 1
+        if end:
+            numbers[0] += block.count(b"\n")
+            yield rest + block[:end]
+            rest = block[end:]
+        else:
+            rest += block
+        if len(rest) > logs.MOST_OF_LINE:
+            raise Unfit(f"{path}: line {numbers[0]}: longer than {logs.MOST_OF_LINE:,} octets")
     if rest:
         yield rest + b"\n"
 
@@ -75,10 +77,9 @@ def rows_of_front(path: str, front: bytes) -> Iterator[tuple[bytes, int]]:
 
 def line_of_row(path: str, row: int) -> int:
     """The line of a log's row. Rows count from 0 below the header, lines from 1, and an empty line is no row."""
-    lines = itertools.count(1)
-    with opened(path) as file:
-        numbers = (number for number, line in zip(lines, file) if _is_row(line) and number > 1)
-        return next(itertools.islice(numbers, row, None), 0)
+    lines = itertools.chain.from_iterable(map(io.BytesIO, blocks(path)))
+    numbers = (number for number, line in enumerate(lines, 1) if _is_row(line) and number > 1)
+    return next(itertools.islice(numbers, row, None), 0)
 
 
 def words_of(request: dict[str, Any]) -> list[str]:
@@ -190,9 +191,9 @@ def answer(request: dict[str, Any]) -> dict[str, Any]:
         return _refused(request, status, said, counts)
     sums = sums_of(whole)
     if counts and sum(sums.values()) != sum(counts):
-        logs = ", ".join(request["logs"])
+        names = ", ".join(request["logs"])
         raise Unfit(
-            f"{logs}: {sum(counts)} lines have {sum(sums.values())} rows: a row may have no line end in quotes"
+            f"{names}: {sum(counts)} lines have {sum(sums.values())} rows: a row may have no line end in quotes"
         )
     if whole != paths[0]:
         _cut(whole, paths, counts)

@@ -26,6 +26,7 @@ from hsp.bring import (
     twice,
     with_forms,
 )
+from hsp.bounds import whole
 from hsp.faults import Unfit
 from hsp.files import locked, replace_all
 from hsp.fleet import kit
@@ -81,8 +82,7 @@ def counted(engine: Engine, logs: list[Log], asked: Reply) -> tuple[list[Reply],
 
 
 def _files(regions: str, inputs: Inputs | None) -> dict[str, bytes]:
-    with open(regions, "rb") as file:
-        files = {"networks": file.read(), **kit.programs(), "hsp.zip": kit.companion()}
+    files = {"networks": whole(regions), **kit.programs(), "hsp.zip": kit.companion()}
     return files | (kit.files_of(inputs) if inputs else {})
 
 

@@ -10,6 +10,7 @@ import zipfile
 from collections.abc import Iterator
 from typing import Any
 
+from hsp.bounds import whole
 from hsp.fleet.answers import FILES
 from hsp.programs import Inputs, program
 
@@ -41,16 +42,11 @@ def companion() -> bytes:
     return room.getvalue()
 
 
-def _octets(path: str) -> bytes:
-    with open(path, "rb") as file:
-        return file.read()
-
-
 def programs() -> dict[str, bytes]:
-    return {name: _octets(program(name)) for name in ("hsplan", "hsplan-stream")}
+    return {name: whole(program(name)) for name in ("hsplan", "hsplan-stream")}
 
 
 def files_of(inputs: Inputs, plan: str = "") -> dict[str, bytes]:
     """The files of a service by their kinds, those that there are."""
     paths = {it: getattr(inputs, it) for it in FILES if it != "plan"} | {"plan": plan}
-    return {kind: _octets(path) for kind, path in paths.items() if path}
+    return {kind: whole(path) for kind, path in paths.items() if path}

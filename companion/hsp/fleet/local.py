@@ -27,6 +27,9 @@ SETTINGS = {
 }
 KEY = "openssl req -x509 -newkey ec -pkeyopt ec_paramgen_curve:prime256v1 -nodes -days 30 -subj /CN=hsp-fleet"
 
+# A port is open for Dask's pages even without them: it must not be seen by other machines, or be another user's.
+LOOPBACK = ["--host", "127.0.0.1", "--dashboard-address", "127.0.0.1:0", "--no-dashboard"]
+
 
 class Gone(Exception):
     """The scheduler or the workers have ended, and nothing can go on."""
@@ -57,8 +60,7 @@ class Local:
         words = KEY.split() + ["-keyout", self.key, "-out", self.certificate]
         if subprocess.run(words, capture_output=True).returncode:
             raise Gone("openssl made no key for the workers of this machine")
-        # A port is open for Dask's pages even without them: it must not be the one of another user.
-        where = ["--host", "127.0.0.1", "--port", "0", "--protocol", "tls", "--dashboard-address", "127.0.0.1:0"]
+        where = ["--port", "0", "--protocol", "tls"]
         self._scheduler = self._start("dask_scheduler", "--scheduler-file", self._file, "--no-show", *where)
         for _ in range(self.number):
             self._workers.append(self._worker())
@@ -69,7 +71,7 @@ class Local:
         command = ["setpriv", "--pdeathsig", "KILL", "--", sys.executable, "-m", f"distributed.cli.{module}"]
         with open(self._log(module), "ab") as log:
             return subprocess.Popen(
-                [*command, *words, *keys, "--no-dashboard"],
+                [*command, *words, *keys, *LOOPBACK],
                 stdin=subprocess.DEVNULL,
                 stdout=log,
                 stderr=log,
@@ -85,7 +87,7 @@ class Local:
         self._started += 1
         own = os.path.join(self.folder, f"worker-{self._started}")
         words = ["--scheduler-file", self._file, "--no-nanny", "--nthreads", "1", "--memory-limit", "0"]
-        where = ["--host", "127.0.0.1", "--protocol", "tls", "--local-directory", own, "--death-timeout", "60"]
+        where = ["--protocol", "tls", "--local-directory", own, "--death-timeout", "60"]
         return self._start("dask_worker", *words, *where)
 
     def address(self, patience: float) -> str:

@@ -2,7 +2,6 @@
 
 from __future__ import annotations
 
-import itertools
 import json
 import os
 import re
@@ -11,17 +10,17 @@ from collections import Counter
 from collections.abc import Callable
 from typing import Any
 
+from hsp.bounds import Query, pieces
 from hsp.faults import Unfit
 from hsp.files import created
 from hsp.fleet import answers
 from hsp.fleet.tables import Table, merged
 from hsp.forms import Form, within
 from hsp.programs import Desk, Inputs, Missing, Refused
-from hsp.queries import Judge, Query, Reading, field_of, queries
+from hsp.queries import Judge, Reading, field_of, queries
 from hsp.regions import regions_in
 from hsp.times import Span
 
-CHUNK = 1 << 16
 LOG_HEADER = b"region,handle\n"
 Request = dict[str, Any]
 Reply = dict[str, Any]
@@ -55,12 +54,11 @@ def count(request: Request) -> Reply:
     span = Span(*request["span"])
     reading = Reading(form_of(request["form"]), seek, Judge(desk), wrap=None if span.is_all else within(span))
     table, asked = Table(desk, inputs_of(request["files"])), 0
-    rows = iter(queries(request["log"], reading))
     kept = created(request["staged"][0]) if request["staged"] else None
     try:
         if kept:
             kept.write(LOG_HEADER)
-        while chunk := list(itertools.islice(rows, CHUNK)):
+        for chunk in pieces(queries(request["log"], reading)):
             asked += len(chunk)
             of_chunk: Counter[Query] = Counter(chunk)
             table.add(of_chunk.items())

@@ -4,15 +4,16 @@ from __future__ import annotations
 
 import csv
 import io
+import itertools
 import math
 import os
 from collections.abc import Iterable
 from dataclasses import dataclass, field
 
+from hsp.bounds import MOST_HELD, Query, weight
 from hsp.faults import Unfit
 from hsp.logs import Skipped
 from hsp.programs import Desk, Inputs, Refused
-from hsp.queries import Query
 from hsp.tally import HEADER, MOST_ROWS, advice, rows_of
 
 # So many pairs are counted in memory, before they are joined.
@@ -32,7 +33,8 @@ def joined(desk: Desk, inputs: Inputs, counts: Counts) -> Counts:
     A demand has a greatest count, and sums may be above it. Then the counts are parted into a high and a low digit,
     whose sums are joined apart: sums of kinds add up.
     """
-    log = desk.put(HEADER + b"".join(rows_of(counts)), ".csv")
+    log = desk.put(HEADER, ".csv")
+    desk.add(log, rows_of(counts))
     try:
         return counts_in(desk.kinds(inputs, log, None))
     except Refused as fault:
@@ -56,12 +58,14 @@ class Table:
     most: int = MOST_PAIRS
     counts: dict[Query, int] = field(default_factory=dict)
     is_joined: bool = False
+    octets: int = 0
 
     def add(self, pairs: Iterable[tuple[Query, int]]) -> None:
-        counts = self.counts
+        counts, before = self.counts, len(self.counts)
         for pair, count in pairs:
             counts[pair] = counts.get(pair, 0) + count
-        if len(counts) > self.most:
+        self.octets += weight(itertools.islice(reversed(counts), len(counts) - before))
+        if len(counts) > self.most or self.octets > MOST_HELD // 2:
             self.join()
 
     def join(self) -> None:
@@ -75,7 +79,7 @@ class Table:
             self.counts = dict(joined(self.desk, self.inputs, list(self.counts.items())))
         except Refused as fault:
             raise Unfit(advice(fault, self.inputs, self.desk)) from None
-        self.is_joined = True
+        self.is_joined, self.octets = True, weight(self.counts)
 
     def said(self) -> dict[str, object]:
         """The table as a part returns it, short enough to be passed on."""
