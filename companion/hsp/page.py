@@ -4,6 +4,8 @@ drawn number stands beside it as text."""
 from __future__ import annotations
 
 from collections import Counter
+import base64
+import hashlib
 from collections.abc import Iterable, Mapping
 from dataclasses import dataclass, field
 
@@ -228,6 +230,11 @@ def lacking(service: Service, short: Shortage) -> list[tuple[str, list[Row]]]:
     return sorted(named, key=lambda it: -sum(row.count for row in it[1]))
 
 
+def hash_of(text: str) -> str:
+    """A style or a script of the template, as the policy of the page allows it. No other one is."""
+    return f"sha256-{base64.b64encode(hashlib.sha256(text.encode()).digest()).decode()}"
+
+
 def environment() -> jinja2.Environment:
     made = jinja2.Environment(
         loader=jinja2.PackageLoader("hsp"),
@@ -237,7 +244,7 @@ def environment() -> jinja2.Environment:
         undefined=jinja2.StrictUndefined,
         finalize=lambda it: escaped(it) if type(it) is str else it,
     )
-    made.filters.update(number=lambda it: f"{it:,}", signed=signed, listed=listed)
+    made.filters.update(number=lambda it: f"{it:,}", signed=signed, listed=listed, hash=hash_of)
     made.globals.update(percent=percent, average=average, some=some, version=__version__)
     return made
 

@@ -2,7 +2,9 @@
 
 from __future__ import annotations
 
+import base64
 import csv
+import hashlib
 import io
 import json
 import random
@@ -334,8 +336,43 @@ def test_a_printed_page_says_how_many_rows_it_has(browser: Any, pages: dict[str,
 def test_a_page_forbids_the_network(pages: dict[str, Path]) -> None:
     for path in pages.values():
         text = path.read_text(encoding="utf-8")
-        assert "default-src 'none'; style-src 'unsafe-inline'; script-src 'unsafe-inline'" in text
         assert not re.search(r"""(src|href)=["']?(https?:)?//""", text)
+
+
+def allowed(kind: str, text: str) -> str:
+    """What the policy says of an element of the page, by its text."""
+    found = re.findall(rf"<{kind}>(.*?)</{kind}>", text, re.DOTALL)
+    assert len(found) == 1
+    return f"{kind}-src 'sha256-{base64.b64encode(hashlib.sha256(found[0].encode()).digest()).decode()}'"
+
+
+def test_a_page_allows_only_its_own_style_and_script(pages: dict[str, Path]) -> None:
+    for path in pages.values():
+        text = path.read_text(encoding="utf-8")
+        policy = f"default-src 'none'; {allowed('style', text)}; {allowed('script', text)}"
+        assert f"content=\"{policy}; base-uri 'none'; form-action 'none'\">" in text
+        assert " style=" not in text and " onclick=" not in text
+
+
+@pytest.mark.parametrize("name", ["two-sites", "shortage"])
+def test_what_gets_into_a_page_is_not_run(browser: Any, pages: dict[str, Path], tmp_path: Path, name: str) -> None:
+    """As if a text were not escaped."""
+    text = pages[name].read_text(encoding="utf-8")
+    within = (
+        '<base href="https://example.org/"><script>document.title = "run"</script><style>h1{color:rgb(1,2,3)}</style>'
+        '<h2 id="styled" style="color:rgb(1,2,3)">x</h2><button id="on" onclick="document.title = 1">x</button>'
+        "<script>(() => {})();</script>"
+    )
+    path = tmp_path / "page.html"
+    path.write_text(text.replace("<header>", f"<header>{within}", 1), encoding="utf-8")
+    page = Page(browser, path, 1200, "light")
+    page.run("document.getElementById('on').click()")
+    assert page.run("return document.title") == re.search("<title>(.*?)</title>", text)[1]  # type: ignore[index]
+    colour = "return getComputedStyle(document.querySelector('{}')).color"
+    assert page.run(colour.format("h1")) != "rgb(1, 2, 3)" != page.run(colour.format("#styled"))
+    assert page.run("return document.baseURI") == path.as_uri()
+    assert len(browser.get_log("browser")) >= 5
+    assert page.run("return document.querySelectorAll('#rows tbody tr').length") > 10
 
 
 def test_sizes_of_pages(pages: dict[str, Path]) -> None:
