@@ -20,7 +20,7 @@ from hsp.forms import Form, within
 from hsp.joining import block, capacity_rows, joined, lines_of, read_back
 from hsp.marks import KINDS, TITLES, Mark, marked
 from hsp.numbers import listed, some
-from hsp.outlook import may_be_long, outlook
+from hsp.outlook import may_be_long, outlook, refuse_unit
 from hsp.paths import path_in, shell_word
 from hsp.programs import Desk, Inputs
 from hsp.progress import Gauge, Progress
@@ -196,6 +196,20 @@ def expect(lines: list[str]) -> None:
         say(f"hsp: {line}", err=True)
 
 
+def foreseen(regions: str, into: str | None, given: dict[str, Any], is_long: bool, desk: Desk) -> Inputs | None:
+    """The sites and the costs of a service. Before logs are read it refuses what can't be joined or noted at their
+    end, and says what long logs will likely need."""
+    inputs, output = service_of(into, given), output_of(given, into)
+    if output:
+        of_folder(into, output, Mark(KINDS))
+    named = named_in(regions, given["elsewhere"])
+    if given["unit"]:
+        refuse_unit(inputs, named)
+    if is_long or given["unit"]:
+        expect(outlook(inputs, named, into, desk))
+    return inputs
+
+
 def twice(paths: Sequence[str]) -> list[str]:
     """Names the files that are given twice, by one path or by two."""
     seen: dict[tuple[int, int], str] = {}
@@ -244,18 +258,21 @@ def some_in(logs: tuple[str, ...], reading: Reading, is_some: bool) -> None:
         raise Unfit(f"no query is in {listed(logs)}: {first}")
 
 
-def summary(logs: tuple[str, ...], reading: Reading, tally: Tally) -> str:
+def summary(logs: tuple[str, ...], reading: Reading, tally: Tally, of_any_prefix: bool) -> list[str]:
+    """What was counted, what was passed over and why, and which prefixes are rare where any of them counts."""
     handles = f" for {some(tally.handles, 'handle')}" if tally.handles is not None else ""
     regions = some(len(tally.regions), "region")
     asked = some(tally.asked, "query", "queries")
     lines = some(tally.asked + reading.skipped.sum, "line")
-    return f"{some(len(logs), 'log')}, {lines}: {asked} of {regions}{handles}"
+    first = f"{some(len(logs), 'log')}, {lines}: {asked} of {regions}{handles}"
+    return [first, *skipped_lines(reading), *(tally.prefixes.lines() if of_any_prefix else [])]
 
 
-def rows_line(output: str | None, text: bytes, is_joined: bool) -> str:
-    """How many rows the table has, and what each stands for."""
+def rows_lines(output: str | None, text: bytes, is_joined: bool, lacking: tuple[str, list[str]] | None) -> list[str]:
+    """How many rows the table has, what each stands for, and which regions a file of costs lacks."""
     kinds = ", each for the handles that have the same servers" if is_joined else ""
-    return f"{output or 'the table'} has {some(text.count(10) - 1, 'row')}{kinds}"
+    lines = [f"{output or 'the table'} has {some(text.count(10) - 1, 'row')}{kinds}"]
+    return lines + ([f"{lacking[0]} has no cost yet of {listed(lacking[1])}"] if lacking and lacking[1] else [])
 
 
 def mark_of(tally: Tally, logs: tuple[str, ...], unit: int | None) -> Mark:
@@ -347,28 +364,22 @@ def demand(logs: tuple[str, ...], regions: str, into: str | None, kept: str | No
     if sys.stderr.isatty():
         gauge = Gauge(logs, 2 if given["busiest_hour"] else 1)
         reading.watch, reading.progress = gauge.watch, Progress(gauge).show
-    tally, inputs = Tally(desk), service_of(into, given)
+    tally, is_long = Tally(desk), any(map(may_be_long, logs))
     expect(twice(logs))
-    if given["unit"] or any(map(may_be_long, logs)):
-        expect(outlook(inputs, named_in(regions, given["elsewhere"]), into, desk))
-        tally.joins_by(inputs)
+    inputs = foreseen(regions, into, given, is_long, desk)
+    tally.joins_by(inputs)
     busiest = by_time(logs, reading, given)
     with together() as files:
         counted(logs, reading, tally, files.open(kept) if kept else None)
         text, is_joined = tally.demand(inputs, given["unit"])
-        lacking = tally.without_costs(inputs) if inputs else []
+        closing = rows_lines(output, text, is_joined, (inputs.costs, tally.without_costs(inputs)) if inputs else None)
         if output:
             mark = mark_of(tally, logs, given["unit"]) if is_joined else Mark()
             for path, octets in {output: text, **of_folder(into, output, mark)}.items():
                 files.open(path).write(octets)
         else:
             give(text)
-    lines = [*busiest, summary(logs, reading, tally), *skipped_lines(reading)]
-    lines += [] if given["prefix"] else tally.prefixes.lines()
-    lines.append(rows_line(output, text, is_joined))
-    if inputs and lacking:
-        lines.append(f"{inputs.costs} has no cost yet of {listed(lacking)}")
-    for line in lines:
+    for line in [*busiest, *summary(logs, reading, tally, not given["prefix"]), *closing]:
         say(line, err=output is None)
 
 

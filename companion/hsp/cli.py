@@ -32,6 +32,7 @@ from hsp.charts import drawn
 from hsp.doctor import Examined, examined, examined_words
 from hsp.doctor.commands import FORMS
 from hsp.doctor.doubts import OLD_PLAN
+from hsp.doctor.mark_doubts import MUCH_ADDED
 from hsp.doctor.next_step import next_lines, next_step
 from hsp.doctor.printing import json_of as findings_json
 from hsp.doctor.printing import lines as finding_lines
@@ -214,6 +215,8 @@ def sound(
             say(line, err=True)
         sys.exit(found.status)
     warnings = [it for it in found.warnings if it.kind != OLD_PLAN]
+    for it in (it for it in warnings if it.kind == MUCH_ADDED):
+        say(f"hsp: {it.message}; {it.remedy}", err=True)
     if warnings:
         titles = visible(listed(dict.fromkeys(it.message for it in warnings), 2))
         say(f"hsp: {some(len(warnings), 'warning')}: {titles} (hsp doctor {visible(shell_word(folder))})", err=True)
@@ -354,8 +357,7 @@ def plan(
     for line in plan_lines(found, reference, every):
         say(line)
     kept = "" if no_save else f"; kept in {path}"
-    say(f"check {colored(verdict, 'green')}: no plan within these capacities costs less{kept}")
-    for line in lines:
+    for line in [f"check {colored(verdict, 'green')}: no plan within these capacities costs less{kept}", *lines]:
         say(line)
     if not (service.sites and service.rows or any(given.values())):
         say(next_step(service, desk))

@@ -9,6 +9,7 @@ import tomllib
 from collections import defaultdict
 from collections.abc import Iterator, Sequence
 
+from hsp.faults import Unfit
 from hsp.kinds import MOST_KINDS, Costs, most_kinds
 from hsp.numbers import listed
 from hsp.programs import Desk, Inputs, Refused
@@ -97,6 +98,15 @@ def too_many(inputs: Inputs, desk: Desk, regions: Sequence[str] | None = None) -
         return ""
     head = f"this service can have {whole:,} kinds of handles, and hsplan takes {MOST_KINDS:,} rows"
     return f"{head}: {'; '.join(fewer(sites, costs))}"
+
+
+def refuse_unit(inputs: Inputs | None, regions: Sequence[str]) -> None:
+    """Refuses a unit where rows surely can't be joined, which they are for it."""
+    if not inputs:
+        raise Unfit("--unit joins rows by kinds: give --into DIR with settings.toml and costs.csv")
+    if regions and not set(regions) & set(costs_in(inputs.costs)):
+        lacking = f"{inputs.costs}: no cost of {listed(regions)}"
+        raise Unfit(f"{lacking}. Put in the costs first: --unit joins rows by kinds")
 
 
 def outlook(inputs: Inputs | None, regions: Sequence[str], folder: str | None, desk: Desk) -> list[str]:

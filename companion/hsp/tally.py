@@ -48,7 +48,7 @@ class Tally:
     def __init__(self, desk: Desk, most: int = MOST_PAIRS) -> None:
         self._desk, self._most = desk, most
         self._counts: Counter[Query] = Counter()
-        self._octets = self._rows = 0
+        self._octets = 0
         self._spilled: str | None = None
         self.asked = 0
         self.regions: set[bytes] = set()
@@ -89,7 +89,6 @@ class Tally:
         self.prefixes.add(self._counts)
         self._spilled = self._spilled or self._desk.put(HEADER, ".csv")
         self._desk.add(self._spilled, rows_of(self._counts.items()))
-        self._rows = self._rows or len(self._counts)
         self._counts.clear()
         self._octets = 0
 
@@ -117,7 +116,8 @@ class Tally:
         """Rows are joined by the sites that their regions may use, so these have to be known."""
         if not inputs:
             rows = len(self._counts)
-            what = f"{some(rows, 'row')}" if not self._spilled else f"more than {self._rows - 1:,} rows"
+            is_many = self._spilled or rows > MOST_ROWS
+            what = f"more than {MOST_ROWS:,} rows" if is_many else some(rows, "row")
             raise Unfit(
                 f"{what} of demand; hsplan takes {MOST_ROWS:,}, with counts up to {MOST_COUNT:,}. "
                 "Give --into DIR with settings.toml and costs.csv, so that rows of one kind are joined"

@@ -145,3 +145,13 @@ def test_a_short_log_needs_no_costs(tmp_path: Path) -> None:
     log.write_text("".join(log.read_text().splitlines(True)[:100]))
     result = invoke(*words, "--into", tmp_path / "s")
     assert result.stderr == "" and "has no cost yet of eu" in result.stdout
+
+
+def test_a_unit_that_nothing_can_be_joined_for_is_refused_before_a_log_is_read(tmp_path: Path) -> None:
+    words = [wide(tmp_path, ("us",))[0], tmp_path / "absent.csv", "--regions", tmp_path / "networks.csv", "--unit", 5]
+    said = invoke(*words, "-o", tmp_path / "out.csv", status=1).stderr
+    assert said == "hsp: --unit joins rows by kinds: give --into DIR with settings.toml and costs.csv\n"
+    costs = tmp_path / "s" / "costs.csv"
+    costs.write_text("region,site,cost\n")
+    said = invoke(*words, "--into", tmp_path / "s", status=1).stderr
+    assert said == f"hsp: {costs}: no cost of eu and us. Put in the costs first: --unit joins rows by kinds\n"

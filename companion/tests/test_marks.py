@@ -11,6 +11,7 @@ from pathlib import Path
 import pytest
 
 from hsp.doctor import examined
+from hsp.doctor.doubts import OLD_PLAN
 from hsp.faults import Unfit
 from hsp.marks import KINDS, Mark, mark_in, marked
 from hsp.page import changes_between
@@ -105,10 +106,11 @@ def test_a_mark_that_cannot_be_written_leaves_the_demand(tmp_path: Path) -> None
     folder = service(tmp_path)
     before = (folder / "demand.csv").read_bytes()
     (folder / "hsp.toml").write_text("demand = {unit = 5}\n")
-    words = ["demand", tmp_path / "log-3.csv", "--regions", tmp_path / "networks.csv", "--into", folder]
-    said = invoke(*words, "--unit", 3, status=1).stderr
-    assert said == f"hsp: {folder}/hsp.toml: its table [demand] can't be replaced; take it out by hand\n"
-    assert (folder / "demand.csv").read_bytes() == before
+    for log in ("log-3.csv", "absent.csv"):  # that is said before a log is read
+        words = ["demand", tmp_path / log, "--regions", tmp_path / "networks.csv", "--into", folder]
+        said = invoke(*words, "--unit", 3, status=1).stderr
+        assert said == f"hsp: {folder}/hsp.toml: its table [demand] can't be replaced; take it out by hand\n"
+        assert (folder / "demand.csv").read_bytes() == before
 
 
 BAD = {
@@ -144,7 +146,7 @@ def test_the_doctor_names_a_key_that_is_not_read(hsp: Hsp, tmp_path: Path) -> No
     ]
 
 
-def test_a_unit_that_adds_much_is_warned_of(tmp_path: Path) -> None:
+def test_a_unit_that_adds_much_is_warned_of(hsp: Hsp, tmp_path: Path) -> None:
     """In units of 200 each row is rounded up; what that adds is summed here."""
     folder = service(tmp_path, "--unit", 200)
     counted = 200 * sum(int(it[2]) for it in rows(folder / "demand.csv"))
@@ -155,6 +157,10 @@ def test_a_unit_that_adds_much_is_warned_of(tmp_path: Path) -> None:
     assert [(it.message, it.remedy) for it in found] == [
         (f"units of 200 add {shown} to the demand", "count again without --unit")
     ]
+    said = hsp("plan", str(folder))
+    assert said.stderr.startswith(f"hsp: units of 200 add {shown} to the demand; count again without --unit\n")
+    assert f"{counted:,} queries in units of 200, which add {shown}" in said.stdout.splitlines()[0]
+    assert [it for it in examined(str(folder), Desk(), {}).warnings if it.kind == OLD_PLAN] == []
 
 
 def test_a_demand_that_looks_joined_is_warned_of(tmp_path: Path) -> None:
@@ -249,6 +255,9 @@ def test_dispatch_over_a_joined_demand_names_the_other_program(hsp: Hsp, tmp_pat
     found = json.loads(hsp("doctor", "--json", "--", *words).stdout)
     own = [it for it in found if it["message"].startswith("a row of the demand isn't of one handle")]
     assert [it["remedy"] for it in own] == [answer.replace("/dev/stdin", str(log))]
+    for unit, warned in (([], True), (["--unit", "5"], True), (["--unit", "10"], False)):
+        found = json.loads(hsp("doctor", "--json", "--", "answer", *words[1:], *unit).stdout)
+        assert ("give --unit 10" in [it["remedy"] for it in found]) == warned
     (folder / "hsp.toml").unlink()
     found = json.loads(hsp("doctor", "--json", "--", *words).stdout)
     own = [it for it in found if "only by their kinds" in it["message"]]

@@ -56,26 +56,29 @@ def answering(question: Question, mark: Mark) -> str:
     return answer_command(inputs, paths["plan"], mark.unit, paths["log"])
 
 
-def of_mark(question: Question, mark: Mark) -> Iterator[Finding]:
-    """Capacities in queries beside a demand in units, and a dispatch over a demand that isn't one of handles."""
-    files = question.files
+def of_mark(question: Question, mark: Mark) -> list[Finding]:
+    """Words that don't go with what the demand's rows stand for: a dispatch, another unit, capacities in queries."""
+    files, command = question.files, question.command
+    found_ones: list[tuple[str, Words]] = []
     if mark.unit > 1 and "capacity" in files and _is_own(question, "capacity"):
-        folder = shell_word(folder_of(question) or ".")
-        words = Words(
-            f"the demand counts in units of {mark.unit:,}, and these capacities count in queries",
-            f"give the ones in units, which hsp plan {folder} keeps beside its plan",
-            f"each server would take {mark.unit:,} times what it can",
-            kind="capacity unit",
-        )
-        yield found(files["capacity"].original.path, Place(), words, "", WARNING)
-    if question.command == "dispatch" and not mark.is_plain:
-        words = Words(
-            "a row of the demand isn't of one handle, so most of the log is 'unknown'",
-            answering(question, mark),
-            ANSWERED,
-            kind="dispatch",
-        )
-        yield found(files["demand"].original.path, Place(), words, "", WARNING)
+        found_ones.append(("capacity", _undivided(question, mark)))
+    if command == "answer" and mark.unit > 1 and f"--unit={mark.unit}" not in question.options:
+        message = f"the demand counts in units of {mark.unit:,}, and the answers don't"
+        why = "a query of the plan stands for so many answers"
+        found_ones.append(("demand", Words(message, f"give --unit {mark.unit}", why)))
+    if command == "dispatch" and not mark.is_plain:
+        message = "a row of the demand isn't of one handle, so most of the log is 'unknown'"
+        found_ones.append(("demand", Words(message, answering(question, mark), ANSWERED)))
+    return [found(files[kind].original.path, Place(), words, "", WARNING) for kind, words in found_ones]
+
+
+def _undivided(question: Question, mark: Mark) -> Words:
+    folder = shell_word(folder_of(question) or ".")
+    return Words(
+        f"the demand counts in units of {mark.unit:,}, and these capacities count in queries",
+        f"give the ones in units, which hsp plan {folder} keeps beside its plan",
+        f"each server would take {mark.unit:,} times what it can",
+    )
 
 
 @dataclass(frozen=True)

@@ -15,6 +15,8 @@ from hsp.tally import MOST_COUNT
 
 # From this share on, what rounding adds is worth a smaller unit.
 MUCH = 0.05
+# The kind of that doubt.
+MUCH_ADDED = "unit"
 # Rows whose kinds all differ by chance less often than once in e^7, which is once in 1,100, are joined ones.
 UNLIKELY = 7.0
 JOINED = 'write rows = "kinds" below [demand] in hsp.toml, and unit = N where it counts in units'
@@ -30,7 +32,8 @@ def rounding(service: Service) -> Iterator[Finding]:
         remedy = "count a shorter time, as --busiest-hour does; no smaller unit has room for these counts"
     path = path_in(service.folder, TITLES)
     why = f"each of {some(len(service.rows), 'row')} is rounded up; the log had {service.mark.queries:,} queries"
-    words = Words(f"units of {service.unit:,} add {part(service.added)} to the demand", remedy, why, kind="unit")
+    message = f"units of {service.unit:,} add {part(service.added)} to the demand"
+    words = Words(message, remedy, why, kind=MUCH_ADDED)
     yield found(path, value_of(read_text(path), TABLE, 0, "unit"), words, "", WARNING)
 
 

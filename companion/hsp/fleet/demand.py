@@ -12,14 +12,13 @@ import click
 from hsp.bring import (
     FOLDER,
     expect,
+    foreseen,
     form_of,
     mark_of,
     of_folder,
     output_of,
     refuse_own,
-    rows_line,
-    service_of,
-    skipped_lines,
+    rows_lines,
     some_in,
     span_of,
     summary,
@@ -36,13 +35,12 @@ from hsp.fleet.progress import shown
 from hsp.fleet.session import Targets, place_of, session, with_cluster
 from hsp.fleet.tables import counts_in, skipped_of
 from hsp.marks import Mark
-from hsp.numbers import listed
-from hsp.outlook import outlook
 from hsp.programs import Desk, Inputs
 from hsp.queries import Judge, Reading
-from hsp.regions import named_in, regions_in
+from hsp.regions import regions_in
 from hsp.tally import Tally
 from hsp.text import give, say
+from hsp.times import Span
 
 # So many tables are added up by one part.
 WIDTH = 8
@@ -102,6 +100,14 @@ def _checked(logs: list[Log], regions: str, into: str | None, output: str | None
     refuse_own([it.path for it in own], regions, into, outputs, given)
 
 
+def _span(given: dict[str, Any]) -> Span:
+    """The span of time. Each part reads its log once."""
+    if given["busiest_hour"]:
+        remedy = "find the hour by hsp demand, and give --from and --to"
+        raise click.UsageError(f"--busiest-hour reads logs twice: {remedy}")
+    return span_of(given)
+
+
 @click.command()
 @click.argument("logs", metavar="LOG..", nargs=-1, required=True)
 @click.option("--regions", metavar="FILE", required=True, help="a table network,region, or a MaxMind database")
@@ -120,16 +126,11 @@ def demand(logs: tuple[str, ...], regions: str, into: str | None, keep: str | No
     place, output = place_of(given), output_of(given, into)
     named = [log_of(it, keep) for it in logs]
     _checked(named, regions, into, output, given)
-    span = span_of(given)
-    if given["busiest_hour"]:
-        remedy = "find the hour by hsp demand, and give --from and --to"
-        raise click.UsageError(f"--busiest-hour reads logs twice: {remedy}")
-    form, seek = form_of(given), regions_in(regions, given["by"], given["elsewhere"])
-    reading, tally, inputs = Reading(form, seek, Judge(desk)), Tally(desk), service_of(into, given)
+    span, form, seek = _span(given), form_of(given), regions_in(regions, given["by"], given["elsewhere"])
+    reading, tally = Reading(form, seek, Judge(desk)), Tally(desk)
     expect(twice([it.path for it in named if not it.host]))
-    expect(outlook(inputs, named_in(regions, given["elsewhere"]), into, desk))
-    asked = {"form": fields_of_form(form), "by": given["by"], "elsewhere": given["elsewhere"]}
-    asked["span"] = astuple(span)
+    inputs = foreseen(regions, into, given, True, desk)
+    asked = {"form": fields_of_form(form), "by": given["by"], "elsewhere": given["elsewhere"], "span": astuple(span)}
     targets: Targets = [(it.kept, it.host) for it in named]
     with session(place, targets) as engine:
         engine.ship(_files(regions, inputs), given["installed"])
@@ -148,11 +149,6 @@ def demand(logs: tuple[str, ...], regions: str, into: str | None, keep: str | No
             engine.publish([(it.kept, head, host) for it, head, host in zip(named, heads, hosts) if it.kept])
     if not output:
         give(text)
-    lines = [summary(logs, reading, tally), *skipped_lines(reading)]
-    lines += [] if given["prefix"] else tally.prefixes.lines()
-    lines.append(rows_line(output, text, is_joined))
-    lacking = tally.without_costs(inputs) if inputs else []
-    if inputs and lacking:
-        lines.append(f"{inputs.costs} has no cost yet of {listed(lacking)}")
-    for line in lines:
+    closing = rows_lines(output, text, is_joined, (inputs.costs, tally.without_costs(inputs)) if inputs else None)
+    for line in [*summary(logs, reading, tally, not given["prefix"]), *closing]:
         say(line, err=output is None)
