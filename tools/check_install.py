@@ -2,7 +2,7 @@
 """Installs the program built here into an empty folder, by `make install` with DESTDIR and PREFIX.
 
 The installed program has to be the one built here, and to run from another folder. The manual page, the completions
-and the guide have to be there. `make uninstall` has to leave no file.
+and the guide have to be there. `make uninstall` has to leave no file, and no folder but those that were there before.
 
 The program has to be built already, by `rt ci` or `make prove`, and no source may be newer.
 """
@@ -38,6 +38,10 @@ def files_below(folder):
     return [os.path.join(path, it) for path, _, names in os.walk(folder) for it in names]
 
 
+def folders_below(folder):
+    return [os.path.join(path, it) for path, names, _ in os.walk(folder) for it in names]
+
+
 def wrong_answer(program, room):
     """A fault where the program does not answer from an empty folder with an empty environment."""
     words = ["locate", "--option", "local", "--servers", "2", "10/3"]
@@ -59,6 +63,8 @@ def wrong_companion(path):
 
 
 def faults_in(room):
+    own = os.path.join(room, "usr", "share", "man")
+    os.makedirs(own)
     installed = make("install", room)
     if installed.returncode:
         return [f"make install: {installed.stdout}"]
@@ -75,6 +81,8 @@ def faults_in(room):
     return (
         found
         + [f"make uninstall left {it}" for it in files_below(room)]
+        + [f"make uninstall left the folder {it}" for it in folders_below(room) if not own.startswith(it)]
+        + ([] if os.path.isdir(own) else [f"make uninstall took {own}, which it hadn't made"])
         + ([] if removed.returncode == 0 else [removed.stdout])
     )
 

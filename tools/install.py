@@ -26,6 +26,43 @@ ASKED = {
 }
 
 
+# The folders that installations made, by their paths from the prefix. They go with what is installed.
+FOLDERS = "share/doc/hsplan/folders"
+# Those of an installation that kept no such list.
+OWN_FOLDERS = ("share/doc/hsplan/use", "share/doc/hsplan/pictures", "share/doc/hsplan")
+
+
+def folders_of(root: str) -> list[str]:
+    """The folders that installations made here."""
+    try:
+        with open(os.path.join(root, FOLDERS), encoding="utf-8") as file:
+            return [os.path.normpath(os.path.join(root, it)) for it in file.read().splitlines()]
+    except FileNotFoundError:
+        return [os.path.join(root, it) for it in OWN_FOLDERS]
+
+
+def absent_of(root: str) -> list[str]:
+    """The folders that an installation has to make."""
+    targets = [os.path.join("bin", "hsp"), FOLDERS, *programs.FILES.values()]
+    found: set[str] = set()
+    for it in targets:
+        folder = os.path.dirname(os.path.join(root, it))
+        while not os.path.lexists(folder):
+            found.add(folder)
+            folder = os.path.dirname(folder)
+    return sorted(found)
+
+
+def keep_folders(root: str, made: list[str]) -> None:
+    """Lists the folders that were made, with those of earlier installations."""
+    known = folders_of(root) if os.path.exists(os.path.join(root, FOLDERS)) else []
+    lines = [f"{os.path.relpath(it, root)}\n" for it in dict.fromkeys([*known, *made])]
+    with tempfile.NamedTemporaryFile("w", encoding="utf-8") as file:
+        file.writelines(lines)
+        file.flush()
+        put(file.name, os.path.join(root, FOLDERS), 0o644)
+
+
 def put(source: str, target: str, mode: int) -> None:
     """Copies a file to its place, whole or not at all, since another process may run the older one meanwhile."""
     os.makedirs(os.path.dirname(target), exist_ok=True)
@@ -43,6 +80,7 @@ def answers(path: str) -> bool:
 
 
 def install(root: str) -> int:
+    keep_folders(root, absent_of(root))
     with tempfile.TemporaryDirectory() as folder:
         for name in programs.PROGRAMS:
             program = programs.chosen(name, os.path.join(folder, name))
@@ -81,12 +119,13 @@ def path_line(folder: str) -> str:
 
 
 def uninstall(root: str) -> int:
-    for target in [os.path.join("bin", it) for it in (*programs.PROGRAMS, "hsp")] + list(programs.FILES.values()):
+    folders = folders_of(root)
+    programs_there = [os.path.join("bin", it) for it in (*programs.PROGRAMS, "hsp")]
+    for target in [*programs_there, *programs.FILES.values(), FOLDERS]:
         path = os.path.join(root, target)
         if os.path.lexists(path):
             os.remove(path)
-    for folder in ("share/doc/hsplan/use", "share/doc/hsplan/pictures", "share/doc/hsplan"):
-        path = os.path.join(root, folder)
+    for path in sorted(folders, key=len, reverse=True):
         if os.path.isdir(path) and not os.listdir(path):
             os.rmdir(path)
     return 0

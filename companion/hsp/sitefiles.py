@@ -25,6 +25,8 @@ MARKER = counted(b"HS_SITE")
 NO_SUCH_HANDLE = 100
 # So many values of a list are looked at; a service has at most 32 sites.
 MOST_VALUES = 1000
+# Octets that look like records are tried up to so many times the length of their file.
+MOST_TRIED = 4
 
 
 @dataclass(frozen=True)
@@ -102,13 +104,16 @@ class Files:
     def _of_list(self, file: str, octets: bytes) -> Iterator[Found]:
         """The sites of a value list. Octets that look like a site are one where hsplan finds it by its index."""
         path = self.desk.put(octets, ".values") if MARKER in octets else ""
-        room = len(octets)
+        room = MOST_TRIED * len(octets)
         for match in itertools.islice(re.finditer(re.escape(MARKER), octets), MOST_VALUES):
             index = int.from_bytes(octets[max(0, match.start() - 4) : match.start()], "big")
             begin = match.end() + 4
-            record = octets[begin : begin + int.from_bytes(octets[match.end() : begin], "big")]
-            room -= len(record)
-            if room < 0:  # records of a list don't overlap, so these are none
+            length = int.from_bytes(octets[match.end() : begin], "big")
+            if length > len(octets) - begin:
+                continue
+            record = octets[begin : begin + length]
+            room -= length
+            if room < 0:  # records of a list don't overlap, so most of these are none
                 return
             fields = self._fields(record)
             try:
@@ -216,9 +221,23 @@ def stem(path: str) -> str:
     return "site" if path == "-" else os.path.splitext(os.path.basename(path))[0]
 
 
+class _Twice(Exception):
+    """A key that stands twice in an object of JSON, so that nobody knows which value is meant."""
+
+
+def _object(pairs: list[tuple[str, Any]]) -> dict[str, Any]:
+    found = dict(pairs)
+    if len(found) < len(pairs):
+        keys = [key for key, _ in pairs]
+        raise _Twice(next(it for it in keys if keys.count(it) > 1))
+    return found
+
+
 def _loaded(file: str, text: bytes) -> Any:
     try:
-        return json.loads(text.decode("utf-8"), parse_float=str)
+        return json.loads(text.decode("utf-8"), parse_float=str, object_pairs_hook=_object)
+    except _Twice as twice:
+        raise Unfit(f"{file}: the key {shown(str(twice))} stands twice in an object; take one of the two out") from None
     except (ValueError, RecursionError) as error:
         raise Unfit(f"{file}: not whole JSON: {error}") from None
 

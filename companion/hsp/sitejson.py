@@ -132,10 +132,14 @@ def key_of(part: Part) -> bytes:
 
 def address_of(part: Part) -> bytes:
     """The 16 octets of an address."""
+    text = str(part.value)
+    address, percent, zone = (text[1:-1] if text[:1] + text[-1:] == "[]" else text).partition("%")
     try:
-        found = ipaddress.ip_address(str(part.value).strip("[]"))
+        found = ipaddress.ip_address(address)
     except ValueError:
         raise part.unfit(f"{shown(part.value)} isn't an IP address; look a name up first") from None
+    if percent:
+        part.notes.leave(part.path, f"the zone {zone}, which a record can't hold")
     if isinstance(found, ipaddress.IPv6Address) and found.ipv4_mapped:
         found = found.ipv4_mapped
     return found.packed.rjust(16, b"\0")

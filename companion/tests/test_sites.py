@@ -513,3 +513,27 @@ def test_standard_output_may_be_the_file(hsp: Hsp, tmp_path: Path) -> None:
     folder = tmp_path / "example"
     hsp("new", str(folder), "--example")
     assert hsp("plan", str(folder), "-o", "/dev/stdout").stdout.startswith("HSPLAN 1\nPLAN\n")
+
+
+def test_a_key_twice_is_refused(tmp_path: Path) -> None:
+    """Of two values nobody knows which one is meant."""
+    path = tmp_path / "site.json"
+    path.write_text(json.dumps(site_json("paris", 7)).replace('"serverId": 1', '"serverId": 1, "serverId": 2', 1))
+    said = invoke("sites", path, status=1).stderr
+    assert said == f"hsp: {path}: the key 'serverId' stands twice in an object; take one of the two out\n"
+
+
+def test_a_zone_is_said_and_doubled_brackets_are_refused(tmp_path: Path) -> None:
+    path, site = tmp_path / "site.json", site_json("paris", 7, hashOption=2)
+    for address, note in (("fe80::1%eth0", "the zone eth0, which a record can't hold"), ("[2001:db8::5]", "")):
+        site["servers"][0]["address"] = address
+        path.write_text(json.dumps(site))
+        done = invoke("sites", path)
+        assert done.stderr == (f"left out: {path}: servers[0].address: {note}\n" if note else "")
+        octets = "fe80" + "0" * 27 + "1" if note else "20010db8" + "0" * 23 + "5"
+        assert octets in done.stdout
+    for address in ("[[2001:db8::5]]", "[2001:db8::5", "[]", "fe80::1%"):
+        site["servers"][0]["address"] = address
+        path.write_text(json.dumps(site))
+        done = invoke("sites", path, status=0 if address == "fe80::1%" else 1)
+        assert address == "fe80::1%" or f"{address!r} isn't an IP address" in done.stderr
