@@ -245,6 +245,7 @@ def by_time(logs: tuple[str, ...], reading: Reading, given: dict[str, Any]) -> l
         refuse_pipes(logs)
         span, first, line = busiest_hour(logs, reading, span)
         some_in(logs, first, bool(line))
+        reading.lines = first.lines
         lines.append(line)
     reading.wrap = None if span.is_all else within(span)
     return lines

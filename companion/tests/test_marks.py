@@ -163,6 +163,20 @@ def test_a_unit_that_adds_much_is_warned_of(hsp: Hsp, tmp_path: Path) -> None:
     assert [it for it in examined(str(folder), Desk(), {}).warnings if it.kind == OLD_PLAN] == []
 
 
+@pytest.mark.parametrize("unit, change", [(1, -1), (1, 1), (10, -1), (10, 10_000)])
+def test_a_mark_of_another_demand_is_warned_of(tmp_path: Path, unit: int, change: int) -> None:
+    """A count more or less by hand: in units each row may add up to nine queries, and no more."""
+    folder = service(tmp_path, "--unit", unit)
+    found = [it.message for it in examined(str(folder), Desk(), {}).warnings]
+    message = "the table [demand] of hsp.toml is of another demand"
+    assert message not in found
+    head, first, *others = (folder / "demand.csv").read_text().splitlines()
+    region, handle, count = first.split(",")
+    whole = [f"{region},{handle},{int(count) + change}", *others] if change > 0 else others
+    (folder / "demand.csv").write_text("\n".join([head, *whole]) + "\n")
+    assert message in [it.message for it in examined(str(folder), Desk(), {}).warnings]
+
+
 def test_a_demand_that_looks_joined_is_warned_of(tmp_path: Path) -> None:
     """Without its mark a joined table is one; handles by themselves aren't, nor are a few rows."""
     folder = service(tmp_path, "--unit", 1)

@@ -4,6 +4,7 @@ from __future__ import annotations
 
 import csv
 import ipaddress
+import json
 import random
 import shlex
 import subprocess
@@ -177,8 +178,8 @@ def machines(service: Random, loads: Counter[tuple[str, int]]) -> Counter[str]:
 def test_a_plan_in_units_keeps_to_what_servers_and_machines_take(hsp: Hsp, tmp_path: Path, seed: int) -> None:
     service, unit = random_service(tmp_path, seed), random.Random(seed).choice((3, 7, 10, 50))
     folder, kept = service.folder, tmp_path / "queries.csv"
-    words = ["--regions", str(tmp_path / "networks.csv"), "--into", str(folder), "--log", str(kept)]
-    invoke("demand", service.log, *words, "--unit", unit)
+    words_of_demand = ["--regions", str(tmp_path / "networks.csv"), "--into", str(folder), "--log", str(kept)]
+    invoke("demand", service.log, *words_of_demand, "--unit", unit)
     lines = hsp("plan", str(folder)).stdout.splitlines()
     loads = Counter({key: unit * count for key, count in loads_of(folder).items()})
     room = {(site, int(number)): int(count) for site, number, count in rows(folder / "capacity.csv")}
@@ -192,4 +193,21 @@ def test_a_plan_in_units_keeps_to_what_servers_and_machines_take(hsp: Hsp, tmp_p
     assert done.stderr == "assigned 20000 spent 0 unknown 0 refused 0\n"
     answers = Counter((it.split()[1], int(it.split()[3])) for it in done.stdout.splitlines())
     assert all(answers[key] <= loads[key] for key in answers)
+    cost = json.loads(hsp("plan", str(folder), "--json", "--no-save").stdout)["cost"]
+    invoke("demand", service.log, *words_of_demand, "--unit", 1)
+    assert json.loads(hsp("plan", str(folder), "--json", "--no-save").stdout)["cost"] <= cost
+
+
+def test_a_purchase_is_in_queries(hsp: Hsp, tmp_path: Path) -> None:
+    """Of ten thousand the south takes eight. Two more in the north are cheapest: 999 + 2,000 has room for two."""
+    folder = one_machine(tmp_path / "s")
+    (folder / "settings.toml").write_text(TWO_IN_ONE.block() + OTHER.block())
+    (folder / "capacity.csv").write_text("site,server_id,capacity\nnorth,1,999\nnorth,2,0\nsouth,1,8500\n")
+    lines = hsp("plan", str(folder), status=3).stdout.splitlines()
+    assert lines[1].startswith("short 2,000 queries can't be served, whatever the plan: 10,000 ")
+    assert lines[4].startswith("buy   room for 2,000 queries more, the least that suffices; then the cost is 802,000, ")
+    assert lines[5].split() in (
+        ["north", "1", "2,000", "more:", "999", "to", "2,999"],
+        ["north", "2", "2,000", "more:", "0", "to", "2,000"],
+    )
 

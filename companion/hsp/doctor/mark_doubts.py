@@ -2,6 +2,7 @@
 
 from __future__ import annotations
 
+from collections import Counter
 from collections.abc import Iterator
 
 from hsp.doctor.findings import WARNING, Finding, Place, Text, Words, found, read_text
@@ -10,7 +11,7 @@ from hsp.kinds import most_of_region
 from hsp.marks import TABLE, TITLES
 from hsp.numbers import part, some
 from hsp.paths import path_in
-from hsp.service import Row, Service
+from hsp.service import Service
 from hsp.tally import MOST_COUNT
 
 # From this share on, what rounding adds is worth a smaller unit.
@@ -39,15 +40,16 @@ def rounding(service: Service) -> Iterator[Finding]:
 
 def looks_joined(service: Service) -> bool:
     """Whether all rows of a region are of kinds that differ, which those of handles seldom are."""
-    own: dict[str, list[Row]] = {}
+    seen: set[tuple[object, ...]] = set()
     for row in service.rows:
-        own.setdefault(row.region, []).append(row)
-    chance = 0.0
-    for region, rows in own.items():
-        if len({service.kind(row) for row in rows}) < len(rows):
+        kind = row.region, service.kind(row)
+        if kind in seen:
             return False
+        seen.add(kind)
+    chance = 0.0
+    for region, rows in Counter(row.region for row in service.rows).items():
         kinds = most_of_region(service.sites[at] for at in service.sites_for(region))
-        chance += len(rows) * (len(rows) - 1) / (2 * kinds)
+        chance += rows * (rows - 1) / (2 * kinds)
     return chance > UNLIKELY
 
 
@@ -60,5 +62,21 @@ def unmarked(service: Service, demand: Text) -> Iterator[Finding]:
     yield found(demand.path, Place(), Words(message, JOINED, why, kind="unmarked"), "", WARNING)
 
 
+def of_another(service: Service) -> Iterator[Finding]:
+    """A mark whose queries can't be those of this table: each row adds less than a unit to its own."""
+    known = service.mark.queries
+    if known is None or service.unit != service.mark.unit:  # words of hsplan, which reads no mark
+        return
+    if 0 <= service.asked - known <= len(service.rows) * (service.unit - 1):
+        return
+    path = path_in(service.folder, TITLES)
+    words = Words(
+        "the table [demand] of hsp.toml is of another demand",
+        "count the logs again, or write [demand] for this demand by hand",
+        f"it has {known:,} queries, and the demand comes to {service.asked:,}",
+    )
+    yield found(path, value_of(read_text(path), TABLE, 0, "queries"), words, "", WARNING)
+
+
 def mark_doubts(service: Service, demand: Text) -> list[Finding]:
-    return [*rounding(service), *unmarked(service, demand)]
+    return [*of_another(service), *rounding(service), *unmarked(service, demand)]
