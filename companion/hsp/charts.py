@@ -4,7 +4,7 @@ from __future__ import annotations
 
 from xml.sax.saxutils import escape
 
-from hsp.numbers import signed
+from hsp.numbers import queries_of, signed
 from hsp.page import step_of
 from hsp.programs import Missing
 from hsp.service import Service
@@ -98,7 +98,7 @@ def _bar(case: Case, most: int, y: int) -> list[str]:
     name, room = 150, 330
     parts = [f'<text x="{name - 8}" y="{y + 14}" text-anchor="end">{escape(case.what)}</text>']
     if case.cost is None:
-        return parts + [f'<text class="more" x="{name}" y="{y + 14}">short by {case.lack:,} queries</text>']
+        return parts + [f'<text class="more" x="{name}" y="{y + 14}">short by {queries_of(case.lack)}</text>']
     change = case.change if case.change is not None else case.cost
     long = max(1, round(room * abs(change) / max(1, most), 1))
     colour = "less" if change <= 0 else "more"

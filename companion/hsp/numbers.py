@@ -39,6 +39,11 @@ def some(number: int, word: str, many: str = "") -> str:
     return f"{number:,} {word if number == 1 else many or word + 's'}"
 
 
+def queries_of(number: int) -> str:
+    """A number of queries."""
+    return some(number, "query", "queries")
+
+
 def listed(words: Iterable[str], most: int = 4) -> str:
     """Words in a list, of which the last ones are only counted where there are more than `most`."""
     shown = list(words)

@@ -12,7 +12,7 @@ from dataclasses import dataclass, field
 import jinja2
 
 from hsp import __version__
-from hsp.numbers import average, listed, percent, signed, some
+from hsp.numbers import average, listed, percent, queries_of, signed, some
 from hsp.plans import Gain, Host, Planned, Reference, Shortage, above, by_shares
 from hsp.service import Row, Server, Service, dotted
 from hsp.text import escaped
@@ -245,7 +245,7 @@ def environment() -> jinja2.Environment:
         finalize=lambda it: escaped(it) if type(it) is str else it,
     )
     made.filters.update(number=lambda it: f"{it:,}", signed=signed, listed=listed, hash=hash_of)
-    made.globals.update(percent=percent, average=average, some=some, version=__version__)
+    made.globals.update(percent=percent, average=average, queries_of=queries_of, some=some, version=__version__)
     return made
 
 

@@ -5,7 +5,7 @@ from __future__ import annotations
 from collections import Counter
 from collections.abc import Iterator
 
-from hsp.numbers import average, listed, percent, signed, some
+from hsp.numbers import average, listed, percent, queries_of, signed, some
 from hsp.plans import Gain, Planned, Reference, Shortage, above, by_shares
 from hsp.service import Server, Service
 from hsp.text import bold, colored, dim, escaped
@@ -20,7 +20,7 @@ def head(service: Service) -> str:
         some(len(service.servers), "server"),
         some(len(service.regions), "region"),
         service.rows_words,
-        some(service.asked, "query", "queries") + service.counted,
+        queries_of(service.asked) + service.counted,
     ]
     time = f" in {service.titles.time}" if service.titles.time else ""
     return bold(service.titles.title) + dim(f"  {', '.join(sizes)}{time}")
@@ -36,7 +36,7 @@ def _verdict(plan: Planned, reference: Reference) -> str:
     if not count:
         return "all ask their cheapest site, and no server is above its capacity"
     share = 100 * extra / max(1, reference.cost)
-    too_many = f"left alone, {some(count, 'server')} would get {queries:,} queries too many"
+    too_many = f"left alone, {some(count, 'server')} would get {queries_of(queries)} too many"
     return f"{too_many}; keeping to capacity costs {extra:,}{_unit(plan.service)} ({share:.1f}%)"
 
 
@@ -108,7 +108,7 @@ def shortage_lines(
     service: Service, short: Shortage, bought: dict[Server, int] | None, after: Service | None
 ) -> Iterator[str]:
     """How many queries cannot be served, who asks them, where room lacks, and what has to be bought."""
-    lack = bold(f"{short.lack:,} queries")
+    lack = bold(queries_of(short.lack))
     yield (
         f"{colored('short', 'red')} {lack} can't be served, whatever the plan: "
         f"{short.demand:,} may only go to servers that take {short.capacity:,}"
@@ -145,9 +145,9 @@ def purchase_lines(
     """The least purchase, by server, and the cost after it; or the least that the short rows want."""
     if not bought or not after:
         if short.servers:
-            yield f"buy   at least room for {short.lack:,} queries more at these servers"
+            yield f"buy   at least room for {queries_of(short.lack)} more at these servers"
         return
-    whole = bold(f"room for {sum(bought.values()):,} queries more")
+    whole = bold(f"room for {queries_of(sum(bought.values()))} more")
     cost = after.certificate.cost
     each = f"{average(cost, service.asked)} a query"
     yield f"buy   {whole}, the least that suffices; then the cost is {cost:,}{_unit(service)}, {each}"

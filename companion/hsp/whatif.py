@@ -8,7 +8,7 @@ from collections.abc import Callable, Iterable, Iterator
 from dataclasses import dataclass
 
 from hsp.doctor.rows import near
-from hsp.numbers import average, listed, signed
+from hsp.numbers import average, listed, queries_of, signed
 from hsp.plans import capacity_file
 from hsp.programs import Desk, Missing
 from hsp.service import Server, Service
@@ -124,7 +124,7 @@ def bar(part: float, most: float, width: int = 24) -> str:
 
 def _line(case: Case, most: int) -> str:
     if case.cost is None:
-        return f"  {case.what:<18} {colored('short'.rjust(13), 'red')} by {case.lack:,} queries"
+        return f"  {case.what:<18} {colored('short'.rjust(13), 'red')} by {queries_of(case.lack)}"
     change = case.change if case.change is not None else case.cost
     shown = signed(change) if case.change is not None else f"{case.cost:,}"
     colour = "green" if change < 0 else "yellow"
@@ -138,7 +138,7 @@ def lines(service: Service, cases: list[Case], step: float) -> Iterator[str]:
     if now.is_plan:
         yield f"now   {bold(f'{now.cost:,}{unit}')}, {average(now.cost, service.asked)}{unit} a query"
     else:
-        yield f"now   {colored('short', 'red')} by {now.demand - now.capacity:,} queries"
+        yield f"now   {colored('short', 'red')} by {queries_of(now.demand - now.capacity)}"
     heads = {MORE: f"{step:g}% more room at", LOST: "without the site", DEMAND: "all regions together"}
     most = greatest(it for it in cases if it.kind in heads)
     for kind, head in heads.items():
@@ -158,7 +158,7 @@ def size_lines(service: Service, cases: list[Case]) -> Iterator[str]:
     for it in cases:
         mark = "  now" if it.room == service.capacity(own) else ""
         if it.cost is None:
-            yield f"{it.room:>18,}{'short':>16} by {it.lack:,} queries{mark}"
+            yield f"{it.room:>18,}{'short':>16} by {queries_of(it.lack)}{mark}"
         else:
             yield f"{it.room:>18,}{it.cost:>16,}{signed(it.change) if it.change is not None else '':>14}{mark}"
 

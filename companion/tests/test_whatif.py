@@ -101,3 +101,12 @@ def test_charts_are_svg(hsp: Hsp, example: Example) -> None:
         chart = folder / "chart.svg"
         hsp("whatif", str(folder), *words, "--chart", str(chart))
         assert ElementTree.parse(chart).getroot().tag.endswith("svg")
+
+
+def test_one_query_is_singular(hsp: Hsp, example: Example) -> None:
+    """In base the plan lacks room for two queries without W, and for one without E."""
+    lines = hsp("whatif", str(example("base"))).stdout.splitlines()
+    assert [it.strip() for it in lines if "short by" in it] == [
+        "W                          short by 2 queries",
+        "E                          short by 1 query",
+    ]
