@@ -26,7 +26,7 @@ LINE_END = "a line end in the handle"
 NO_TIME, OTHER_TIME = "no time in the line", "another time than the wanted one"
 RESOLUTION = b"1"
 NAMES = ("server", "proxy", "json", "csv")
-# Values of so many octets are remembered, so that what comes again costs a look-up; and what each takes beside its own.
+# Values of so many octets are remembered, so that what comes again costs a look-up; and what each takes besides.
 MOST_REMEMBERED, BESIDE = 1 << 26, 250
 LONGEST_REMEMBERED = 1 << 10
 

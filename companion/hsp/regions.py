@@ -200,7 +200,7 @@ def regions_in(path: str, by: str, elsewhere: str | None) -> Seek:
 
 
 def _tail(path: str) -> bytes:
-    """The last octets of a file, in which a database has its mark; a database may be larger than what is read whole."""
+    """The last octets of a file, in which a database has its mark. It may be larger than what is read whole."""
     with open(path, "rb") as file:
         if not file.seekable():
             return b""

@@ -1,4 +1,4 @@
-"""Signals that end a command: what it had begun to write is taken away, and its status is 128 and the signal's number."""
+"""Signals that end a command. It takes away what it had begun, and its status is 128 and the signal's number."""
 
 from __future__ import annotations
 

@@ -237,7 +237,7 @@ def _loaded(file: str, text: bytes) -> Any:
     try:
         return json.loads(text.decode("utf-8"), parse_float=str, object_pairs_hook=_object)
     except _Twice as twice:
-        raise Unfit(f"{file}: the key {shown(str(twice))} stands twice in an object; take one of the two out") from None
+        raise Unfit(f"{file}: the key {shown(str(twice))} stands twice in an object; take one out") from None
     except (ValueError, RecursionError) as error:
         raise Unfit(f"{file}: not whole JSON: {error}") from None
 

@@ -302,7 +302,9 @@ def test_the_doctor_ends_in_time(example: Example, monkeypatch: pytest.MonkeyPat
     assert said.startswith("error: site 1 has no name" if kind == "settings.toml" else "error: ")
 
 
-def test_a_file_without_a_fault_may_be_too_large_for_warnings(example: Example, monkeypatch: pytest.MonkeyPatch) -> None:
+def test_a_file_without_a_fault_may_be_too_large_for_warnings(
+    example: Example, monkeypatch: pytest.MonkeyPatch
+) -> None:
     monkeypatch.setattr(guard, "SECONDS", 0.0)
     said = invoke("doctor", example("two-sites")).stdout
     assert said.startswith("the files are too large to be looked at for warnings\nno fault")

@@ -687,3 +687,28 @@ def test_standard_input_is_a_log(tmp_path: Path) -> None:
 def test_standard_input_is_read_once(hsp: Hsp, words: list[str]) -> None:
     said = hsp(*words, status=2).stderr.splitlines()[-1]
     assert said.endswith("- stands twice, and standard input is read once")
+
+
+def test_a_row_that_hsplan_refuses_is_shown(tmp_path: Path) -> None:
+    """By its region and its handle, also where it isn't the first one."""
+    networks = tmp_path / "networks.csv"
+    networks.write_text('network,region\n192.0.2.0/24,eu\n198.51.100.0/24,"no name"\n')
+    log = tmp_path / "log.csv"
+    log.write_text("client,handle\n192.0.2.1,20.500.1/a\n192.0.2.1,20.500.1/a\n198.51.100.1,20.500.1/b\n")
+    said = invoke("demand", log, "--regions", networks, status=1).stderr
+    assert "hsplan refuses this demand: demand: BadName row 1 in the row 'no name,20.500.1/b,1'" in said
+
+
+def test_reasons_stand_by_their_counts_and_then_by_their_words(tmp_path: Path) -> None:
+    log, networks = tmp_path / "log.csv", tmp_path / "networks.csv"
+    networks.write_text("network,region\n192.0.2.0/24,eu\n")
+    odd = ["192.0.2.1", "203.0.113.1,20.500.1/a", "here,20.500.1/a", "192.0.2.1,none", "192.0.2.1"]
+    log.write_text("client,handle\n192.0.2.1,20.500.1/a\n" + "".join(f"{it}\n" for it in odd))
+    said = invoke("demand", log, "--regions", networks, "-o", tmp_path / "out").stdout
+    reasons = [re.sub(";.*", "", it) for it in said.splitlines() if it.startswith("  ") and "; first" in it]
+    assert reasons == [
+        "  2  not a line of this form",
+        "  1  no region for the client's address",
+        "  1  not a handle (NoSlash)",
+        "  1  the client isn't an IP address",
+    ]

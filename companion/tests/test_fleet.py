@@ -5,6 +5,7 @@ from __future__ import annotations
 import bz2
 import contextlib
 import csv
+import errno
 import gzip
 import json
 import lzma
@@ -22,9 +23,11 @@ from typing import NamedTuple
 
 import pytest
 
-from hsp.fleet import answers, parts, remote, tables
+from hsp.fleet import answers, local, parts, remote, tables
 from hsp.fleet.split import Parted
+from hsp.forms import Form
 from hsp.programs import Desk, Inputs
+from hsp.times import Span
 
 from conftest import TOP, Hsp
 from test_demand import Asked, asked, regions_file, server_line, service
@@ -696,3 +699,38 @@ def test_words_that_are_no_run(million: Million, monkeypatch: pytest.MonkeyPatch
     monkeypatch.setitem(sys.modules, "distributed", None)
     line = invoke("fleet", "dispatch", folder, "--fronts", "2", "0=a", status=5).stderr
     assert line == "hsp: Python has no distributed: install it (Debian: python3-distributed)\n"
+
+
+def test_a_part_joins_more_rows_than_a_demand_takes(tmp_path: Path, example: Callable[[str], Path]) -> None:
+    folder, log = example("two-sites"), tmp_path / "log"
+    (tmp_path / "n.csv").write_text("network,region\n192.0.2.0/24,eu\n")
+    log.write_text("client,handle\n" + "".join(f"192.0.2.1,20.500.1/{number}\n" for number in range(9000)))
+    files = {"settings": f"{folder}/settings.toml", "costs": f"{folder}/costs.csv", "networks": f"{tmp_path}/n.csv"}
+    form = {"form": parts.fields_of_form(Form()), "span": [Span().first, Span().last], "by": "", "elsewhere": None}
+    reply = parts.replied({**form, "what": "count", "log": str(log), "staged": [], "files": files})
+    assert "fault" not in reply, reply
+    rows = list(csv.reader(str(reply["table"]).splitlines()))[1:]
+    assert reply["is_joined"] and len(rows) == 6 and sum(int(it[2]) for it in rows) == 9000 == reply["asked"]
+
+
+def test_a_new_program_that_is_held_for_a_moment_is_tried_again(monkeypatch: pytest.MonkeyPatch) -> None:
+    faults = [OSError(errno.ETXTBSY, "Text file busy")] * 3
+
+    def run(*_: object, **__: object) -> "subprocess.CompletedProcess[bytes]":
+        if faults:
+            raise faults.pop()
+        return subprocess.CompletedProcess([], 0)
+
+    monkeypatch.setattr(remote.subprocess, "run", run)
+    assert remote._tried(["hsplan"]) is None and not faults
+    faults.append(PermissionError(errno.EACCES, "Permission denied"))
+    assert remote._tried(["hsplan"]) == "doesn't run: Permission denied"
+
+
+def test_a_machine_without_a_key_ends_at_once(monkeypatch: pytest.MonkeyPatch, tmp_path: Path) -> None:
+    monkeypatch.setenv("TMPDIR", str(tmp_path))
+    monkeypatch.setattr("tempfile.tempdir", None)
+    monkeypatch.setattr(local, "KEY", "false")
+    with pytest.raises(local.Gone, match="openssl made no key"):
+        local.Local(1)
+    assert not list(tmp_path.iterdir())

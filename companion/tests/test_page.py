@@ -22,6 +22,7 @@ from selenium import webdriver
 from selenium.webdriver.chrome.options import Options
 from selenium.webdriver.chrome.service import Service as Driver
 
+from hsp.page import ServerView, changes_between
 from hsp.plans import planned
 from hsp.programs import Desk
 from hsp.service import read_service
@@ -392,3 +393,27 @@ def test_the_largest_service(hsp: Hsp, browser: Any, tmp_path: Path) -> None:
     assert browser.get_log("browser") == []
     assert page.run("return document.documentElement.scrollWidth") <= 420
     assert page.run("return document.querySelectorAll('details').length") > 0
+
+
+def test_only_what_changed_is_named(hsp: Hsp, example: Example, tmp_path: Path) -> None:
+    old = example("two-sites")
+    new = Path(shutil.copytree(old, tmp_path / "new"))
+    desk = Desk()
+    before = read_service(str(old), desk, {})
+    assert changes_between(before, read_service(str(new), desk, {})) == []
+    (new / "capacity.csv").write_text((old / "capacity.csv").read_text().replace("paris,2,1510", "paris,2,1800"))
+    (new / "costs.csv").write_text((old / "costs.csv").read_text().replace("eu,paris,12", "eu,paris,13"))
+    (new / "demand.csv").write_text((old / "demand.csv").read_text().replace(",475", ",476"))
+    assert changes_between(before, read_service(str(new), desk, {})) == [
+        "capacity of paris 2: 1,510 → 1,800",
+        "cost eu to paris: 12 → 13",
+        "demand: 1 row, 6,282 → 6,283 queries",
+    ]
+
+
+@pytest.mark.parametrize("full", [True, False])
+@pytest.mark.parametrize("bought", [0, 5])
+@pytest.mark.parametrize("before", [10, 11])
+def test_a_server_with_something_to_see_is_not_folded_away(full: bool, bought: int, before: int) -> None:
+    view = ServerView(0, 1, "paris 1", 10, 10, before, bought, None, full)
+    assert view.is_plain == (not full and bought == 0 and before == 10)

@@ -13,9 +13,11 @@ from pathlib import Path
 from typing import Any
 
 import pytest
+from click.testing import CliRunner
 
+from hsp.cli import main
 from hsp.plans import capacity_file, cheapest, least_purchase, planned, shortage, with_gains, with_purchase
-from hsp.programs import BOUNDLESS, Desk
+from hsp.programs import BOUNDLESS, Desk, Refused
 from hsp.service import Service, read_service
 
 from conftest import TOP, Hsp
@@ -291,3 +293,17 @@ def test_an_older_python_is_named(tmp_path: Path) -> None:
     script = f"import sys, runpy; sys.version_info = (3, 10, 12); runpy.run_path({str(file)!r}, run_name='__main__')"
     done = subprocess.run([sys.executable, "-c", script], capture_output=True, text=True)
     assert (done.returncode, done.stderr) == (1, "hsp: this is Python 3.10, and hsp needs 3.11 or later\n")
+
+
+def test_what_hsplan_refuses_later_is_a_line_and_its_status(
+    example: Example, monkeypatch: pytest.MonkeyPatch
+) -> None:
+    """As where its memory is out at one of the plans that follow the first."""
+
+    def refused(*_: object) -> None:
+        raise Refused(4, "OutOfMemory")
+
+    monkeypatch.setattr("hsp.cli.cheapest", refused)
+    done = CliRunner(mix_stderr=False).invoke(main, ["plan", str(example("two-sites"))])
+    assert (done.exit_code, done.stdout) == (4, "")
+    assert done.stderr == "hsp: hsplan refuses these files: OutOfMemory\n"

@@ -520,7 +520,7 @@ def test_a_key_twice_is_refused(tmp_path: Path) -> None:
     path = tmp_path / "site.json"
     path.write_text(json.dumps(site_json("paris", 7)).replace('"serverId": 1', '"serverId": 1, "serverId": 2', 1))
     said = invoke("sites", path, status=1).stderr
-    assert said == f"hsp: {path}: the key 'serverId' stands twice in an object; take one of the two out\n"
+    assert said == f"hsp: {path}: the key 'serverId' stands twice in an object; take one out\n"
 
 
 def test_a_zone_is_said_and_doubled_brackets_are_refused(tmp_path: Path) -> None:

@@ -122,7 +122,8 @@ def test_hostile_sites(tmp_path: Path) -> None:
 def test_hostile_logs(tmp_path: Path) -> None:
     networks, log = tmp_path / f"net{HOSTILE}.csv", tmp_path / f"log{HOSTILE}.json"
     networks.write_text("network,region\n192.0.2.0/24,eu\n")
-    rows = [("192.0.2.1", f"20.500.1/a{HOSTILE}"), ("192.0.2.1", f"20.500.1/a{IN_LINE}"), (HOSTILE, "20.500.1/b"), ("192.0.2.1", HOSTILE), ("192.0.2.1", "1/x")]
+    rows = [("192.0.2.1", it) for it in (f"20.500.1/a{HOSTILE}", f"20.500.1/a{IN_LINE}", HOSTILE, "1/x")]
+    rows.append((HOSTILE, "20.500.1/b"))
     log.write_text("".join(json.dumps({"client": a, "handle": b}) + "\n" for a, b in rows))
     known = ["demand", log, "--regions", networks, "-o", tmp_path / "table"]
     assert f"log{SHOWN}.json:1: " in lines_of(*known)

@@ -110,3 +110,60 @@ def test_one_query_is_singular(hsp: Hsp, example: Example) -> None:
         "W                          short by 2 queries",
         "E                          short by 1 query",
     ]
+
+
+def test_more_room_is_more_by_the_step(hsp: Hsp, example: Example) -> None:
+    """10% of 1,500, 25% of 1,510 rounded, and one where the step is less than a query."""
+    folder = example("two-sites")
+    room = {it.label: service_room(folder, it.label) for it in read_service(str(folder), Desk(), {}).servers}
+    for step, wanted in (("10", lambda it: it + round(it / 10)), ("25", lambda it: it + round(it / 4))):
+        found = {it["what"]: int(it["room"]) for it in cases(hsp, str(folder), "--step", step) if it["case"] == "more"}
+        assert found == {what: wanted(room[what]) for what in found} and len(found) == 2
+    found = {it["what"]: int(it["room"]) for it in cases(hsp, str(folder), "--step", "0.1") if it["case"] == "more"}
+    assert found == {what: room[what] + round(room[what] / 1000) for what in found}
+    (folder / "capacity.csv").write_text((folder / "capacity.csv").read_text().replace("paris,2,1510", "paris,2,9"))
+    for it in cases(hsp, str(folder), "--step", "0.1"):
+        assert it["what"] != "paris 2" or it["case"] != "more" or int(it["room"]) == 10
+
+
+def service_room(folder: Path, label: str) -> int:
+    """The capacity of a server, by the file."""
+    site, _, number = label.partition(" ")
+    rows = csv.DictReader((folder / "capacity.csv").open())
+    return next(int(it["capacity"]) for it in rows if (it["site"], it["server_id"]) == (site, number))
+
+
+def number_in(text: str | None) -> int | None:
+    digits = (text or "").replace(",", "")
+    return int(digits) if digits.isdigit() else None
+
+
+def test_a_curve_has_its_numbers_where_they_belong(hsp: Hsp, example: Example) -> None:
+    """The axes have the sizes and the costs, in their order, outside of the drawn line; the title has both ends."""
+    folder, chart = example("two-sites"), example("base") / "chart.svg"
+    sizes = ["--server", "paris:2", "--from", "1400", "--to", "1600", "--points", "5"]
+    hsp("whatif", str(folder), *sizes, "--chart", str(chart))
+    costs = {int(it["room"]): int(it["cost"]) for it in cases(hsp, str(folder), *sizes)}
+    root = ElementTree.parse(chart).getroot()
+    tag = root.tag.removesuffix("svg")
+    ends = ", ".join(f"{costs[room]:,} at {room:,}" for room in (1400, 1600))
+    assert root.findtext(f"{tag}title") == f"Cost of the plan by room at paris 2: {ends}"
+    circles = [it for it in root.iter(f"{tag}circle") if it.get("r") == "3"]
+    dots = [(float(it.get("cx", "")), float(it.get("cy", ""))) for it in circles]
+    assert len(dots) == len(costs)
+    soft = [it for it in root.iter(f"{tag}text") if it.get("class") == "soft"]
+    texts = [it for it in soft if number_in(it.text) is not None]
+    along = [(float(it.get("x", "")), number_in(it.text) or 0) for it in texts if it.get("text-anchor") == "middle"]
+    up = [(float(it.get("y", "")), number_in(it.text) or 0) for it in texts if it.get("text-anchor") == "end"]
+    assert along == sorted(along) and up == sorted(up, reverse=True) and len(along) > 2 and len(up) > 2
+    lowest = max(y for _, y in dots)
+    for it in texts:
+        if it.get("text-anchor") == "middle":
+            assert lowest < float(it.get("y", "")) < float(root.get("viewBox", "").split()[3])
+    rooms, (first, last) = sorted(costs), (along[0], along[-1])
+    each = (last[0] - first[0]) / (last[1] - first[1])
+    for room, (x, _) in zip(rooms, dots):
+        assert x == pytest.approx(first[0] + each * (room - first[1]), abs=0.3)
+    each = (up[-1][0] - up[0][0]) / (up[-1][1] - up[0][1])
+    for room, (_, y) in zip(rooms, dots):
+        assert y + 4 == pytest.approx(up[0][0] + each * (costs[room] - up[0][1]), abs=0.3)

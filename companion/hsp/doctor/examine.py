@@ -126,7 +126,8 @@ def titles_faults(folder: str) -> list[Finding]:
     if not os.path.isfile(path):
         return []
     if os.stat(path).st_size > MOST_OF_TITLES:
-        words = Words(f"{TITLES} has more than {MOST_OF_TITLES:,} octets", "keep title, cost and time", "another file?")
+        message = f"{TITLES} has more than {MOST_OF_TITLES:,} octets"
+        words = Words(message, "keep only title, cost, time and [demand]", "another file?")
         return [found(path, Place(), words)]
     text = read_text(path)
     try:

@@ -1,0 +1,236 @@
+#!/usr/bin/env python3
+"""Plants wrong expressions in copies of the companion, one in each, and names those that its tests let pass.
+
+    tools/plant_companion.py [--number N] [--seed S] [--jobs J] [--only MODULE] [--list]
+
+A change is drawn by the seed: a comparison turned, an operator or a constant exchanged, a condition negated, arguments
+swapped, a statement left out. Of each module the tests that `TESTS` names are run, which stop at the first that fails.
+Printed are the changes that no test refused, and how many there were. Some of these change nothing that anybody sees:
+a person judges that. `--list` prints the changes and runs nothing. The gate doesn't run this script.
+"""
+from __future__ import annotations
+
+import argparse
+import ast
+import concurrent.futures
+import copy
+import os
+import queue
+import random
+import shutil
+import subprocess
+import sys
+import tempfile
+from collections.abc import Iterator
+from typing import NamedTuple
+
+import programs
+
+PYTHON = "/usr/bin/python3"
+SECONDS = 900
+COMPANION = os.path.join(programs.TOP, "companion")
+# The tests of a module, by the beginning of its path; the first that fits counts.
+TESTS = {
+    "fleet/": "test_fleet test_bounds",
+    "doctor/guard": "test_bounds test_doctor",
+    "doctor/word": "test_doctor_words test_doctor_parts",
+    "doctor/commands": "test_doctor_words",
+    "doctor/doubts": "test_doctor_doubts test_doctor",
+    "doctor/next": "test_doctor test_plan",
+    "doctor/": "test_doctor test_doctor_parts test_doctor_doubts test_doctor_words test_doctor_random",
+    "page": "test_page test_text",
+    "charts": "test_whatif test_text",
+    "whatif": "test_whatif",
+    "bounds": "test_bounds",
+    "files": "test_sites test_writes",
+    "signals": "test_writes",
+    "text": "test_text test_plan",
+    "joining": "test_sites test_writes",
+    "records": "test_sites",
+    "site": "test_sites test_bounds test_text",
+    "skeleton": "test_sites",
+    "bring": "test_demand test_sites test_writes test_marks test_demand_time",
+    "answering": "test_units test_plan",
+    "units": "test_units",
+    "marks": "test_marks test_bounds",
+    "kinds": "test_kinds",
+    "outlook": "test_kinds test_demand",
+    "times": "test_demand_time",
+    "busiest": "test_demand_time",
+    "tally": "test_demand test_bounds",
+    "prefixes": "test_demand test_marks",
+    "queries": "test_demand test_bounds",
+    "logs": "test_demand test_bounds",
+    "forms": "test_demand test_bounds test_demand_time",
+    "regions": "test_demand",
+    "plans": "test_plan test_whatif test_units test_shares",
+    "terminal": "test_plan test_shares test_text",
+    "": "test_plan test_sites test_whatif test_doctor test_units",
+}
+SWAPPED: dict[type, type] = {
+    ast.Eq: ast.NotEq, ast.NotEq: ast.Eq, ast.Lt: ast.LtE, ast.LtE: ast.Lt, ast.Gt: ast.GtE, ast.GtE: ast.Gt,
+    ast.In: ast.NotIn, ast.NotIn: ast.In, ast.Is: ast.IsNot, ast.IsNot: ast.Is, ast.Add: ast.Sub, ast.Sub: ast.Add,
+    ast.Mult: ast.FloorDiv, ast.FloorDiv: ast.Mult, ast.Div: ast.Mult, ast.And: ast.Or, ast.Or: ast.And,
+}  # fmt: skip
+
+
+class Change(NamedTuple):
+    """A change of a module: its path, its line, what is changed there, and the whole text with it."""
+
+    path: str
+    line: int
+    what: str
+    text: str
+
+
+def _ways(node: ast.AST) -> Iterator[tuple[str, ast.AST]]:
+    """What may stand in place of a node."""
+    other = copy.copy(node)
+    if isinstance(other, ast.Compare) and type(other.ops[0]) in SWAPPED:
+        other.ops = [SWAPPED[type(other.ops[0])](), *other.ops[1:]]
+        yield "comparison", other
+    elif isinstance(other, (ast.BinOp, ast.BoolOp)) and type(other.op) in SWAPPED:
+        other.op = SWAPPED[type(other.op)]()
+        yield "operator", other
+    elif isinstance(other, ast.Constant) and type(other.value) is int:
+        other.value += 1
+        yield "number", other
+    elif isinstance(other, ast.Constant) and type(other.value) is bool:
+        other.value = not other.value
+        yield "truth", other
+    elif isinstance(other, (ast.IfExp, ast.If)):
+        other.test = ast.UnaryOp(ast.Not(), other.test)
+        yield "condition", other
+    elif isinstance(other, ast.Call) and len(other.args) == 2 and not other.keywords:
+        other.args = other.args[::-1]
+        yield "arguments", other
+    elif isinstance(other, (ast.Raise, ast.AugAssign)) or isinstance(other, ast.Expr) and _is_call(other):
+        yield "left out", ast.Pass()
+
+
+def _is_call(node: ast.Expr) -> bool:
+    return isinstance(node.value, ast.Call)
+
+
+class _Put(ast.NodeTransformer):
+    """Puts a node in the place of another one."""
+
+    def __init__(self, old: ast.AST, new: ast.AST) -> None:
+        self.old, self.new = old, new
+
+    def visit(self, node: ast.AST) -> ast.AST:
+        return ast.copy_location(self.new, node) if node is self.old else self.generic_visit(node)
+
+
+def _all_of(tree: ast.AST) -> list[tuple[ast.AST, str, ast.AST]]:
+    """The nodes of a module that may be changed, with the kind of the change and what then stands there."""
+    return [(node, what, new) for node in ast.walk(tree) for what, new in _ways(node)]
+
+
+def _parsed(path: str) -> ast.Module:
+    with open(os.path.join(COMPANION, "hsp", path), encoding="utf-8") as file:
+        return ast.parse(file.read())
+
+
+def change_of(path: str, at: int) -> Change:
+    """The change of a module with a number."""
+    tree = _parsed(path)
+    node, what, new = _all_of(tree)[at]
+    before = ast.unparse(node).split("\n")[0]
+    text = ast.unparse(ast.fix_missing_locations(_Put(node, new).visit(tree)))
+    return Change(path, getattr(node, "lineno", 0), f"{what}: {before[:90]}", text)
+
+
+def modules(only: str) -> list[str]:
+    top = os.path.join(COMPANION, "hsp")
+    found = [
+        os.path.relpath(os.path.join(at, it), top)
+        for at, _, names in os.walk(top)
+        for it in names
+        if it.endswith(".py") and not it.startswith("__")
+    ]
+    return sorted(it for it in found if it.startswith(only))
+
+
+def drawn(number: int, seed: int, only: str) -> list[Change]:
+    """So many changes, each of a module that is as likely as what it has to be changed."""
+    every = [(path, at) for path in modules(only) for at in range(len(_all_of(_parsed(path))))]
+    return [change_of(*it) for it in random.Random(seed).sample(every, min(number, len(every)))]
+
+
+def tests_of(path: str) -> list[str]:
+    names = next(tests for begin, tests in TESTS.items() if path.startswith(begin))
+    return [os.path.join("tests", f"{it}.py") for it in names.split()]
+
+
+def is_refused(change: Change, room: str) -> bool:
+    """Whether a test of the module fails where a copy has the change. A run without an end is refused too."""
+    path = os.path.join(room, "companion", "hsp", change.path)
+    with open(path, encoding="utf-8") as file:
+        before = file.read()
+    with open(path, "w", encoding="utf-8") as file:
+        file.write(change.text)
+    words = [PYTHON, "-m", "pytest", "-q", "-x", "-p", "no:cacheprovider", *tests_of(change.path)]
+    own = {it.upper().replace("-", "_"): programs.built_path(it) for it in programs.PROGRAMS}
+    environment = {**own, **os.environ, "PYTHONDONTWRITEBYTECODE": "1"}
+    try:
+        quiet = {"stdout": subprocess.DEVNULL, "stderr": subprocess.DEVNULL, "timeout": SECONDS}
+        folder = os.path.join(room, "companion")
+        return subprocess.run(words, cwd=folder, env=environment, **quiet).returncode != 0
+    except subprocess.TimeoutExpired:
+        return True
+    finally:
+        with open(path, "w", encoding="utf-8") as file:
+            file.write(before)
+
+
+def copied(room: str) -> str:
+    """A copy of what the tests need."""
+    for it in ("companion", "examples", "tools", "docs", "completions"):
+        shutil.copytree(os.path.join(programs.TOP, it), os.path.join(room, it))
+    for it in ("VERSION", "README.md", "CHANGELOG.md", "crates.txt"):
+        shutil.copy(os.path.join(programs.TOP, it), room)
+    return room
+
+
+def planted(changes: list[Change], jobs: int) -> list[Change]:
+    """The changes that no test refuses."""
+    rooms: queue.Queue[str] = queue.Queue()
+    with tempfile.TemporaryDirectory() as top, concurrent.futures.ThreadPoolExecutor(jobs) as pool:
+        for at in range(jobs):
+            os.mkdir(os.path.join(top, str(at)))
+            rooms.put(copied(os.path.join(top, str(at))))
+
+        def tried(change: Change) -> bool:
+            room = rooms.get()
+            try:
+                refused = is_refused(change, room)
+            finally:
+                rooms.put(room)
+            if not refused:
+                print(f"not refused: hsp/{change.path}:{change.line}: {change.what}", flush=True)
+            return refused
+
+        return [it for it, refused in zip(changes, pool.map(tried, changes)) if not refused]
+
+
+def main() -> int:
+    arguments = argparse.ArgumentParser(description="Plants wrong expressions in the companion.")
+    arguments.add_argument("--number", type=int, default=100)
+    arguments.add_argument("--seed", type=int, default=1)
+    arguments.add_argument("--jobs", type=int, default=2)
+    arguments.add_argument("--only", default="", help="modules whose path begins so")
+    arguments.add_argument("--list", action="store_true", help="only print the changes")
+    chosen = arguments.parse_args()
+    changes = drawn(chosen.number, chosen.seed, chosen.only)
+    if chosen.list:
+        for it in changes:
+            print(f"hsp/{it.path}:{it.line}: {it.what}")
+        return 0
+    passed = planted(changes, chosen.jobs)
+    print(f"planted: {len(changes)} changes of seed {chosen.seed}, {len(passed)} not refused")
+    return 0
+
+
+if __name__ == "__main__":
+    programs.ended(main)
