@@ -136,6 +136,15 @@ CASES: list[Case] = [
     refused(KINDS, many_regions(65), "log: TooManyRegions row 64"),
     refused(KINDS, b"region,handle,count\neu,10/1,1000000\neu,10/1,1\n", "log: CountTooLarge row 0 unit 2"),
     refused(f"{KINDS} --unit 3", b"region,handle,count\neu,10/1,6000001\n", "log: CountTooLarge row 0 unit 7"),
+    # The unit suffices for a later row, too.
+    refused(KINDS, b"region,handle,count\na,10/1,1000001\nb,10/1,7000000\n", "log: CountTooLarge row 0 unit 7"),
+    (
+        f"{KINDS} --unit 7",
+        b"region,handle,count\na,10/1,1000001\nb,10/1,7000000\n",
+        b"region,handle,count\na,10/1,142858\nb,10/1,1000000\n",
+        b"",
+        0,
+    ),
     (KINDS, b"region,handle\n", b"region,handle,count\n", b"", 0),
     (KINDS, b"\xef\xbb\xbfregion,handle\r\neu,10/1\r\n", b"region,handle,count\neu,10/1,1\n", b"", 0),
     (KINDS, b'region,handle\neu,"10/a,""b"""\n', b'region,handle,count\neu,"10/a,""b""",1\n', b"", 0),

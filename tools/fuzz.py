@@ -76,7 +76,7 @@ Of one case of hsplan-stream in eight it judges also:
   kinds,          of a plain log: rows in another order make kinds of the same regions and counts
   written_kinds   each row twice, by twice the unit, makes the same table
                   the tables of two parts, joined, have the table of the log
-                  the unit that CountTooLarge names is the least that will do for its row
+                  the unit that CountTooLarge names suffices for the whole table, and no smaller one does
   written_kinds   with the sites in the reverse order the table is the same
                   by a plan of the table each row of the log is assigned, where its region has a cost
   places,         of a plain log: each row twice has its lines twice

@@ -284,7 +284,7 @@ static int is_too_large(struct text line, uint64_t *row, uint64_t *unit)
     return is_well && number_behind(line, TEXT(" unit "), unit);
 }
 
-/* The unit that is reported for a row is the least that will do for it. */
+/* The unit that is reported is the least by which the table is printed. By one less it is reported again. */
 static void judge_reported_unit(const struct asked *asked, struct text log, const struct answer *answer)
 {
     struct asked other = *asked;
@@ -294,12 +294,11 @@ static void judge_reported_unit(const struct asked *asked, struct text log, cons
     want(unit > unit_of(asked), "unit", log, answer->reported, TEXT(""));
     other.unit = unit - 1;
     struct answer by_less = answer_to(&other, log);
-    wants_same("a smaller unit", log, answer, &by_less);
+    int is_well = is_too_large(by_less.reported, &other_row, &other_unit) && other_row >= row && other_unit == unit;
+    want(is_well, "a smaller unit", log, answer->reported, by_less.reported);
     other.unit = unit;
     struct answer by_it = answer_to(&other, log);
-    int is_well =
-        !by_it.reported.length || (is_too_large(by_it.reported, &other_row, &other_unit) && other_row > row);
-    want(is_well, "the unit", log, answer->reported, by_it.reported);
+    want(!by_it.reported.length, "the unit", log, answer->reported, by_it.reported);
 }
 
 static void judge_kinds(const struct asked *asked, struct text log, const struct answer *answer)

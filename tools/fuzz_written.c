@@ -169,7 +169,16 @@ static int join(const struct asked *asked, const struct log *log, struct entry *
     return count;
 }
 
-/* Each kind has a row. The first one whose count is too large is a fault, with the least unit that will do. */
+/* The least unit by which no sum of these kinds is too large. */
+static uint64_t least_unit(const struct entry *kinds, int count)
+{
+    uint64_t most = 0;
+    for (int row = 0; row < count; row++)
+        most = kinds[row].sum > most ? kinds[row].sum : most;
+    return divided_up(most, GREATEST_COUNT);
+}
+
+/* Each kind has a row. The first one whose count is too large is a fault, with the least unit for the whole table. */
 static struct wanted wanted_table(const struct asked *asked, const struct log *log)
 {
     static const char fault[] = "hsplan-stream: log: CountTooLarge row %lu unit %lu\n";
@@ -179,7 +188,7 @@ static struct wanted wanted_table(const struct asked *asked, const struct log *l
     for (int row = 0; row < count; row++) {
         const struct entry *kind = &kinds[row];
         if (kind->count > GREATEST_COUNT)
-            return (struct wanted){TEXT(""), numbered(fault, row, divided_up(kind->sum, GREATEST_COUNT), 0)};
+            return (struct wanted){TEXT(""), numbered(fault, row, least_unit(kinds, count), 0)};
         all = glued(all, glued(REGION_NAMES[kind->region], TEXT(","), field_of(kind->handle->handle)), TEXT(","));
         all = glued(all, numbered("%lu\n", kind->count, 0, 0), TEXT(""));
     }

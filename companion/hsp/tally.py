@@ -159,6 +159,6 @@ def advice(fault: Refused, inputs: Inputs, desk: Desk) -> str:
     """What an operator does where rows can't be joined."""
     unit = re.search(r"CountTooLarge.* unit ([0-9]+)", fault.line)
     if unit:
-        return f"a row of the demand has more than {MOST_COUNT:,} queries; give --unit {unit[1]} or a larger one"
+        return f"a row of the demand has more than {MOST_COUNT:,} queries; give --unit {unit[1]}"
     many = too_many(inputs, desk) if "TooManyKinds" in fault.line else ""
     return f"hsplan-stream can't join the rows: {fault.line}{'; ' + many if many else _remedy(fault)}"

@@ -12,7 +12,6 @@ use Rattle.hsp_instance.specs.Instance.{Row}
 use Rattle.hsp_instance.proofs.Lists.{drop_at}
 use Rattle.hsp_kinds.specs.Units.{rounded_up}
 use Rattle.hsp_text.specs.declared.limits.TheConstants.{GREATEST_COUNT}
-use Rattle.hsp_stream.specs.KindsLaws.{ReportedUnitIsTheLeast}
 use Rattle.hsp_stream.specs.KindsTable.{IsPushed, fields_of_row, in_unit, lines_of, records_of_rows, rows_in_units, table_text, with_count}
 use Rattle.hsp_stream.specs.declared.fault.StreamFault.{StreamFault}
 
@@ -32,19 +31,6 @@ rounded_is x y some = sym (by (x % y) (div-add-mod x y) (mod-lt x some))
     by : (r : ℕ) → y * (x / y) + r ≡ x → r < y → (x + (y - 1)) / y ≡ x / y + min 1 r
     by zero e less = quotient (x + (y - 1)) y (x / y + 0) some (omega arith) (omega arith)
     by (suc r) e less = let one : min 1 (suc r) ≡ 1 = omega arith in rw one (quotient (x + (y - 1)) y (x / y + 1) some (omega arith) (omega arith))
-
--- the unit that is reported is the least
-pub reported_unit : ReportedUnitIsTheLeast
-reported_unit count unit some = (
-  λ few.
-      let low : count + (unit - 1) < (GREATEST_COUNT + 1) * unit = (div-lt_iff_lt-mul some).0 (omega arith) in
-      let high : (count + (GREATEST_COUNT - 1)) / GREATEST_COUNT < unit + 1 = (div-lt_iff_lt-mul {k = GREATEST_COUNT} (omega arith)).1 (omega arith) in
-      omega arith,
-  λ least.
-      let low : count + (GREATEST_COUNT - 1) < (unit + 1) * GREATEST_COUNT = (div-lt_iff_lt-mul {k = GREATEST_COUNT} (omega arith)).0 (omega arith) in
-      let high : (count + (unit - 1)) / unit < GREATEST_COUNT + 1 = (div-lt_iff_lt-mul some).1 (omega arith) in
-      omega arith,
-)
 
 -- ---- lines
 
@@ -91,21 +77,21 @@ pushed_count old new row (Err fault) is = absurd is
 
 -- what a loop over the rows of a table has done
 abbrev pub IsTextSoFar : ℕ → List Row → ℕ → List ℕ → Type 0
-IsTextSoFar unit rows row text = (done : List Row) × (text ≡ table_text done) × (rows_in_units unit done row (drop row rows) ≡ rows_in_units unit [] 0 rows)
+IsTextSoFar unit rows row text = (done : List Row) × (text ≡ table_text done) × (rows_in_units rows unit done row (drop row rows) ≡ rows_in_units rows unit [] 0 rows)
 
-pub so_far_more : (unit : ℕ) (rows : List Row) (row : ℕ) (text next : List ℕ) (kind : Row) → slice_get rows row ≡ Some kind → IsTextSoFar unit rows row text → IsPushed text next kind (in_unit row unit kind.count)
+pub so_far_more : (unit : ℕ) (rows : List Row) (row : ℕ) (text next : List ℕ) (kind : Row) → slice_get rows row ≡ Some kind → IsTextSoFar unit rows row text → IsPushed text next kind (in_unit rows row unit kind.count)
     → IsTextSoFar unit rows (row + 1) next
 so_far_more unit rows row text next kind at so_far pushed =
-    let is = pushed_count text next kind (in_unit row unit kind.count) pushed in
-    let step : rows_in_units unit so_far.0 row (kind ∷ drop (row + 1) rows) ≡ rows_in_units unit (so_far.0 ++ with_count kind is.0 ∷ []) (row + 1) (drop (row + 1) rows) =
-    ap (λ r. r >>= λ count. rows_in_units unit (so_far.0 ++ with_count kind count ∷ []) (row + 1) (drop (row + 1) rows)) is.1 in (
+    let is = pushed_count text next kind (in_unit rows row unit kind.count) pushed in
+    let step : rows_in_units rows unit so_far.0 row (kind ∷ drop (row + 1) rows) ≡ rows_in_units rows unit (so_far.0 ++ with_count kind is.0 ∷ []) (row + 1) (drop (row + 1) rows) =
+    ap (λ r. r >>= λ count. rows_in_units rows unit (so_far.0 ++ with_count kind count ∷ []) (row + 1) (drop (row + 1) rows)) is.1 in (
       so_far.0 ++ with_count kind is.0 ∷ [],
       is.2 ∙ ap (λ t. t ++ row_text default_writer (fields_of_row (with_count kind is.0))) so_far.1 ∙ sym (text_more so_far.0 (with_count kind is.0)),
-      sym step ∙ ap (rows_in_units unit so_far.0 row) (sym (drop_at rows row kind at)) ∙ so_far.2,
+      sym step ∙ ap (rows_in_units rows unit so_far.0 row) (sym (drop_at rows row kind at)) ∙ so_far.2,
     )
 
-pub so_far_fault : (unit : ℕ) (rows : List Row) (row : ℕ) (text : List ℕ) (kind : Row) (fault : StreamFault) → slice_get rows row ≡ Some kind → IsTextSoFar unit rows row text → in_unit row unit kind.count ≡ Err fault
-    → rows_in_units unit [] 0 rows ≡ Err fault
+pub so_far_fault : (unit : ℕ) (rows : List Row) (row : ℕ) (text : List ℕ) (kind : Row) (fault : StreamFault) → slice_get rows row ≡ Some kind → IsTextSoFar unit rows row text → in_unit rows row unit kind.count ≡ Err fault
+    → rows_in_units rows unit [] 0 rows ≡ Err fault
 so_far_fault unit rows row text kind fault at so_far bad =
-    sym so_far.2 ∙ ap (rows_in_units unit so_far.0 row) (drop_at rows row kind at)
-    ∙ ap (λ r. r >>= λ count. rows_in_units unit (so_far.0 ++ with_count kind count ∷ []) (row + 1) (drop (row + 1) rows)) bad
+    sym so_far.2 ∙ ap (rows_in_units rows unit so_far.0 row) (drop_at rows row kind at)
+    ∙ ap (λ r. r >>= λ count. rows_in_units rows unit (so_far.0 ++ with_count kind count ∷ []) (row + 1) (drop (row + 1) rows)) bad

@@ -79,15 +79,15 @@ module _ (costs : List CostEntry) (sites : List Site) where
 abbrev pub bares : List Row → List Row
 bares rows = map (λ row. with_count row 0) rows
 
-count_few : (row unit count units : ℕ) → in_unit row unit count ≡ Ok units → units ≤ GREATEST_COUNT
-count_few row unit count units e = grind arith
+count_few : (table : List Row) (row unit count units : ℕ) → in_unit table row unit count ≡ Ok units → units ≤ GREATEST_COUNT
+count_few table row unit count units e = grind arith
 
-pub units_are : (unit row : ℕ) (done rest all : List Row) → rows_in_units unit done row rest ≡ Ok all → AllByRecursion IsCounted done → (bares all ≡ bares (done ++ rest)) × AllByRecursion IsCounted all
-units_are unit row done [] all e few = let same : done ≡ all = cc (e) in rw (← same, append-nil) (refl, few)
-units_are unit row done (first ∷ rest) all e few =
-    let count = step (in_unit row unit first.count) (λ count. rows_in_units unit (done ++ with_count first count ∷ []) (row + 1) rest) all e in
-    let more = units_are unit (row + 1) (done ++ with_count first count.0 ∷ []) rest all count.2
-    (all_push IsCounted done (with_count first count.0) few (count_few row unit first.count count.0 count.1)) in
+pub units_are : (table : List Row) (unit row : ℕ) (done rest all : List Row) → rows_in_units table unit done row rest ≡ Ok all → AllByRecursion IsCounted done → (bares all ≡ bares (done ++ rest)) × AllByRecursion IsCounted all
+units_are table unit row done [] all e few = let same : done ≡ all = cc (e) in rw (← same, append-nil) (refl, few)
+units_are table unit row done (first ∷ rest) all e few =
+    let count = step (in_unit table row unit first.count) (λ count. rows_in_units table unit (done ++ with_count first count ∷ []) (row + 1) rest) all e in
+    let more = units_are table unit (row + 1) (done ++ with_count first count.0 ∷ []) rest all count.2
+    (all_push IsCounted done (with_count first count.0) few (count_few table row unit first.count count.0 count.1)) in
     let named = λ (r : Row). with_count r 0 in
     let same : bares ((done ++ with_count first count.0 ∷ []) ++ rest) ≡ bares (done ++ first ∷ rest) =
     ap bares (append_assoc done (with_count first count.0 ∷ []) rest) ∙ map-append named done (with_count first count.0 ∷ rest) ∙ sym (map-append named done (first ∷ rest)) in
@@ -141,7 +141,7 @@ pub read_back : DigitsSpellTheirNumber → ReadsAsItsRelation demand_table → P
 read_back digits reads costs sites unit records text e =
     let table = step (table_of costs sites [] records) (λ rows. table_in_units unit rows >>= λ units. Ok (table_text units)) text e in
     let units = step (table_in_units unit table.0) (λ units. Ok (table_text units)) text table.2 in
-    let is = units_are unit 0 [] table.0 units.0 units.1 tt in
+    let is = units_are table.0 unit 0 [] table.0 units.0 units.1 tt in
     let same : table_text units.0 ≡ text = cc (units.2) in
     let back = table_back costs sites digits reads units.0 (table_of_names costs sites table.0 units.0 is.0 (table_kept costs sites records table.0 table.1)) is.1 in
     record {

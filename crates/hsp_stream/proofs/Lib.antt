@@ -4,6 +4,7 @@ pub mod KindsRows
 pub mod KindsRuns
 pub mod KindsText
 pub mod KindsWhole
+mod LeastUnits
 mod KindAnswers
 pub mod PlacePrinting
 pub mod PlaceTalks

@@ -1,5 +1,5 @@
 -- What holds of the printed tables of kinds.
-use Rattle.std.specs.Prelude.{◌≡◌, ◌≤◌, ◌<◌, ◌↔◌, ⊤, ℕ, List, [], ◌∷◌, ◌++◌, map, Ok, Some}
+use Rattle.std.specs.Prelude.{◌≡◌, ◌≤◌, ◌<◌, ⊤, ℕ, List, [], ◌∷◌, ◌++◌, map, Ok, Err, Some, IsOk, IsErr}
 use Rattle.std.specs.List.{AllByRecursion}
 use Rattle.hsp_csv.specs.Records.{Fields, records_of}
 use Rattle.hsp_tables.specs.Costs.{CostEntry}
@@ -8,11 +8,11 @@ use Rattle.hsp_tables.specs.Table as tables
 use Rattle.hsp_text.specs.Answers.{◌>>=◌}
 use Rattle.hsp_instance.specs.Instance.{Row, Site}
 use Rattle.hsp_kinds.specs.Rows.{kinds_of}
-use Rattle.hsp_kinds.specs.Units.{rounded_up}
-use Rattle.hsp_text.specs.declared.limits.TheConstants.{GREATEST_COUNT}
 use Rattle.hsp_tally.specs.Tally.{capped_row}
 use Rattle.hsp_stream.specs.KindsLog.{Parts, parts_in, row_of, rows_from, table_of}
 use Rattle.hsp_stream.specs.KindsTable.{records_of_rows, table_in_units, table_text}
+use Rattle.hsp_stream.specs.declared.fault.RowFault.TheVariants.{CountTooLarge}
+use Rattle.hsp_stream.specs.declared.fault.StreamFault.TheVariants.{Log}
 use Rattle.hsp_stream.specs.declared.kinds_log.CountForm.{CountForm}
 use Rattle.hsp_stream.specs.declared.kinds_log.CountForm.TheVariants.{Counts}
 use Rattle.hsp_stream.specs.declared.kinds_log.TheConstants.{GREATEST_ROW_COUNT}
@@ -57,10 +57,18 @@ TableIsOfKinds =
     → rows_from costs sites form 0 [] records ≡ Ok table
     → (rows : List Row) × SpellRows form records rows × (table ≡ map capped_row (kinds_of costs sites rows))
 
--- the unit that is reported for a count brings it down to the greatest count of a demand, and no smaller one does
+-- by this unit no count of the table is too large, and by each smaller one above 0 some count is
+pub record IsLeastUnit (rows : List Row) (unit : ℕ) : Type 0 where
+  pub positive : 0 < unit
+  pub suffices : IsOk (table_in_units unit rows)
+  pub least : (smaller : ℕ) → 0 < smaller → smaller < unit → IsErr (table_in_units smaller rows)
+
+-- the unit that is reported of a table with a count that is too large is the least
 abbrev pub ReportedUnitIsTheLeast : Type 0
 ReportedUnitIsTheLeast =
-    (count unit : ℕ) → 0 < unit → (rounded_up unit count ≤ GREATEST_COUNT) ↔ (rounded_up GREATEST_COUNT count ≤ unit)
+    (rows : List Row) (unit row reported : ℕ) → 0 < unit
+    → table_in_units unit rows ≡ Err (Log (CountTooLarge row reported))
+    → IsLeastUnit rows reported
 
 -- a count that a row of a log may have
 abbrev pub IsLogCount : Row → Type 0

@@ -1,5 +1,5 @@
 -- The text of a table of kinds, whose counts are in units.
-use Rattle.std.specs.Prelude.{◌≡◌, ◌+◌, ◌++◌, ℕ, List, [], ◌∷◌, codes, decimal, nat_lt, Result, Ok, Err, if◌then◌else◌}
+use Rattle.std.specs.Prelude.{◌≡◌, ◌+◌, ◌++◌, ℕ, List, [], ◌∷◌, codes, decimal, max, nat_lt, Result, Ok, Err, if◌then◌else◌}
 use Rattle.csv.specs.Writing.{default_writer, row_text}
 use Rattle.hsp_csv.specs.Records.{Fields}
 use Rattle.hsp_text.specs.Answers.{◌>>=◌}
@@ -10,26 +10,31 @@ use Rattle.hsp_stream.specs.declared.fault.RowFault.TheVariants.{CountTooLarge}
 use Rattle.hsp_stream.specs.declared.fault.StreamFault.{StreamFault}
 use Rattle.hsp_stream.specs.declared.fault.StreamFault.TheVariants.{Log}
 
--- the count of a row of the table in units; where it is above the greatest count of a demand, a unit that brings it
--- down
-abbrev pub in_unit : ℕ → ℕ → ℕ → Result ℕ StreamFault
-in_unit row unit count =
+-- the least unit by which no count of a table is above the greatest count of a demand
+abbrev pub least_unit : List Row → ℕ
+least_unit [] = 0
+least_unit (row ∷ rows) = max (rounded_up GREATEST_COUNT row.count) (least_unit rows)
+
+-- the count of a row of a table in units; where it is above the greatest count of a demand, the table's least unit
+abbrev pub in_unit : List Row → ℕ → ℕ → ℕ → Result ℕ StreamFault
+in_unit table row unit count =
     if nat_lt GREATEST_COUNT (rounded_up unit count)
-    then Err (Log (CountTooLarge row (rounded_up GREATEST_COUNT count)))
+    then Err (Log (CountTooLarge row (least_unit table)))
     else Ok (rounded_up unit count)
 
 abbrev pub with_count : Row → ℕ → Row
 with_count row count = record { region = row.region; handle = row.handle; count = count }
 
--- rows in units, numbered from a row on, after those that are done
-abbrev pub rows_in_units : ℕ → List Row → ℕ → List Row → Result (List Row) StreamFault
-rows_in_units unit done row [] = Ok done
-rows_in_units unit done row (first ∷ rest) =
-    in_unit row unit first.count >>= λ count. rows_in_units unit (done ++ with_count first count ∷ []) (row + 1) rest
+-- rows of a table in units, numbered from a row on, after those that are done
+abbrev pub rows_in_units : List Row → ℕ → List Row → ℕ → List Row → Result (List Row) StreamFault
+rows_in_units table unit done row [] = Ok done
+rows_in_units table unit done row (first ∷ rest) =
+    in_unit table row unit first.count
+    >>= λ count. rows_in_units table unit (done ++ with_count first count ∷ []) (row + 1) rest
 
 -- a table in units, or the fault of its first row whose count is too large
 abbrev pub table_in_units : ℕ → List Row → Result (List Row) StreamFault
-table_in_units unit rows = rows_in_units unit [] 0 rows
+table_in_units unit rows = rows_in_units rows unit [] 0 rows
 
 -- the fields of a row
 abbrev pub fields_of_row : Row → Fields

@@ -64,7 +64,8 @@ fn text_of_log<R: Read + Drop>(
 ///
 /// Faults in this order: `BadUnit`; of the files those of [`KindsInputs`] as `hsplan plan` reports them, and last a
 /// cost of an unknown site; of the log `ReadFailed`, `Header`, and row by row `Fields`, `BadName`, `BadHandle`,
-/// `BadNumber`, `TooManyRegions`, `TooManyKinds`; at the end `CountTooLarge`. Sums above 2^64 - 1 count as 2^64 - 1.
+/// `BadNumber`, `TooManyRegions`, `TooManyKinds`; at the end `CountTooLarge`, with the least unit by which the whole
+/// table is printed. Sums above 2^64 - 1 count as 2^64 - 1.
 ///
 /// Where the octets of the log are known, the result is the one that these definitions give, unless a read fails or
 /// memory runs out.

@@ -21,7 +21,7 @@ pub fn table_is_of_kinds()
     ensures { TableIsOfKinds }
 {}
 
-/// Of a count that is too large, the unit in the fault is the least that brings it down.
+/// Of a count that is too large, the unit in the fault suffices for each row of the table, and no smaller one does.
 pub fn reported_unit_is_the_least()
     ensures { ReportedUnitIsTheLeast }
 {}

@@ -5,7 +5,7 @@ ghost use Rattle.csv.specs.Writing.{default_writer, field_text, row_text};
 ghost use Rattle.hsp_text.specs.Answers.{Gives, GivesUnless};
 ghost use Rattle.hsp_kinds.specs.Units.{rounded_up};
 ghost use Rattle.hsp_instance.specs.Instance.{Row};
-ghost use Rattle.hsp_stream.specs.KindsTable.{IsPushed, fields_of_row, in_unit, text_in_units};
+ghost use Rattle.hsp_stream.specs.KindsTable.{IsPushed, fields_of_row, in_unit, least_unit, text_in_units};
 ghost use Rattle.hsp_stream.specs.declared.fault.StreamFault.TheVariants.{OutOfMemory};
 ghost use Rattle.hsp_text.specs.declared.limits.TheConstants.{GREATEST_COUNT};
 
@@ -24,14 +24,26 @@ fn rounded_up(unit: u64, count: u64) -> u64
     count.div_ceil(unit)
 }
 
+// The least unit by which no count of the table is too large.
+fn least_unit(kinds: &Kinds<'_>) -> u64
+    ensures { result ≡ least_unit kinds.now.rows }
+{
+    let mut least = 0;
+    for row in 0..kinds.len() {
+        let (_, _, count) = kinds.row(row);
+        least = least.max(rounded_up(GREATEST_COUNT, count));
+    }
+    least
+}
+
 // The count of a row of the table in units, or the fault where it is too large.
-fn in_unit(row: u32, unit: u64, count: u64) -> Result<u64, StreamFault>
+fn in_unit(kinds: &Kinds<'_>, row: u32, unit: u64, count: u64) -> Result<u64, StreamFault>
     requires { 0 < unit }
-    ensures { Gives (λ count. count) result (in_unit row unit count) }
+    ensures { Gives (λ count. count) result (in_unit kinds.now.rows row unit count) }
 {
     let units = rounded_up(unit, count);
     if units > GREATEST_COUNT {
-        let unit = rounded_up(GREATEST_COUNT, count);
+        let unit = least_unit(kinds);
         return Err(StreamFault::Log(RowFault::CountTooLarge { row, unit }));
     }
     Ok(units)
@@ -78,20 +90,21 @@ fn push_kind(
     requires unit { 0 < unit }
     requires row { row < length kinds.now.rows }
     ensures pushed { OnOk result ((kind : Row) × (slice_get kinds.now.rows row ≡ Some kind)
-        × IsPushed text.old.items text.new.items kind (in_unit row unit kind.count)) }
+        × IsPushed text.old.items text.new.items kind (in_unit kinds.now.rows row unit kind.count)) }
     ensures fault { IfErr result (λ fault. (fault ≡ OutOfMemory)
         ⊎ ((kind : Row) × (slice_get kinds.now.rows row ≡ Some kind)
-        × (in_unit row unit kind.count ≡ Err fault))) }
+        × (in_unit kinds.now.rows row unit kind.count ≡ Err fault))) }
 {
     let (region, handle, count) = kinds.row(row);
-    let count = in_unit(row, unit, count)?;
+    let count = in_unit(kinds, row, unit, count)?;
     push_row(alloc, text, region, handle, count)?;
     Ok(())
 }
 
 /// The table of kinds as comma-separated values, with counts in units.
 ///
-/// The header is `region,handle,count`. The fault is `CountTooLarge` of the first row whose count is above 1,000,000.
+/// The header is `region,handle,count`. The fault is `CountTooLarge` of the first row whose count is above 1,000,000. It
+/// names the least unit by which no count of the table is.
 pub(crate) fn text_of_kinds(
     alloc: Global,
     kinds: &Kinds<'_>,

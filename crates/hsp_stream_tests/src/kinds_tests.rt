@@ -190,6 +190,30 @@ fn a_count_may_be_too_large(rt: HostRuntime) {
     );
 }
 
+// By 3 the first row would fit, and by 6, too. The second one needs 7.
+#[test]
+fn a_unit_suffices_for_the_whole_table(rt: HostRuntime) {
+    let log: &[u8] = b"region,handle,count\nr2,10/1,2000001\nr1,10/1,6000000\nr1,10/7,1\n";
+    let first = RowFault::CountTooLarge { row: 0, unit: 7 };
+    has_fault(&rt, rt.alloc(), COSTS, None, log, StreamFault::Log(first));
+    let second = RowFault::CountTooLarge { row: 1, unit: 7 };
+    has_fault(
+        &rt,
+        rt.alloc(),
+        COSTS,
+        Some(b"6"),
+        log,
+        StreamFault::Log(second),
+    );
+    has_table(
+        &rt,
+        rt.alloc(),
+        Some(b"7"),
+        log,
+        b"region,handle,count\nr2,10/1,285715\nr1,10/1,857143\n",
+    );
+}
+
 // What the run gives by a site whose record is a value.
 fn by_values(alloc: Global) -> Result<Vec<u8>, StreamFault> {
     let inputs = KindsInputs {
