@@ -23,6 +23,8 @@ from hsp.text import escaped
 NAMES = {"settings": "settings.toml", "demand": "demand.csv", "costs": "costs.csv", "capacity": "capacity.csv"}
 VALUES = "sites.values"
 TITLE_KEYS = ("title", "cost", "time")
+# Names of warnings that are meant.
+ACCEPT = "accept"
 
 
 @dataclass(frozen=True)
@@ -59,11 +61,12 @@ class Row:
 
 @dataclass(frozen=True)
 class Titles:
-    """What the service and its units are called."""
+    """What the service and its units are called, and the warnings that are meant."""
 
     title: str
     cost: str = ""
     time: str = ""
+    accept: tuple[str, ...] = ()
 
 
 @dataclass(frozen=True)
@@ -209,14 +212,16 @@ def dotted(address: str) -> str:
 
 
 def titles_in(folder: str, title: str | None, cost: str | None) -> Titles:
-    """The names of the service and its units: those given, or those of `hsp.toml`, or the folder's name."""
+    """The words of `hsp.toml`; a title and a unit of cost that were given come first, the folder's name last."""
     said = titles_of(folder)
     names = [it for it in os.path.abspath(folder).split(os.sep) if it not in ("out", "")]
     plain: dict[str, str] = {key: str(said[key]) for key in TITLE_KEYS if key in said}
     fallback = names[-1] if names else folder
     own_title = title if title else plain.get("title", fallback)
     own_cost = cost if cost else plain.get("cost", "")
-    return Titles(escaped(own_title), escaped(own_cost), escaped(plain.get("time", "")))
+    accept = said.get(ACCEPT, [])
+    meant = tuple(map(str, accept)) if isinstance(accept, list) else (str(accept),)
+    return Titles(escaped(own_title), escaped(own_cost), escaped(plain.get("time", "")), meant)
 
 
 def site_of(name: str, fields: str, first: int) -> Site:

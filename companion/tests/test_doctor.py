@@ -440,7 +440,8 @@ def test_json_has_the_same_findings(hsp: Hsp, example: Example) -> None:
         (it.file, it.line, it.column, it.end, it.message, it.remedy) for it in found.findings
     ]
     assert {it["hsplan"] for it in printed} == {"read failed", "demand: BadNumber row 0"}
-    assert set(printed[0]) == {"severity", "file", "line", "column", "end", "message", "why", "remedy", "hsplan"}
+    keys = {"severity", "file", "line", "column", "end", "message", "why", "remedy", "hsplan", "accept"}
+    assert set(printed[0]) == keys and {it["accept"] for it in printed} == {""}
 
 
 @pytest.mark.parametrize("name", ["two-sites", "base"])

@@ -55,7 +55,10 @@ DOUBTS: dict[str, tuple[str, Edit, tuple[str, int, int], str, str]] = {
     "a server that no handle leads to": (DEMAND, lambda it: "region,handle,count\neu,20.500.1234/film-5,900\n", (CAPACITY, 2, 7), "server 1 of paris", "hsp demand"),
     "a demand of a day, capacities of a second": (CAPACITY, lambda it: re.sub(r"\d+$", "2", it, flags=re.M), (CAPACITY, 2, 1), "far above all capacity", "the same time"),
     "capacities of a year": (CAPACITY, lambda it: re.sub(r"(\d+)$", r"\g<1>0000", it, flags=re.M), (CAPACITY, 2, 1), "far above the demand", "the same time"),
+    "capacities that are all 0": (CAPACITY, lambda it: re.sub(r"\d+$", "0", it, flags=re.M), (CAPACITY, 2, 1), "all capacities are 0", "write what each server takes"),
+    "costs in seconds, rounded": (COSTS, lambda it: re.sub(r"\d+$", "0", it, flags=re.M), (COSTS, 2, 10), "all costs are 0", "milliseconds"),
     "no rows": (DEMAND, no_rows, (DEMAND, 1, 1), "no rows", "add a row"),
+    "costs without rows": (COSTS, no_rows, (COSTS, 1, 1), "no rows", "add a row region,site,cost"),
 }  # fmt: skip
 
 
@@ -77,7 +80,7 @@ def test_a_doubt_has_its_place_and_its_remedy(example: Example, name: str) -> No
 
 def test_a_doubt_is_not_raised_where_it_is_not_due(example: Example) -> None:
     """Each edit raises one kind of doubt, but for two that take servers away from handles as well."""
-    several = {"a server that no handle leads to", "a site that no row may use", "no rows", "a region without costs"}
+    several = {"a server that no handle leads to", "a site that no row may use", "a region without costs"}
     for name in DOUBTS.keys() - several:
         file, edit, *_ = DOUBTS[name]
         folder = example("two-sites")
@@ -103,6 +106,76 @@ def test_two_sites_with_one_record(example: Example) -> None:
     (folder / SETTINGS).write_text("\n".join(lines) + "\n")
     found = examined(str(folder), Desk(), {})
     assert [it.message for it in found.warnings if "has the record of" in it.message] or found.errors
+
+
+def test_what_makes_the_plan_meaningless_comes_first(hsp: Hsp, example: Example) -> None:
+    """Then what loses queries, then the rest: whatever the order of the files."""
+    folder = example("two-sites")
+    (folder / COSTS).write_text(more("brasil,paris,5\n")((folder / COSTS).read_text()))
+    (folder / DEMAND).write_text(sub(",475", ",0")(every("us,", "US,")((folder / DEMAND).read_text())))
+    (folder / CAPACITY).write_text(re.sub(r"\d+$", "2", (folder / CAPACITY).read_text(), flags=re.M))
+    said = json.loads(hsp("doctor", str(folder), "--json").stdout)
+    names = [it["accept"] for it in said]
+    assert names == ["demand far above capacity", "no cost US", "idle region brasil", "count 0 eu"]
+    (line_of_plan,) = hsp("plan", str(folder), status=3).stderr.splitlines()
+    assert line_of_plan.startswith("hsp: 4 warnings: the demand is far above all capacity and 3 more")
+
+
+def test_costs_that_are_all_0_are_named_by_a_plan(hsp: Hsp, example: Example) -> None:
+    folder = example("two-sites")
+    (folder / COSTS).write_text(re.sub(r"\d+$", "0", (folder / COSTS).read_text(), flags=re.M))
+    assert hsp("plan", str(folder)).stderr == f"hsp: 1 warning: all costs are 0 (hsp doctor {folder})\n"
+
+
+def test_costs_of_0_without_a_choice_are_no_doubt(example: Example) -> None:
+    folder = example("two-sites")
+    (folder / COSTS).write_text("region,site,cost\neu,paris,0\nus,reston,0\nasia,reston,0\n")
+    assert "costs of 0" not in [it.name for it in examined(str(folder), Desk(), {}).warnings]
+
+
+def test_one_empty_file_is_one_finding(example: Example) -> None:
+    """The cause is named, and not each row or server that lacks something by it."""
+    wanted = {
+        SETTINGS: "the settings have no site",
+        DEMAND: "the demand has no rows",
+        COSTS: "the costs have no rows",
+        CAPACITY: "the capacities have no rows",
+    }
+    for name, message in wanted.items():
+        folder = example("two-sites")
+        text = "" if name == SETTINGS else no_rows((folder / name).read_text())
+        (folder / name).write_text(text)
+        assert [it.message for it in examined(str(folder), Desk(), {}).findings] == [message]
+        subprocess.run(["rm", "-r", str(folder)], check=True)
+
+
+def test_warnings_that_are_meant(hsp: Hsp, example: Example) -> None:
+    """An accepted warning is not printed and no status; a name of several words names what begins with them."""
+    folder = example("two-sites")
+    (folder / COSTS).write_text(more("brasil,paris,5\nchile,paris,5\n")((folder / COSTS).read_text()))
+    (folder / CAPACITY).write_text(sub("reston,3,1470", "reston,3,0")((folder / CAPACITY).read_text()))
+    said = json.loads(hsp("doctor", str(folder), "--json", "--strict", status=1).stdout)
+    assert [it["accept"] for it in said] == ["idle region brasil", "idle region chile", "capacity 0 reston 3"]
+    (folder / "hsp.toml").write_text('accept = ["idle region chile", "capacity 0"]\n')
+    (left,) = json.loads(hsp("doctor", str(folder), "--json", "--strict", status=1).stdout)
+    assert left["accept"] == "idle region brasil"
+    (folder / "hsp.toml").write_text('accept = ["idle region", "capacity 0 reston 3"]\n')
+    assert hsp("doctor", str(folder), "--strict").stdout.startswith("no fault")
+    assert hsp("plan", str(folder), status=3).stderr == ""
+    words = "--settings settings.toml --demand demand.csv --costs costs.csv --capacity capacity.csv".split()
+    files = [it if it.startswith("--") else str(folder / it) for it in words]
+    assert hsp("doctor", "--strict", "--", "plan", *files).stdout == "no fault in these words and files\n"
+
+
+def test_an_accepted_name_that_no_warning_has(example: Example) -> None:
+    folder = example("two-sites")
+    (folder / COSTS).write_text(more("brasil,paris,5\n")((folder / COSTS).read_text()))
+    (folder / "hsp.toml").write_text('title = "Films"\naccept = ["idle region brazil", "old plan", "idle"]\n')
+    found = examined(str(folder), Desk(), {})
+    assert [(it.name, it.line, it.column, it.remedy) for it in found.warnings] == [
+        ("needless name idle region brazil", 2, 12, "write idle region brasil"),
+        ("needless name old plan", 2, 34, "take it out, if what it names is mended"),
+    ]
 
 
 def test_strict_makes_warnings_a_status(hsp: Hsp, example: Example) -> None:

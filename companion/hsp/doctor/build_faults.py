@@ -5,11 +5,11 @@ from __future__ import annotations
 import re
 from typing import NamedTuple
 
-from hsp.doctor.findings import Place, Words, found, quoted
+from hsp.doctor.findings import Finding, Place, Text, Words, found, quoted
 from hsp.doctor.question import Question, Said
 from hsp.doctor.rows import joined, near, table_of
 from hsp.doctor.table_faults import Explained, Spot, renumbered, spot_of
-from hsp.doctor.toml_places import listed_in
+from hsp.doctor.toml_places import data_of, listed_in
 from hsp.numbers import listed
 from hsp.programs import run
 
@@ -45,6 +45,8 @@ def unknown_site(question: Question, said: Said) -> Explained | None:
     spot = spot_of(question, said.table, said.numbers["row"])
     if not spot:
         return None
+    if data_of(question.files["settings"].original) == {}:
+        return Explained(_without_sites(question, said))
     at = spot.header.index("site")
     name, names = spot.row.fields[at], names_in(question)
     if name in _left_out_sites(question) or question.lacks_site:
@@ -53,6 +55,19 @@ def unknown_site(question: Question, said: Said) -> Explained | None:
     meant, words = _site_words(question, spot, name, names)
     mended = [spot.with_field(at, meant)] if meant else []
     return Explained(found(spot.path, spot.place(at), words, line), [*mended, spot.without()], True)
+
+
+def _without_sites(question: Question, said: Said) -> Finding:
+    """The one cause of many unknown names: settings without any block."""
+    tables = [it for it in ("costs", "capacity") if it in question.files]
+    names = dict.fromkeys(it for table in tables for it in table_of(question.text(table)).column("site"))
+    words = Words(
+        "the settings have no site",
+        "add a block [[site]] for each: hsp sites makes it",
+        f"the tables name {listed(map(quoted, names), 6)}",
+    )
+    text = question.files["settings"].original
+    return found(text.path, text.whole(1), words, said.line)
 
 
 def short_of(name: str, names: list[str]) -> str:
@@ -88,7 +103,7 @@ def _site_words(question: Question, spot: Spot, name: str, names: list[str]) -> 
         remedy, why = "put the columns in the order " + ",".join(spot.header), f"{quoted(name)} is a region"
     else:
         remedy = f'add a block [[site]] with name = "{name}" to the settings, or take its rows out'
-        why = f"the settings have only {listed(names, 6)}" if names else "the settings have no site"
+        why = f"the settings have only {listed(names, 6)}"
     mark = f"did you mean {meant}?" if meant else ""
     return meant, Words(f"the settings have no site {quoted(name)}", remedy, why, mark, f"UnknownSite {name}")
 
@@ -136,9 +151,10 @@ def no_capacity(question: Question, said: Said) -> Explained:
     if _follows(question, site, server):
         return Explained(None, [mended])
     rows = table_of(draft.original).rows
+    if not rows:
+        return Explained(_without_rows(draft.original, said))
     own = [it for it in rows if it.fields[0] == site]
-    last = (own or rows)[-1].last if rows else 1
-    place = draft.original.whole(last)
+    place = draft.original.whole((own or rows)[-1].last)
     place = Place(place.line, place.column + place.width, 1, place.text)
     like = [it for it in dict.fromkeys(row.fields[0] for row in rows) if it != site]
     why = (
@@ -156,6 +172,16 @@ def no_capacity(question: Question, said: Said) -> Explained:
         f"NoCapacity {site}",
     )
     return Explained(found(draft.original.path, place, words, said.line), [mended])
+
+
+def _without_rows(text: Text, said: Said) -> Finding:
+    """The one cause where each server lacks its row: capacities that are only a header."""
+    words = Words(
+        "the capacities have no rows",
+        "add a row site,server_id,capacity for each server, with what it takes; 0 if it may get nothing",
+        "each server of the settings has one",
+    )
+    return found(text.path, text.whole(1), words, said.line)
 
 
 def _follows(question: Question, site: str, server: str) -> bool:

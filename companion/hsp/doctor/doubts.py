@@ -6,11 +6,12 @@ import os
 import re
 import tomllib
 import unicodedata
-from collections import defaultdict
+from collections import Counter, defaultdict
 from collections.abc import Iterable, Iterator
 from dataclasses import dataclass, field
 from urllib.parse import unquote
 
+from hsp.doctor.accepting import is_named, needless
 from hsp.doctor.findings import WARNING, Finding, Place, Text, Words, decoded, found, quoted, read_text
 from hsp.doctor.mark_doubts import mark_doubts
 from hsp.doctor.rows import Row, Table, near, table_of
@@ -20,7 +21,7 @@ from hsp.marks import TABLE, TITLES
 from hsp.numbers import listed, some
 from hsp.paths import path_in, shell_word
 from hsp.programs import Desk
-from hsp.service import NAMES, TITLE_KEYS, VALUES, Service, dotted
+from hsp.service import ACCEPT, NAMES, TITLE_KEYS, VALUES, Service, dotted
 
 # A demand beyond so many times all capacity, or a capacity beyond so many times the demand, has likely another unit.
 FAR_ABOVE, FAR_BELOW = 10, 1000
@@ -117,7 +118,7 @@ def twins(it: Read) -> None:
                 "write the spelling of your log in one row, with the sum of the counts",
                 f"{why}; to the tables and to a log they are two handles",
                 f"the other is in line {first.first}",
-                "twins",
+                "twin handles",
             )
             it.of_row(it.demand, row, 1, words)
 
@@ -135,7 +136,7 @@ def priceless(it: Read) -> None:
     asking, paying = firsts(it.demand), firsts(it.costs)
     costs = os.path.basename(it.costs.text.path)
     for region, row in asking.items():
-        if region in paying:
+        if region in paying or not paying:
             continue
         meant = namesake(region, asking, paying)
         number = sum(other.fields[0] == region for other in it.demand.rows)
@@ -144,7 +145,7 @@ def priceless(it: Read) -> None:
             f"write {meant} here, or {region} in {costs}" if meant else f"add rows {region},SITE,COST to {costs}",
             f"no site may serve its {some(number, 'row')}, so the plan is a shortage",
             f"{costs} has {meant}" if meant else "",
-            f"priceless {region}",
+            f"no cost {region}",
         )
         it.of_row(it.demand, row, 0, words)
 
@@ -167,7 +168,8 @@ def idle(it: Read) -> None:
         )
         message = f"region {quoted(region)} has costs and asks for nothing"
         mark = f"did you mean {meant}?" if meant else ""
-        it.of_row(it.costs, row, 0, Words(message, remedy, "its costs are never used", mark, "idle region"))
+        words = Words(message, remedy, "its costs are never used", mark, "idle region", f"idle region {region}")
+        it.of_row(it.costs, row, 0, words)
 
 
 def pairs(it: Read) -> None:
@@ -183,7 +185,8 @@ def pairs(it: Read) -> None:
             f"region {quoted(region)} has no cost for {listed(lacking, 6)}",
             f"add {rows}; or leave it so, if that is meant",
             f"{region} may never use {listed(lacking, 6)}",
-            kind="pair",
+            kind="missing cost",
+            name=f"missing cost {region}",
         )
         it.of_row(it.costs, paying[region], 0, words)
 
@@ -207,9 +210,11 @@ def hosts(it: Read) -> None:
             )
             why = f"the limit binds nothing; the servers have {listed(map(dotted, sorted(addresses)), 4)}"
             place = value_of(it.settings, "host", number, "address")
-            it.doubt(
-                it.settings, place, Words(f"no server has the address {dotted(address)}", remedy, why, "", "host")
+            bare_one = dotted(address)
+            words = Words(
+                f"no server has the address {bare_one}", remedy, why, "", "unused host", f"unused host {bare_one}"
             )
+            it.doubt(it.settings, place, words)
 
 
 def zeros(it: Read) -> None:
@@ -222,59 +227,82 @@ def zeros(it: Read) -> None:
                 "the row asks for nothing",
                 "",
                 "count 0",
+                f"count 0 {row.fields[0]}",
             )
             it.of_row(it.demand, row, 2, words)
     for row in it.capacity.rows:
-        if row.fields[2] == "0":
+        if row.fields[2] == "0" and any(it.service.capacities.values()):
             words = Words(
                 f"server {row.fields[1]} of {row.fields[0]} has the capacity 0",
                 "write what it takes, unless it is out of service",
                 "it is planned to get nothing",
                 "",
                 "capacity 0",
+                f"capacity 0 {row.fields[0]} {row.fields[1]}",
             )
             it.of_row(it.capacity, row, 2, words)
 
 
+def rows(it: Read) -> None:
+    """A demand without rows, or costs without rows where the demand and the settings have some."""
+    if not it.demand.rows:
+        words = Words(
+            "the demand has no rows",
+            "add a row region,handle,count for each region and handle",
+            "the plan is empty and costs 0",
+            kind="empty demand",
+        )
+        it.doubt(it.demand.text, it.demand.text.whole(1), words)
+    elif not it.costs.rows and it.service.sites:
+        words = Words(
+            "the costs have no rows",
+            "add a row region,site,cost for each region and each site that it may use",
+            "no site may serve any region, so the plan is a shortage",
+            kind="empty costs",
+        )
+        it.doubt(it.costs.text, it.costs.text.whole(1), words)
+
+
 def units(it: Read) -> None:
     """A demand that is far from all capacity."""
-    asked = it.service.asked
-    room = sum(it.service.capacities.values())
-    if not it.demand.rows or not asked:
-        if not it.demand.rows:
-            it.doubt(
-                it.demand.text,
-                it.demand.text.whole(1),
-                Words(
-                    "the demand has no rows",
-                    "add a row region,handle,count for each region and handle",
-                    "the plan is empty and costs 0",
-                ),
-            )
-        return
-    if room and asked > FAR_ABOVE * room:
-        place = it.capacity.text.whole(2)
-        why = f"{asked:,} queries, and room for {room:,}"
-        words = Words(
-            "the demand is far above all capacity",
-            "give counts and capacities for the same time: an hour, say",
-            f"{why}: counts of a day, and capacities of a second?",
-        )
-        it.doubt(it.capacity.text, place, words)
+    asked, room = it.service.asked, sum(it.service.capacities.values())
+    remedy, place = "give counts and capacities for the same time: an hour, say", it.capacity.text.whole(2)
     bound = [own for own in it.service.capacities.values() if own < NO_LIMIT]
-    if bound and sum(bound) > FAR_BELOW * asked:
-        why = f"room for {sum(bound):,}, and {asked:,} queries"
-        words = Words(
-            "all capacity is far above the demand",
-            "give counts and capacities for the same time: an hour, say",
-            f"{why}: no limit will ever bind",
-        )
-        it.doubt(it.capacity.text, it.capacity.text.whole(2), words)
+    if not asked:
+        return
+    if it.service.capacities and not room:
+        why = "every query lacks a place, so the plan is a shortage"
+        words = Words("all capacities are 0", "write what each server takes", why, kind="no capacity")
+    elif room and asked > FAR_ABOVE * room:
+        why = f"{asked:,} queries, and room for {room:,}: counts of a day, and capacities of a second?"
+        words = Words("the demand is far above all capacity", remedy, why, kind="demand far above capacity")
+    elif bound and sum(bound) > FAR_BELOW * asked:
+        why = f"room for {sum(bound):,}, and {asked:,} queries: no limit will ever bind"
+        words = Words("all capacity is far above the demand", remedy, why, kind="capacity far above demand")
+    else:
+        return
+    it.doubt(it.capacity.text, place, words)
+
+
+def free(it: Read) -> None:
+    """Costs that are all 0, where a region has a choice of sites."""
+    sites = Counter(region for region, _ in it.service.costs)
+    if any(it.service.costs.values()) or max(sites.values(), default=0) < 2:
+        return
+    words = Words(
+        "all costs are 0",
+        "write costs in a smaller unit: milliseconds in place of seconds, say",
+        "each plan costs 0, so a query may go to the farthest site; were the costs rounded?",
+        kind="costs of 0",
+    )
+    it.of_row(it.costs, it.costs.rows[0], 2, words)
 
 
 def unused(it: Read) -> None:
     """Servers that no row of the demand may use."""
     service = it.service
+    if not service.rows or not service.costs:
+        return
     used = {
         (at, service.places[row.handle, service.sites[at].name])
         for row in service.rows
@@ -284,19 +312,20 @@ def unused(it: Read) -> None:
     reached = {site for site, _ in used}
     for at, site in enumerate(service.sites):
         own = [row for row in it.capacity.rows if row.fields[0] == site.name]
-        if service.rows and at not in reached and own:
+        if at not in reached and own:
             words = Words(
                 f"no row may use site {quoted(site.name)}",
                 f"add costs REGION,{site.name},COST; or leave it so, if it is out of service",
                 "no region of the demand has a cost for it",
                 "",
                 "unused site",
+                f"unused site {site.name}",
             )
             it.of_row(it.capacity, own[0], 0, words)
             continue
         for place, server in enumerate(site.servers):
             row = next((own_row for own_row in own if own_row.fields[1] == str(server.id)), None)
-            if row and service.rows and (at, place) not in used:
+            if row and (at, place) not in used:
                 why = "by the hash none of the demand's handles is its own; a demand of a few busy handles may be so"
                 words = Words(
                     f"no handle of the demand leads to server {server.id} of {site.name}",
@@ -304,6 +333,7 @@ def unused(it: Read) -> None:
                     why,
                     "",
                     "unused server",
+                    f"unused server {server.label}",
                 )
                 it.of_row(it.capacity, row, 1, words)
 
@@ -318,6 +348,7 @@ def sites(it: Read) -> None:
                 "the settings have no site",
                 "add a block [[site]] for each: hsp sites makes it",
                 "without a site no query is served",
+                kind="no site",
             ),
         )
     seen: dict[str, str] = {}
@@ -330,6 +361,8 @@ def sites(it: Read) -> None:
                 f"site {quoted(site['name'])} has the record of {quoted(seen[key])}",
                 "copy its own record: hsp sites makes the block",
                 "both are the same servers, so their room counts twice",
+                kind="shared record",
+                name=f"shared record {site['name']}",
             )
             it.doubt(it.settings, place, words)
         seen.setdefault(key, site["name"])
@@ -372,25 +405,40 @@ def titles(it: Read) -> None:
         return
     text = read_text(path)
     said = tomllib.loads(decoded(text.octets))
-    for own, known in ((said, (*TITLE_KEYS, TABLE)), (said.get(TABLE, {}), MARK_KEYS)):
+    whole = (*TITLE_KEYS, ACCEPT, TABLE)
+    for own, known in ((said, whole), (said.get(TABLE, {}), MARK_KEYS)):
         for key in [name for name in own if name not in known]:
             meant = near(key, known, 0.6)
             remedy = f"write {meant}" if meant else "take it out"
+            remedy = f"write it above [{TABLE}]" if key in whole else remedy
             mark = f"did you mean {meant}?" if meant else ""
             place = text.match(rf"^\s*\[?\"?({re.escape(key)})\b") or Place()
-            message = f"the key {quoted(key)} of {TITLES} is not read"
-            it.doubt(text, place, Words(message, remedy, f"hsp reads {listed(known, 9)}", mark))
+            message, name = f"the key {quoted(key)} of {TITLES} is not read", f"unknown key {key}"
+            it.doubt(text, place, Words(message, remedy, f"hsp reads {listed(known, 9)}", mark, name=name))
+
+
+# What makes the whole plan meaningless, what loses queries, and the rest.
+WHOLE, LOST = (sites, rows, units, free), (priceless, handles, twins)
+REST = (hosts, idle, pairs, zeros, unused)
 
 
 def doubts(service: Service, desk: Desk, of_folder: bool = True) -> Iterator[Finding]:
-    """All that is accepted and seldom meant, in the order of the files; of a folder, its titles and its plan too."""
+    """All that is accepted and seldom meant, by its weight; of a folder, its titles and its plan too.
+
+    What hsp.toml accepts is left out.
+    """
     inputs = service.inputs
     demand, costs, capacity = (table_of(read_text(own)) for own in (inputs.demand, inputs.costs, inputs.capacity))
     it = Read(service, demand, costs, capacity, read_text(inputs.settings))
-    for look in (sites, hosts, handles, twins, priceless, idle, pairs, zeros, units, unused):
+    for look in WHOLE:
         look(it)
     it.findings += mark_doubts(service, demand.text)
+    for look in (*LOST, *REST):
+        look(it)
     if of_folder:
         titles(it)
         old_plan(it, desk)
-    yield from it.findings
+    accept = service.titles.accept
+    yield from (own for own in it.findings if not any(is_named(own, name) for name in accept))
+    if of_folder:
+        yield from needless(service, it.findings)

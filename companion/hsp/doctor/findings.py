@@ -30,6 +30,8 @@ class Finding:
     severity: str = ERROR
     # Findings of one kind are shown once at a terminal, and counted.
     kind: str = ""
+    # What hsp.toml calls a warning that it accepts.
+    name: str = ""
 
 
 @dataclass(frozen=True)
@@ -55,6 +57,7 @@ class Words:
     why: str = ""
     mark: str = ""
     kind: str = ""
+    name: str = ""
 
 
 def found(path: str, place: Place, words: Words, said: str = "", severity: str = ERROR) -> Finding:
@@ -72,6 +75,7 @@ def found(path: str, place: Place, words: Words, said: str = "", severity: str =
         said=said,
         severity=severity,
         kind=words.kind or words.message,
+        name=words.name or words.kind,
     )
 
 

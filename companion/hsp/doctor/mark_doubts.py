@@ -34,7 +34,7 @@ def rounding(service: Service) -> Iterator[Finding]:
     path = path_in(service.folder, TITLES)
     why = f"each of {some(len(service.rows), 'row')} is rounded up; the log had {service.mark.queries:,} queries"
     message = f"units of {service.unit:,} add {part(service.added)} to the demand"
-    words = Words(message, remedy, why, kind=MUCH_ADDED)
+    words = Words(message, remedy, why, kind=MUCH_ADDED, name="rounded units")
     yield found(path, value_of(read_text(path), TABLE, 0, "unit"), words, "", WARNING)
 
 
@@ -59,7 +59,7 @@ def unmarked(service: Service, demand: Text) -> Iterator[Finding]:
         return
     why = f"each of its {some(len(service.rows), 'row')} has servers of its own, which so many handles seldom have"
     message = "the demand looks joined by kinds, and hsp.toml doesn't say so"
-    yield found(demand.path, Place(), Words(message, JOINED, why, kind="unmarked"), "", WARNING)
+    yield found(demand.path, Place(), Words(message, JOINED, why, kind="unmarked", name="unmarked kinds"), "", WARNING)
 
 
 def of_another(service: Service) -> Iterator[Finding]:
@@ -74,6 +74,7 @@ def of_another(service: Service) -> Iterator[Finding]:
         "the table [demand] of hsp.toml is of another demand",
         "count the logs again, or write [demand] for this demand by hand",
         f"it has {known:,} queries, and the demand comes to {service.asked:,}",
+        name="mark of another demand",
     )
     yield found(path, value_of(read_text(path), TABLE, 0, "queries"), words, "", WARNING)
 

@@ -5,7 +5,7 @@ from __future__ import annotations
 import json
 from collections.abc import Iterable, Iterator
 
-from hsp.doctor.findings import ERROR, Finding
+from hsp.doctor.findings import ERROR, WARNING, Finding
 from hsp.numbers import listed
 from hsp.text import bold, colored, dim, visible
 
@@ -92,6 +92,7 @@ def json_of(findings: Iterable[Finding]) -> str:
             "why": visible(it.why),
             "remedy": visible(it.remedy),
             "hsplan": visible(it.said),
+            "accept": visible(it.name) if it.severity == WARNING else "",
         }
         for it in findings
     ]

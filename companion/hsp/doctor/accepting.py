@@ -1,0 +1,36 @@
+"""Warnings that are meant: `accept = ["idle region asia"]` in hsp.toml."""
+
+from __future__ import annotations
+
+import re
+from collections.abc import Iterable, Iterator
+
+from hsp.doctor.findings import WARNING, Finding, Place, Words, found, quoted, read_text
+from hsp.doctor.rows import near
+from hsp.marks import TITLES
+from hsp.paths import path_in
+from hsp.service import Service
+
+
+def is_named(it: Finding, name: str) -> bool:
+    """Whether a name is that of a warning, or its first words: `idle region` names each idle region."""
+    return it.name == name or it.name.startswith(f"{name} ")
+
+
+def needless(service: Service, findings: Iterable[Finding]) -> Iterator[Finding]:
+    """Accepted names that no warning has."""
+    names = list(dict.fromkeys(it.name for it in findings))
+    for name in service.titles.accept:
+        if any(is_named(it, name) for it in findings):
+            continue
+        text = read_text(path_in(service.folder, TITLES))
+        meant = near(name, names, 0.8)
+        words = Words(
+            f"{TITLES} accepts {quoted(name)}, and no warning has this name",
+            f"write {meant}" if meant else "take it out, if what it names is mended",
+            "hsp doctor --json has the name of each warning",
+            f"did you mean {meant}?" if meant else "",
+            "needless name",
+            f"needless name {name}",
+        )
+        yield found(text.path, text.match(re.escape(name)) or Place(), words, "", WARNING)
