@@ -6,6 +6,7 @@ import os
 import re
 import sys
 from collections.abc import Callable, Sequence
+from dataclasses import replace
 from typing import Any, TypeVar
 
 import click
@@ -80,7 +81,7 @@ def gathered(paths: tuple[str, ...], names: tuple[str, ...], files: Files) -> li
         raise Unfit("a name isn't text")
     if len(names) > len(found):
         raise Unfit(f"{some(len(names), 'name')} for {some(len(found), 'site')}")
-    named = [Found(it.file, name, it.octets, it.fields) for it, name in zip(found, names)] + found[len(names) :]
+    named = [replace(it, name=name) for it, name in zip(found, names)] + found[len(names) :]
     if len({it.name for it in named}) < len(named):
         raise Unfit("two sites have the same name; give each its own --name")
     return named

@@ -12,7 +12,7 @@ from dataclasses import dataclass, field
 
 from hsp.bounds import whole
 from hsp.faults import Unfit
-from hsp.numbers import some
+from hsp.numbers import listed, some
 from hsp.paths import path_in
 from hsp.programs import Desk, Inputs, Refused, table_of
 from hsp.records import OPTIONS
@@ -111,6 +111,23 @@ def joined(folder: str, sites: list[Found], capacity: int, desk: Desk) -> Joined
     return result
 
 
+def refusal(own: Found, fault: Refused) -> str:
+    """Why hsplan refuses a site that is added, and what to do."""
+    says = f"hsplan refuses {ascii(own.name)}: {fault.line}"
+    ids = [it.id for it in own.site().servers]
+    twins = [it for it in ids if ids.count(it) > 1]
+    if "ServerIdTwice" in fault.line and twins:
+        places = [at for at, it in enumerate(ids) if it == twins[0]]
+        entries, remedy = [f"server {at + 1} of its record" for at in places], "ask for the site's record anew"
+        if own.servers:
+            entries = [f"{own.servers}[{at}].serverId" for at in places]
+            remedy = "give each server its own identifier"
+        return f"{own.file}: {listed(entries)} are {twins[0]}; {says}; {remedy}"
+    fresh = tidy(own.name)
+    remedy = f"; write --name {fresh}" if fresh and fresh != own.name and "BadSite" in fault.line else ""
+    return f"{own.file}: {says}{remedy}"
+
+
 def read_back(settings: bytes, before: int, added: list[Found], desk: Desk, values: str | None = None) -> None:
     """Compares the sites that were added behind others with what hsplan reads from the settings."""
     inputs = Inputs(desk.put(settings, ".toml"), "", "", "", values)
@@ -121,10 +138,7 @@ def read_back(settings: bytes, before: int, added: list[Found], desk: Desk, valu
         number = int(match[1]) - before if match else -1
         if not 0 <= number < len(added):
             raise
-        own = added[number]
-        fresh = tidy(own.name)
-        remedy = f"; write --name {fresh}" if fresh and fresh != own.name and "BadSite" in fault.line else ""
-        raise Unfit(f"{own.file}: hsplan refuses {ascii(own.name)}: {fault.line}{remedy}") from None
+        raise Unfit(refusal(added[number], fault)) from None
     read = {it.name: it for it in sites_of(desk, inputs, tomllib.loads(settings.decode("utf-8-sig")))}
     for it in added:
         wanted, found = it.site(), read[it.name]

@@ -187,6 +187,13 @@ def inputs_in(folder: str, given: dict[str, str | None], unit: int) -> Inputs:
     return Inputs(**files, values=values, unit=unit)
 
 
+def newer_than(inputs: Inputs, plan: str) -> list[str]:
+    """The names of the inputs that changed after a plan was written."""
+    files = [it for it in (inputs.settings, inputs.values, inputs.demand, inputs.costs, inputs.capacity) if it]
+    time = os.stat(plan).st_mtime
+    return [os.path.basename(it) for it in files if os.stat(it).st_mtime > time]
+
+
 def table(path: str) -> list[list[str]]:
     """The records of a table below its header. An empty line is none."""
     text = whole(path).decode("utf-8-sig")
@@ -296,6 +303,7 @@ __all__ = [
     "dotted",
     "inputs_in",
     "mark_of",
+    "newer_than",
     "read_service",
     "service_of",
     "site_of",

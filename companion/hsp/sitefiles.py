@@ -31,12 +31,16 @@ MOST_TRIED = 4
 
 @dataclass(frozen=True)
 class Found:
-    """A site that a file holds: the file, a name, its octets, and its fields as hsplan prints them."""
+    """A site that a file holds: the file, a name, its octets, and its fields as hsplan prints them.
+
+    Of a site in JSON, `servers` is the path of the list of its servers.
+    """
 
     file: str
     name: str
     octets: bytes
     fields: str
+    servers: str = ""
 
     def site(self) -> Site:
         return site_of(self.name, self.fields, 0)
@@ -200,7 +204,8 @@ class Files:
             value.decode() for wanted in (b"name", b"desc") for name, value in record.attributes if name == wanted
         ]
         fallback = stem(notes.file) if index is None else f"{stem(notes.file)}-{index}"
-        return Found(notes.file, self.named(next(filter(tidy, names), fallback)), record.octets(), fields)
+        name = self.named(next(filter(tidy, names), fallback))
+        return Found(notes.file, name, record.octets(), fields, part.below("servers"))
 
     def named(self, name: str) -> str:
         """The name with the signs that hsplan takes, and a number behind it where another site has it."""

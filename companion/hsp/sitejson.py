@@ -57,10 +57,11 @@ class Part:
             raise self.unfit(f"{shown(self.value)} isn't an object")
         for key in self.value:
             if known and key not in known:
-                self.notes.leave(self._below(key), "not a field of a record")
-        return {key: Part(it, self._below(key), self.notes) for key, it in self.value.items() if it is not None}
+                self.notes.leave(self.below(key), "not a field of a record")
+        return {key: Part(it, self.below(key), self.notes) for key, it in self.value.items() if it is not None}
 
-    def _below(self, key: str) -> str:
+    def below(self, key: str) -> str:
+        """The path of a field."""
         return f"{self.path}.{key}".lstrip(".")
 
     def items(self) -> Iterator[Part]:

@@ -444,9 +444,32 @@ def test_a_scheduler_that_goes_away_is_one_line(million: Million, tmp_path: Path
     said = ended(run, 5)
     assert said.startswith("hsp: the scheduler of this machine has ended") and said.count("\n") == 1
     assert not list(tmp_path.glob("*.answers*"))
-    words = ("--scheduler", "tcp://127.0.0.1:9", "--patience", 1)
-    said = fleet("dispatch", million.folder, "--fronts", FRONTS, *words, *logs, status=5)
-    assert said.startswith("hsp: no scheduler answers at tcp://127.0.0.1:9: ") and said.count("\n") == 1
+
+
+def test_a_refused_port_is_no_scheduler_at_once(million: Million, tmp_path: Path) -> None:
+    """No wait helps where nothing listens, so it isn't waited for a minute, which is the patience that isn't given."""
+    begun = time.monotonic()
+    words = ("--scheduler", "tcp://127.0.0.1:9")
+    said = fleet("dispatch", million.folder, "--fronts", FRONTS, *words, *million.all_written(tmp_path), status=5)
+    assert said == "hsp: no scheduler answers at tcp://127.0.0.1:9: connection refused\n"
+    assert time.monotonic() - begun < 30
+
+
+def test_a_plan_that_is_older_than_its_files(million: Million, tmp_path: Path) -> None:
+    """It is named before any worker is asked, with what to do, as by the doctor."""
+    folder = tmp_path / "service"
+    shutil.copytree(million.folder, folder, ignore=shutil.ignore_patterns("front-*", "*.answers"))
+    log = million.written(tmp_path, 0)
+    capacity = folder / "capacity.csv"
+    head, first, *rest = capacity.read_text().splitlines(True)
+    plan = folder / "plan.txt"
+    capacity.write_text(head + first.rpartition(",")[0] + ",0\n" + "".join(rest))
+    os.utime(capacity, (os.stat(plan).st_mtime + 10,) * 2)
+    said = fleet("dispatch", folder, "--fronts", FRONTS, f"0={log}", status=1)
+    assert said.startswith(f"hsp: {plan}: the plan is older than capacity.csv: hsp plan {folder}; hsplan check says no ")
+    os.utime(capacity, (os.stat(plan).st_mtime - 10,) * 2)
+    said = fleet("dispatch", folder, "--fronts", FRONTS, f"0={log}", status=1)
+    assert said.startswith(f"hsp: {plan}: the plan isn't one of these files: hsp plan {folder}; hsplan check says no ")
 
 
 @pytest.fixture
@@ -682,6 +705,7 @@ def test_words_that_are_no_run(million: Million, monkeypatch: pytest.MonkeyPatch
     folder = str(million.folder)
     wrong = {
         ("0=a", "0@node=b"): "front 0 has logs at two hosts",
+        ("0@node1=a",): "a log at node1 needs --scheduler: without it all workers are of this machine",
         ("2=a",): "front 2 isn't one of 2: the first one is 0",
         ("0=a", "b"): "'b' names no front",
         ("0=a", "1=a"): "a log is given twice",

@@ -274,7 +274,13 @@ def test_what_is_left_out_is_named_by_its_path(tmp_path: Path) -> None:
         (b'{"servers":[{"serverId":1,"address":"::1"}],"primarySite":"yes"}', "is neither true nor false"),
         (
             b'{"servers":[{"serverId":1,"address":"::1"},{"serverId":1,"address":"::2"}]}',
-            "refuses 'given': build: ServerIdTwice",
+            "servers[0].serverId and servers[1].serverId are 1; hsplan refuses 'given': build: ServerIdTwice site 0; "
+            "give each server its own identifier",
+        ),
+        (
+            make_examples.site_octets("paris", 7, ADDRESSES["paris"][:1] * 3)
+            .replace(b"\0\0\0\3" + bytes(12), b"\0\0\0\1" + bytes(12)),
+            "server 1 of its record and server 3 of its record are 1; hsplan refuses 'given': build: ServerIdTwice",
         ),
         (b'{"servers":[{"serverId":1,"address":"::1"}],"attributes":[{"name":"\\ud800"}]}', "half a character"),
         (PARIS[:-1], "hsplan says Truncated"),
@@ -292,6 +298,20 @@ def test_what_is_no_site_is_refused_in_one_line(tmp_path: Path, octets: bytes, s
     assert result.stderr.startswith(f"hsp: {path}: ")
     assert any(part.replace("\\", "") in result.stderr for part in says.split("|")), result.stderr
     assert os.listdir(tmp_path) == ["given"]
+
+
+def test_a_server_that_stands_twice_in_an_answer(tmp_path: Path) -> None:
+    """The entries are named by their paths from the top of the JSON, in the second site of the answer too."""
+    fine, twice = site_json("paris", 7), site_json("reston", 8)
+    twice["servers"][2]["serverId"] = 2
+    path = tmp_path / "answer.json"
+    path.write_bytes(answer(value_json(1, fine), ADMIN, value_json(2, twice)))
+    (line,) = invoke("sites", path, "--name", "a", "--name", "b", status=1).stderr.splitlines()
+    servers = "values[2].data.value.servers"
+    assert line == (
+        f"hsp: {path}: {servers}[1].serverId and {servers}[2].serverId are 2; "
+        "hsplan refuses 'b': build: ServerIdTwice site 1; give each server its own identifier"
+    )
 
 
 def test_broken_files_end_well(tmp_path: Path) -> None:

@@ -21,7 +21,7 @@ from hsp.marks import TABLE, TITLES
 from hsp.numbers import listed, some
 from hsp.paths import path_in, shell_word
 from hsp.programs import Desk
-from hsp.service import ACCEPT, NAMES, TITLE_KEYS, VALUES, Service, dotted
+from hsp.service import ACCEPT, NAMES, TITLE_KEYS, VALUES, Service, dotted, newer_than
 
 # A demand beyond so many times all capacity, or a capacity beyond so many times the demand, has likely another unit.
 FAR_ABOVE, FAR_BELOW = 10, 1000
@@ -377,11 +377,7 @@ def stale_plan(service: Service, desk: Desk, path: str) -> list[str] | None:
     own = {path_in(service.folder, name) for name in (*NAMES.values(), VALUES)}
     if not {inputs.settings, inputs.demand, inputs.costs, inputs.capacity} <= own:
         return None
-    if desk.verdict(inputs, path) == "yes":
-        return None
-    files = [own for own in (inputs.settings, inputs.values, inputs.demand, inputs.costs, inputs.capacity) if own]
-    time = os.stat(path).st_mtime
-    return [os.path.basename(own) for own in files if os.stat(own).st_mtime > time]
+    return None if desk.verdict(inputs, path) == "yes" else newer_than(inputs, path)
 
 
 def old_plan(it: Read, desk: Desk) -> None:

@@ -25,8 +25,8 @@ from hsp.fleet.split import Parted
 from hsp.marks import Mark, mark_in
 from hsp.numbers import listed, some
 from hsp.paths import path_in, shell_word
-from hsp.programs import Desk, Missing
-from hsp.service import NAMES, inputs_in
+from hsp.programs import Desk, Inputs, Missing
+from hsp.service import NAMES, inputs_in, newer_than
 from hsp.text import say
 
 SUFFIX = ".answers"
@@ -153,6 +153,16 @@ def any_handle_line(folder: str, logs: tuple[str, ...], plan: str | None, fronts
     )
 
 
+def of_these_files(folder: str, desk: Desk, inputs: Inputs, plan: str) -> None:
+    """Refuses a plan of other files, or of files that have changed, before any worker is asked."""
+    verdict = desk.verdict(inputs, plan)
+    if not verdict.startswith("no "):
+        return
+    newer = newer_than(inputs, plan)
+    why = f"the plan is older than {listed(newer)}" if newer else "the plan isn't one of these files"
+    raise Unfit(f"{plan}: {why}: hsp plan {shell_word(folder)}; hsplan check says {verdict}")
+
+
 @click.command()
 @click.argument("folder", metavar="DIR", type=FOLDER)
 @click.argument("logs", metavar="[FRONT[@HOST]=]LOG..", nargs=-1, required=True)
@@ -179,6 +189,7 @@ def dispatch(folder: str, logs: tuple[str, ...], plan: str | None, **given: Any)
     refuse_clashes(read, [path for it in own for path in it.targets])
     if not mark.is_plain and not given["any_handle"]:
         say(f"hsp: {any_handle_line(folder, logs, plan, given['fronts'])}", err=True)
+    of_these_files(folder, desk, inputs, certificate)
     files = {**kit.files_of(desk.in_units(inputs), certificate), **kit.programs(), "hsp.zip": kit.companion()}
     targets: Targets = [(it.targets, it.host) for it in fronts]
     with contextlib.ExitStack() as stack:

@@ -14,6 +14,7 @@ import uuid
 from collections.abc import Callable, Mapping, Sequence
 from dataclasses import dataclass
 from typing import Any
+from urllib.parse import urlsplit
 
 from hsp.files import locked
 from hsp.fleet.local import Gone, Local
@@ -61,6 +62,18 @@ class ByValue:
         raise AssertionError("it is called at the workers only")
 
 
+def refuses(address: str) -> bool:
+    """Whether a machine is there and nothing listens at its port: then no waiting helps."""
+    try:
+        place = urlsplit(address)
+        socket.create_connection((place.hostname or "", place.port or 0), timeout=5).close()
+    except ConnectionRefusedError:
+        return True
+    except (OSError, ValueError):  # Dask says what is wrong, or waits for the machine
+        return False
+    return False
+
+
 def needed() -> Any:
     """Dask's scheduler, which only these commands need."""
     try:
@@ -103,7 +116,9 @@ class Engine:
                 open(file, "rb").close()
             names = dict(zip(("tls_ca_file", "tls_client_cert", "tls_client_key"), keys))
             secured = self._dask.Security(require_encryption=True, **names)
-        address = self.local.address(patience) if self.local else self._place.scheduler
+        address = self.local.address(patience) if self.local else self._place.scheduler or ""
+        if refuses(address):
+            raise Gone(f"no scheduler answers at {address}: connection refused")
         try:
             self._client = self._dask.Client(address, security=secured, timeout=patience, set_as_default=False)
         except Exception as fault:  # Dask raises many kinds here, of which some name no file and no reason

@@ -57,6 +57,10 @@ def place_of(given: dict[str, Any]) -> Place:
 @contextlib.contextmanager
 def session(place: Place, targets: Targets) -> Iterator[Engine]:
     """A run. It ends with one line where it can't go on, and takes away all that it hasn't published."""
+    away = next((host for _, host in targets if host), None)
+    if away and not place.scheduler:
+        why = "without it all workers are of this machine"
+        raise click.UsageError(f"a log at {away} needs --scheduler: {why}")
     engine: Engine | None = None
 
     def stop(number: int) -> None:
