@@ -10,6 +10,7 @@ import itertools
 import os
 import shutil
 import subprocess
+import sys
 import tempfile
 from collections.abc import Iterable, Iterator
 from dataclasses import dataclass, replace
@@ -40,10 +41,12 @@ class Missing(Exception):
 
 
 def program(name: str) -> str:
-    """The path of a program: that of the environment's HSPLAN or HSPLAN_STREAM, or the one in PATH."""
-    found = os.environ.get(name.upper().replace("-", "_")) or shutil.which(name)
+    """The path of a program: that of the environment's HSPLAN or HSPLAN_STREAM, or the one in PATH or beside hsp."""
+    beside = os.path.dirname(os.path.realpath(sys.argv[0]))
+    key = name.upper().replace("-", "_")
+    found = os.environ.get(key) or shutil.which(name) or shutil.which(name, path=beside)
     if not found:
-        raise Missing(f"{name} isn't in PATH. Install it, or set {name.upper().replace('-', '_')} to its file.")
+        raise Missing(f"{name} isn't in PATH, nor beside hsp. Install it, or set {key} to its file.")
     return found
 
 

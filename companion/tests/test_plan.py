@@ -172,7 +172,29 @@ def test_faults_have_a_place(hsp: Hsp, example: Example, tmp_path: Path) -> None
     assert lines[:2] == ["error: 'x' isn't a handle", f" --> {folder}/demand.csv:2:4"]
     assert lines[-1] == "  hsplan says demand: BadHandle row 0 NoSlash"
     no_program = hsp("plan", str(folder), status=5, HSPLAN="", PATH="/nowhere").stderr
-    assert no_program == "hsp: hsplan isn't in PATH. Install it, or set HSPLAN to its file.\n"
+    assert no_program == "hsp: hsplan isn't in PATH, nor beside hsp. Install it, or set HSPLAN to its file.\n"
+
+
+def test_the_programs_beside_hsp_are_found(tmp_path: Path, example: Callable[[str], Path]) -> None:
+    """Called by its path, also by a link to it, hsp needs no PATH. HSPLAN and PATH come first."""
+    folder, beside, other = example("two-sites"), tmp_path / "beside", tmp_path / "other"
+    beside.mkdir()
+    (beside / "hsp").write_bytes(companion.archive())
+    for name in ("hsplan", "hsplan-stream"):
+        (beside / name).symlink_to(os.path.abspath(os.environ[name.upper().replace("-", "_")]))
+    (tmp_path / "link").symlink_to(beside / "hsp")
+    bare = {key: it for key, it in os.environ.items() if not key.startswith("HSPLAN")}
+    for path in (beside / "hsp", tmp_path / "link"):
+        words = [sys.executable, str(path), "plan", str(folder), "-o", "/dev/null"]
+        done = subprocess.run(words, env={**bare, "PATH": "/nowhere"}, capture_output=True, text=True)
+        assert (done.returncode, done.stderr) == (0, ""), done.stderr
+        assert done.stdout.startswith("two-sites  2 sites")
+    other.mkdir()
+    (other / "hsplan").write_text("#!/bin/sh\necho another one >&2; exit 1\n")
+    (other / "hsplan").chmod(0o755)
+    for more in ({"PATH": f"{other}:/bin"}, {"PATH": "/bin", "HSPLAN": str(other / "hsplan")}):
+        done = subprocess.run(words, env={**bare, **more}, capture_output=True, text=True)
+        assert done.returncode == 1 and "another one" in done.stderr, done.stdout
 
 
 def test_the_version(hsp: Hsp) -> None:
