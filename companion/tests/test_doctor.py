@@ -92,6 +92,7 @@ MISTAKES: dict[str, tuple[str, Edit, int, int, str]] = {
     "a count above the limit": (DEMAND, sub(",475", ",1000001"), 2, 28, "larger unit"),
     "a capacity above the limit": (CAPACITY, sub("1,1500", "1,1000000001"), 2, 9, "larger unit"),
     "no number": (COSTS, sub("paris,12", "paris,"), 2, 10, "write a number"),
+    "a server that the site's record lacks yet": (CAPACITY, more("paris,8,1500\n"), 7, 7, "bring the site's new record in (hsp sites), or take the row out"),
     "thousands by a letter": (CAPACITY, sub("1,1500", "1,1.5k"), 2, 9, "write 1500"),
     "millions by a letter": (CAPACITY, sub("1,1500", "1,2M"), 2, 9, "write 2000000"),
     "a sum among the capacities": (CAPACITY, more("paris,,3010\n"), 7, 7, "if it is a sum"),

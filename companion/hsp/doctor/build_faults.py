@@ -132,6 +132,8 @@ def unknown_server(question: Question, said: Said) -> Explained | None:
     remedy = f"write {free[0]}" if len(free) == 1 else f"take the row out, or write one of {ids}"
     if len(free) > 1:
         remedy = f"write the identifier that it stands for: {listed(free, 8)} have no row"
+    elif not free and text.isdecimal() and site.servers and int(text) > max(site.servers):
+        remedy = "bring the site's new record in (hsp sites), or take the row out: each server has its row"
     elif not free:
         remedy = "take the row out: each server has its row"
     words = Words(f"site {name} has no server {text}", remedy, why, kind=f"UnknownServer {name}")

@@ -140,9 +140,12 @@ def priceless(it: Read) -> None:
             continue
         meant = namesake(region, asking, paying)
         number = sum(other.fields[0] == region for other in it.demand.rows)
+        remedy = f"write {meant} here, or {region} in {costs}" if meant else f"add rows {region},SITE,COST to {costs}"
+        if meant and meant not in asking:
+            remedy = f"write {region} in {costs}, from line {paying[meant].first} on, or {meant} here"
         words = Words(
             f"region {quoted(region)} has no cost for any site",
-            f"write {meant} here, or {region} in {costs}" if meant else f"add rows {region},SITE,COST to {costs}",
+            remedy,
             f"no site may serve its {some(number, 'row')}, so the plan is a shortage",
             f"{costs} has {meant}" if meant else "",
             f"no cost {region}",
