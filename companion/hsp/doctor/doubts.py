@@ -8,7 +8,7 @@ import tomllib
 import unicodedata
 from collections import Counter, defaultdict
 from collections.abc import Iterable, Iterator
-from dataclasses import dataclass, field
+from dataclasses import dataclass, field, replace
 from urllib.parse import unquote
 
 from hsp.doctor.accepting import is_named, needless
@@ -49,7 +49,8 @@ class Read:
     findings: list[Finding] = field(default_factory=list)
 
     def doubt(self, text: Text, place: Place, words: Words) -> None:
-        self.findings.append(found(text.path, place, words, "", WARNING))
+        named = replace(words, name=words.name or words.kind)
+        self.findings.append(found(text.path, place, named, "", WARNING))
 
     def of_row(self, table: Table, row: Row, at: int, words: Words) -> None:
         self.doubt(table.text, table.place(row, at), words)
@@ -393,7 +394,7 @@ def old_plan(it: Read, desk: Desk) -> None:
     if newer:
         message = f"the plan is older than {listed(newer)}"
         why = f"{listed(newer)} {'is' if len(newer) == 1 else 'are'} newer, and hsplan check says no to the plan"
-    words = Words(message, f"hsp plan {shell_word(it.service.folder)}", why, kind=OLD_PLAN)
+    words = Words(message, f"hsp plan {shell_word(it.service.folder)}", why, kind=OLD_PLAN, name=OLD_PLAN)
     it.findings.append(found(path, Place(), words, "", WARNING))
 
 

@@ -30,7 +30,7 @@ class Finding:
     severity: str = ERROR
     # Findings of one kind are shown once at a terminal, and counted.
     kind: str = ""
-    # What hsp.toml calls a warning that it accepts.
+    # What hsp.toml calls a warning that it accepts; empty where it can't be accepted.
     name: str = ""
 
 
@@ -75,7 +75,7 @@ def found(path: str, place: Place, words: Words, said: str = "", severity: str =
         said=said,
         severity=severity,
         kind=words.kind or words.message,
-        name=words.name or words.kind,
+        name=words.name,
     )
 
 

@@ -12,10 +12,11 @@ from hsp.doctor.findings import WARNING, Finding, Place, Text, Words, found, quo
 from hsp.doctor.log_doubts import absent_in, mark_of_words, of_absent, of_mark
 from hsp.doctor.question import Question
 from hsp.doctor.rows import Row, Table, near, table_of
+from hsp.faults import Unfit
 from hsp.marks import Mark
 from hsp.numbers import some
 from hsp.programs import Inputs
-from hsp.service import NAMES, Service, Titles, service_of
+from hsp.service import NAMES, Service, Titles, service_of, titles_in
 
 # A log may be long: so many octets of it are looked at.
 LOOKED_AT = 1 << 20
@@ -38,7 +39,11 @@ def service_in(question: Question, mark: Mark) -> Service | None:
         return None
     folder = os.path.dirname(files["settings"]) or "."
     inputs = Inputs(files["settings"], files["demand"], files["costs"], files["capacity"], files.get("values"))
-    return service_of(folder, question.desk, inputs, Titles(folder), mark)
+    try:
+        titles = titles_in(folder, None, None)
+    except Unfit:  # of a broken hsp.toml, which no command of hsplan reads
+        titles = Titles(folder)
+    return service_of(folder, question.desk, inputs, titles, mark)
 
 
 def of_log(question: Question, service: Service | None, mark: Mark) -> Iterator[Finding]:
