@@ -362,7 +362,7 @@ def demand(logs: tuple[str, ...], regions: str, into: str | None, kept: str | No
     output = output_of(given, into)
     refuse_own(logs, regions, into, [it for it in (output, kept) if it], given)
     refuse_clashes([path_in(into, NAMES["demand"])] if into else [], [kept] if kept else [])
-    reading = Reading(form_of(given), regions_in(regions, given["by"], given["elsewhere"]), Judge(desk))
+    reading = Reading(form_of(given), regions_in(regions, given["by"], given["elsewhere"], desk), Judge(desk))
     if sys.stderr.isatty():
         gauge = Gauge(logs, 2 if given["busiest_hour"] else 1)
         reading.watch, reading.progress = gauge.watch, Progress(gauge).show

@@ -6,7 +6,9 @@ from __future__ import annotations
 import csv
 import importlib
 import io
+import ipaddress
 import os
+import re
 import socket
 from bisect import bisect_right
 from collections.abc import Callable, Iterable
@@ -14,11 +16,14 @@ from typing import Any
 
 from hsp.bounds import whole
 from hsp.faults import Unfit, shown
-from hsp.programs import Missing
+from hsp.programs import Desk, Missing, Refused, table_of
 
 # The region of an address, or the reason why it has none.
 Seek = Callable[[bytes], "bytes | str"]
 
+NAME_RULE = "a region's name has ASCII letters, digits, -, _ and . only, at most 64 of them"
+# So many regions are asked for at once: a demand has few.
+AT_ONCE = 32
 NO_ADDRESS, NO_REGION = "the client isn't an IP address", "no region for the client's address"
 MAPPED = b"\0" * 10 + b"\xff\xff"
 DATABASE_MARK = b"\xab\xcd\xefMaxMind.com"
@@ -74,11 +79,18 @@ class Networks:
 
     def __init__(self, path: str, octets: bytes, elsewhere: bytes | None) -> None:
         self.elsewhere = elsewhere
+        # The regions, each with the line of its first network.
+        self.names: dict[str, int] = {}
         found: dict[int, dict[tuple[int, int], bytes]] = {4: {}, 6: {}}
         for line, network, region in self._rows(path, octets):
             family, first, prefix = _network(path, line, network)
-            if found[family].setdefault((first, prefix), region) != region:
-                raise Unfit(f"{path}: line {line}: {network} has another region above")
+            self.names.setdefault(region.decode(), line)
+            other = found[family].setdefault((first, prefix), region)
+            if other != region:
+                rows = self._rows(path, octets)
+                above = next(at for at, it, _ in rows if _network(path, at, it) == (family, first, prefix))
+                both = f"{shown(region.decode())} here and {shown(other.decode())} in line {above}"
+                raise Unfit(f"{path}: line {line}: {network} has two regions, {both}; take one of the lines out")
         self._ranges = {
             family: ranges(((*key, region) for key, region in it.items()), BITS[family])
             for family, it in found.items()
@@ -117,6 +129,14 @@ def _text(path: str, octets: bytes) -> str:
         raise Unfit(f"{path}: line {octets.count(10, 0, error.start) + 1}: not UTF-8") from None
 
 
+def _meant(text: str) -> str:
+    """What to write for a network with a netmask, or for one that begins at an address within it."""
+    try:
+        return f"; write {ipaddress.ip_network(text, strict=False)}"
+    except ValueError:
+        return ""
+
+
 def _network(path: str, line: int, text: str) -> tuple[int, int, int]:
     """The family, the first address and the prefix of a network. An address is a network of its own."""
     address, slash, length = text.partition("/")
@@ -132,9 +152,10 @@ def _network(path: str, line: int, text: str) -> tuple[int, int, int]:
         prefix = -1
     number = int.from_bytes(first or b"", "big")
     if own is None or not 0 <= prefix <= own:
-        raise Unfit(f"{path}: line {line}: {shown(text)} isn't a network such as 192.0.2.0/24")
+        raise Unfit(f"{path}: line {line}: {shown(text)} isn't a network such as 192.0.2.0/24{_meant(text)}")
     if number & ((1 << (own - prefix)) - 1):
-        raise Unfit(f"{path}: line {line}: {shown(text)} begins in the middle of a network of this length")
+        why = "begins in the middle of a network of this length"
+        raise Unfit(f"{path}: line {line}: {shown(text)} {why}{_meant(text)}")
     return family, number, prefix
 
 
@@ -188,15 +209,40 @@ def named_in(path: str, elsewhere: str | None) -> list[str]:
     return [*names, *([elsewhere] if elsewhere and elsewhere not in names else [])]
 
 
-def regions_in(path: str, by: str, elsewhere: str | None) -> Seek:
-    """How regions are found by a file: a table of networks or a database."""
-    own = os.fsencode(elsewhere) if elsewhere else None
+def named(places: dict[str, str], desk: Desk) -> None:
+    """Refuses a region whose name hsplan refuses. Each has the place where it stands."""
+    names = list(places)
+    for at in range(0, len(names), AT_ONCE):
+        rows = ([it, "10/1", 1] for it in names[at : at + AT_ONCE])
+        try:
+            desk.plan(desk.without_sites(os.fsencode(table_of("region,handle,count", rows))))
+        except Refused as fault:
+            said = re.fullmatch(r"demand: (.*) row ([0-9]+)", fault.line)
+            if not said:
+                raise
+            name = names[at + int(said[2])]
+            raise Unfit(
+                f"{places[name]}: hsplan refuses the region {shown(name)}: {said[1]}; {NAME_RULE}"
+            ) from None
+
+
+def _base(path: str, by: str, own: bytes | None) -> Database | Networks:
+    """The database or the table of a file."""
     if DATABASE_MARK in _tail(path):
-        return Database(path, by, own).seek
+        return Database(path, by, own)
     octets = whole(path)
-    if DATABASE_MARK in octets[-TAIL:]:
-        return Database(path, by, own).seek
-    return Networks(path, octets, own).seek
+    return Database(path, by, own) if DATABASE_MARK in octets[-TAIL:] else Networks(path, octets, own)
+
+
+def regions_in(path: str, by: str, elsewhere: str | None, desk: Desk | None = None) -> Seek:
+    """How regions are found by a file: a table of networks or a database. A desk asks hsplan for their names."""
+    found = _base(path, by, os.fsencode(elsewhere) if elsewhere else None)
+    places = {elsewhere: "--elsewhere"} if elsewhere else {}
+    if isinstance(found, Networks):
+        places |= {name: f"{path}: line {line}" for name, line in found.names.items()}
+    if desk:
+        named(places, desk)
+    return found.seek
 
 
 def _tail(path: str) -> bytes:

@@ -19,12 +19,13 @@ from hsp.outlook import too_many
 from hsp.prefixes import Prefixes
 from hsp.programs import Desk, Inputs, Refused
 from hsp.queries import field_of
+from hsp.regions import NAME_RULE
 from hsp.service import table
 
 HEADER = b"region,handle,count\n"
 MOST_ROWS, MOST_COUNT = MOST_KINDS, 1_000_000
 REMEDIES = {
-    "BadName": "a region's name has ASCII letters, digits, -, _ and . only, at most 64 of them",
+    "BadName": NAME_RULE,
     "TooManyRegions": "join networks to at most 64 regions",
 }
 # So many pairs are counted in memory, before they are put into a file.

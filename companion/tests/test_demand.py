@@ -359,12 +359,25 @@ def test_regions_of_a_maxmind_database(tmp_path: Path) -> None:
         (b"network,region\n10.0.0.0/8\n", "line 2: 1 fields in place of network,region"),
         (b"network,region\n\n10.0.0.0/33,eu\n", "line 3: '10.0.0.0/33' isn't a network such as"),
         (b"network,region\n10.0.0.0/x,eu\n", "isn't a network such as"),
-        (b"network,region\n10.0.0.1/8,eu\n", "begins in the middle of a network of this length"),
-        (b"network,region\n10.0.0.0/8,eu\n10.0.0.0/8,us\n", "line 3: 10.0.0.0/8 has another region above"),
+        (b"network,region\n10.0.0.1/8,eu\n", "begins in the middle of a network of this length; write 10.0.0.0/8\n"),
+        (b"network,region\n10.1.0.0/255.255.0.0,eu\n", "such as 192.0.2.0/24; write 10.1.0.0/16\n"),
+        (b"network,region\n10.1.2.3/255.255.0.0,eu\n", "such as 192.0.2.0/24; write 10.1.0.0/16\n"),
+        (b"network,region\n2001:db8::1/32,eu\n", "a network of this length; write 2001:db8::/32\n"),
+        (
+            b"network,region\n192.0.2.1,us\n10.0.0.0/8,eu\n\n10.0.0.0/8,us\n",
+            "line 5: 10.0.0.0/8 has two regions, 'us' here and 'eu' in line 3; take one of the lines out",
+        ),
         (b"network,region\n10.0.0.0/8,\n", "line 2: no region"),
         (b"network,region\n10.0.0.0/8,e\xff\n", "line 2: not UTF-8"),
         (b'network,region\n10.0.0.0/8,"eu\n', "line 2: "),
-        (b"network,region\n10.0.0.0/8,a b\n", "hsplan refuses this demand: demand: BadName row 0"),
+        (
+            b"network,region\n10.0.0.0/8,eu\n10.1.0.0/16,EU West\n192.0.2.0/24,EU West\n",
+            "networks.csv: line 3: hsplan refuses the region 'EU West': BadName; a region's name has ASCII letters",
+        ),
+        (
+            b"network,region\n" + b"".join(b"10.%d.0.0/16,r%d\n" % (it, it) for it in range(99)) + b"::/0,\xc3\xa9\n",
+            "line 101: hsplan refuses the region '\\xe9': BadName; ",
+        ),
     ],
     ids=itertools.count(),
 )
@@ -375,6 +388,19 @@ def test_tables_of_networks_that_are_refused(tmp_path: Path, table: bytes, says:
     line = invoke(*words, status=1).stderr
     assert says in line and line.count("\n") == 1
     assert sorted(os.listdir(tmp_path)) == ["log", "networks.csv"]
+
+
+def test_a_region_that_is_no_name_is_refused_before_the_log_is_read(tmp_path: Path) -> None:
+    """Here the log would be refused, too. A table may have more regions than a demand has: a log seldom has all."""
+    (tmp_path / "networks.csv").write_text("network,region\n10.0.0.0/8,EU West\n")
+    (tmp_path / "log").write_bytes(b"\xff\xfeh\0i\0")
+    words = ("demand", tmp_path / "log", "--regions", tmp_path / "networks.csv")
+    assert "networks.csv: line 2: hsplan refuses the region 'EU West'" in invoke(*words, status=1).stderr
+    many = "".join(f"10.{it}.0.0/16,r{it}\n" for it in range(200))
+    (tmp_path / "networks.csv").write_text("network,region\n" + many)
+    assert "UTF-16" in invoke(*words, status=1).stderr
+    line = invoke(*words, "--elsewhere", "the rest", status=1).stderr
+    assert line.startswith("hsp: --elsewhere: hsplan refuses the region 'the rest': BadName; ")
 
 
 @pytest.mark.parametrize(

@@ -126,7 +126,8 @@ def demand(logs: tuple[str, ...], regions: str, into: str | None, keep: str | No
     place, output = place_of(given), output_of(given, into)
     named = [log_of(it, keep) for it in logs]
     _checked(named, regions, into, output, given)
-    span, form, seek = _span(given), form_of(given), regions_in(regions, given["by"], given["elsewhere"])
+    span, form = _span(given), form_of(given)
+    seek = regions_in(regions, given["by"], given["elsewhere"], desk)
     reading, tally = Reading(form, seek, Judge(desk)), Tally(desk)
     expect(twice([it.path for it in named if not it.host]))
     inputs = foreseen(regions, into, given, True, desk)
