@@ -16,6 +16,7 @@ from typing import NamedTuple
 
 import pytest
 
+from hsp import times
 from hsp.prefixes import MOST_PREFIXES, Prefixes
 from hsp.times import seconds_of
 
@@ -250,3 +251,9 @@ def test_a_file_that_is_given_twice_is_warned_of(tmp_path: Path) -> None:
     ]
     assert said[2].startswith("4 logs, 40 lines: 40 queries ")
     assert "twice" not in invoke(*words, tmp_path / "copied").stderr
+
+
+def test_times_of_no_log_are_none() -> None:
+    for seconds, wanted in ((0, 0), (-1, None), ((1 << 35) - 1, (1 << 35) - 1), (1 << 35, None)):
+        moment = datetime.datetime(1970, 1, 1, tzinfo=datetime.UTC) + datetime.timedelta(seconds=seconds)
+        assert times._of_iso(moment.isoformat()) == wanted

@@ -5,8 +5,11 @@ from __future__ import annotations
 from collections.abc import Callable
 from pathlib import Path
 
+import pytest
+
 from hsp.doctor import answer_faults, toml_faults
 from hsp.doctor.findings import Text
+from hsp.doctor.numbers_advice import advice
 from hsp.doctor.question import Draft, Question, Said
 from hsp.doctor.table_faults import open_quote, spot_of
 from hsp.programs import Desk
@@ -66,4 +69,52 @@ def test_an_empty_table_has_no_second_line(example: Example) -> None:
     folder = example("two-sites")
     (folder / "capacity.csv").write_text("site,server_id,capacity\n")
     said = invoke("doctor", folder, status=1).stdout
-    assert "capacity.csv:1:24\n1 | site,server_id,capacity\n" in said
+    assert "/capacity.csv:1:1\n1 | site,server_id,capacity\n" in said
+
+
+@pytest.mark.parametrize(
+    "text, why, mended",
+    [
+        ("475.", "a point behind the digits", "475"),
+        ("475,", "a point behind the digits", "475"),
+        ("47.5", "a fraction; every number is whole", "48"),
+        ("47.4", "a fraction; every number is whole", "47"),
+        ("4.75e2", "an exponent, as spreadsheets write it", "475"),
+        ("0475", "a zero before the digits", "475"),
+        ("+475", "a plus before the digits", "475"),
+        ("\u221247", "a minus; no number is below 0", "0"),
+        ("1,234,567", "a separator of thousands", "1234567"),
+        ("1.5k", "k for thousands", "1500"),
+        ("2M", "M for millions", "2000000"),
+        ("84ms", "a unit behind the digits", "84"),
+        ("\u0664\u0667", "digits of another script", "47"),
+        ("\u201c47\u201d", "other quotes than those of a table", "47"),
+        ("", "an empty field", "1"),
+        ("unlimited", "a word in place of a number", "1"),
+    ],
+)
+def test_a_number_that_is_none_is_mended(text: str, why: str, mended: str) -> None:
+    found = advice(text, "count")
+    assert (found.why, found.mended) == (why, mended)
+    if mended not in ("0", "1"):
+        assert found.remedy.split(",")[0].split(";")[0] == f"write {mended}"
+
+
+@pytest.mark.parametrize(
+    "room, message",
+    [
+        (600, "the demand is far above all capacity"),
+        (629, ""),
+        (6_282_000, ""),
+        (6_282_001, "all capacity is far above the demand"),
+    ],
+)
+def test_units_are_doubted_from_ten_times_and_a_thousand_times_on(example: Example, room: int, message: str) -> None:
+    """6,282 queries are asked: ten times 628.2, and a thousandth of 6,282,000."""
+    folder = example("two-sites")
+    header, *rows = (folder / "capacity.csv").read_text().splitlines()
+    rooms = [room // 5 + (at < room % 5) for at in range(5)]
+    lines = [",".join([*row.split(",")[:2], str(own)]) for row, own in zip(rows, rooms, strict=True)]
+    (folder / "capacity.csv").write_text("\n".join([header, *lines]) + "\n")
+    found = [it for it in invoke("doctor", folder).stdout.splitlines() if " far above " in it]
+    assert found == ([f"warning: {message}"] if message else [])

@@ -380,7 +380,7 @@ def test_a_log_of_no_form_ends_the_count_and_is_named(tmp_path: Path) -> None:
     assert not (tmp_path / "t.csv").exists() and not left(tmp_path)
 
 
-@pytest.mark.parametrize("number", [signal.SIGINT, signal.SIGTERM])
+@pytest.mark.parametrize("number", [signal.SIGINT, signal.SIGTERM, signal.SIGHUP])
 def test_an_interrupted_run_leaves_nothing(million: Million, tmp_path: Path, number: signal.Signals) -> None:
     logs = million.all_written(tmp_path)
     before = sorted(it.name for it in tmp_path.iterdir())

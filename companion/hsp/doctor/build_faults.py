@@ -127,8 +127,8 @@ def unknown_server(question: Question, said: Said) -> Explained | None:
     free = [it for it in map(str, site.servers) if it not in taken]
     ids = listed(map(str, site.servers), 12)
     why = f"{name} has the servers {ids}" if len(site.servers) > 1 else f"{name} has only the server {ids}"
-    if text == "0" or len(free) == 1 and text not in free:
-        why += "; places count from 0, identifiers needn't" if text == "0" else ""
+    if text == "0":
+        why += "; places count from 0, identifiers needn't"
     remedy = f"write {free[0]}" if len(free) == 1 else f"take the row out, or write one of {ids}"
     if len(free) > 1:
         remedy = f"write the identifier that it stands for: {listed(free, 8)} have no row"
