@@ -130,13 +130,15 @@ def _span(lines: list[str]) -> tuple[int, int] | None:
 
 
 def _written(text: str, mark: Mark) -> str:
-    """The text with the table in its place, at the end where there was none, or without it."""
+    """The text with the table in its place, at the end where there was none, or without it and its blank line."""
     line_end = "\r\n" if "\r\n" in text else "\n"
     lines = text.split(line_end)
     span = _span(lines)
     block = [] if mark.is_plain else _block(mark)
     if span:
-        lines[span[0] : span[1]] = block
+        first, end = span
+        is_apart = not block and first and not lines[first - 1] and not any(lines[end:])
+        lines[first - 1 if is_apart else first : end] = block
     elif block:
         kept = lines[:-1] if not lines[-1] else lines
         lines = [*kept, *([""] if kept else []), *block, ""]

@@ -6,6 +6,7 @@ from collections import Counter
 from collections.abc import Mapping
 
 from hsp.numbers import some
+from hsp.paths import shell_word
 
 # A prefix with a smaller share of the queries is rare, and so many are named.
 RARE, MOST_NAMED = 0.01, 5
@@ -39,8 +40,8 @@ class Prefixes:
         rare = [(it, count) for it, count in self._counts.most_common() if count < least]
         if not common or not rare:
             return []
-        own = " ".join(f"--prefix {it.decode('utf-8', 'replace')}" for it in common)
-        remedy = own if len(common) <= 3 else f"--prefix for each of yours, as {own.partition(' --')[0]}"
+        options = [f"--prefix {shell_word(it.decode('utf-8', 'replace'))}" for it in common]
+        remedy = " ".join(options) if len(options) <= 3 else f"--prefix for each of yours, as {options[0]}"
         words = "a prefix has" if len(rare) == 1 else f"{len(rare):,} prefixes have each"
         lines = [f"{words} less than 1% of the queries; where these are no handles of yours, give {remedy}"]
         for prefix, count in rare[:MOST_NAMED]:

@@ -54,6 +54,8 @@ def test_all_else_in_the_file_stays_as_it_is(tmp_path: Path, name: str) -> None:
     plain = marked(str(tmp_path), Mark())[str(path)].decode()
     said = tomllib.loads(before)
     assert {key: it for key, it in said.items() if key != "demand"} == tomllib.loads(plain)
+    if "demand" not in said and before.endswith("\n"):
+        assert plain == before
 
 
 def test_line_ends_stay_as_they_are(tmp_path: Path) -> None:
@@ -230,6 +232,21 @@ def test_a_shortage_names_kinds(hsp: Hsp, tmp_path: Path) -> None:
         ("handles like 20.1/a", "30"),
         ("handles like 20.1/a", "20"),
     ]
+
+
+@pytest.mark.parametrize("rows_are, number", [("handles", 2), ("kinds", 0)])
+def test_a_handle_that_names_a_kind_may_be_odd(tmp_path: Path, rows_are: str, number: int) -> None:
+    """A blank and another case are of the log, whose handles are hashed as they are."""
+    folder = written(
+        tmp_path / "s",
+        settings=Place("north", 2, ["192.0.2.1"]).block(),
+        demand="eu,20.1/a ,30\nus,20.1/\u00e9,20\nus,20.1/\u00c9,10\n",
+        costs="eu,north,1\nus,north,2\n",
+        capacity="north,1,400\n",
+        titles=f'[demand]\nrows = "{rows_are}"\n',
+    )
+    found = [it.kind for it in examined(str(folder), Desk(), {}).warnings]
+    assert sum(it in ("handle blank", "twins") for it in found) == number
 
 
 def test_kinds_are_compared_by_their_servers(tmp_path: Path) -> None:

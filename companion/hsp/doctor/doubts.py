@@ -82,7 +82,9 @@ def handle_words(handle: str) -> tuple[str, str]:
 
 
 def handles(it: Read) -> None:
-    """Handles that aren't bare."""
+    """Handles that aren't bare. One that names a kind is hashed as the log has it, and stands for others too."""
+    if it.service.mark.is_joined:
+        return
     for row in it.demand.rows:
         handle = row.fields[1]
         message, kind = handle_words(handle)
@@ -96,7 +98,10 @@ def handles(it: Read) -> None:
 
 
 def twins(it: Read) -> None:
-    """Handles of one region that differ only in the case of letters, or in how a letter is composed."""
+    """Handles of one region that differ only in the case of letters, or in how a letter is composed. Kinds have other
+    servers."""
+    if it.service.mark.is_joined:
+        return
     groups: dict[tuple[str, str], list[Row]] = defaultdict(list)
     for row in it.demand.rows:
         groups[row.fields[0], unicodedata.normalize("NFC", row.fields[1]).casefold()].append(row)

@@ -169,7 +169,7 @@ def of_these_files(folder: str, desk: Desk, inputs: Inputs, plan: str) -> None:
 @click.option("--fronts", type=click.IntRange(1, 64), required=True, metavar="N", help="how many fronts the plan has")
 @click.option("--plan", metavar="FILE", help="the certificate, in place of DIR/plan.txt")
 @click.option("--any-handle", is_flag=True, help="answer by hsplan-stream: any handle, and logs of any length")
-@click.option("--unit", type=click.IntRange(1, 1_000_000), metavar="N", help="of the demand, with --any-handle")
+@click.option("--unit", type=click.IntRange(1, 1_000_000), metavar="N", help="of the demand, with --any-handle; that of hsp.toml")
 @with_cluster
 def dispatch(folder: str, logs: tuple[str, ...], plan: str | None, **given: Any) -> None:
     """Answers the queries of logs by the plan of DIR, in parallel.
