@@ -246,7 +246,7 @@ def test_a_handle_that_names_a_kind_may_be_odd(tmp_path: Path, rows_are: str, nu
         titles=f'[demand]\nrows = "{rows_are}"\n',
     )
     found = [it.kind for it in examined(str(folder), Desk(), {}).warnings]
-    assert sum(it in ("handle blank", "twins") for it in found) == number
+    assert sum(it in ("handle blank", "twin handles") for it in found) == number
 
 
 def test_kinds_are_compared_by_their_servers(tmp_path: Path) -> None:
