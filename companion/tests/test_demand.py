@@ -715,14 +715,14 @@ def test_standard_input_is_read_once(hsp: Hsp, words: list[str]) -> None:
     assert said.endswith("- stands twice, and standard input is read once")
 
 
-def test_a_row_that_hsplan_refuses_is_shown(tmp_path: Path) -> None:
-    """By its region and its handle, also where it isn't the first one."""
-    networks = tmp_path / "networks.csv"
-    networks.write_text('network,region\n192.0.2.0/24,eu\n198.51.100.0/24,"no name"\n')
-    log = tmp_path / "log.csv"
-    log.write_text("client,handle\n192.0.2.1,20.500.1/a\n192.0.2.1,20.500.1/a\n198.51.100.1,20.500.1/b\n")
-    said = invoke("demand", log, "--regions", networks, status=1).stderr
-    assert "hsplan refuses this demand: demand: BadName row 1 in the row 'no name,20.500.1/b,1'" in said
+def test_a_row_that_hsplan_refuses_is_shown() -> None:
+    """By its region and its handle, also where it isn't the first one. A database may name regions so."""
+    tally = Tally(Desk())
+    for _ in tally.add([(b"eu", b"20.500.1/a"), (b"eu", b"20.500.1/a"), (b"no name", b"20.500.1/b")]):
+        pass
+    refused = "hsplan refuses this demand: demand: BadName row 1 in the row 'no name,20.500.1/b,1'"
+    with pytest.raises(Exception, match=refused):
+        tally.demand(None, None)
 
 
 def test_reasons_stand_by_their_counts_and_then_by_their_words(tmp_path: Path) -> None:
