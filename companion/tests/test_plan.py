@@ -9,6 +9,7 @@ import os
 import subprocess
 import sys
 from collections.abc import Callable
+from dataclasses import replace
 from pathlib import Path
 from typing import Any
 
@@ -124,6 +125,15 @@ def test_the_least_purchase_suffices_and_one_less_does_not(example: Example) -> 
         assert not with_capacities(service, desk, {**room, key: room[key] - 1}).is_plan
     after = with_purchase(service, desk, bought)
     assert after and after.certificate.cost == with_capacities(service, desk, room).cost
+
+
+def test_costs_above_50000_have_no_least_purchase(example: Example) -> None:
+    """A twin of the dearest way has to cost more than all others, and a cost is at most 1,000,000."""
+    folder = example("two-sites")
+    service, desk = read(folder, demand=str(folder / "premiere.csv"))
+    for dearest, is_planned in ((50_000, True), (50_001, False)):
+        dear = replace(service, costs={**service.costs, ("asia", "paris"): dearest})
+        assert (least_purchase(dear, desk) is not None) == is_planned
 
 
 @pytest.mark.parametrize("name", ["two-sites", "base"])
