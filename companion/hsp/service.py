@@ -13,6 +13,7 @@ from dataclasses import dataclass, field
 from typing import Any
 
 from hsp.bounds import whole
+from hsp.faults import Unfit
 from hsp.marks import Mark, mark_in, titles_of
 from hsp.numbers import part, some
 from hsp.paths import path_in
@@ -272,11 +273,22 @@ def read_service(
     return service_of(folder, desk, inputs_in(folder, given, mark.unit), titles_in(folder, title, cost), mark)
 
 
+def _in_one_line(path: str, rows: list[Row]) -> None:
+    """Refuses a handle with a line end: hsplan takes it, and a row of hsplan-stream, which has its servers, can't."""
+    for number, row in enumerate(rows, 1):
+        if "\n" in row.handle or "\r" in row.handle:
+            raise Unfit(
+                f"{path}: row {number} has a line end in its handle '{escaped(row.handle)}'; hsplan plans it, hsp shows "
+                "no such plan: take the row out"
+            )
+
+
 def service_of(folder: str, desk: Desk, inputs: Inputs, titles: Titles, mark: Mark) -> Service:
     """Reads files, as `read_service` does."""
     certificate, plan_file = desk.plan(inputs)
     settings = settings_in(inputs.settings)
     rows = [Row(region, handle, inputs.unit * int(count)) for region, handle, count in table(inputs.demand)]
+    _in_one_line(inputs.demand, rows)
     return Service(
         folder,
         titles,

@@ -238,6 +238,16 @@ def test_the_plan_of_an_empty_service_says_what_comes_next(hsp: Hsp, example: Ex
     assert "next" not in hsp("plan", str(example("two-sites"))).stdout
 
 
+def test_a_handle_with_a_line_end_is_named(hsp: Hsp, example: Example) -> None:
+    """hsplan takes it. No row of hsplan-stream can have it, and hsp asks that for the servers."""
+    folder = example("two-sites")
+    with open(folder / "demand.csv", "a", encoding="utf-8") as file:
+        file.write('eu,"20.500.1234/a\nb",5\n')
+    for command in ("plan", "doctor"):
+        said = hsp(command, str(folder), status=1).stderr
+        assert f"{folder}/demand.csv: row 37 has a line end in its handle '20.500.1234/a\\nb'" in said
+
+
 def test_a_file_in_place_of_a_folder(hsp: Hsp, example: Example) -> None:
     path = example("two-sites") / "demand.csv"
     assert "is a file: give its folder" in hsp("plan", str(path), status=2).stderr
