@@ -14,6 +14,7 @@ from collections.abc import Callable, Iterable, Iterator
 from hsp.bounds import MOST_HELD, Query, pieces, weight
 from hsp.faults import Unfit
 from hsp.kinds import MOST_KINDS
+from hsp.marks import MOST_UNIT
 from hsp.numbers import listed, some
 from hsp.outlook import too_many
 from hsp.prefixes import Prefixes
@@ -160,6 +161,8 @@ def advice(fault: Refused, inputs: Inputs, desk: Desk) -> str:
     """What an operator does where rows can't be joined."""
     unit = re.search(r"CountTooLarge.* unit ([0-9]+)", fault.line)
     if unit:
-        return f"a row of the demand has more than {MOST_COUNT:,} queries; give --unit {unit[1]}"
+        fits = int(unit[1]) <= MOST_UNIT
+        remedy = f"give --unit {unit[1]}" if fits else "no unit suffices: count the logs in parts"
+        return f"a row of the demand has more than {MOST_COUNT:,} queries; {remedy}"
     many = too_many(inputs, desk) if "TooManyKinds" in fault.line else ""
     return f"hsplan-stream can't join the rows: {fault.line}{'; ' + many if many else _remedy(fault)}"

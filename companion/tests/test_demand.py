@@ -30,10 +30,10 @@ import maxmind
 from hsp.cli import main
 from hsp.forms import Form
 from hsp.logs import LONGEST, Skipped, numbered
-from hsp.programs import Desk, Inputs
+from hsp.programs import Desk, Inputs, Refused
 from hsp.queries import Judge, Reading, queries
 from hsp.regions import Database, Networks, Seek, regions_in
-from hsp.tally import Tally
+from hsp.tally import Tally, advice
 
 from conftest import TOP, Hsp
 from test_sites import invoke
@@ -738,3 +738,10 @@ def test_reasons_stand_by_their_counts_and_then_by_their_words(tmp_path: Path) -
         "  1  not a handle (NoSlash)",
         "  1  the client isn't an IP address",
     ]
+
+
+@pytest.mark.parametrize("unit, remedy", [(1_000_000, "give --unit 1000000"), (1_000_001, "count the logs in parts")])
+def test_no_unit_is_advised_that_is_refused(unit: int, remedy: str) -> None:
+    """hsplan-stream takes units up to 1,000,000."""
+    line = advice(Refused(1, f"log: CountTooLarge row 3 unit {unit}"), Inputs("", "", "", ""), Desk())
+    assert line.endswith(remedy)
