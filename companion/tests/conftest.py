@@ -21,6 +21,8 @@ import make_examples  # noqa: E402
 import programs  # noqa: E402
 
 Hsp = Callable[..., "subprocess.CompletedProcess[str]"]
+# Before a command that gets a signal: what runs the tests, as nohup, may have signals ignored.
+WITH_SIGNALS = ["env", "--default-signal=HUP,INT,TERM"]
 
 
 @pytest.fixture(autouse=True, scope="session")

@@ -43,13 +43,18 @@ def dispatch(plan: Path, log: str | Path) -> list[str]:
     return [program("hsplan"), "dispatch", *INPUTS, f"--plan={plan}", f"--log={log}"]
 
 
+def name_of(words: list[str]) -> str:
+    """The name by which a program reports its faults; the file of a built one has an underscore."""
+    return Path(words[0]).name.replace("_", "-")
+
+
 def test_a_limit_of_files_ends_by_its_signal(plan: Path, log: Path, tmp_path: Path) -> None:
     for words in (answer(plan, log), dispatch(plan, log)):
         for trap, ends in (("", -signal.SIGXFSZ), ('trap "" XFSZ; ', 5)):
             shell = ["bash", "-c", f'{trap}ulimit -f 1; exec "$@" > {tmp_path}/out', "bash", *words]
             done = subprocess.run(shell, capture_output=True, text=True)
             assert (done.returncode, (tmp_path / "out").stat().st_size) == (ends, 1024)
-            assert done.stderr == (f"{Path(words[0]).name}: log: WriteFailed\n" if ends == 5 else "")
+            assert done.stderr == (f"{name_of(words)}: log: WriteFailed\n" if ends == 5 else "")
     assert "SIGXFSZ, without a line; a shell shows 153" in LIMITS and signal.SIGXFSZ + 128 == 153
 
 
@@ -58,7 +63,7 @@ def test_a_full_output_is_one_line(plan: Path, log: Path) -> None:
     for words, said in ((answer(plan, log), "log: WriteFailed"), ([program("hsplan"), "plan", *INPUTS], full)):
         with open("/dev/full", "wb") as out:
             done = subprocess.run(words, stdout=out, stderr=subprocess.PIPE, text=True)
-        assert (done.returncode, done.stderr) == (5, f"{Path(words[0]).name}: {said}\n")
+        assert (done.returncode, done.stderr) == (5, f"{name_of(words)}: {said}\n")
 
 
 def test_a_pipe_that_does_not_block_gets_a_beginning(plan: Path, log: Path) -> None:
@@ -70,7 +75,7 @@ def test_a_pipe_that_does_not_block_gets_a_beginning(plan: Path, log: Path) -> N
         os.close(writing)
         with open(reading, "rb") as pipe:
             got = pipe.read()
-        assert (done.returncode, done.stderr) == (5, f"{Path(words[0]).name}: log: WriteFailed\n")
+        assert (done.returncode, done.stderr) == (5, f"{name_of(words)}: log: WriteFailed\n")
         assert whole.startswith(got) and 0 < len(got) < len(whole)
 
 

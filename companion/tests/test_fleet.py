@@ -29,7 +29,7 @@ from hsp.forms import Form
 from hsp.programs import Desk, Inputs
 from hsp.times import Span
 
-from conftest import TOP, Hsp
+from conftest import TOP, WITH_SIGNALS, Hsp
 from test_demand import Asked, asked, regions_file, server_line, service
 from test_sites import invoke
 
@@ -40,7 +40,7 @@ ENVIRONMENT = {**os.environ, "PYTHONPATH": str(TOP / "companion"), "PYTHONDONTWR
 
 
 def started(*words: object, **more: object) -> "subprocess.Popen[str]":
-    command = [sys.executable, "-m", "hsp", "fleet", *map(str, words)]
+    command = [*WITH_SIGNALS, sys.executable, "-m", "hsp", "fleet", *map(str, words)]
     environment = {**os.environ, **ENVIRONMENT}
     streams = {"stdin": subprocess.DEVNULL, "stdout": subprocess.PIPE, "stderr": subprocess.PIPE}
     return subprocess.Popen(command, env=environment, text=True, **{**streams, **more})  # type: ignore[call-overload, no-any-return]
