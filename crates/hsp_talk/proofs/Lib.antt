@@ -1,3 +1,4 @@
 pub mod LineLaws
 pub mod Rows
 pub mod Talks
+mod Writing

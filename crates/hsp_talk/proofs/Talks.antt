@@ -1,11 +1,12 @@
 -- A talk that goes on, turn by turn.
-use Rattle.std.proofs.Common.{◌≡◌, ℕ, Bool, true, false, true≢false, List, [], ◌∷◌, ◌++◌, length, take, Option, Some, None, Result, Ok, Err, OnOk, IfErr, refl, ap, sym, ◌∙◌, subst, append_assoc, append-nil, take-append-drop, drop}
+use Rattle.std.proofs.Common.{◌≡◌, ◌+◌, inl, inr, ℕ, Bool, true, false, true≢false, List, [], ◌∷◌, ◌++◌, length, take, Option, Some, None, Result, Ok, Err, OnOk, IfErr, refl, ap, sym, ◌∙◌, subst, append_assoc, append-nil, take-append-drop, drop}
 use Rattle.std.proofs.Math.Seq.{take-append_seam}
 use Rattle.std.specs.List.{concat}
+use Rattle.std.proofs.lemmas.List.{length-append}
 use Rattle.std.proofs.lemmas.List.Folds.{concat-append}
 use Rattle.std.specs.Io.KnownBytes.{Appends, Consumes, Keeps}
-use Rattle.hsp_talk.specs.Known.{AreMore, GoesOn, HasNoMore, Known, SendsSome, Went, sending}
-use Rattle.hsp_talk.specs.Talk.{AreTaken, Event, HeldToTheEnd, IsPrompt, RefusesRow, StoppedBy, TakesRow, Took, cut, has_ended, last_line, received_in, rows_in, rows_of, sent_in, whole_lines}
+use Rattle.hsp_talk.specs.Known.{AreMore, GoesOn, HasNoMore, IsHandedOn, Known, SendsSome, Went, sending}
+use Rattle.hsp_talk.specs.Talk.{AreTaken, Event, HeldToTheEnd, IsPrompt, RefusesRow, StoppedBy, TakesRow, Took, cut, has_ended, last_line, reads_in, received_in, rows_in, rows_of, sent_in, whole_lines}
 use Rattle.hsp_talk.specs.Talk.Event.{received, sent}
 use Rattle.hsp_talk.specs.Turns.{AreCut, AreOwed, IsAt, IsRefused, StandsSo, rows_ended_by}
 use Rattle.hsp_talk.specs.Refusals.{stop_by}
@@ -34,6 +35,11 @@ sent_then [] more = refl
 sent_then (received octets ∷ events) more = sent_then events more
 sent_then (sent octets ∷ events) more = ap (λ r. octets ++ r) (sent_then events more) ∙ sym (append_assoc octets (sent_in events) (sent_in more))
 
+reads_then : (events more : List Event) → reads_in (events ++ more) ≡ reads_in events ++ reads_in more
+reads_then [] more = refl
+reads_then (received octets ∷ events) more = ap (λ r. octets ∷ r) (reads_then events more)
+reads_then (sent octets ∷ events) more = reads_then events more
+
 -- whether a talk has ended by what comes after it
 pub ended_then : (events more : List Event) → has_ended events ≡ false → has_ended (events ++ more) ≡ has_ended more
 ended_then [] more e = refl
@@ -49,7 +55,7 @@ ended_as (sent more ∷ events) octets = ended_as events octets
 
 -- ---- what is known of a peer
 
-more_then : (a b c : Option (List Event)) (xs ys : List Event) → AreMore a b xs → AreMore b c ys → AreMore a c (xs ++ ys)
+more_then : {X : Type 0} (a b c : Option (List X)) (xs ys : List X) → AreMore a b xs → AreMore b c ys → AreMore a c (xs ++ ys)
 more_then (Some a) (Some b) (Some c) xs ys f g = g ∙ ap (λ e. e ++ ys) f ∙ append_assoc a xs ys
 more_then a b c xs ys f g = search
 
@@ -65,6 +71,10 @@ received_by : (octets : List ℕ) → received_in (sending octets) ≡ []
 received_by [] = refl
 received_by (x ∷ octets) = refl
 
+read_by : (octets : List ℕ) → reads_in (sending octets) ≡ []
+read_by [] = refl
+read_by (x ∷ octets) = refl
+
 never_ended : (octets : List ℕ) → has_ended (sending octets) ≡ false
 never_ended [] = refl
 never_ended (x ∷ octets) = refl
@@ -73,7 +83,7 @@ sent_by : (octets : List ℕ) → sent_in (sending octets) ≡ octets
 sent_by [] = refl
 sent_by (x ∷ octets) = append-nil (x ∷ octets)
 
-none_added : (a : Option (List Event)) → AreMore a a []
+none_added : {X : Type 0} (a : Option (List X)) → AreMore a a []
 none_added None = tt
 none_added (Some a) = sym (append-nil a)
 
@@ -107,20 +117,22 @@ kept_so (Some a) (Some b) (Some c) xs f g = g ∙ f
 kept_so a b c xs f g = search
 
 -- a peer of which only the octets are known
-pub octets_come : (old new : Known) (octets : List ℕ) → old.events ≡ None → Consumes old.coming new.coming octets → (octets ≡ [] → HasNoMore old.coming new.coming) →
+pub octets_come : (old new : Known) (octets : List ℕ) → old.events ≡ None → AreMore old.reads new.reads (octets ∷ []) → Consumes old.coming new.coming octets → (octets ≡ [] → HasNoMore old.coming new.coming) →
     new.written ≡ old.written → new.lent ≡ old.lent → GoesOn old new (received octets ∷ [])
-octets_come old new octets unknown came at_end kept same = record {
+octets_come old new octets unknown read came at_end kept same = record {
   added = rw unknown tt;
+  read = read;
   came = subst (Consumes old.coming new.coming) (sym (append-nil octets)) came;
   at_end = λ ended. at_end (none_received octets ended);
   went = rw kept (none_went old.written);
   same = same;
 }
 
-pub octets_go : (old new : Known) (octets : List ℕ) → old.events ≡ None → new.coming ≡ old.coming → Appends old.written new.written octets →
+pub octets_go : (old new : Known) (octets : List ℕ) → old.events ≡ None → new.reads ≡ old.reads → new.coming ≡ old.coming → Appends old.written new.written octets →
     new.lent ≡ old.lent → GoesOn old new (sending octets)
-octets_go old new octets unknown kept went same = record {
+octets_go old new octets unknown read kept went same = record {
   added = rw unknown tt;
+  read = rw (read, read_by octets) (none_added old.reads);
   came = rw kept (subst (Consumes old.coming old.coming) (sym (received_by octets)) (none_came old.coming));
   at_end = λ ended. absurd (true≢false (sym ended ∙ never_ended octets));
   went = subst (Appends old.written new.written) (sym (sent_by octets)) went;
@@ -130,6 +142,7 @@ octets_go old new octets unknown kept went same = record {
 pub none_goes : (at : Known) → GoesOn at at []
 none_goes at = record {
   added = none_added at.events;
+  read = none_added at.reads;
   came = none_came at.coming;
   at_end = λ ended. absurd (true≢false (sym ended));
   went = none_went at.written;
@@ -140,6 +153,7 @@ none_goes at = record {
 pub goes_then : (a b c : Known) (xs ys : List Event) → GoesOn a b xs → GoesOn b c ys → GoesOn a c (xs ++ ys)
 goes_then a b c xs ys f g = record {
   added = more_then a.events b.events c.events xs ys f.added g.added;
+  read = subst (AreMore a.reads c.reads) (sym (reads_then xs ys)) (more_then a.reads b.reads c.reads (reads_in xs) (reads_in ys) f.read g.read);
   came = subst (Consumes a.coming c.coming) (sym (received_then xs ys)) (comes_then a.coming b.coming c.coming (received_in xs) (received_in ys) f.came g.came);
   at_end = λ ended. elim (has_ended xs) as (λ h. has_ended xs ≡ h → HasNoMore a.coming c.coming) [
     | true ↦ λ t. none_later a.coming b.coming c.coming (received_in xs) (received_in ys) f.came g.came (f.at_end t)
@@ -148,6 +162,34 @@ goes_then a b c xs ys f g = record {
   went = subst (Appends a.written c.written) (sym (sent_then xs ys)) (goes_out_then a.written b.written c.written (sent_in xs) (sent_in ys) f.went g.went);
   same = g.same ∙ f.same;
 }
+
+-- so many reads were made
+abbrev pub HasRead : ℕ → List Event → Type 0
+HasRead count events = length (reads_in events) ≡ count
+
+pub none_read : (at : Known) → Went at at (HasRead 0)
+none_read at = ([], none_goes at, refl)
+
+-- a turn has one read
+pub one_more_read : (start old now new : Known) (count : ℕ) (piece owed : List ℕ) → Went start old (HasRead count) → GoesOn old now (received piece ∷ []) → GoesOn now new (sending owed) →
+    Went start new (HasRead (count + 1))
+one_more_read start old now new count piece owed (events, goes, so) read sends =
+    let one = received piece ∷ [] in (
+      events ++ one ++ sending owed,
+      goes_then start now new (events ++ one) (sending owed) (goes_then start old now events one goes read) sends,
+      ap length (reads_then (events ++ one) (sending owed) ∙ ap (λ r. reads_in (events ++ one) ++ r) (read_by owed) ∙ append-nil (reads_in (events ++ one)) ∙ reads_then events one)
+          ∙ length-append (reads_in events) (piece ∷ []) ∙ ap (λ n. n + 1) so,
+    )
+
+-- ---- what is handed on
+
+pub none_written : (at : Known) → IsHandedOn at at
+none_written at = inl (record { written = refl; handed = refl })
+
+pub handed_then : (start old new : Known) → IsHandedOn start old → IsHandedOn old new → IsHandedOn start new
+handed_then start old new so (inr all) = inr all
+handed_then start old new (inl none) (inl kept) = inl (record { written = kept.written ∙ none.written; handed = kept.handed ∙ none.handed })
+handed_then start old new (inr all) (inl kept) = inr (kept.handed ∙ all ∙ sym kept.written)
 
 -- ---- rows
 

@@ -54,6 +54,12 @@ sent_in [] = []
 sent_in (received octets ∷ events) = sent_in events
 sent_in (sent octets ∷ events) = octets ++ sent_in events
 
+-- what each read gave
+abbrev pub reads_in : List Event → List (List ℕ)
+reads_in [] = []
+reads_in (received octets ∷ events) = octets ∷ reads_in events
+reads_in (sent octets ∷ events) = reads_in events
+
 -- a read found that no more octets come
 abbrev pub has_ended : List Event → Bool
 has_ended [] = false

@@ -1,15 +1,12 @@
 // Who asks and is answered.
 
-ghost use Rattle.std.specs.Prelude.{◌≡◌, ◌<◌, ◌≤◌, [], ◌∷◌, IfOk, None, OnErr, OnOk, Some, length, take};
-ghost use Rattle.std.specs.Io.KnownBytes.{Appends, Consumes, IsAtEnd, Keeps};
-ghost use Rattle.hsp_talk.specs.Known.{GoesOn, IsBegun, Known, SendsSome, unknown};
+ghost use Rattle.std.specs.Prelude.{◌≡◌, ◌<◌, ◌≤◌, [], ◌∷◌, ⊤, IfOk, None, OnErr, OnOk, Some, length, take};
+ghost use Rattle.hsp_talk.specs.Known.{GoesOn, IsUnwritten, Known, SendsSome, unknown};
 ghost use Rattle.hsp_talk.specs.Talk.Event.{received, sent};
 
-use std::io::{ErrorKind, Read, Write};
-
-/// A read or a write failed.
-#[derive(Clone, Copy, Debug, Drop)]
-pub struct Failed;
+use crate::output::Output;
+use crate::source::Source;
+use crate::stop::Failed;
 
 /// Who asks and is answered: one value for both directions, so that a contract can speak of the order of reads and
 /// writes.
@@ -17,99 +14,65 @@ pub trait Peer {
     /// What is known of the peer, as far as it is.
     ghost known: { Self → Known } = { λ _. unknown };
 
+    /// Whether a read may fail.
+    ghost may_read_fail: { Self → Type 0 } = { λ _. ⊤ };
+
+    /// Whether a send may fail.
+    ghost may_send_fail: { Type 0 } = { ⊤ };
+
     /// Waits for octets, and takes as many as there are, up to the length of the piece; none where no more come. Fails
-    /// where the piece has no room.
+    /// where the piece has no room. It reads once, and writes nothing.
     fn receive(&mut self, piece: &mut [u8]) -> Result<usize, Failed>
         ensures within { IfOk result (λ count. count ≤ length piece.new) }
         ensures long { length piece.new ≡ length piece.old }
         ensures receives { IfOk result (λ count.
             GoesOn (known self.old) (known self.new) (received (take count piece.new) ∷ [])) }
-        ensures fails { OnErr result (GoesOn (known self.old) (known self.new) []) };
+        ensures fails { OnErr result (GoesOn (known self.old) (known self.new) []) }
+        ensures may_fail { OnErr result (0 < length piece.old → may_read_fail self.old) }
+        ensures unwritten { IsUnwritten (known self.old) (known self.new) }
+        // What may fail later may have failed before.
+        ensures lasts { may_read_fail self.new → may_read_fail self.old };
 
     /// Writes all octets, and hands them on.
     fn send(&mut self, octets: &[u8]) -> Result<(), Failed>
         ensures sends { OnOk result
             (GoesOn (known self.old) (known self.new) (sent octets.now ∷ [])) }
-        ensures fails { OnErr result (SendsSome (known self.old) (known self.new) octets.now) };
+        ensures handed { OnOk result ((known self.new).handed ≡ (known self.new).written) }
+        ensures fails { OnErr result (SendsSome (known self.old) (known self.new) octets.now) }
+        ensures may_fail { OnErr result may_send_fail }
+        ensures lasts { may_read_fail self.new → may_read_fail self.old };
 }
 
 /// A reader and a writer as one peer. Contracts know nothing of the order of its reads and writes, and as much of their
-/// octets as the reader and the writer report. A read or a write that a signal interrupts is made again.
+/// octets as the reader and the writer report.
 #[derive(Drop)]
 pub struct Joined<'a, R, W> {
     pub reader: R,
     pub writer: &'a mut W,
 }
 
-// Reads once, and again where a signal interrupts it.
-fn read_some<R: Read>(reader: &mut R, piece: &mut [u8]) -> Result<usize, Failed>
-    ensures within { IfOk result (λ count. count ≤ length piece.new) }
-    ensures long { length piece.new ≡ length piece.old }
-    ensures reads { IfOk result (λ count.
-        Consumes (R.remaining reader.old) (R.remaining reader.new) (take count piece.new)) }
-    ensures at_end { IfOk result (λ count. count ≡ 0 → 0 < length piece.old
-        → IsAtEnd (R.remaining reader.new)) }
-    ensures fails { OnErr result (Keeps (R.remaining reader.old) (R.remaining reader.new)) }
-{
-    for _again in 0..u64::MAX {
-        match reader.read(piece) {
-            Ok(count) => return Ok(count),
-            Err(error) => {
-                if error.kind() != ErrorKind::Interrupted {
-                    return Err(Failed);
-                }
-            }
-        }
-    }
-    Err(Failed)
-}
-
-// Writes all octets. A write that a signal interrupts is made again. Where a write fails or takes no octet, some of the
-// first octets were written.
-fn write_whole<W: Write>(writer: &mut W, octets: &[u8]) -> Result<(), Failed>
-    ensures whole { OnOk result
-        (Appends (W.contents writer.old) (W.contents writer.new) octets.now) }
-    ensures begun { OnErr result
-        (IsBegun (W.contents writer.old) (W.contents writer.new) octets.now) }
-{
-    let mut at = 0;
-    for _again in 0..u64::MAX {
-        if at >= octets.len() {
-            return Ok(());
-        }
-        match writer.write(&octets[at..]) {
-            Ok(0) => return Err(Failed),
-            Ok(count) => at += count,
-            Err(error) => {
-                if error.kind() != ErrorKind::Interrupted {
-                    return Err(Failed);
-                }
-            }
-        }
-    }
-    Err(Failed)
-}
-
-impl<'a, R: Read, W: Write> Peer for Joined<'a, R, W> {
+impl<'a, R: Source, W: Output> Peer for Joined<'a, R, W> {
     ghost known = { λ peer. record {
       events = None;
+      reads = R.reads peer.reader;
       coming = R.remaining peer.reader;
       written = W.contents peer.writer.now;
+      handed = W.handed peer.writer.now;
       lent = Some peer.writer.ghost_name;
     } };
+
+    ghost may_read_fail = { λ peer. R.may_read_fail peer.reader };
+
+    ghost may_send_fail = { W.may_fail };
 
     fn receive(&mut self, piece: &mut [u8]) -> Result<usize, Failed> {
         if piece.is_empty() {
             return Err(Failed);
         }
-        read_some(&mut self.reader, piece)
+        self.reader.read_piece(piece)
     }
 
     fn send(&mut self, octets: &[u8]) -> Result<(), Failed> {
-        write_whole(self.writer, octets)?;
-        match self.writer.flush() {
-            Ok(()) => Ok(()),
-            Err(_) => Err(Failed),
-        }
+        self.writer.put(octets)
     }
 }

@@ -3,6 +3,10 @@
 ghost use Rattle.std.specs.Prelude.{◌≡◌};
 ghost use Rattle.hsp_talk.specs.Refusals.{stop_by};
 
+/// A read or a write failed.
+#[derive(Clone, Copy, Debug, Drop)]
+pub struct Failed;
+
 /// Why a desk does not take a row.
 #[derive(Debug, Drop)]
 pub enum Refusal<F> {

@@ -1,16 +1,17 @@
 // The talk.
 
-ghost use Rattle.std.specs.Prelude.{◌≡◌, ◌<◌, ◌≤◌, ◌+◌, ◌++◌, ◌∷◌, [], IfErr, IfOk, IfSome, OnErr, OnOk, length};
+ghost use Rattle.std.specs.Prelude.{◌≡◌, ◌⊎◌, ◌<◌, ◌≤◌, ◌+◌, ◌++◌, ◌∷◌, [], IfErr, IfOk, IfSome, OnErr, OnOk, length};
 ghost use Rattle.std.specs.Prelude.{position};
 ghost use Rattle.hsp_talk.specs.declared.limits.TheConstants.{LONGEST_ROW};
-ghost use Rattle.hsp_talk.specs.Known.{GoesOn, SendsSome, Went, sending};
+ghost use Rattle.hsp_talk.specs.Known.{GoesOn, IsHandedOn, SendsSome, Went, sending};
+ghost use Rattle.hsp_talk.specs.Stopping.{IsFailedWrite, MayStop};
 ghost use Rattle.hsp_talk.specs.Talk.{HeldToTheEnd, StoppedBy, cut, is_line_feed, last_line, rows_of, whole_lines};
 ghost use Rattle.hsp_talk.specs.Turns.{AreCut, AreOwed, rows_ended_by};
 
 use crate::desk::Desk;
 use crate::limits::LONGEST_ROW;
-use crate::peer::{Failed, Peer};
-use crate::stop::{Refusal, Stop, stop_for};
+use crate::peer::Peer;
+use crate::stop::{Failed, Refusal, Stop, stop_for};
 use std::alloc::{AllocError, Global};
 
 // The most octets that are received at a time.
@@ -123,6 +124,9 @@ fn send_owed<P: Peer>(peer: &mut P, owed: &mut Vec<u8>) -> Result<(), Failed>
         (GoesOn (P.known peer.old) (P.known peer.new) (sending owed.old.items)) }
     ensures fails { OnErr result
         (SendsSome (P.known peer.old) (P.known peer.new) owed.old.items) }
+    ensures handed { OnOk result (IsHandedOn (P.known peer.old) (P.known peer.new)) }
+    ensures may_fail { OnErr result P.may_send_fail }
+    ensures lasts { P.may_read_fail peer.new → P.may_read_fail peer.old }
 {
     if owed.is_empty() {
         return Ok(());
@@ -142,7 +146,7 @@ fn send_owed<P: Peer>(peer: &mut P, owed: &mut Vec<u8>) -> Result<(), Failed>
 /// passed over. So memory is bounded whatever comes, and the desk sees that the row is too long.
 ///
 /// Where the desk refuses a row, the answers to the rows before it are sent first. The same holds where memory runs
-/// out.
+/// out. There are at most 2^64 - 1 reads: where octets come even then, a failed read is reported.
 pub fn talk<P: Peer, D: Desk>(
     alloc: Global,
     desk: &mut D,
@@ -152,6 +156,11 @@ pub fn talk<P: Peer, D: Desk>(
         (HeldToTheEnd D.Takes desk.old desk.new)) }
     ensures stops { IfErr result (λ stop. Went (P.known peer.old) (P.known peer.new)
         (λ events. StoppedBy D.Takes D.Refuses desk.old desk.new events stop)) }
+    // No octet of an answer waits in a buffer of the peer, unless a write failed.
+    ensures handed { IsHandedOn (P.known peer.old) (P.known peer.new) ⊎ IsFailedWrite result }
+    // A failure is reported only of what may fail.
+    ensures may_stop { IfErr result (MayStop (P.may_read_fail peer.old) P.may_send_fail
+        (P.known peer.old) (P.known peer.new)) }
 {
     let mut line = Vec::new(alloc);
     let mut answer = Vec::new(alloc);

@@ -132,15 +132,17 @@ pub enum First {
     FlushFails,
 }
 
-/// Gives a text.
+/// Gives a text, and counts how often it is read.
 #[derive(Drop)]
 pub struct FakeReader<'a> {
     pub text: &'a [u8],
     pub first: First,
+    pub reads: u8,
 }
 
 impl<'a> Read for FakeReader<'a> {
     fn read(&mut self, buf: &mut [u8]) -> io::Result<usize> {
+        self.reads = self.reads.saturating_add(1);
         let first = self.first;
         self.first = First::Well;
         match first {

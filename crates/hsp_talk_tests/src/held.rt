@@ -57,7 +57,7 @@ pub fn goes(rt: &impl Abort, alloc: Global, pieces: &[&[u8]], limits: Limits, wa
     assert_eq!(rt; second.text(), wanted);
 }
 
-// Holds a talk with a reader and a writer over the rows `a` and `b`, and notes how it ended.
+// Holds a talk with a reader and a writer over the rows `a` and `b`, and notes how it ended, and after how many reads.
 fn note_joined(alloc: Global, first: First) -> Note {
     let mut desk = CountingDesk { taken: 0 };
     let mut writer = FakeWriter {
@@ -68,11 +68,14 @@ fn note_joined(alloc: Global, first: First) -> Note {
         reader: FakeReader {
             text: b"a\nb",
             first,
+            reads: 0,
         },
         writer: &mut writer,
     };
     let held = talk(alloc, &mut desk, &mut peer);
+    let reads = peer.reader.reads;
     writer.note.add(b'.', ending(held));
+    writer.note.add(b'<', &[b'0'.saturating_add(reads)]);
     writer.note
 }
 

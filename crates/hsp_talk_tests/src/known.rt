@@ -25,8 +25,10 @@ pub struct KnownPeer<'a> {
 impl<'a> Peer for KnownPeer<'a> {
     ghost known = { λ peer. record {
       events = Some (events_of peer.turns.items);
+      reads = None;
       coming = None;
       written = None;
+      handed = None;
       lent = None;
     } };
 

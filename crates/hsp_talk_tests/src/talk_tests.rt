@@ -67,15 +67,15 @@ fn reads_and_writes_fail(rt: HostRuntime) {
 
 #[test]
 fn a_reader_and_a_writer_are_a_peer(rt: HostRuntime) {
-    let whole: &[u8] = b">1 a>\n|>2 b>\n|.ended";
+    let whole: &[u8] = b">1 a>\n|>2 b>\n|.ended<2";
     let cases: [(First, &[u8]); 7] = [
         (First::Well, whole),
-        (First::ReadInterrupted, whole),
+        (First::ReadInterrupted, b">1 a>\n|>2 b>\n|.ended<3"),
         (First::WriteInterrupted, whole),
-        (First::ReadFails, b".read"),
-        (First::WriteFails, b".write"),
-        (First::WriteTakesNone, b".write"),
-        (First::FlushFails, b">1 a>\n.write"),
+        (First::ReadFails, b".read<1"),
+        (First::WriteFails, b".write<1"),
+        (First::WriteTakesNone, b".write<1"),
+        (First::FlushFails, b">1 a>\n.write<1"),
     ];
     for (first, wanted) in cases {
         goes_joined(&rt, rt.alloc(), first, wanted);

@@ -1,12 +1,14 @@
-use Rattle.std.proofs.Common.{arith, length, refl, take}
-use Rattle.std.proofs.lemmas.List.{take_all}
-use Rattle.hsp_talk.proofs.Talks.{kept_so, octets_go}
+use Rattle.std.proofs.Common.{◌≡◌, ℕ, List, None, Result, Ok, Err, OnErr, refl, take}
+use Rattle.hsp_talk.specs.Known.{Known, SendsSome}
+use Rattle.hsp_talk.specs.Writing.{Puts}
+use Rattle.hsp_talk.proofs.Talks.{octets_go}
 use Rattle.hsp_talk.proofs.peer.JoinedPeer.send.Goals as goal
 
-pub returns-in-Err-clause-fails : goal.returns-in-Err-clause-fails
-returns-in-Err-clause-fails g c =
-    let octets = c.args.octets.now in (
-      length octets,
-      octets_go _ _ (take (length octets) octets) refl refl
-          (kept_so _ _ _ (take (length octets) octets) (rw (take_all (length octets) octets (omega arith)) c.in_ok-write_whole.ensures.whole) c.in-Err.ensures.bytes) refl,
-    )
+-- octets of which a beginning was written are sent in part
+in_part : {E : Type 0} (MayFail : Type 0) (result : Result (Unit {0}) E) (old new : Known) (octets : List ℕ) → old.events ≡ None → new.reads ≡ old.reads → new.coming ≡ old.coming → new.lent ≡ old.lent →
+    Puts MayFail octets old.written new.written result → OnErr result (SendsSome old new octets)
+in_part MayFail (Ok done) old new octets unknown read kept same puts = tt
+in_part MayFail (Err failed) old new octets unknown read kept same (may, (count, went)) = (count, octets_go old new (take count octets) unknown read kept went same)
+
+pub returns-clause-fails : goal.returns-clause-fails
+returns-clause-fails g c = in_part g.W.Output.may_fail c.put.result _ _ c.args.octets.now refl refl refl refl c.put.ensures.puts

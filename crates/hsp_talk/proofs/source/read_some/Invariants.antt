@@ -1,6 +1,6 @@
 use Rattle.std.proofs.Common.{◌≡◌, length}
 use Rattle.std.specs.Io.KnownBytes.{Keeps}
-use Rattle.hsp_talk.proofs.peer.read_some.Given as goal
+use Rattle.hsp_talk.proofs.source.read_some.Given as goal
 
 -- nothing was read yet
 abbrev pub invariant-loop-again : goal.invariant-loop-again
