@@ -1,5 +1,5 @@
 -- Weak duality, and what a cut shows.
-use Rattle.std.proofs.Common.{◌≡◌, ℕ, zero, suc, ◌+◌, ◌*◌, ◌<◌, ◌≤◌, ◌==◌, ◌&&◌, ◌⊎◌, inl, inr, Bool, true, false, cond, List, length, sum_by, slice_index, slice_index_or, Option, Some, None, is_none, min, if◌then◌else◌, refl, ap, ap₂, sym, ◌∙◌, arith, mul_comm, mul-add, add-mul, mul-le-mul_left, mul-le-mul_right, mul-zero, zero-mul, one-mul, eq-eqb, ne_eqb}
+use Rattle.std.proofs.Common.{◌≡◌, ℕ, zero, suc, ◌+◌, ◌*◌, ◌<◌, ◌≤◌, ◌==◌, ◌&&◌, ◌⊎◌, inl, inr, Bool, true, false, cond, List, length, sum_by, slice_index, slice_index_or, Option, Some, None, is_none, min, if◌then◌else◌, All, refl, ap, ap₂, sym, ◌∙◌, arith, mul_comm, mul-add, add-mul, mul-le-mul_left, mul-le-mul_right, mul-zero, zero-mul, one-mul, eq-eqb, ne_eqb}
 use Rattle.std.proofs.lemmas.List.Folds.{list_any_at}
 use Rattle.std.proofs.lemmas.Bool.{cases_lt, cases_Bool, and_from}
 use Rattle.hsp_transport.specs.Cut.{reaches, demand_of, reached_capacity, capacity_of, IsShort}
@@ -78,6 +78,22 @@ module _ {A : Type 0} (n : Network A) (is : IsNetwork n) where
       sum_below_le (length n.limits) _ _ (λ h l. omega (arith, mul-le-mul_left (slice_index q h) (feasible.hosted h l), mul_comm (slice_index q h) (slice_index n.limits h))) in
       omega arith
 
+  -- prices that are below each arc's cost and prices bound what every flow costs, whatever is demanded and whatever can
+  -- be taken
+  pub prices_bound : (u p q : List ℕ) → All (λ a. slice_index u (n.source a) ≤ n.cost a + price_at n p q (n.server a)) n.arcs
+      → (y : A → ℕ) → IsFeasible n y → times n.demands u ≤ total_cost n y + (times n.capacities p + times n.limits q)
+  prices_bound u p q below y feasible =
+      let b : sum_by (λ a. slice_index u (n.source a) * y a) n.arcs ≤ sum_by (λ a. n.cost a * y a + price_at n p q (n.server a) * y a) n.arcs =
+      sum_by_le_all _ _ n.arcs (λ k d l. at (slice_index_or n.arcs k d) (below k d l)) in
+      let e = sum_by_add (λ a. n.cost a * y a) (λ a. price_at n p q (n.server a) * y a) n.arcs in
+      let s : sum_by (λ a. slice_index u (n.source a) * y a) n.arcs ≡ times n.demands u =
+      over_sources y feasible (λ i. slice_index u i) ∙ turned n.demands u in
+      let f = at_most_full y feasible p q in
+      omega arith
+    where
+      at : (a : A) → slice_index u (n.source a) ≤ n.cost a + price_at n p q (n.server a) → slice_index u (n.source a) * y a ≤ n.cost a * y a + price_at n p q (n.server a) * y a
+      at a h = omega (arith, mul-le-mul_right (y a) h, add-mul (n.cost a) (price_at n p q (n.server a)) (y a))
+
   module _ (x : A → ℕ) (u p q : List ℕ) (prices : HasPrices n x u p q) where
     -- what the sources pay is the total and what servers and hosts are paid
     paid : sum_by (λ a. slice_index u (n.source a) * x a) n.arcs ≡ total_cost n x + sum_by (λ a. price_at n p q (n.server a) * x a) n.arcs
@@ -91,17 +107,6 @@ module _ {A : Type 0} (n : Network A) (is : IsNetwork n) where
         at a h (inr l) =
             let z : x a ≡ 0 = omega arith in
             rw z (omega arith)
-
-    -- for any other plan it is no more
-    paid_at_most : (y : A → ℕ) → sum_by (λ a. slice_index u (n.source a) * y a) n.arcs ≤ total_cost n y + sum_by (λ a. price_at n p q (n.server a) * y a) n.arcs
-    paid_at_most y =
-        let b : sum_by (λ a. slice_index u (n.source a) * y a) n.arcs ≤ sum_by (λ a. n.cost a * y a + price_at n p q (n.server a) * y a) n.arcs =
-        sum_by_le_all _ _ n.arcs (λ k d l. at (slice_index_or n.arcs k d) (prices.below k d l)) in
-        let e = sum_by_add (λ a. n.cost a * y a) (λ a. price_at n p q (n.server a) * y a) n.arcs in
-        omega arith
-      where
-        at : (a : A) → slice_index u (n.source a) ≤ n.cost a + price_at n p q (n.server a) → slice_index u (n.source a) * y a ≤ n.cost a * y a + price_at n p q (n.server a) * y a
-        at a h = omega (arith, mul-le-mul_right (y a) h, add-mul (n.cost a) (price_at n p q (n.server a)) (y a))
 
     -- servers and hosts that are paid anything are full
     paid_full : IsFeasible n x → sum_by (λ a. price_at n p q (n.server a) * x a) n.arcs ≡ times n.capacities p + times n.limits q
@@ -179,11 +184,7 @@ module _ {A : Type 0} (n : Network A) (is : IsNetwork n) where
       let pays = paid x u p q prices in
       let takes = paid_full x u p q prices feasible in
       let sums : times n.demands u ≡ total_cost n x + times n.capacities p + times n.limits q = omega (arith, turned n.demands u, sends, pays, takes) in (
-        λ y other.
-            let a = over_sources y other (λ i. slice_index u i) in
-            let b = at_most_full y other p q in
-            let c = paid_at_most x u p q prices y in
-            omega (arith, turned n.demands u),
+        λ y other. let bound = prices_bound u p q prices.below y other in omega (arith, sums),
         sums,
       )
 

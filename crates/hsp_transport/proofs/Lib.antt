@@ -3,3 +3,10 @@ pub mod Duality
 pub mod Places
 pub mod Alike
 pub mod Capacities
+pub mod Rowwise
+pub mod Pooling
+pub mod Spreading
+pub mod KindPrices
+pub mod KindSets
+pub mod Lowering
+pub mod Changes

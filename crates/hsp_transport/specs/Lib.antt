@@ -4,3 +4,7 @@ pub mod Network
 pub mod Flow
 pub mod Prices
 pub mod Cut
+pub mod Plans
+pub mod Kinds
+pub mod Spread
+pub mod Changes
