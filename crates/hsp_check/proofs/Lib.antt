@@ -12,3 +12,5 @@ pub mod InstanceNetwork
 pub mod Validity
 pub mod Reached
 pub mod PlannedArcs
+pub mod Changes
+pub mod RowLinks

@@ -1,11 +1,11 @@
 -- The transportation problem of rows and sites (Network Flows, section 1.2): rows ask for queries, an arc leads from a
 -- row to its server at a site, servers take no more than their capacities, and the servers on one host together no more
 -- than its limit.
-use Rattle.std.specs.Prelude.{ℕ, ◌≤◌, ◌==◌, ◌&&◌, Bool, List, All, Option}
-use Rattle.std.specs.List.{list_any}
+use Rattle.std.specs.Prelude.{ℕ, ◌≤◌, Bool, List, All, Option}
 use Rattle.hsp_text.specs.declared.limits.TheConstants.{GREATEST_COST}
 use Rattle.hsp_check.specs.declared.arc.NetworkArc.{NetworkArc}
 use Rattle.hsp_transport.specs.Network as theory
+use Rattle.hsp_transport.specs.Plans as plans
 
 pub record Network : Type 0 where
   -- what each row asks for
@@ -35,9 +35,13 @@ transport n = record {
 abbrev pub IsNetwork : Network → Type 0
 IsNetwork n = theory.IsNetwork (transport n)
 
+-- the site that an arc leads to
+abbrev pub site_of : NetworkArc → ℕ
+site_of a = a.site
+
 -- whether the row may use the site
 abbrev pub is_allowed : Network → ℕ → ℕ → Bool
-is_allowed n i s = list_any (λ a. a.row == i && a.site == s) n.arcs
+is_allowed n i s = plans.is_allowed site_of (transport n) i s
 
 -- no arc costs more than the limit
 abbrev pub AreCheap : Network → Type 0

@@ -1,13 +1,12 @@
 -- Plans: a feasible flow of the transportation problem, and its cost (Network Flows, sections 1.2 and 9.1).
-use Rattle.std.specs.Prelude.{◌≡◌, ℕ, ◌≤◌, false}
+use Rattle.std.specs.Prelude.{ℕ}
 use Rattle.hsp_check.specs.declared.arc.NetworkArc.{NetworkArc}
-use Rattle.hsp_check.specs.Network.{Network, is_allowed, transport}
+use Rattle.hsp_check.specs.Network.{Network, site_of, transport}
 use Rattle.hsp_transport.specs.Flow as flows
+use Rattle.hsp_transport.specs.Plans as plans
 pub use Rattle.hsp_transport.specs.Lists.{is_on}
-
 -- a table of whole numbers: how many queries of a row go to a site
-abbrev pub Plan : Type 0
-Plan = ℕ → ℕ → ℕ
+pub use Rattle.hsp_transport.specs.Plans.{Plan}
 
 -- what the plan gives an arc
 abbrev pub planned : Plan → NetworkArc → ℕ
@@ -34,11 +33,9 @@ abbrev pub total : Network → Plan → ℕ
 total n x = flows.total_cost (transport n) (planned x)
 
 -- Nothing goes where it may not, every row gets what it asks for, and no server and no host takes more than it can.
-pub record Feasible (n : Network) (x : Plan) : Type 0 where
-  pub allowed : (i s : ℕ) → is_allowed n i s ≡ false → x i s ≡ 0
-  pub flow : flows.IsFeasible (transport n) (planned x)
+abbrev pub Feasible : Network → Plan → Type 0
+Feasible n x = plans.Feasible site_of (transport n) x
 
 -- A best plan is feasible, and no feasible plan costs less.
-pub record Best (n : Network) (x : Plan) : Type 0 where
-  pub feasible : Feasible n x
-  pub least : (y : Plan) → Feasible n y → total n x ≤ total n y
+abbrev pub Best : Network → Plan → Type 0
+Best n x = plans.Best site_of (transport n) x

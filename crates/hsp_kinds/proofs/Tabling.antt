@@ -1,26 +1,25 @@
 -- The table of rows has their kinds.
-use Rattle.std.proofs.Common.{◌≡◌, ℕ, zero, suc, ◌+◌, ◌<◌, ◌≤◌, ◌==◌, ◌&&◌, inl, inr, true, List, [], ◌∷◌, ◌++◌, length, map, sum_by, slice_index, slice_index_or, All, refl, ap, ap₂, sym, ◌∙◌, subst, arith, eq-eqb, ne_eqb, append-nil}
+use Rattle.std.proofs.Common.{◌≡◌, ℕ, ◌+◌, ◌<◌, ◌≤◌, ◌==◌, ◌&&◌, inl, inr, true, List, [], ◌∷◌, length, map, sum_by, slice_index, slice_index_or, All, refl, ap, sym, ◌∙◌, subst, arith}
 use Rattle.std.specs.Prelude.{◌↔◌}
 use Rattle.std.specs.Str.{bytes_eq}
 use Rattle.std.proofs.lemmas.Slice.Eq.{bytes_eq-Decides}
 use Rattle.std.proofs.lemmas.List.{length-map, get_or-map}
-use Rattle.std.proofs.lemmas.List.Elements.{All-append, All-nil, All-cons}
 use Rattle.std.proofs.lemmas.List.Sums.{sum_by_from}
 use Rattle.std.proofs.lemmas.Bool.{and_parts, and_from}
 use Rattle.hsp_tables.specs.Costs.{CostEntry}
-use Rattle.hsp_instance.specs.declared.arc.Arc.{Arc}
 use Rattle.hsp_instance.specs.Building.{arcs_from}
 use Rattle.hsp_instance.specs.Instance.{Row, Site}
 use Rattle.hsp_check.specs.declared.arc.NetworkArc.{NetworkArc}
-use Rattle.hsp_check.specs.Instance.{arc_of, arcs_from as arcs_of_rows}
-use Rattle.hsp_check.specs.Network.{IsNetwork}
+use Rattle.hsp_check.specs.Network.{IsNetwork, site_of, transport}
+use Rattle.hsp_check.proofs.RowLinks.{link, links_of_row, rows_below}
+use Rattle.hsp_transport.specs.Kinds.{Link, links_to}
 use Rattle.hsp_transport.specs.Sums.{sum_below}
 use Rattle.hsp_transport.proofs.Summing.{by_place, sum_below_same}
-use Rattle.hsp_kinds.specs.Kinds.{AreKinds, HasOneArcASite, arcs_in, arcs_of, arcs_to}
+use Rattle.hsp_kinds.specs.Kinds.{AreKinds, HasOneArcASite, links_of}
 use Rattle.hsp_kinds.specs.Tables.{IsKinding}
 use Rattle.hsp_kinds.specs.Rows.{KindsAreClasses, KindsHaveArcs, Service, TablesAreOfKinds, by_kind, is_same_kind, kinds_of, network_for, places_at, sites_for, with_count_of}
-use Rattle.hsp_kinds.proofs.Rowwise.{when}
-use Rattle.hsp_kinds.proofs.KindPrices.{of_row, of_all}
+use Rattle.hsp_transport.proofs.Rowwise.{when}
+use Rattle.hsp_transport.proofs.KindPrices.{of_row, of_all}
 use Rattle.hsp_kinds.proofs.Placing.{place_in, place_within, placed_same, all_more, all_there, all_seen}
 
 -- ---- kinds are classes
@@ -72,61 +71,20 @@ same_arcs costs a b n first (site ∷ more) r p =
 pub kinds_have_arcs : KindsHaveArcs
 kinds_have_arcs costs sites a b e = let p = same_parts costs sites a b e in same_arcs costs a b 0 0 sites p.0 p.1
 
--- ---- the arcs of a row of a network of lists
-
-arcs_append : (xs ys : List NetworkArc) (i : ℕ) → arcs_in (xs ++ ys) i ≡ arcs_in xs i ++ arcs_in ys i
-arcs_append [] ys i = refl
-arcs_append (x ∷ xs) ys i = grind (arith, arcs_append xs ys i)
-
-own_arcs : (arcs : List Arc) (j : ℕ) → arcs_in (map (arc_of j) arcs) j ≡ arcs
-own_arcs [] j = refl
-own_arcs (a ∷ arcs) j = grind (arith, own_arcs arcs j, eq-eqb j j refl)
-
-no_arcs : (arcs : List Arc) (j i : ℕ) → (j ≡ i → ⊥) → arcs_in (map (arc_of j) arcs) i ≡ []
-no_arcs [] j i ne = refl
-no_arcs (a ∷ arcs) j i ne = grind (arith, no_arcs arcs j i ne, ne_eqb j i ne)
-
-before_arcs : (lists : List (List Arc)) (j i : ℕ) → i < j → arcs_in (arcs_of_rows j lists) i ≡ []
-before_arcs [] j i l = refl
-before_arcs (arcs ∷ lists) j i l =
-    arcs_append (map (arc_of j) arcs) (arcs_of_rows (j + 1) lists) i
-    ∙ ap₂ (λ x y. x ++ y) (no_arcs arcs j i (λ e. omega arith)) (before_arcs lists (j + 1) i (omega arith))
-
-listed_arcs : (lists : List (List Arc)) (j i : ℕ) → arcs_in (arcs_of_rows j lists) (j + i) ≡ slice_index_or lists i []
-listed_arcs [] j i = refl
-listed_arcs (arcs ∷ lists) j zero =
-    let e : j + 0 ≡ j = omega arith in
-    ap (arcs_in (arcs_of_rows j (arcs ∷ lists))) e
-    ∙ arcs_append (map (arc_of j) arcs) (arcs_of_rows (j + 1) lists) j
-    ∙ ap₂ (λ x y. x ++ y) (own_arcs arcs j) (before_arcs lists (j + 1) j (omega arith)) ∙ append-nil arcs
-listed_arcs (arcs ∷ lists) j (suc i) =
-    let e : (j + 1) + i ≡ j + suc i = omega arith in
-    arcs_append (map (arc_of j) arcs) (arcs_of_rows (j + 1) lists) (j + suc i)
-    ∙ ap₂ (λ x y. x ++ y) (no_arcs arcs j (j + suc i) (λ q. omega arith)) (ap (arcs_in (arcs_of_rows (j + 1) lists)) (sym e) ∙ listed_arcs lists (j + 1) i)
-
-rows_below : (lists : List (List Arc)) (j most : ℕ) → j + length lists ≤ most → All (λ (a : NetworkArc). a.row < most) (arcs_of_rows j lists)
-rows_below [] j most l = All-nil (λ (a : NetworkArc). a.row < most)
-rows_below (arcs ∷ lists) j most l =
-    All-append (λ (a : NetworkArc). a.row < most) (map (arc_of j) arcs) (arcs_of_rows (j + 1) lists) (own arcs) (rows_below lists (j + 1) most (omega arith))
-  where
-    own : (arcs : List Arc) → All (λ (a : NetworkArc). a.row < most) (map (arc_of j) arcs)
-    own [] = All-nil (λ (a : NetworkArc). a.row < most)
-    own (a ∷ rest) = All-cons (λ (b : NetworkArc). b.row < most) (arc_of j a) (map (arc_of j) rest) (omega arith) (own rest)
-
 -- ---- one arc a site
 
-none_before : (costs : List CostEntry) (row : Row) (n first : ℕ) (sites : List Site) (s : ℕ) → s < n → arcs_to (arcs_from costs row n first sites) s ≡ 0
+none_before : (costs : List CostEntry) (row : Row) (n first : ℕ) (sites : List Site) (s : ℕ) → s < n → links_to (map link (arcs_from costs row n first sites)) s ≡ 0
 none_before costs row n first [] s l = refl
 none_before costs row n first (site ∷ more) s l =
     let later = first + length site.servers in
-    let sum = sum_by_from (λ (b : Arc). when (b.site == s) 1) (0 + when (n == s) 1) (arcs_from costs row (n + 1) later more) in
+    let sum = sum_by_from (λ (b : Link). when (b.site == s) 1) (0 + when (n == s) 1) (map link (arcs_from costs row (n + 1) later more)) in
     grind (arith, none_before costs row (n + 1) later more s, sum)
 
-one_a_site : (costs : List CostEntry) (row : Row) (n first : ℕ) (sites : List Site) (s : ℕ) → arcs_to (arcs_from costs row n first sites) s ≤ 1
+one_a_site : (costs : List CostEntry) (row : Row) (n first : ℕ) (sites : List Site) (s : ℕ) → links_to (map link (arcs_from costs row n first sites)) s ≤ 1
 one_a_site costs row n first [] s = omega arith
 one_a_site costs row n first (site ∷ more) s =
     let later = first + length site.servers in
-    let sum = sum_by_from (λ (b : Arc). when (b.site == s) 1) (0 + when (n == s) 1) (arcs_from costs row (n + 1) later more) in
+    let sum = sum_by_from (λ (b : Link). when (b.site == s) 1) (0 + when (n == s) 1) (map link (arcs_from costs row (n + 1) later more)) in
     grind (arith, one_a_site costs row (n + 1) later more s, none_before costs row (n + 1) later more s, sum)
 
 -- ---- the two networks
@@ -150,22 +108,21 @@ module _ (at : Service) (rows : List Row) where
   abbrev kind : ℕ → ℕ
   kind i = place_in (by_kind at.costs at.sites) classes count (λ a b. refl) table (row_at rows i)
 
-  -- the arcs of a row
-  arcs_are : (list : List Row) (i : ℕ) → i < length list → arcs_of (network_for at list) i ≡ arcs_from at.costs (row_at list i) 0 0 at.sites
-  arcs_are list i l =
-      let e : 0 + i ≡ i = omega arith in
-      let lists = map (λ row. arcs_from at.costs row 0 0 at.sites) list in
-      ap (arcs_in (arcs_of_rows 0 lists)) (sym e) ∙ listed_arcs lists 0 i ∙ get_or-map (λ row. arcs_from at.costs row 0 0 at.sites) list i no_row [] l
+  -- the links of a row
+  links_are : (list : List Row) (i : ℕ) → i < length list → links_of (network_for at list) i ≡ map link (arcs_from at.costs (row_at list i) 0 0 at.sites)
+  links_are list i l =
+      links_of_row (network_for at list) (map (λ row. arcs_from at.costs row 0 0 at.sites) list) i
+      ∙ ap (λ arcs. map link arcs) (get_or-map (λ row. arcs_from at.costs row 0 0 at.sites) list i no_row [] l)
 
   there : (i : ℕ) → i < length rows → kind i < length table
   there i l = place_within (by_kind at.costs at.sites) classes count (λ a b. refl) table (row_at rows i) (all_there (by_kind at.costs at.sites) classes count (λ a b. refl) rows [] i no_row l)
 
-  alike : (i : ℕ) → i < length rows → arcs_of (network_for at rows) i ≡ arcs_of (network_for at table) (kind i)
+  alike : (i : ℕ) → i < length rows → links_of (network_for at rows) i ≡ links_of (network_for at table) (kind i)
   alike i l =
       let same = placed_same (by_kind at.costs at.sites) classes count (λ a b. refl) table (row_at rows i) no_row (all_there (by_kind at.costs at.sites) classes count (λ a b. refl) rows [] i no_row l) in
-      arcs_are rows i l
-      ∙ sym (kinds_have_arcs at.costs at.sites (row_at table (kind i)) (row_at rows i) same)
-      ∙ sym (arcs_are table (kind i) (there i l))
+      links_are rows i l
+      ∙ sym (ap (λ arcs. map link arcs) (kinds_have_arcs at.costs at.sites (row_at table (kind i)) (row_at rows i) same))
+      ∙ sym (links_are table (kind i) (there i l))
 
   in_rows : (i : ℕ) → i < length (map count rows) → i < length rows
   in_rows i l = omega (arith, l, length-map rows count)
@@ -199,9 +156,9 @@ module _ (at : Service) (rows : List Row) where
   pub rows_are : IsNetwork (network_for at table) → IsNetwork (network_for at rows)
   rows_are is = record {
     sources = below;
-    servers = of_all (λ i a. a.server < length (map (λ s. s.capacity) at.servers)) (length (map count rows)) (network_for at rows).arcs below
-        (λ i l. subst (All (λ (a : Arc). a.server < length (map (λ s. s.capacity) at.servers))) (sym (alike i (in_rows i l)))
-        (of_row (λ i a. a.server < length (map (λ s. s.capacity) at.servers)) (network_for at table).arcs is.servers (kind i)));
+    servers = of_all site_of (transport (network_for at rows)) (λ i a. a.server < length (map (λ s. s.capacity) at.servers)) (length (map count rows)) (network_for at rows).arcs below
+        (λ i l. subst (All (λ (a : Link). a.server < length (map (λ s. s.capacity) at.servers))) (sym (alike i (in_rows i l)))
+        (of_row site_of (transport (network_for at table)) (λ i a. a.server < length (map (λ s. s.capacity) at.servers)) (network_for at table).arcs is.servers (kind i)));
     hosts = is.hosts;
   }
     where
@@ -211,7 +168,7 @@ module _ (at : Service) (rows : List Row) where
           (omega (arith, length-map rows count, length-map rows (λ row. arcs_from at.costs row 0 0 at.sites)))
 
   pub one_site : HasOneArcASite (network_for at rows)
-  one_site i s l = subst (λ arcs. arcs_to arcs s ≤ 1) (sym (arcs_are rows i (in_rows i l))) (one_a_site at.costs (row_at rows i) 0 0 at.sites s)
+  one_site i s l = subst (λ links. links_to links s ≤ 1) (sym (links_are rows i (in_rows i l))) (one_a_site at.costs (row_at rows i) 0 0 at.sites s)
 
 pub tables_are_of_kinds : TablesAreOfKinds
 tables_are_of_kinds at rows = ((kind at rows, table_kinds at rows), rows_are at rows, one_site at rows)

@@ -2,7 +2,7 @@
 
 ghost use Rattle.hsp_kinds.specs.Keeping.{KindsPoolPlans, KindsSpreadPlans, PricesOfKinds, ShortSetsOfKinds};
 ghost use Rattle.hsp_kinds.specs.Tables.{LogInParts};
-ghost use Rattle.hsp_kinds.specs.Units.{UnitsServeAll};
+ghost use Rattle.hsp_kinds.specs.Units.{UnitsServeAll, UnitsServeRows};
 ghost use Rattle.hsp_kinds.specs.Same.{PlanIsTheSame};
 ghost use Rattle.hsp_kinds.specs.Rows.{KindsAreClasses, KindsHaveArcs, TablesAreOfKinds};
 
@@ -60,4 +60,9 @@ pub fn kinds_have_arcs()
 /// capacities and limits are rounded down.
 pub fn units_serve_all()
     ensures { UnitsServeAll }
+{}
+
+/// Where a plan of kinds in units is feasible, the rows of the kinds have a feasible plan within so many times it.
+pub fn units_serve_rows()
+    ensures { UnitsServeRows }
 {}
