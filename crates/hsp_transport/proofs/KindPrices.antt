@@ -4,9 +4,11 @@ use Rattle.std.proofs.lemmas.Bool.{cases_Bool, cases_lt}
 use Rattle.std.proofs.lemmas.List.Elements.{All-cons, All-filter, All-head, All-map, All-nil, All-tail, All-weaker, filter_passes}
 use Rattle.hsp_transport.specs.Sums.{sum_below}
 use Rattle.hsp_transport.specs.Network.{Network, IsNetwork}
+use Rattle.hsp_transport.specs.Flow.{host_load, is_on, load}
 use Rattle.hsp_transport.specs.Prices.{HasPrices, at_host, price_at}
 use Rattle.hsp_transport.specs.Plans.{Plan, planned}
-use Rattle.hsp_transport.specs.Kinds.{AreAlikeIn, AreKinds, ArePricesOfKinds, Link, link_of, links_in, links_of, pooled}
+use Rattle.hsp_transport.specs.Kinds.{AreAlikeIn, AreKinds, ArePricesOfKinds, IsPooled, Link, link_of, links_in, links_of, pooled}
+use Rattle.hsp_transport.proofs.Summing.{sum_below_same, sum_by_same_all}
 use Rattle.hsp_transport.proofs.Rowwise.{when, when_here}
 use Rattle.hsp_transport.proofs.Pooling.{pooled_alike}
 use Rattle.hsp_transport.proofs.Spreading.{part_below}
@@ -109,3 +111,26 @@ module _ {A : Type 0} (site : A → ℕ) (n m : Network A) (kind : ℕ → ℕ) 
     idle = idle_alike n.capacities m.capacities _ _ p are.capacities alike.load prices.idle;
     idle_host = idle_alike n.limits m.limits _ _ q are.limits alike.host_load prices.idle_host;
   }
+
+-- prices of a plan of the kinds are prices of each plan of the sources that sends as much from each kind
+module _ {A : Type 0} (site : A → ℕ) (n m : Network A) (kind : ℕ → ℕ) (n-is : IsNetwork n) (m-is : IsNetwork m) (are : AreKinds site n m kind) (x y : Plan)
+    (as-much : IsPooled n m kind x y) where
+  same_flows : All (λ a. planned site m (pooled n kind x) a ≡ planned site m y a) m.arcs
+  same_flows = All-weaker (λ a. m.source a < length m.demands) _ (λ a l. as-much (m.source a) (site a) l) m.arcs m-is.sources
+
+  same_load : (j : ℕ) → load m (planned site m y) j ≡ load m (planned site m (pooled n kind x)) j
+  same_load j =
+      sum_by_same_all _ _ m.arcs
+      (All-weaker (λ a. planned site m (pooled n kind x) a ≡ planned site m y a) _ (λ a e. ap (λ v. when (m.server a == j) v) (sym e)) m.arcs same_flows)
+
+  same_host_load : (h : ℕ) → host_load m (planned site m y) h ≡ host_load m (planned site m (pooled n kind x)) h
+  same_host_load h = sum_below_same (length m.capacities) _ _ (λ j l. ap (λ v. when (is_on (m.host_of j) h) v) (same_load j))
+
+  pub prices_spread : (u of_kinds p q : List ℕ) → ArePricesOfKinds n kind u of_kinds → HasPrices m (planned site m y) of_kinds p q →
+      HasPrices n (planned site n x) u p q
+  prices_spread u of_kinds p q own prices = to_rows site n m kind n-is m-is are x u of_kinds p q own (record {
+    below = prices.below;
+    used = λ k d l sent. prices.used k d l (rw (same_flows k d l) at sent);
+    idle = idle_alike m.capacities m.capacities _ _ p refl same_load prices.idle;
+    idle_host = idle_alike m.limits m.limits _ _ q refl same_host_load prices.idle_host;
+  })
