@@ -1,4 +1,4 @@
 pub mod LineLaws
 pub mod Rows
 pub mod Talks
-mod Writing
+pub mod Writing

@@ -5,16 +5,16 @@
 mod desk;
 pub mod laws;
 mod limits;
-mod output;
 mod peer;
+mod sink;
 mod source;
 mod stop;
 mod talking;
 
 pub use desk::Desk;
 pub use limits::LONGEST_ROW;
-pub use output::Output;
 pub use peer::{Joined, Peer};
+pub use sink::Sink;
 pub use source::Source;
 pub use stop::{Failed, Refusal, Stop};
 pub use talking::talk;

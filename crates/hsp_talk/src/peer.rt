@@ -4,7 +4,7 @@ ghost use Rattle.std.specs.Prelude.{◌≡◌, ◌<◌, ◌≤◌, [], ◌∷◌
 ghost use Rattle.hsp_talk.specs.Known.{GoesOn, IsUnwritten, Known, SendsSome, unknown};
 ghost use Rattle.hsp_talk.specs.Talk.Event.{received, sent};
 
-use crate::output::Output;
+use crate::sink::Sink;
 use crate::source::Source;
 use crate::stop::Failed;
 
@@ -51,7 +51,7 @@ pub struct Joined<'a, R, W> {
     pub writer: &'a mut W,
 }
 
-impl<'a, R: Source, W: Output> Peer for Joined<'a, R, W> {
+impl<'a, R: Source, W: Sink> Peer for Joined<'a, R, W> {
     ghost known = { λ peer. record {
       events = None;
       reads = R.reads peer.reader;
@@ -73,6 +73,6 @@ impl<'a, R: Source, W: Output> Peer for Joined<'a, R, W> {
     }
 
     fn send(&mut self, octets: &[u8]) -> Result<(), Failed> {
-        self.writer.put(octets)
+        self.writer.deliver(octets)
     }
 }

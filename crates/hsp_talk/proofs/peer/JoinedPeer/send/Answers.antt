@@ -11,4 +11,4 @@ in_part MayFail (Ok done) old new octets unknown read kept same puts = tt
 in_part MayFail (Err failed) old new octets unknown read kept same (may, (count, went)) = (count, octets_go old new (take count octets) unknown read kept went same)
 
 pub returns-clause-fails : goal.returns-clause-fails
-returns-clause-fails g c = in_part g.W.Output.may_fail c.put.result _ _ c.args.octets.now refl refl refl refl c.put.ensures.puts
+returns-clause-fails g c = in_part g.W.Sink.may_fail c.deliver.result _ _ c.args.octets.now refl refl refl refl c.deliver.ensures.puts

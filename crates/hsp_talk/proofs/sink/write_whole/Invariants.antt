@@ -1,6 +1,6 @@
 use Rattle.std.proofs.Common.{length, ◌≤◌, take}
 use Rattle.std.specs.Io.KnownBytes.{Appends}
-use Rattle.hsp_talk.proofs.output.write_whole.Given as goal
+use Rattle.hsp_talk.proofs.sink.write_whole.Given as goal
 
 -- what stands before `at` was written
 abbrev pub invariant-loop-again : goal.invariant-loop-again

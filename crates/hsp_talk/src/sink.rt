@@ -8,7 +8,7 @@ use crate::stop::Failed;
 use std::io::{ErrorKind, Write};
 
 /// A writer of which it is known whether its writes may fail, and what has left it.
-pub trait Output: Write {
+pub trait Sink: Write {
     /// Whether a write may fail.
     ghost may_fail: { Type 0 };
 
@@ -27,7 +27,7 @@ pub trait Output: Write {
         ensures handed { OnOk result (handed self.new ≡ Self.contents self.new) };
 
     /// Writes the whole text, and hands it on.
-    fn put(&mut self, text: &[u8]) -> Result<(), Failed>
+    fn deliver(&mut self, text: &[u8]) -> Result<(), Failed>
         ensures puts { Puts may_fail text.now (Self.contents self.old) (Self.contents self.new)
             result }
         ensures handed { OnOk result (handed self.new ≡ Self.contents self.new) }
@@ -64,7 +64,7 @@ fn write_whole<W: Write>(writer: &mut W, octets: &[u8]) -> Result<(), Failed>
 }
 
 /// Every writer. No contract can say whether its writes fail, or what of its contents has left it.
-impl<W: Write> Output for W {
+impl<W: Write> Sink for W {
     ghost may_fail = { ⊤ };
 
     ghost handed = { λ writer. W.contents writer };

@@ -3,8 +3,8 @@ use Rattle.std.specs.Io.KnownBytes.{Appends}
 use Rattle.std.proofs.Math.Seq.{take-add}
 use Rattle.std.proofs.lemmas.List.{take_all}
 use Rattle.hsp_talk.proofs.Talks.{goes_out_then, kept_so}
-use Rattle.hsp_talk.proofs.output.write_whole.Goals.{in-Ok, in-Err+else-ne}
-use Rattle.hsp_talk.proofs.output.write_whole.Goals as goal
+use Rattle.hsp_talk.proofs.sink.write_whole.Goals.{in-Ok, in-Err+else-ne}
+use Rattle.hsp_talk.proofs.sink.write_whole.Goals as goal
 
 -- the octets from a place on
 from_place : (at : ℕ) (octets : List ℕ) → take (length octets - at) (drop at octets) ≡ drop at octets
