@@ -25,6 +25,12 @@ Hsp = Callable[..., "subprocess.CompletedProcess[str]"]
 WITH_SIGNALS = ["env", "--default-signal=HUP,INT,TERM"]
 
 
+def variables(**more: str) -> dict[str, str]:
+    """Those of a process that runs hsp from here."""
+    paths = [str(TOP / "companion"), os.environ.get("PYTHONPATH", "")]
+    return {**os.environ, "PYTHONPATH": os.pathsep.join(filter(None, paths)), **more}
+
+
 @pytest.fixture(autouse=True, scope="session")
 def _programs() -> None:
     """Names the real programs to the companion."""
@@ -40,9 +46,8 @@ def hsp() -> Hsp:
     """Runs hsp as its users do. Returns the ended process."""
 
     def run(*words: str, status: int = 0, **more: str) -> "subprocess.CompletedProcess[str]":
-        environment = {**os.environ, "PYTHONPATH": str(TOP / "companion"), **more}
         command = [sys.executable, "-m", "hsp", *words]
-        ended = subprocess.run(command, capture_output=True, text=True, env=environment, stdin=subprocess.DEVNULL)
+        ended = subprocess.run(command, capture_output=True, text=True, env=variables(**more), stdin=subprocess.DEVNULL)
         assert ended.returncode == status, ended.stdout + ended.stderr
         assert "Traceback" not in ended.stderr, ended.stderr
         return ended

@@ -5,8 +5,8 @@ from __future__ import annotations
 import gzip
 import json
 import lzma
-import os
 import random
+import re
 import resource
 import subprocess
 import sys
@@ -31,7 +31,7 @@ from hsp.service import read_service, settings_in, table
 from hsp.sitefiles import Files
 from hsp.tally import Tally
 
-from conftest import TOP
+from conftest import variables
 from test_sites import PARIS, invoke, site_json
 
 Example = Callable[[str], Path]
@@ -59,7 +59,7 @@ main(sys.argv[1:-1], prog_name="hsp")
 
 def measured(room: Path, *words: object) -> tuple[int, str, int]:
     """The status of a run of hsp, what it prints of a fault, and the octets that it had in memory at most."""
-    environment = {**os.environ, "PYTHONPATH": str(TOP / "companion")}
+    environment = variables()
     command = [sys.executable, "-c", MEASURED, *map(str, words), str(room / "octets")]
     done = subprocess.run(command, env=environment, stdin=subprocess.DEVNULL, capture_output=True, text=True)
     return done.returncode, done.stderr, 1024 * int((room / "octets").read_text())
@@ -89,7 +89,7 @@ def test_no_file_is_read_whole_beyond_the_limit(tmp_path: Path, example: Example
 
 
 def test_standard_input_has_the_limit_too() -> None:
-    environment = {**os.environ, "PYTHONPATH": str(TOP / "companion")}
+    environment = variables()
     with open("/dev/zero", "rb") as zeros:
         command = [sys.executable, "-m", "hsp", "sites", "-"]
         done = subprocess.run(command, stdin=zeros, capture_output=True, text=True, env=environment)
@@ -298,8 +298,9 @@ def test_the_doctor_ends_in_time(example: Example, monkeypatch: pytest.MonkeyPat
     if kind == "hsp.toml":
         assert said.startswith("error: hsp.toml has more than 262,144 octets\n")
         return
-    assert "there may be more: mend these, and ask again" in said
     assert said.startswith("error: site 1 has no name" if kind == "settings.toml" else "error: ")
+    whole = "of some 3,000 findings" if kind == "settings.toml" else "findings?; there may be more"
+    assert re.search(rf"\nthe first \d+ {whole}: mend these, and ask again\n", said)
 
 
 def test_a_file_without_a_fault_may_be_too_large_for_warnings(

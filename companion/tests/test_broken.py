@@ -10,7 +10,7 @@ import sys
 from concurrent.futures import ThreadPoolExecutor
 from pathlib import Path
 
-from conftest import TOP
+from conftest import TOP, variables
 
 FOLDERS = 300
 FILES = ("settings.toml", "demand.csv", "costs.csv", "capacity.csv")
@@ -51,7 +51,7 @@ def break_folder(folder: Path, draw: random.Random) -> None:
 
 
 def ended(folder: Path, command: str) -> tuple[int, str]:
-    environment = {**os.environ, "PYTHONPATH": str(TOP / "companion")}
+    environment = variables()
     words = [sys.executable, "-m", "hsp", command, str(folder)]
     done = subprocess.run(words, capture_output=True, text=True, env=environment, errors="replace")
     return done.returncode, done.stderr

@@ -35,7 +35,7 @@ from hsp.queries import Judge, Reading, queries
 from hsp.regions import Database, Networks, Seek, regions_in
 from hsp.tally import Tally, advice
 
-from conftest import TOP, Hsp
+from conftest import TOP, Hsp, variables
 from test_sites import invoke
 
 LINES = 10_000
@@ -668,7 +668,7 @@ def test_progress_is_shown_on_a_terminal(tmp_path: Path, is_packed: bool) -> Non
         "out.csv",
     ]
     own, its = pty.openpty()
-    environment = {**os.environ, "PYTHONPATH": str(TOP / "companion")}
+    environment = variables()
     done = subprocess.run(words, stdout=subprocess.PIPE, stderr=its, env=environment, cwd=tmp_path)
     os.close(its)
     shown = os.read(own, 1 << 16).decode()
@@ -682,7 +682,7 @@ def test_names_that_are_no_text(tmp_path: Path) -> None:
     """File names and words may be any octets."""
     folder = os.fsencode(tmp_path) + b"/\xff"
     regions = regions_file(tmp_path).encode()
-    environment = {**os.environ, "PYTHONPATH": str(TOP / "companion"), "LC_ALL": "C.UTF-8", "PYTHONUTF8": "0"}
+    environment = variables(LC_ALL="C.UTF-8", PYTHONUTF8="0")
     hsp = [os.fsencode(it) for it in (sys.executable, "-m", "hsp")]
     runs = [
         ([b"new", folder], 0),
@@ -703,7 +703,7 @@ def test_standard_input_is_a_log(tmp_path: Path) -> None:
     rows = asked(100, 19)
     text = "\n".join(map(server_line, rows)).encode()
     words = [sys.executable, "-m", "hsp", "demand", "-", "--regions", regions_file(tmp_path)]
-    environment = {**os.environ, "PYTHONPATH": str(TOP / "companion")}
+    environment = variables()
     for octets in (text, gzip.compress(text)):
         done = subprocess.run(words, input=octets, capture_output=True, env=environment)
         assert counts_of(done.stdout.decode()) == wanted(rows), done.stderr

@@ -18,7 +18,7 @@ from hsp.doctor import examined
 from hsp.doctor.findings import WARNING
 from hsp.programs import Desk
 
-from conftest import TOP, Hsp
+from conftest import Hsp, variables
 from test_doctor import CAPACITY, COSTS, DEMAND, HOSTS, SETTINGS, Edit, every, line, more, sub, without
 
 Example = Callable[[str], Path]
@@ -263,7 +263,7 @@ def test_printed_commands_have_a_path_as_one_word(
 def at_a_terminal(folder: Path, *words: str) -> str:
     """What hsp prints at a terminal."""
     ours, theirs = pty.openpty()
-    environment = {**os.environ, "PYTHONPATH": str(TOP / "companion"), "NO_COLOR": "1"}
+    environment = variables(NO_COLOR="1")
     command = [sys.executable, "-m", "hsp", *words]
     process = subprocess.Popen(command, cwd=folder, stdin=theirs, stdout=theirs, stderr=theirs, env=environment)
     os.close(theirs)

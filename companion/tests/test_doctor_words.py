@@ -18,7 +18,7 @@ from hsp.doctor.commands import line_of
 from hsp.doctor.printing import json_of
 from hsp.programs import Desk
 
-from conftest import TOP, Hsp
+from conftest import Hsp, variables
 
 Example = Callable[[str], Path]
 FILES = "--settings settings.toml --demand demand.csv --costs costs.csv --capacity capacity.csv"
@@ -315,7 +315,7 @@ def test_pipes_are_read_once(hsp: Hsp, folder: Path) -> None:
     script = f'hsp() {{ {sys.executable} -m hsp "$@"; }}; hsp doctor -- plan {FILES}'.replace(
         "--demand demand.csv", "--demand <(sed 's/,475$/,4.5/' demand.csv)"
     )
-    environment = {**os.environ, "PYTHONPATH": str(Path(__file__).parents[1])}
+    environment = variables()
     ended = subprocess.run(["bash", "-c", script], capture_output=True, text=True, env=environment)
     assert ended.returncode == 1, ended
     assert "2 | eu,20.500.1234/report-2024,4.5" in ended.stdout and "write 5" in ended.stdout
@@ -416,7 +416,7 @@ def test_a_pipe_that_stands_for_two_files(folder: Path) -> None:
         input=(folder / "demand.csv").read_text(),
         capture_output=True,
         text=True,
-        env={**os.environ, "PYTHONPATH": str(TOP / "companion")},
+        env=variables(),
     )
     assert done.returncode == 1
     assert "a pipe is read once, and --demand has it too" in done.stdout

@@ -29,19 +29,18 @@ from hsp.forms import Form
 from hsp.programs import Desk, Inputs
 from hsp.times import Span
 
-from conftest import TOP, WITH_SIGNALS, Hsp
+from conftest import TOP, WITH_SIGNALS, Hsp, variables
 from test_demand import Asked, asked, regions_file, server_line, service
 from test_sites import invoke
 
 FRONTS = 8
 DOCUMENT = (TOP / "docs" / "use" / "FLEET.md").read_text()
 Fleet = Callable[..., "subprocess.CompletedProcess[str]"]
-ENVIRONMENT = {**os.environ, "PYTHONPATH": str(TOP / "companion"), "PYTHONDONTWRITEBYTECODE": "1"}
 
 
 def started(*words: object, **more: object) -> "subprocess.Popen[str]":
     command = [*WITH_SIGNALS, sys.executable, "-m", "hsp", "fleet", *map(str, words)]
-    environment = {**os.environ, **ENVIRONMENT}
+    environment = variables(PYTHONDONTWRITEBYTECODE="1")
     streams = {"stdin": subprocess.DEVNULL, "stdout": subprocess.PIPE, "stderr": subprocess.PIPE}
     return subprocess.Popen(command, env=environment, text=True, **{**streams, **more})  # type: ignore[call-overload, no-any-return]
 

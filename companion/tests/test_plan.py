@@ -21,7 +21,7 @@ from hsp.plans import capacity_file, cheapest, least_purchase, planned, shortage
 from hsp.programs import BOUNDLESS, Desk, Refused
 from hsp.service import Service, read_service
 
-from conftest import TOP, Hsp
+from conftest import Hsp, variables
 
 import companion
 
@@ -273,7 +273,7 @@ LOST = [["--version"], ["--help"], ["plan", "--no-save"], ["plan", "--no-save", 
 
 @pytest.mark.parametrize("words", LOST, ids=" ".join)
 def test_a_full_disk_behind_standard_output_is_one_line(example: Example, words: list[str]) -> None:
-    environment = {**os.environ, "PYTHONPATH": str(TOP / "companion")}
+    environment = variables()
     with open("/dev/full", "wb") as full:
         done = subprocess.run(
             [sys.executable, "-m", "hsp", *words],
@@ -287,7 +287,7 @@ def test_a_full_disk_behind_standard_output_is_one_line(example: Example, words:
 
 
 def test_a_reader_that_goes_away_is_no_refused_input(example: Example) -> None:
-    environment = {**os.environ, "PYTHONPATH": str(TOP / "companion")}
+    environment = variables()
     reader, writer = os.pipe()
     os.close(reader)
     words = [sys.executable, "-m", "hsp", "plan", "--no-save"]
@@ -313,7 +313,7 @@ def test_a_closed_or_full_stream_changes_no_file_and_ends_plainly(hsp: Hsp, exam
     folder = example("two-sites")
     plain = hsp("plan", str(folder), "-o", str(folder / "plain")).stdout.replace("/plain", "/kept")
     command = f'{sys.executable} -m hsp plan "$1" -o "$1/kept" {streams}'
-    environment = {**os.environ, "PYTHONPATH": str(TOP / "companion")}
+    environment = variables()
     done = subprocess.run(["sh", "-c", command, "sh", str(folder)], capture_output=True, text=True, env=environment)
     status, printed, said = CLOSED[streams]
     assert (done.returncode, done.stdout, done.stderr) == (status, printed and plain, said)

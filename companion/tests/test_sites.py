@@ -23,7 +23,7 @@ from hsp.cli import main
 from hsp.programs import Desk
 from hsp.service import read_service
 
-from conftest import TOP, Hsp
+from conftest import Hsp, variables
 
 ADDRESSES = make_examples.TWO_SITES
 PARIS = make_examples.site_octets("paris", 7, ADDRESSES["paris"])
@@ -486,7 +486,7 @@ def test_a_full_disk_leaves_nothing_half_written(tmp_path: Path) -> None:
     """A limit on the size of files stands for the full disk."""
     folder = tmp_path / "mine"
     script = f"ulimit -f 1; {sys.executable} -m hsp new {folder}"
-    environment = {**os.environ, "PYTHONPATH": str(TOP / "companion")}
+    environment = variables()
     done = subprocess.run(["bash", "-c", script], capture_output=True, text=True, env=environment)
     assert (done.returncode, done.stderr) == (5, f"hsp: {folder}/README.txt: File too large\n")
     assert os.listdir(folder) == []

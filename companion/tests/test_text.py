@@ -17,7 +17,7 @@ import pytest
 
 from hsp.text import COLOUR, UNSEEN, escaped
 
-from conftest import TOP
+from conftest import TOP, variables
 from test_sites import ADMIN, invoke, site_json, value_json
 
 Example = Callable[[str], Path]
@@ -160,7 +160,7 @@ def test_a_file_that_is_absent_forges_no_line(example: Example) -> None:
 def at_terminal(*words: object) -> str:
     """What a command prints at a terminal."""
     leader, follower = pty.openpty()
-    environment = {**os.environ, "PYTHONPATH": str(TOP / "companion"), "TERM": "xterm"}
+    environment = variables(TERM="xterm")
     command = [sys.executable, "-m", "hsp", *map(str, words)]
     run = subprocess.Popen(command, stdin=follower, stdout=follower, stderr=follower, env=environment)
     os.close(follower)

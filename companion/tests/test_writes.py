@@ -19,22 +19,17 @@ from hsp import files
 from hsp.faults import Unfit
 from hsp.programs import Desk, Missing
 
-from conftest import TOP, WITH_SIGNALS, Hsp
+from conftest import WITH_SIGNALS, Hsp, variables
 from test_sites import PARIS, RESTON, invoke
 
 Example = Callable[[str], Path]
-
-
-def environment(**more: str) -> dict[str, str]:
-    """That of a run of hsp, by the programs that are named when it starts."""
-    return {**os.environ, "PYTHONPATH": str(TOP / "companion"), **more}
 
 
 def started(*words: object, **more: str) -> "subprocess.Popen[str]":
     """A run of hsp that goes on beside the test."""
     command = [*WITH_SIGNALS, sys.executable, "-m", "hsp", *map(str, words)]
     pipes = {"stdin": subprocess.DEVNULL, "stdout": subprocess.PIPE, "stderr": subprocess.PIPE}
-    return subprocess.Popen(command, text=True, env=environment(**more), **pipes)  # type: ignore[call-overload,no-any-return]
+    return subprocess.Popen(command, text=True, env=variables(**more), **pipes)  # type: ignore[call-overload,no-any-return]
 
 
 def log_of(path: Path, word: str, lines: int) -> Path:
@@ -255,7 +250,7 @@ def test_a_signal_that_the_caller_ignores_stays_ignored(tmp_path: Path, regions:
     script = 'trap "" HUP; exec "$@"'
     words = [sys.executable, "-m", "hsp", "demand", str(pipe), "--regions", str(regions)]
     run = subprocess.Popen(
-        ["sh", "-c", script, "sh", *words], env=environment(), stdout=subprocess.PIPE, stderr=subprocess.PIPE, text=True
+        ["sh", "-c", script, "sh", *words], env=variables(), stdout=subprocess.PIPE, stderr=subprocess.PIPE, text=True
     )
     with pipe.open("w") as file:
         run.send_signal(signal.SIGHUP)
@@ -266,7 +261,7 @@ def test_a_signal_that_the_caller_ignores_stays_ignored(tmp_path: Path, regions:
 def test_a_full_folder_of_temporary_files_is_named(twelve: Path, tmp_path: Path) -> None:
     """A limit on the size of files stands for the full disk."""
     words = ["bash", "-c", f"ulimit -f 1; exec {sys.executable} -m hsp plan {twelve} --no-save"]
-    done = subprocess.run(words, capture_output=True, text=True, env=environment(TMPDIR=str(tmp_path)))
+    done = subprocess.run(words, capture_output=True, text=True, env=variables(TMPDIR=str(tmp_path)))
     remedy = "File too large; set TMPDIR to another folder for temporary files"
     assert re.fullmatch(rf"hsp: {tmp_path}/hsp-\w+: {remedy}\n", done.stderr)
     assert (done.returncode, os.listdir(tmp_path)) == (5, [])
