@@ -31,6 +31,7 @@ from hsp.plans import (
 from hsp.charts import drawn
 from hsp.doctor import Examined, examined, examined_words
 from hsp.doctor.commands import FORMS
+from hsp.doctor.cut_short import cut_short
 from hsp.doctor.doubts import OLD_PLAN
 from hsp.doctor.mark_doubts import MUCH_ADDED
 from hsp.doctor.next_step import next_lines, next_step
@@ -510,10 +511,9 @@ def shown_findings(found: Examined, summary: str) -> None:
     """Prints findings, and what is there where no fault is."""
     for line in finding_lines(found.findings):
         say(line)
-    if found.is_cut_short and found.findings:
-        say(f"the first {some(len(found.findings), 'finding')}; there may be more: mend these, and ask again")
-    elif found.is_cut_short:
-        say("the files are too large to be looked at for warnings")
+    if found.is_cut_short:
+        note = cut_short(found.findings)
+        say(": ".join(filter(None, [note.message, note.remedy])))
     if not found.errors:
         say(summary)
 
@@ -536,7 +536,7 @@ def doctor(context: click.Context, folder: str, strict: bool, as_json: bool, **g
     if found.service:
         summary = f"{colored('no fault', 'green')}  {head(found.service)}"
     if as_json:
-        give(findings_json(found.findings))
+        give(findings_json([*found.findings, *([cut_short(found.findings)] if found.is_cut_short else [])]))
     else:
         shown_findings(found, summary)
     sys.exit(found.status or int(strict and bool(found.warnings)))

@@ -10,7 +10,7 @@ from dataclasses import dataclass
 from hsp.bounds import LARGEST
 from hsp.text import visible
 
-ERROR, WARNING = "error", "warning"
+ERROR, WARNING, NOTE = "error", "warning", "note"
 
 
 @dataclass(frozen=True)

@@ -1,0 +1,92 @@
+"""hsp doctor on files with more faults than it explains at once: how many there may be."""
+
+from __future__ import annotations
+
+import json
+from collections.abc import Callable
+from pathlib import Path
+
+import pytest
+
+from hsp.doctor import faults, guard
+from hsp.doctor.cut_short import cut_short, likely, rounded
+from hsp.doctor.findings import NOTE, WARNING, Finding
+
+from test_sites import invoke
+
+Example = Callable[[str], Path]
+HEADER = "region,handle,count\n"
+AGAIN = "mend these, and ask again"
+
+
+def at(file: Path, line: int, said: str = "demand: BadNumber row 0", severity: str = "error") -> Finding:
+    return Finding(f"fault {line}", "mend it", file=str(file), line=line, said=said, severity=severity)
+
+
+def rows(bad: int, good: int, times: int) -> str:
+    """Rows of which the last ones of each turn have a count that isn't a number."""
+    turn = ["1"] * good + ["many"] * bad
+    handles = (f"20.500.1/{number}-{at},{count}" for number in range(times) for at, count in enumerate(turn))
+    return HEADER + "".join(f"eu,{it}\n" for it in handles)
+
+
+@pytest.mark.parametrize("number, said", [(7, 7), (99, 99), (124, 120), (126, 130), (4960, 5000), (5100.4, 5100)])
+def test_an_estimate_has_two_digits(number: float, said: int) -> None:
+    assert rounded(number) == said
+
+
+@pytest.fixture
+def few(monkeypatch: pytest.MonkeyPatch) -> None:
+    """Turns end before the time does, on any machine."""
+    monkeypatch.setattr(faults, "TURNS", 12)
+    monkeypatch.setattr(guard, "SECONDS", 100.0)
+
+
+@pytest.mark.parametrize("bad, good, said", [(1, 0, "2,000"), (1, 4, "400"), (3, 2, "1,200")])
+def test_the_findings_of_all_rows_are_estimated_by_those_that_were_read(
+    example: Example, few: None, bad: int, good: int, said: str
+) -> None:
+    folder = example("two-sites")
+    (folder / "demand.csv").write_text(rows(bad, good, 2000 // (bad + good)))
+    shown = invoke("doctor", folder, status=1).stdout
+    assert shown.splitlines()[-1] == f"the first 12 of some {said} findings: {AGAIN}"
+    objects = json.loads(invoke("doctor", folder, "--json", status=1).stdout)
+    assert len(objects) == 13 and {it["severity"] for it in objects[:-1]} == {"error"}
+    note = f"the first 12 of some {said} findings"
+    empty = {"file": "", "line": 0, "column": 0, "end": 0, "why": "", "hsplan": "", "accept": ""}
+    assert objects[-1] == {"severity": NOTE, "message": note, "remedy": AGAIN, **empty}
+
+
+def test_faults_of_words_are_estimated_too(example: Example, few: None) -> None:
+    folder = example("two-sites")
+    (folder / "demand.csv").write_text(rows(1, 1, 500))
+    files = ("settings.toml", "demand.csv", "costs.csv", "capacity.csv")
+    words = [it for name in files for it in (f"--{name.partition('.')[0]}", folder / name)]
+    assert f"the first 12 of some 500 findings: {AGAIN}\n" in invoke("doctor", "--", "plan", *words, status=1).stdout
+
+
+def test_only_lines_behind_the_last_finding_are_estimated(tmp_path: Path) -> None:
+    path = tmp_path / "costs.csv"
+    path.write_text("region,site,cost\n" + "eu,paris,1\n" * 100)
+    other, build = tmp_path / "settings.toml", "build: UnknownSite table costs row 3"
+    # Eleven rows of a hundred were read with the others, and have two findings. All were read by themselves.
+    read = [at(other, 4), at(path, 3, "costs: Fields row 1"), at(path, 101, "costs: Fields row 99")]
+    assert likely([*read, at(path, 3, build), at(path, 12, build)]) == 21
+    assert likely([at(path, 101)]) == 1 and likely([at(path, 51)]) == 2
+    path.write_text("eu,paris,1\n" * 99 + "eu,paris,1")
+    assert likely([at(path, 1), at(path, 10)]) == 20
+
+
+def test_what_cannot_be_estimated_is_not(tmp_path: Path) -> None:
+    path = tmp_path / "costs.csv"
+    path.write_text("x\n" * 1000)
+    for last in (at(tmp_path / "none", 3), at(path, 0), at(path, 3, severity=WARNING), at(path, 1001), at(tmp_path, 3)):
+        assert cut_short([at(path, 2), last]).message == "the first 2 findings; there may be more"
+    assert cut_short([at(path, 3)]).message == "the first 1 of some 500 findings"
+    assert cut_short([at(path, 1000)]) == Finding("the first 1 finding; there may be more", AGAIN, severity=NOTE)
+
+
+def test_warnings_without_an_end_are_said_in_json_too(example: Example, monkeypatch: pytest.MonkeyPatch) -> None:
+    monkeypatch.setattr(guard, "SECONDS", 0.0)
+    (only,) = json.loads(invoke("doctor", example("two-sites"), "--json", "--strict").stdout)
+    assert (only["severity"], only["message"]) == (NOTE, "the files are too large to be looked at for warnings")
