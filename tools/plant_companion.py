@@ -1,10 +1,13 @@
 #!/usr/bin/env python3
 """Plants wrong expressions in copies of the companion, one in each, and names those that its tests let pass.
 
-    tools/plant_companion.py [--number N] [--seed S] [--jobs J] [--only MODULE] [--list]
+    tools/plant_companion.py [--reached FILE] [--number N] [--seed S] [--jobs J] [--only MODULE] [--list]
 
 A change is drawn by the seed: a comparison turned, an operator or a constant exchanged, a condition negated, arguments
-swapped, a statement left out. Of each module the tests that `TESTS` names are run, which stop at the first that fails.
+swapped, a statement left out. Tests are run until one fails. `FILE` is what `tools/cover_companion.py --data FILE` keeps:
+with it these are the tests that reach the changed line, those of its module first. Without it, and for a line that
+Python reads when it loads the module, they are those that `TESTS` names for the module.
+
 Printed are the changes that no test refused, and how many there were. Some of these change nothing that anybody sees:
 a person judges that. `--list` prints the changes and runs nothing. The gate doesn't run this script.
 """
@@ -13,11 +16,16 @@ from __future__ import annotations
 import argparse
 import ast
 import concurrent.futures
+import contextlib
 import copy
+import itertools
 import os
 import queue
 import random
+import re
 import shutil
+import signal
+import sqlite3
 import subprocess
 import sys
 import tempfile
@@ -27,7 +35,10 @@ from typing import NamedTuple
 import programs
 
 PYTHON = "/usr/bin/python3"
-SECONDS = 900
+# Seconds that a test takes at most, and those that are added where it is known how long it takes.
+SECONDS, MORE = 900, 100
+# Tests of a line are run as long as these measured seconds together; the cheap ones first.
+MOST = 200.0
 COMPANION = os.path.join(programs.TOP, "companion")
 # The tests of a module, by the beginning of its path; the first that fits counts.
 TESTS = {
@@ -75,10 +86,11 @@ SWAPPED: dict[type, type] = {
 
 
 class Change(NamedTuple):
-    """A change of a module: its path, its line, what is changed there, and the whole text with it."""
+    """A change of a module: its path, its lines, what is changed there, and the whole text with it."""
 
     path: str
     line: int
+    last: int
     what: str
     text: str
 
@@ -138,7 +150,8 @@ def change_of(path: str, at: int) -> Change:
     node, what, new = _all_of(tree)[at]
     before = ast.unparse(node).split("\n")[0]
     text = ast.unparse(ast.fix_missing_locations(_Put(node, new).visit(tree)))
-    return Change(path, getattr(node, "lineno", 0), f"{what}: {before[:90]}", text)
+    line = getattr(node, "lineno", 0)
+    return Change(path, line, getattr(node, "end_lineno", line), f"{what}: {before[:90]}", text)
 
 
 def modules(only: str) -> list[str]:
@@ -158,27 +171,67 @@ def drawn(number: int, seed: int, only: str) -> list[Change]:
     return [change_of(*it) for it in random.Random(seed).sample(every, min(number, len(every)))]
 
 
+class Reached:
+    """Which tests reach a line, and how many seconds each takes. Nothing is known of it without a file."""
+
+    def __init__(self, path: str | None) -> None:
+        self._data = sqlite3.connect(path or ":memory:", check_same_thread=False)
+        self.is_known = bool(path)
+        rows = self._data.execute("select test, seconds from seconds").fetchall() if path else []
+        self.seconds: dict[str, float] = dict(rows)
+
+    def tests(self, change: Change) -> list[str]:
+        """The tests that reach a change, those of its module first, and then the cheap ones."""
+        if not self.is_known:
+            return []
+        query = """select distinct context from arc join context on context.id = context_id
+            join file on file.id = file_id where file.path like ? and abs(tono) between ? and ?"""
+        rows = self._data.execute(query, (f"%/hsp/{change.path}", change.line, change.last)).fetchall()
+        names = {re.sub(r" \((call|setup|teardown)\)$", "", name) for (name,) in rows} & set(self.seconds)
+        own = tests_of(change.path)
+        ordered = sorted(names, key=lambda it: (it.partition("::")[0] not in own, self.seconds[it]))
+        whole = itertools.accumulate(self.seconds[it] for it in ordered)
+        return [it for it, seconds in zip(ordered, whole) if seconds <= MOST]
+
+
 def tests_of(path: str) -> list[str]:
     names = next(tests for begin, tests in TESTS.items() if path.startswith(begin))
     return [os.path.join("tests", f"{it}.py") for it in names.split()]
 
 
-def is_refused(change: Change, room: str) -> bool:
-    """Whether a test of the module fails where a copy has the change. A run without an end is refused too."""
+def are_passed(room: str, words: list[str], seconds: float) -> bool:
+    """Whether tests of a copy pass, and in time. What they have started is ended with them."""
+    own = {it.upper().replace("-", "_"): programs.built_path(it) for it in programs.PROGRAMS}
+    whole = [PYTHON, "-m", "pytest", "-q", "-x", "-p", "no:cacheprovider", f"--basetemp={room}/tests", *words]
+    run = subprocess.Popen(
+        whole,
+        cwd=os.path.join(room, "companion"),
+        env={**own, **os.environ, "PYTHONDONTWRITEBYTECODE": "1"},
+        stdout=subprocess.DEVNULL,
+        stderr=subprocess.DEVNULL,
+        start_new_session=True,
+    )
+    try:
+        return run.wait(seconds) == 0
+    except subprocess.TimeoutExpired:
+        return False
+    finally:
+        with contextlib.suppress(ProcessLookupError):
+            os.killpg(run.pid, signal.SIGKILL)
+        run.wait()
+
+
+def is_refused(change: Change, room: str, reached: Reached) -> bool:
+    """Whether a test fails where a copy has the change. A run without an end is refused too."""
     path = os.path.join(room, "companion", "hsp", change.path)
+    tests = reached.tests(change)
+    seconds = MORE + 4 * sum(reached.seconds[it] for it in tests) if tests else SECONDS
     with open(path, encoding="utf-8") as file:
         before = file.read()
     with open(path, "w", encoding="utf-8") as file:
         file.write(change.text)
-    words = [PYTHON, "-m", "pytest", "-q", "-x", "-p", "no:cacheprovider", *tests_of(change.path)]
-    own = {it.upper().replace("-", "_"): programs.built_path(it) for it in programs.PROGRAMS}
-    environment = {**own, **os.environ, "PYTHONDONTWRITEBYTECODE": "1"}
     try:
-        quiet = {"stdout": subprocess.DEVNULL, "stderr": subprocess.DEVNULL, "timeout": SECONDS}
-        folder = os.path.join(room, "companion")
-        return subprocess.run(words, cwd=folder, env=environment, **quiet).returncode != 0
-    except subprocess.TimeoutExpired:
-        return True
+        return not are_passed(room, tests or tests_of(change.path), seconds)
     finally:
         with open(path, "w", encoding="utf-8") as file:
             file.write(before)
@@ -193,18 +246,20 @@ def copied(room: str) -> str:
     return room
 
 
-def planted(changes: list[Change], jobs: int) -> list[Change]:
+def planted(changes: list[Change], jobs: int, reached: Reached) -> list[Change]:
     """The changes that no test refuses."""
     rooms: queue.Queue[str] = queue.Queue()
     with tempfile.TemporaryDirectory() as top, concurrent.futures.ThreadPoolExecutor(jobs) as pool:
         for at in range(jobs):
             os.mkdir(os.path.join(top, str(at)))
             rooms.put(copied(os.path.join(top, str(at))))
+        if not are_passed(os.path.join(top, "0"), ["--collect-only", *reached.seconds], SECONDS):
+            sys.exit("the tests are not those that were measured: run tools/cover_companion.py --data again")
 
         def tried(change: Change) -> bool:
             room = rooms.get()
             try:
-                refused = is_refused(change, room)
+                refused = is_refused(change, room, reached)
             finally:
                 rooms.put(room)
             if not refused:
@@ -220,6 +275,7 @@ def main() -> int:
     arguments.add_argument("--seed", type=int, default=1)
     arguments.add_argument("--jobs", type=int, default=2)
     arguments.add_argument("--only", default="", help="modules whose path begins so")
+    arguments.add_argument("--reached", metavar="FILE", help="what tools/cover_companion.py --data kept")
     arguments.add_argument("--list", action="store_true", help="only print the changes")
     chosen = arguments.parse_args()
     changes = drawn(chosen.number, chosen.seed, chosen.only)
@@ -227,7 +283,7 @@ def main() -> int:
         for it in changes:
             print(f"hsp/{it.path}:{it.line}: {it.what}")
         return 0
-    passed = planted(changes, chosen.jobs)
+    passed = planted(changes, chosen.jobs, Reached(chosen.reached))
     print(f"planted: {len(changes)} changes of seed {chosen.seed}, {len(passed)} not refused")
     return 0
 

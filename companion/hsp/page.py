@@ -13,7 +13,7 @@ import jinja2
 
 from hsp import __version__
 from hsp.numbers import average, listed, percent, queries_of, signed, some
-from hsp.plans import Gain, Host, Planned, Reference, Shortage, above, by_shares
+from hsp.plans import Gain, Host, Planned, Reference, Shortage, above, above_limits, by_shares
 from hsp.service import Row, Server, Service, dotted
 from hsp.text import escaped
 from hsp.sources import Source, now
@@ -270,6 +270,17 @@ def render(view: View) -> str:
     return environment().get_template("page.html").render(**shown, **(plan_shown(view, plan) if plan else {}))
 
 
+def left_alone(view: View, plan: Planned) -> str:
+    """What would be too full if all asked their cheapest site; nothing where that is the plan."""
+    if not view.reference or view.before:
+        return ""
+    count, queries = above(view.service, view.reference.loads)
+    hosts = above_limits(plan.hosts, view.reference.loads)
+    servers = f"{some(count, 'server')} would get {queries:,} queries above capacity" if count else ""
+    machines = f"{some(hosts, 'machine')} would get more than {'its limit' if hosts == 1 else 'their limits'}"
+    return " and ".join(filter(None, [servers, machines if hosts else ""]))
+
+
 def plan_shown(view: View, plan: Planned) -> dict[str, object]:
     """What the page shows of a plan."""
     servers, regions, rows = servers_of(view, plan), regions_of(view, plan), rows_of(plan)
@@ -294,6 +305,7 @@ def plan_shown(view: View, plan: Planned) -> dict[str, object]:
         "best": best_room(plan, plan.hosts),
         "by_shares": by_shares(plan),
         "reserve": reserve(servers, plan.hosts),
-        "over": above(view.service, view.reference.loads) if view.reference and not view.before else (0, 0),
+        "alone": left_alone(view, plan),
+        "is_above": any(it.before > it.capacity for it in servers),
         "diverted": diverted(plan),
     }

@@ -6,7 +6,7 @@ from __future__ import annotations
 import concurrent.futures
 import os
 from collections import Counter
-from collections.abc import Callable, Iterable
+from collections.abc import Callable, Iterable, Sequence
 from dataclasses import dataclass, field, replace
 from fractions import Fraction
 
@@ -256,6 +256,17 @@ def above(service: Service, loads: Iterable[int | Fraction]) -> tuple[int, int]:
     return len(over), round(sum(over))
 
 
+def above_limits(hosts: Iterable[Host], loads: Sequence[int | Fraction]) -> int:
+    """How many machines would get more than their limits."""
+    return sum(sum(loads[it.number] for it in host.servers) > host.limit for host in hosts)
+
+
+def too_full(words: str, hosts: int) -> str:
+    """Words of servers that are too full, and of so many machines."""
+    machines = f"{some(hosts, 'machine')} above {'its limit' if hosts == 1 else 'their limits'}"
+    return "; ".join(filter(None, [words, machines if hosts else ""]))
+
+
 @dataclass(frozen=True)
 class ByShares:
     """What is too full where each handle of a region is split by the shares of the whole region: so many of all
@@ -277,9 +288,7 @@ class ByShares:
             return "no server too full"
         words = f"{self.servers} of {some(self.all_servers, 'server')} too full"
         words += f", {some(self.queries, 'query', 'queries')} too many" if self.servers else ""
-        if self.hosts:
-            words += f"; {some(self.hosts, 'machine')} above {'its limit' if self.hosts == 1 else 'their limits'}"
-        return words
+        return too_full(words, self.hosts)
 
 
 def by_shares(plan: Planned) -> ByShares:
@@ -294,5 +303,4 @@ def by_shares(plan: Planned) -> ByShares:
         asked = plan.regions[region][0]
         if asked:
             loads[server] += Fraction(count * plan.shares.get((region, site), 0), asked)
-    hosts = [it for it in plan.hosts if sum(loads[server.number] for server in it.servers) > it.limit]
-    return ByShares(*above(service, loads), len(service.servers), len(hosts))
+    return ByShares(*above(service, loads), len(service.servers), above_limits(plan.hosts, loads))

@@ -6,7 +6,7 @@ from collections import Counter
 from collections.abc import Iterator
 
 from hsp.numbers import average, listed, percent, queries_of, signed, some
-from hsp.plans import Gain, Planned, Reference, Shortage, above, by_shares
+from hsp.plans import Gain, Planned, Reference, Shortage, above, above_limits, by_shares, too_full
 from hsp.service import Server, Service
 from hsp.text import bold, colored, dim, escaped
 
@@ -32,12 +32,14 @@ def _unit(service: Service) -> str:
 
 def _verdict(plan: Planned, reference: Reference) -> str:
     count, queries = above(plan.service, reference.loads)
+    hosts = above_limits(plan.hosts, reference.loads)
     extra = plan.cost - reference.cost
-    if not count:
+    if not count and not hosts:
         return "all ask their cheapest site, and no server is above its capacity"
     share = 100 * extra / max(1, reference.cost)
-    too_many = f"left alone, {some(count, 'server')} would get {queries_of(queries)} too many"
-    return f"{too_many}; keeping to capacity costs {extra:,}{_unit(plan.service)} ({share:.1f}%)"
+    too_many = f"{some(count, 'server')} would get {queries_of(queries)} too many" if count else ""
+    kept = f"keeping to {'limits' if hosts else 'capacity'} costs {extra:,}{_unit(plan.service)} ({share:.1f}%)"
+    return f"left alone, {too_full(too_many, hosts)}; {kept}"
 
 
 def plan_lines(plan: Planned, reference: Reference | None, every: bool = False) -> Iterator[str]:

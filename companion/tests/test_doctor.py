@@ -13,10 +13,11 @@ import pytest
 
 from hsp.doctor import Examined, examined
 from hsp.doctor.findings import ERROR, Finding
-from hsp.doctor.printing import grouped
+from hsp.doctor.printing import grouped, lines
 from hsp.programs import Desk
 
 from conftest import TOP, Hsp
+from printed import assert_kept
 
 Example = Callable[[str], Path]
 Edit = Callable[[str], str]
@@ -262,6 +263,11 @@ def broken(folder: Path, file: str, edit: Edit) -> Examined:
     return examined(str(folder), Desk(), {"settings": str(path)} if file == HOSTS else {})
 
 
+def shown_of(findings: list[Finding], folder: Path) -> str:
+    """What the doctor prints, with names of files as they are in their folder."""
+    return "\n".join(lines(findings)).replace(f"{folder}/", "")
+
+
 @pytest.mark.parametrize("name", MISTAKES)
 def test_a_mistake_has_its_place_and_its_remedy(example: Example, name: str) -> None:
     file, edit, number, column, remedy = MISTAKES[name]
@@ -273,6 +279,7 @@ def test_a_mistake_has_its_place_and_its_remedy(example: Example, name: str) -> 
     assert (first.line, first.column) == (number, column), first
     assert remedy in first.remedy, first
     assert first.said and first.severity == ERROR and first.end > first.column
+    assert_kept("mistakes", name, shown_of(found.findings, folder))
 
 
 ONE_FINDING = (

@@ -19,7 +19,8 @@ from hsp.doctor.findings import WARNING
 from hsp.programs import Desk
 
 from conftest import Hsp, variables
-from test_doctor import CAPACITY, COSTS, DEMAND, HOSTS, SETTINGS, Edit, every, line, more, sub, without
+from printed import assert_kept
+from test_doctor import CAPACITY, COSTS, DEMAND, HOSTS, SETTINGS, Edit, every, line, more, shown_of, sub, without
 
 Example = Callable[[str], Path]
 
@@ -78,6 +79,7 @@ def test_a_doubt_has_its_place_and_its_remedy(example: Example, name: str) -> No
         if (os.path.basename(it.file), it.line, it.column) == place and message in it.message
     ]
     assert own and remedy in own[0].remedy and own[0].severity == WARNING, found.findings
+    assert_kept("doubts", name, shown_of(found.findings, folder))
 
 
 def test_a_doubt_is_not_raised_where_it_is_not_due(example: Example) -> None:

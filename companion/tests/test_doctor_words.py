@@ -7,6 +7,7 @@ import os
 import random
 import subprocess
 import sys
+import time
 from collections.abc import Callable
 from pathlib import Path
 from typing import Any
@@ -15,10 +16,11 @@ import pytest
 
 from hsp.doctor import examined_words
 from hsp.doctor.commands import line_of
-from hsp.doctor.printing import json_of
+from hsp.doctor.printing import json_of, lines
 from hsp.programs import Desk
 
 from conftest import Hsp, variables
+from printed import assert_kept
 
 Example = Callable[[str], Path]
 FILES = "--settings settings.toml --demand demand.csv --costs costs.csv --capacity capacity.csv"
@@ -31,13 +33,18 @@ def folder(example: Example, monkeypatch: pytest.MonkeyPatch) -> Path:
     monkeypatch.chdir(found)
     planned = subprocess.run([os.environ["HSPLAN"], "plan", *FILES.split()], capture_output=True, check=True)
     (found / "plan.txt").write_bytes(planned.stdout)
+    for path in found.iterdir():  # the plan is newer than its inputs, and older than what a test writes
+        age = 10 if path.name == "plan.txt" else 20
+        os.utime(path, (time.time() - age, time.time() - age))
     return found
 
 
-def findings(words: str, status: int) -> list[dict[str, Any]]:
-    """The findings for words, as objects."""
+def findings(words: str, status: int, head: str = "") -> list[dict[str, Any]]:
+    """The findings for words, as objects. What is printed of them is kept under a head."""
     found = examined_words(words.split(), Desk())
     assert found.status == status
+    if head:
+        assert_kept("words", head, "\n".join(lines(found.findings)))
     objects: list[dict[str, Any]] = json.loads(json_of(found.findings))
     return objects
 
@@ -105,7 +112,7 @@ VALUES = [
 
 @pytest.mark.parametrize("words, marked, remedy", WORDS)
 def test_words_that_are_no_command(folder: Path, words: str, marked: str, remedy: str) -> None:
-    first = findings(words, 2)[0]
+    first = findings(words, 2, words)[0]
     line = words if words.startswith("hsplan") else "hsplan " + words
     assert (first["file"], first["line"], first["hsplan"]) == ("", 1, "Usage")
     assert line[first["column"] - 1 : first["end"] - 1] == marked
@@ -114,7 +121,7 @@ def test_words_that_are_no_command(folder: Path, words: str, marked: str, remedy
 
 @pytest.mark.parametrize("words, marked, remedy, said", VALUES)
 def test_values_that_an_option_does_not_take(folder: Path, words: str, marked: str, remedy: str, said: str) -> None:
-    (first,) = findings(words, 1)
+    (first,) = findings(words, 1, words)
     program = "hsplan-stream " if words.startswith(("kinds", "answer")) else "hsplan "
     assert (program + words)[first["column"] - 1 : first["end"] - 1] == marked
     assert remedy in first["remedy"] and first["hsplan"] == said
@@ -237,7 +244,7 @@ COMMANDS = {
 def test_faults_of_plans_logs_and_records(folder: Path, case: tuple[str, str, bytes, bytes, int, str, str]) -> None:
     command, file, old, new, line, remedy, said = case
     edited(folder / file, old, new)
-    first = findings(COMMANDS[command], 1)[0]
+    first = findings(COMMANDS[command], 1, f"{command} {file} {old!r} {new!r}")[0]
     named = "plan.txt" if said.startswith(("check", "no ")) else file
     assert (first["file"], first["line"], first["hsplan"]) == (named, line, said)
     assert remedy in first["remedy"]
@@ -267,7 +274,7 @@ def test_octets_that_are_no_record(folder: Path) -> None:
     }
     for name, (text, remedy) in forms.items():
         (folder / name).write_bytes(text)
-        (first,) = findings(f"site {name}", 1)
+        (first,) = findings(f"site {name}", 1, f"site {name}")
         assert remedy in first["remedy"], first
     assert findings("site --index 5 sites.values", 1)[0]["remedy"] == "write --index 3"
 
@@ -363,7 +370,7 @@ RARE: dict[str, tuple[str, str, str, str]] = {
 def test_rare_faults(folder: Path, name: str) -> None:
     file, text, remedy, said = RARE[name]
     (folder / file).write_text(text)
-    first = findings(f"plan {FILES}", 1)[0]
+    first = findings(f"plan {FILES}", 1, f"rare: {name}")[0]
     assert first["hsplan"] == said and remedy in first["remedy"], first
 
 
@@ -383,7 +390,7 @@ def test_value_lists(folder: Path, name: str) -> None:
     words = f"plan {FILES} --values sites.values".replace("settings.toml", "by_index.toml")
     assert findings(words, 0) == []
     edited(folder / "sites.values", old, new)
-    first = findings(words, 1)[0]
+    first = findings(words, 1, f"value list: {name}")[0]
     assert first["hsplan"].startswith(said) and remedy in first["remedy"], first
 
 

@@ -21,8 +21,12 @@ class Known(NamedTuple):
     servers: list[int]
 
 
+def _names(settings: Text) -> list[str]:
+    return [str(it.get("name", "")) for it in listed_in(settings, "site")]
+
+
 def names_in(question: Question) -> list[str]:
-    return [str(it.get("name", "")) for it in listed_in(question.text("settings"), "site")]
+    return _names(question.text("settings"))
 
 
 def site_at(question: Question, number: int) -> Known:
@@ -103,7 +107,8 @@ def _site_words(question: Question, spot: Spot, name: str, names: list[str]) -> 
         remedy, why = "put the columns in the order " + ",".join(spot.header), f"{quoted(name)} is a region"
     else:
         remedy = f'add a block [[site]] with name = "{name}" to the settings, or take its rows out'
-        why = f"the settings have only {listed(names, 6)}"
+        known = list(filter(None, names or _names(question.files["settings"].original)))
+        why = f"the settings have only {listed(known, 6)}" if known else "the settings have no site"
     mark = f"did you mean {meant}?" if meant else ""
     return meant, Words(f"the settings have no site {quoted(name)}", remedy, why, mark, f"UnknownSite {name}")
 

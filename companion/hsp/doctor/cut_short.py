@@ -20,14 +20,14 @@ def _part_of(it: Finding) -> tuple[str, str]:
 
 
 def likely(findings: list[Finding]) -> int:
-    """How many findings the files may have in all, or 0 where that isn't known.
+    """How many findings the files may have in all; only these, where that isn't known.
 
     hsplan reads a file from its first line on. So each line behind the last finding is taken to have as many as one
     above it.
     """
     last = findings[-1]
     if last.severity != ERROR or not last.line or not os.path.isfile(last.file):
-        return 0
+        return len(findings)
     with open(last.file, "rb") as file:
         octets = file.read(LARGEST)
     own = [it.line for it in findings if _part_of(it) == _part_of(last)]

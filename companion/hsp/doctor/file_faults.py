@@ -40,8 +40,6 @@ def unreadable(path: str, kind: str) -> Words | None:
         return Words(
             "the file can't be looked at", "mend the path, or the rights of its folders", str(fault.strerror)
         )
-    except ValueError:
-        return Words("no such file", "mend the path", "a sign in the name that no file has")
     return _of_kind(path, kind, mode)
 
 
@@ -72,6 +70,12 @@ def _absent(path: str, kind: str) -> Words:
             "mend the link, or put its file back",
             f"it leads to {os.readlink(path)}",
         )
+    if path.startswith("~"):
+        return Words(
+            "no such file",
+            f"write $HOME in place of ~, or a blank before it: --{kind} ~/..",
+            "the shell didn't replace ~",
+        )
     if not os.path.isdir(folder):
         return Words("no such file", f"mend the path: there is no folder {folder}", f"{folder} isn't there")
     names = sorted(it for it in os.listdir(folder) if not it.startswith("."))
@@ -85,12 +89,6 @@ def _absent(path: str, kind: str) -> Words:
             "no such file",
             f"did you mean {os.path.join(os.path.dirname(path), near[0])}? Rename it, or give it by --{kind}",
             f"{near[0]} is there",
-        )
-    if path.startswith("~"):
-        return Words(
-            "no such file",
-            f"write $HOME in place of ~, or a blank before it: --{kind} ~/..",
-            "the shell didn't replace ~",
         )
     remedy = f"give another file by --{kind}" + (
         "; hsp new makes a folder with all of them" if kind in CONVENTIONS else ""

@@ -117,7 +117,8 @@ def _of_fronts(first: str, wanted: list[str]) -> Cause | None:
         remedy = f"put the number of the front before each row, and write front,{first}; or leave --fronts out"
         return Cause("a log for --fronts has a column more", remedy)
     if first.startswith("front,") and first.removeprefix("front,") in wanted:
-        return Cause("a log of several fronts", "give --fronts N too, or take the first column out")
+        given = "" if "region,handle,count" in wanted else "give --fronts N too, or "
+        return Cause("a log of several fronts", f"{given}take the first column out")
     return None
 
 

@@ -65,7 +65,9 @@ def octets_words(octets: bytes, path: str, desk: Desk) -> Words | None:
     stripped = octets.strip()
     if not stripped:
         return Words(
-            "", "hsp sites prints the fields of a site from JSON, hexadecimal digits or base64", "the file is empty"
+            "",
+            "hsp sites prints the fields of a site from JSON, hexadecimal digits or base64",
+            f"the {'file' if path else 'record'} is empty",
         )
     if stripped[:1] in (b"{", b"["):
         head = b"TOML" if stripped[:2] == b"[[" else b"JSON"
@@ -120,7 +122,8 @@ def record_words(octets: bytes, said: Said, path: str, desk: Desk) -> tuple[Word
         why = "the record stands twice" if octets[at:] == octets[:at] else why
         remedy = f"cut {'it' if ending else 'them'} off: head -c {at} {shell_word(path)} > record.site"
         return Words("", remedy if path else f"cut them off: keep the first {2 * at:,} digits", why), octets[:at]
-    why = f"{some(left, 'octet')} from octet {at} on are too few for the field that begins there"
+    verb = "is" if left == 1 else "are"
+    why = f"{some(left, 'octet')} from octet {at} on {verb} too few for the field that begins there"
     return Words("", "copy the whole record again: it was cut, or an octet is lost; or another layout", why), b""
 
 

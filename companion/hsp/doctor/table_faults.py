@@ -129,7 +129,7 @@ def slug(name: str) -> str:
 def bad_name(spot: Spot, said: str) -> Explained:
     fields = spot.row.fields
     named = [at for at, it in enumerate(spot.header) if it in ("region", "site") and at < len(fields)]
-    at = next((it for it in named if slug(fields[it]) != fields[it]), named[0] if named else 0)
+    at = next((it for it in named if not fields[it] or slug(fields[it]) != fields[it]), named[0] if named else 0)
     name, field = spot.header[at], fields[at]
     if not "".join(fields).strip():
         words = Words(

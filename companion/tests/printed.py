@@ -1,0 +1,35 @@
+"""Printed texts that a person has read: each test's text has to be the one that is kept in the folder `printed`.
+
+With HSP_KEEP in the environment tests write what they print in place of it. Then run pytest without -n, and read what
+has changed before it is committed.
+"""
+
+from __future__ import annotations
+
+import functools
+import os
+import re
+from pathlib import Path
+
+FOLDER = Path(__file__).parent / "printed"
+HEAD = re.compile(r"^==== (.*)\n", re.M)
+
+
+@functools.lru_cache
+def kept(name: str) -> dict[str, str]:
+    """The texts of a file by their heads."""
+    path = FOLDER / f"{name}.txt"
+    parts = HEAD.split(path.read_bytes().decode()) if path.exists() else [""]
+    return dict(zip(parts[1::2], parts[2::2]))
+
+
+def assert_kept(name: str, head: str, text: str) -> None:
+    """The text under a head of a file is this one."""
+    text = text if text.endswith("\n") or not text else f"{text}\n"
+    assert not HEAD.search(text) and "\n" not in head
+    if os.environ.get("HSP_KEEP"):
+        kept(name)[head] = text
+        whole = "".join(f"==== {head}\n{text}" for head, text in kept(name).items())
+        (FOLDER / f"{name}.txt").write_bytes(whole.encode())
+    assert head in kept(name), f"nothing is kept under {head}: run the test with HSP_KEEP=1"
+    assert text == kept(name)[head]

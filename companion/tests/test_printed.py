@@ -1,0 +1,228 @@
+"""What commands print and write, word for word, over services of many kinds: printed/NAME.txt was read by a person."""
+
+from __future__ import annotations
+
+import os
+import re
+import shlex
+import shutil
+from collections.abc import Callable
+from pathlib import Path
+
+import pytest
+from click.testing import CliRunner
+
+import make_examples
+from hsp import __version__
+from hsp.cli import main
+
+from conftest import TOP
+from printed import assert_kept
+from test_units import one_machine
+
+# A step is a command of hsp, `show FILE..`, or a function that changes files of the present folder.
+Step = "str | Callable[[], None]"
+TITLES = 'title = "Films \\u200b of Paris"\ncost = "ms"\ntime = "an hour"\n'
+
+
+def example(name: str, into: str = "s") -> Callable[[], None]:
+    return lambda: [shutil.copytree(TOP / "examples" / name, into)].clear()
+
+
+def twelve() -> None:
+    make_examples.write(os.path.abspath("s"), make_examples.twelve_sites())
+
+
+def units() -> None:
+    one_machine(Path("s"))
+
+
+def put(path: str, text: str) -> Callable[[], None]:
+    return lambda: [Path(path).write_text(text)].clear()
+
+
+def edit(path: str, old: str, new: str) -> Callable[[], None]:
+    """Puts another text in place of each match."""
+
+    def done() -> None:
+        text, number = re.subn(old, new, Path(path).read_text(), flags=re.M)
+        assert number, f"{path} has no {old}"
+        Path(path).write_text(text)
+
+    return done
+
+
+def by_hosts() -> None:
+    example("two-sites")()
+    Path("s/hosts.toml").rename("s/settings.toml")
+
+
+KINDS = '[demand]\nrows = "kinds"\nlog = ["a.log"]\nqueries = 6300\nhandles = 400\n'
+CASES: dict[str, list[Step]] = {
+    "plan of two sites": [example("two-sites"), "plan s", "plan s --all --no-save", "plan s --csv", "show s/plan.txt"],
+    "plan as JSON": [example("two-sites"), put("s/hsp.toml", TITLES), "plan s --json --no-save"],
+    "plan with titles": [example("two-sites"), put("s/hsp.toml", TITLES), "plan s --unit cents --no-save"],
+    "plan with another demand and output": [
+        example("two-sites"),
+        "plan s --demand s/premiere.csv --capacity s/boundless.csv -o other.txt",
+        "plan s --capacity s/boundless.csv --csv --no-save",
+    ],
+    "plan of twelve sites": [twelve, "plan s --no-save", "plan s --no-save --all"],
+    "plan with hosts": [by_hosts, "plan s --no-save", "plan s --no-save --json", "whatif s"],
+    "plan of base": [example("base"), "plan s --no-save", "plan s --no-save --json", "plan s --no-save --csv"],
+    "plan in units": [units, "plan s", "plan s --json --no-save", "plan s --csv --no-save", "show s/capacity-in-units.csv"],
+    "plan of kinds": [example("two-sites"), put("s/hsp.toml", KINDS), "plan s", "plan s --json --no-save"],
+    "plan without a query": [
+        example("two-sites"),
+        edit("s/demand.csv", r",\d+$", ",0"),
+        "plan s --no-save",
+        "plan s --no-save --json",
+        "whatif s",
+    ],
+    "plan without sites": [
+        "new s",
+        put("s/demand.csv", "region,handle,count\n"),
+        "plan s --no-save",
+        "whatif s",
+        "whatif s --server a:1",
+    ],
+    "shortage everywhere": [
+        example("two-sites"),
+        "plan s --demand s/premiere.csv",
+        "plan s --demand s/premiere.csv --json",
+        "whatif s --demand s/premiere.csv --chart c.svg",
+        "whatif s --demand s/premiere.csv --csv",
+        "show c.svg",
+    ],
+    "shortage of a region without costs": [
+        example("two-sites"),
+        edit("s/costs.csv", "^asia,.*\n", ""),
+        "plan s",
+        "plan s --json",
+        edit("s/demand.csv", "^us,", "mars,"),
+        "plan s",
+    ],
+    "shortage at some servers": [
+        example("two-sites"),
+        edit("s/costs.csv", "^(eu|us),reston.*\n", ""),
+        put("s/hsp.toml", TITLES),
+        "plan s",
+        "plan s --json",
+        "whatif s",
+    ],
+    "shortage at one server": [
+        example("two-sites"),
+        edit("s/capacity.csv", "paris,2,1510", "paris,2,100"),
+        edit("s/costs.csv", "^(eu|us|asia),reston.*\n", ""),
+        edit("s/demand.csv", "^us,.*\n", ""),
+        "plan s",
+    ],
+    "shortage of kinds": [
+        example("two-sites"),
+        put("s/hsp.toml", KINDS + "unit = 10\n"),
+        edit("s/capacity.csv", r"\d+$", "2500"),
+        "plan s",
+        "plan s --json",
+    ],
+    "shortage with hosts": [by_hosts, edit("s/settings.toml", "limit = 2000", "limit = 1"), "plan s", "plan s --json"],
+    "shortage of dear costs": [example("two-sites"), edit("s/costs.csv", r"168$", "50001"), "plan s --demand s/premiere.csv"],
+    "what if": [
+        example("two-sites"),
+        put("s/hsp.toml", TITLES),
+        "whatif s",
+        "whatif s --csv",
+        "whatif s --step 0.5 --chart c.svg",
+        "show c.svg",
+    ],
+    "what if of base": [example("base"), "whatif s", "whatif s --csv", "whatif s --chart c.svg", "show c.svg"],
+    "what if by size": [
+        example("two-sites"),
+        put("s/hsp.toml", TITLES),
+        "whatif s --server paris:2",
+        "whatif s --server paris:2 --from 1000 --to 1600 --points 4 --chart c.svg",
+        "show c.svg",
+        "whatif s --server paris:2 --from 1 --to 2 --points 2 --csv",
+        "whatif s --server paris:2 --from 1 --to 2 --points 2 --chart d.svg",
+        "whatif s --server paris:2 --from 1510 --to 1510 --points 1 --chart c.svg",
+        "show c.svg",
+        "whatif s --server paris:2 --from 1600 --to 1500",
+        "whatif s --server reston:3 --points 3 --demand s/premiere.csv",
+        "whatif s --from 1",
+    ],
+    "what if in units": [units, "whatif s", "whatif s --server south:1 --from 1000 --to 4000 --points 4"],
+    "a new folder": ["new s", "show s/settings.toml s/hsp.toml s/README.txt s/demand.csv s/capacity.csv", "new s"],
+    "an example": ["new s --example", "plan s", "show s/demand.csv s/costs.csv s/capacity.csv s/hsp.toml"],
+}  # fmt: skip
+
+
+PAGES: dict[str, list[Step]] = {
+    "a page of hosts": [by_hosts, "view s -o p.html", "page p.html"],
+    "a page of base": [example("base"), put("s/hsp.toml", TITLES), "view s -o p.html", "page p.html"],
+    "a page in units": [units, "view s -o p.html", "page p.html"],
+    "a page of kinds": [example("two-sites"), put("s/hsp.toml", KINDS), "view s --title T -o p.html", "page p.html"],
+    "a page of a shortage": [example("two-sites"), "view s --demand s/premiere.csv -o p.html", "page p.html"],
+    "a page of a region without costs": [
+        example("two-sites"),
+        edit("s/costs.csv", "^asia,.*\n", ""),
+        "view s -o p.html",
+        "page p.html",
+    ],
+    "a page with an earlier plan": [
+        example("two-sites", "t"),
+        example("two-sites"),
+        edit("s/capacity.csv", "paris,2,1510", "paris,2,1600"),
+        edit("s/costs.csv", "eu,reston,84", "eu,reston,90"),
+        edit("s/demand.csv", "^us,.*report-2024.*\n", ""),
+        "view s --before t --unit ms -o p.html",
+        "page p.html",
+        "view t --before t -o p.html",
+    ],
+    "a page without a query": [example("two-sites"), edit("s/demand.csv", r",\d+$", ",0"), "view s", "page s/plan.html"],
+}  # fmt: skip
+
+
+def ran(words: list[str]) -> str:
+    """What a command of hsp prints, and its status where that isn't 0."""
+    result = CliRunner().invoke(main, words)
+    assert result.exception is None or isinstance(result.exception, SystemExit), repr(result.exception)
+    return result.output + (f"status {result.exit_code}\n" if result.exit_code else "")
+
+
+def page(path: str) -> str:
+    """A page without its styles, its script and the version, with a line for each element."""
+    text = re.sub(r"(?s)<(style|script)[^>]*>.*?</\1>", r"<\1/>", Path(path).read_text())
+    text = re.sub(r"'sha256-[^']*'", "'sha256'", text.replace(f"hsp {__version__}", "hsp"))
+    return re.sub(r"(?<=>)\s*(?=<[a-z])", "\n", text)
+
+
+def shown(name: str, paths: list[str]) -> str:
+    return "".join(f"-- {it}\n{page(it) if name == 'page' else Path(it).read_text()}" for it in paths)
+
+
+def transcript(steps: list[Step]) -> str:
+    lines = []
+    for step in steps:
+        if isinstance(step, str):
+            first, *words = shlex.split(step)
+            is_shown = first in ("show", "page")
+            lines.append(shown(first, words) if is_shown else f"$ hsp {step}\n{ran([first, *words])}")
+        else:
+            step()
+    return "".join(lines)
+
+
+@pytest.fixture(autouse=True)
+def _alone(tmp_path: Path, monkeypatch: pytest.MonkeyPatch) -> None:
+    """A folder of the test's own, at 27 November 2026, 09:00 UTC."""
+    monkeypatch.chdir(tmp_path)
+    monkeypatch.setenv("SOURCE_DATE_EPOCH", "1795770000")
+
+
+@pytest.mark.parametrize("name", CASES)
+def test_what_is_printed_is_what_was_read(name: str) -> None:
+    assert_kept("commands", name, transcript(CASES[name]))
+
+
+@pytest.mark.parametrize("name", PAGES)
+def test_a_page_is_the_one_that_was_read(name: str) -> None:
+    assert_kept("pages", name, transcript(PAGES[name]))
