@@ -38,7 +38,7 @@ PYTHON = "/usr/bin/python3"
 # Seconds that a test takes at most, and those that are added where it is known how long it takes.
 SECONDS, MORE = 900, 100
 # Tests of a line are run as long as these measured seconds together; the cheap ones first.
-MOST = 200.0
+MOST = 120.0
 COMPANION = os.path.join(programs.TOP, "companion")
 # The tests of a module, by the beginning of its path; the first that fits counts.
 TESTS = {
@@ -249,6 +249,7 @@ def copied(room: str) -> str:
 def planted(changes: list[Change], jobs: int, reached: Reached) -> list[Change]:
     """The changes that no test refuses."""
     rooms: queue.Queue[str] = queue.Queue()
+    done: list[bool] = []
     with tempfile.TemporaryDirectory() as top, concurrent.futures.ThreadPoolExecutor(jobs) as pool:
         for at in range(jobs):
             os.mkdir(os.path.join(top, str(at)))
@@ -262,8 +263,10 @@ def planted(changes: list[Change], jobs: int, reached: Reached) -> list[Change]:
                 refused = is_refused(change, room, reached)
             finally:
                 rooms.put(room)
+            done.append(refused)
             if not refused:
                 print(f"not refused: hsp/{change.path}:{change.line}: {change.what}", flush=True)
+            print(f"{len(done)} of {len(changes)} tried", file=sys.stderr, flush=True)
             return refused
 
         return [it for it, refused in zip(changes, pool.map(tried, changes)) if not refused]

@@ -13,12 +13,14 @@ from collections.abc import Callable, Iterator
 from pathlib import Path
 
 import pytest
+from click.testing import CliRunner
 
 TOP = Path(__file__).resolve().parents[2]
 sys.path[:0] = [str(TOP / "companion"), str(TOP / "tools")]
 
 import make_examples  # noqa: E402
 import programs  # noqa: E402
+from hsp.cli import main  # noqa: E402
 
 Hsp = Callable[..., "subprocess.CompletedProcess[str]"]
 # Before a command that gets a signal: what runs the tests, as nohup, may have signals ignored.
@@ -41,13 +43,25 @@ def _programs() -> None:
             pytest.exit(f"no program {path}: run rt ci or make prove first", 1)
 
 
+def _ran_apart(words: tuple[str, ...], more: dict[str, str]) -> "subprocess.CompletedProcess[str]":
+    command = [sys.executable, "-m", "hsp", *words]
+    streams = {"capture_output": True, "stdin": subprocess.DEVNULL}
+    return subprocess.run(command, text=True, env=variables(**more), **streams)  # type: ignore[call-overload,no-any-return]
+
+
+def _ran_here(words: tuple[str, ...], more: dict[str, str]) -> "subprocess.CompletedProcess[str]":
+    result = CliRunner(mix_stderr=False).invoke(main, words, env=more, prog_name="hsp")
+    assert result.exception is None or isinstance(result.exception, SystemExit), repr(result.exception)
+    return subprocess.CompletedProcess(words, result.exit_code, result.stdout, result.stderr)
+
+
 @pytest.fixture(scope="session")
 def hsp() -> Hsp:
-    """Runs hsp as its users do. Returns the ended process."""
+    """Runs hsp in this process, which takes less than one of its own. Only fleet, which leaves threads behind, has
+    one."""
 
     def run(*words: str, status: int = 0, **more: str) -> "subprocess.CompletedProcess[str]":
-        command = [sys.executable, "-m", "hsp", *words]
-        ended = subprocess.run(command, capture_output=True, text=True, env=variables(**more), stdin=subprocess.DEVNULL)
+        ended = (_ran_apart if words[:1] == ("fleet",) else _ran_here)(words, more)
         assert ended.returncode == status, ended.stdout + ended.stderr
         assert "Traceback" not in ended.stderr, ended.stderr
         return ended

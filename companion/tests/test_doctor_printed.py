@@ -12,11 +12,14 @@ import pytest
 from hsp.bounds import LARGEST
 from hsp.doctor import examined, examined_words
 from hsp.doctor.numbers_advice import advice
-from hsp.programs import Desk
+from hsp.programs import Desk, run
 
 from printed import assert_kept
 from test_bounds import sparse
 from test_doctor import CAPACITY, COSTS, DEMAND, SETTINGS, Edit, head, line, more, record, shown_of, sub
+from test_doctor_words import COMMANDS, FILES, folder  # noqa: F401
+from test_printed import ran
+from test_sites import invoke
 
 Example = Callable[[str], Path]
 COUNTS = [
@@ -220,3 +223,151 @@ def test_a_folder_of_no_service(tmp_path: Path) -> None:
         (tmp_path / name / "settings.toml").write_text("")
         text = re.sub(re.escape(str(tmp_path)), "DIR", said_of(tmp_path))
         assert_kept("faults", f"a folder in it: {name}", text)
+
+
+def filled(path: str, text: str) -> Callable[[Path], None]:
+    return lambda folder: [(folder / path).write_text(text)].clear()
+
+
+def changed(path: str, old: str, new: str) -> Callable[[Path], None]:
+    """Puts another text in place of each match."""
+
+    def done(folder: Path) -> None:
+        text, number = re.subn(old, new, (folder / path).read_text(), flags=re.M)
+        assert number, f"{path} has no {old}"
+        (folder / path).write_text(text)
+
+    return done
+
+
+def shortage(folder: Path) -> None:
+    words = ["hsplan", "plan", *FILES.replace("demand.csv", "premiere.csv").split()]
+    (folder / "plan.txt").write_text(run(*words).out)
+
+
+CHECK, DISPATCH, REPORT = COMMANDS["check"], COMMANDS["dispatch"], COMMANDS["report"]
+PREMIERE = FILES.replace("demand.csv", "premiere.csv")
+BODIES = ["00 0a", "abc", "0a0b", "AAECAwQFBgcICQoL", "zz", "0x00", ""]
+# What is done in the folder of the example with its plan, and the words of a command.
+WORDS: dict[str, tuple[Callable[[Path], None], str]] = {
+    "an empty plan": (filled("plan.txt", ""), CHECK),
+    "a table for a plan": (filled("plan.txt", "region,site\n"), CHECK),
+    "a report for a plan": (filled("plan.txt", "short 3240 - 2970 = 270\n"), CHECK),
+    "what hsp prints for a plan": (filled("plan.txt", "mine  2 sites, 5 servers, 3 regions\nfits  x\n"), CHECK),
+    "what hsp prints, without its head": (filled("plan.txt", "fits  left alone\n"), CHECK),
+    "a page for a plan": (filled("plan.txt", "<!doctype html>\n"), CHECK),
+    "a fault for a plan": (filled("plan.txt", "hsplan: demand: Header\n"), CHECK),
+    "another text for a plan": (filled("plan.txt", "HSPLAN 2\n"), CHECK),
+    "a cut plan": (changed("plan.txt", "(?s)\nserver .*", "\n"), CHECK),
+    "two plans": (changed("plan.txt", "END\n", "END\nHSPLAN 1\n"), CHECK),
+    "a number with a point": (changed("plan.txt", "^cost 307216", "cost 307216.0"), CHECK),
+    "a line in another order": (changed("plan.txt", "^cost 307216", "use 1 2 3"), CHECK),
+    "a line of other words": (changed("plan.txt", "^cost 307216", "costs what it costs"), CHECK),
+    "two blanks in a plan": (changed("plan.txt", "^cost 307216", "cost  307216"), CHECK),
+    "a plan of another row": (changed("plan.txt", "^use 1 0 303", "use 1 0 302"), CHECK),
+    "a plan of another price": (changed("plan.txt", "^server 1 72", "server 1 71"), CHECK),
+    "a plan of an idle price": (changed("plan.txt", "^server 0 0", "server 0 1"), CHECK),
+    "a plan of no cost": (changed("costs.csv", "^us,paris.*\n", ""), CHECK),
+    "a plan of more rows": (changed("demand.csv", "^us,20.500.1234/film-5.*\n", ""), CHECK),
+    "a plan of other costs": (changed("costs.csv", "eu,paris,12", "eu,paris,13"), CHECK),
+    "a shortage of another demand": (shortage, CHECK),
+    "a shortage that is checked": (shortage, CHECK.replace("demand.csv", "premiere.csv")),
+    "a shortage that is over": (shortage, f"check {PREMIERE} --plan plan.txt".replace("capacity.csv", "boundless.csv")),
+    "a shortage where a plan is wanted": (shortage, f"report {PREMIERE} --plan plan.txt --kind load"),
+    "a plan where a shortage is wanted": (lambda _: None, REPORT.replace("load", "shortage")),
+    "a shortage by which none is answered": (shortage, f"dispatch {PREMIERE} --plan plan.txt --log log.csv"),
+    "bodies": (filled("log.csv", "region,body\n" + "".join(f"eu,{it}\n" for it in BODIES)), DISPATCH),
+    "regions of a log": (filled("log.csv", "region,handle\ne u,20.500.1234/a\n,20.500.1234/b\nus\n"), DISPATCH),
+    "a log that isn't there": (lambda _: None, DISPATCH.replace("log.csv", "lg.csv")),
+    "a plan that isn't there": (lambda _: None, CHECK.replace("plan.txt", "pla.txt")),
+    "a plan that isn't there, and a fault": (changed("demand.csv", ",475", ",4.5"), CHECK.replace("plan.txt", "none")),
+    "no word": (lambda _: None, "hsplan"),
+    "no word of hsplan-stream": (lambda _: None, "hsplan-stream"),
+    "the version of hsplan-stream": (lambda _: None, "hsplan-stream --version"),
+    "an option before a command": (lambda _: None, "hsplan-stream --log log.csv kinds"),
+    "an option and no command": (lambda _: None, "hsplan --settings settings.toml"),
+    "an index that isn't there": (lambda _: None, "site --index 9 sites.values"),
+    "an index of another type": (lambda folder: swapped(folder / "sites.values", b"HS_SITE", b"HS_ADDR"), "site --index 3 sites.values"),
+    "a record by an index": (lambda _: None, "site --index 3 paris.site"),
+    "a list in hexadecimal digits": (filled("sites.values", "00 01 02"), "site --index 3 sites.values"),
+    "settings for a list": (filled("sites.values", "[[site]]\n"), "site --index 3 sites.values"),
+    "octets for a list": (filled("sites.values", "\x01\x02"), "site --index 3 sites.values"),
+    "an empty record": (filled("paris.site", " \n"), "site paris.site"),
+    "base64 for a record": (filled("paris.site", "AAECCwAHAAIAAAAAAAAAAQAAAA==\n"), "site paris.site"),
+    "settings for a record": (filled("paris.site", "[[site]]\n"), "site paris.site"),
+    "a text for a record": (filled("paris.site", "paris: 192.0.2.1\n"), "site paris.site"),
+    "settings of a list without one": (filled("settings.toml", '[[site]]\nname = "paris"\nindex = 3\n'), CHECK),
+    "a URL among the words": (lambda _: None, "locate --settings settings.toml https://hdl.handle.net/20.1/a"),
+    "capacities of a plan in units": (filled("hsp.toml", '[demand]\nrows = "kinds"\nunit = 10\n'), DISPATCH),
+    "kinds and an answer by the handle": (filled("hsp.toml", '[demand]\nrows = "kinds"\n'), DISPATCH),
+    "a broken hsp.toml": (filled("hsp.toml", "title =\n"), CHECK),
+    "an unknown option of each kind": (lambda _: None, f"answer {FILES} --plans plan.txt --log log.csv -f 2 --front=1 --unit"),
+}  # fmt: skip
+
+
+def swapped(path: Path, old: bytes, new: bytes) -> None:
+    path.write_bytes(path.read_bytes().replace(old, new))
+
+
+@pytest.mark.parametrize("name", WORDS)
+def test_faults_of_words(folder: Path, name: str) -> None:
+    edit, words = WORDS[name]
+    edit(folder)
+    found = examined_words(words.split(), Desk())
+    assert_kept("faults", f"words: {name}", f"status {found.status}\n{shown_of(found.findings, Path('.'))}")
+
+
+LETTERS = [
+    "20.500.1234/a b", "20.500.1234/a ", "\u00a020.500.1234/b", "20.500.1234/c\u00ad", "'20.500.1234/d'", "<20.500.1234/e>",
+    "http://hdl.handle.net/20.500.1234/f?x=1#y", "hdl:20.500.1234/g", "doi:10.1000/h", "DOI:10.1000/i", "20.500.1234/j%2Fk",
+    "20.500.1234/50%", "20.500.1234/", "20.500.1234/\u00e9", "20.500.1234/e\u0301", "20.500.1234/REPORT-2024", "info:hdl/20.1/l",
+    "20.500.1234/https://x.y/z", "20.500.1234/report-2024/", "urn:nbn:de:1/2", "https://example.org/20.500.1234/m",
+]  # fmt: skip
+# What is doubtful, and done to a folder without a fault.
+DOUBTFUL: dict[str, Callable[[Path], None]] = {
+    "handles": lambda folder: added(folder / DEMAND, [f"eu,{it},5" for it in LETTERS]),
+    "regions": lambda folder: added(folder / COSTS, [f"{it},paris,1" for it in ("EU", "eu-", "asja", "U.S", "mars")]),
+    "two sites of one record": changed(SETTINGS, '(?s)(record = "[^"]*")(.*)record = "[^"]*"', r"\1\2\1"),
+    "two sites of one index": filled(SETTINGS, '[[site]]\nname = "paris"\nindex = 3\n[[site]]\nname = "reston"\nindex = 3\n'),
+    "keys of hsp.toml": filled("hsp.toml", 'titel = "x"\nunits = "ms"\naccept = ["no site", "idle"]\nlog = 1\n[demand]\ntitle = "x"\nrow = 1\n'),
+    "a demand of a little": changed(DEMAND, r",\d+$", ",1"),
+    "a demand of a unit that adds much": filled("hsp.toml", "[demand]\nunit = 1000\nqueries = 4000000\n"),
+    "a demand of a unit that can't be less": filled("hsp.toml", "[demand]\nunit = 1000\nqueries = 5000000\nhandles = 3\n"),
+    "a demand of other handles": filled("hsp.toml", '[demand]\nrows = "kinds"\nqueries = 6282\nhandles = 5\n'),
+    "hosts": lambda folder: added(folder / SETTINGS, [HOST.format(ADDRESS, 0), HOST.format("0" * 32, 5), HOST.format(ADDRESS[:-1] + "5", 9)]),
+    "capacities of 0": changed(CAPACITY, r"^(paris,.*|reston,1),\d+$", r"\1,0"),
+}  # fmt: skip
+
+
+def added(path: Path, rows: list[str]) -> None:
+    path.write_text(path.read_text() + "".join(f"{it}\n" for it in rows))
+
+
+@pytest.mark.parametrize("name", DOUBTFUL)
+def test_warnings(example: Example, name: str) -> None:
+    folder = example("two-sites")
+    DOUBTFUL[name](folder)
+    assert_kept("faults", f"doubtful: {name}", said_of(folder))
+
+
+TITLES = {
+    "not TOML": 'title = "a\n',
+    "no value": "title =\n",
+    "two lines": 'cost = "ms"\ntitle = "Films\nof Paris"\n',
+    "a key twice": 'title = "a"\ntitle = "b"\n',
+    "no text": "title = 3\n",
+    "no table": "demand = 3\n",
+    "bad keys": '[demand]\nrows = "handle"\nunit = 0\nqueries = -1\nhandles = "x"\nlog = "a"\n',
+    "a great unit": "[demand]\nunit = 1000001\nlog = [1]\n",
+    "many parts": "a." * 101 + "a = 1\n",
+    "letters of Latin-1": 'title = "caf\udce9"\n',
+}
+
+
+@pytest.mark.parametrize("name", TITLES)
+def test_faults_of_titles(example: Example, name: str) -> None:
+    folder = example("two-sites")
+    (folder / "hsp.toml").write_bytes(TITLES[name].encode("utf-8", "surrogateescape"))
+    said = invoke("doctor", folder, status=1).stdout if name not in ("no text",) else ""
+    plan = ran(["plan", str(folder), "--no-save"])
+    assert_kept("faults", f"hsp.toml: {name}", f"{said}$ hsp plan\n{plan}".replace(f"{folder}/", "").replace(str(folder), "DIR"))

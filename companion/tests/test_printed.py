@@ -183,7 +183,7 @@ PAGES: dict[str, list[Step]] = {
 
 def ran(words: list[str]) -> str:
     """What a command of hsp prints, and its status where that isn't 0."""
-    result = CliRunner().invoke(main, words)
+    result = CliRunner().invoke(main, words, prog_name="hsp")
     assert result.exception is None or isinstance(result.exception, SystemExit), repr(result.exception)
     return result.output + (f"status {result.exit_code}\n" if result.exit_code else "")
 

@@ -241,7 +241,8 @@ def of_words(desk: Desk, words: list[str], show: Show = unheard) -> Diagnosis:
     """All faults of the words of a command, and of its files; or what is doubtful where nothing is wrong."""
     line = line_of(words)
     if word_faults.command_fault(line):
-        return Diagnosis(word_faults.usage(line), run(line.program, *[it.text for it in line.words]).status)
+        status = run(line.program, *[it.text for it in line.words]).status
+        return Diagnosis(word_faults.usage(line) if status else [], status)  # --version of hsplan-stream is no fault
     odd = [it for it in line.words if not is_utf8(it.text)]
     if odd:
         return Diagnosis([word_faults.not_utf8(line, it) for it in odd], USAGE_STATUS)

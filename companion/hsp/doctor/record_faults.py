@@ -280,10 +280,12 @@ def _bad_list(question: Question, said: Said, kind: str) -> Explained:
     elif said.word == "IndexTwice":
         why = f"two values have the index {said.numbers.get('index', 0)}"
         remedy = "keep one value for each index"
+    elif octets.strip()[:2] == b"[[":
+        why = "these are settings"
     elif octets.strip()[:1] in (b"{", b"["):
         remedy, why = f"hsp sites {shell_word(path)} makes the blocks of it", "JSON in place of octets"
     elif re.fullmatch(rb"[0-9A-Fa-f\s]+", octets):
-        remedy, why = f"xxd -r -p {shell_word(path)} > sites.values", "hexadecimal digits in place of octets"
+        remedy, why = f"xxd -r -p {shell_word(path)} > octets.values", "hexadecimal digits in place of octets"
     words = Words(f"{quoted(os.path.basename(path))} isn't a value list", remedy, why)
     return Explained(
         found(path, Place(), words, said.line),
