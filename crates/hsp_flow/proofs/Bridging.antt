@@ -1,18 +1,17 @@
 -- The plan that is made from a flow gives each arc what flows on it, and nothing to a pair that no arc joins.
-use Rattle.std.proofs.Common.{◌≡◌, ℕ, zero, suc, ◌+◌, ◌*◌, ◌<◌, ◌==◌, ◌∙◌, Bool, true, false, List, [], ◌∷◌, length, map, sum_by, slice_index, slice_index_or, if◌then◌else◌, refl, ap, ap₂, sym, inl, inr, arith, eq-eqb, eqb-true, ne_eqb}
+use Rattle.std.proofs.Common.{◌≡◌, ℕ, zero, suc, ◌+◌, ◌<◌, ◌==◌, ◌∙◌, Bool, true, false, List, [], ◌∷◌, length, slice_index, slice_index_or, if◌then◌else◌, refl, ap₂, sym, inl, inr, arith, eq-eqb, eqb-true, ne_eqb}
 use Rattle.std.specs.Prelude.{◌&&◌}
 use Rattle.std.specs.List.{list_any}
 use Rattle.std.proofs.lemmas.List.Sums.{sum_by-cons, sum_by-append}
 use Rattle.std.proofs.lemmas.List.Folds.{list_any_at}
-use Rattle.std.proofs.lemmas.List.{length-map, get_or-map}
 use Rattle.std.proofs.lemmas.Bool.{cases_eq, cases_Bool, and_parts, and_from}
 use Rattle.hsp_cert.specs.declared.use_line.UseLine.{UseLine}
 use Rattle.hsp_check.specs.declared.arc.NetworkArc.{NetworkArc}
 use Rattle.hsp_check.specs.Uses.{table}
-use Rattle.hsp_transport.proofs.Summing.{sum_below_same, sum_below_zero, sum_below_one, by_place}
-use Rattle.hsp_network.specs.Sums.{sum_below, only}
+use Rattle.hsp_transport.proofs.Summing.{sum_below_zero, sum_below_one}
+use Rattle.hsp_network.specs.Sums.{sum_below}
 use Rattle.hsp_flow.specs.Ordered.{AreOrdered}
-use Rattle.hsp_flow.specs.Planning.{use_of, uses_of, cost_of}
+use Rattle.hsp_flow.specs.Planning.{use_of, uses_of}
 use Rattle.hsp_flow.proofs.Ordering.{no_arc, one_place}
 
 -- the first term apart from the others

@@ -1,29 +1,28 @@
 -- A flow with prices through an instance's network is a valid certificate's plan.
-use Rattle.std.proofs.Common.{◌≡◌, ℕ, zero, suc, ◌+◌, ◌*◌, ◌<◌, ◌≤◌, ◌∙◌, Bool, true, false, List, [], ◌∷◌, length, map, slice_index, slice_index_or, refl, ap, sym, inl, inr, arith, eq-eqb, ne_eqb}
+use Rattle.std.proofs.Common.{◌≡◌, ℕ, zero, suc, ◌*◌, ◌<◌, ◌≤◌, ◌∙◌, Bool, true, false, List, [], ◌∷◌, length, slice_index, refl, sym, inl, inr, arith, eq-eqb, ne_eqb}
 use Rattle.std.specs.Prelude.{◌||◌}
 use Rattle.std.specs.List.{AllByRecursion, list_any}
 use Rattle.std.proofs.lemmas.List.Elements.{All-from_get_or, All-from_recursion, recursion_from_All}
-use Rattle.std.proofs.lemmas.List.{length-map, get_or-map}
+use Rattle.std.proofs.lemmas.List.{length-map}
 use Rattle.std.proofs.lemmas.Bool.{cases_eq, and_from}
 use Rattle.hsp_cert.specs.declared.use_line.UseLine.{UseLine}
 use Rattle.hsp_instance.specs.Instance.{Instance, IsInstance, AreArcs, IsAscending}
 use Rattle.hsp_check.specs.declared.arc.NetworkArc.{NetworkArc}
-use Rattle.hsp_check.specs.Instance.{arcs_from, network_of}
-use Rattle.hsp_check.specs.Plan.{Feasible, Plan, planned, total}
-use Rattle.hsp_check.specs.Network.{is_allowed, transport}
+use Rattle.hsp_check.specs.Instance.{arcs_from, demands_in, network_of}
+use Rattle.hsp_check.specs.Plan.{Feasible, Plan, total}
+use Rattle.hsp_check.specs.Network.{is_allowed}
 use Rattle.hsp_check.specs.Prices.{Prices, ArePrices}
 use Rattle.hsp_check.specs.Valid.{IsValidPlan}
 use Rattle.hsp_check.specs.Uses.{table}
 use Rattle.hsp_network.specs.Answer.{IsMet}
-use Rattle.hsp_network.specs.Network.{HasLowPrices, numbered}
+use Rattle.hsp_network.specs.Network.{HasLowPrices}
 use Rattle.hsp_network.specs.declared.network.PricedFlow.{PricedFlow}
-use Rattle.hsp_transport.specs.Cut.{capacity_of, demand_of}
 use Rattle.hsp_transport.specs.Sums.{sum_below}
-use Rattle.hsp_transport.proofs.Alike.{capacity_alike, cost_alike, demand_alike, feasible_alike, prices_alike}
+use Rattle.hsp_flow.proofs.Carrying.{cost_is as cost_by, feasible_is, prices_are}
 use Rattle.hsp_flow.specs.Ordered.{AreOrdered}
-use Rattle.hsp_flow.specs.Planning.{transport_of, uses_of, row_of, server_of, cost_of}
+use Rattle.hsp_flow.specs.Planning.{transport_of, uses_of, row_of}
 use Rattle.hsp_flow.proofs.Ordering.{no_arc, each_weaker, all_ordered}
-use Rattle.hsp_flow.proofs.Bridging.{arc, leads, planned_is, none_planned}
+use Rattle.hsp_flow.proofs.Bridging.{arc, leads}
 
 pub instance_ordered : (it : Instance) → IsInstance it → AreOrdered (arcs_from 0 it.arcs)
 instance_ordered it is = all_ordered 0 it.arcs (each_weaker (AreArcs it.servers) IsAscending it.arcs (λ arcs a. a.ascending) is.arcs)
@@ -47,44 +46,22 @@ of_uses P (a ∷ arcs) (flow ∷ flows) h = elim (cases_eq flow 0) [
   | inr some ↦ rw (ne_eqb flow 0 some) (h.0, of_uses P arcs flows h.1)
 ]
 
-module _ (it : Instance) where
-  arcs_many : length (arcs_from 0 it.arcs) ≡ length (transport_of it).sources
-  arcs_many = sym (length-map (arcs_from 0 it.arcs) row_of)
-
-  -- a part of an arc, by its column
-  column : (part : NetworkArc → ℕ) (k : ℕ) → k < length (arcs_from 0 it.arcs) → part (arc (arcs_from 0 it.arcs) k) ≡ slice_index (map part (arcs_from 0 it.arcs)) k
-  column part k l = sym (get_or-map part (arcs_from 0 it.arcs) k no_arc 0 l)
-
-  -- a set of rows by the checker, and of sources by the planner
-  module _ (s t : ℕ → Bool) (same : (i : ℕ) → s i ≡ t i) where
-    pub demand_is : demand_of (transport (network_of it)) s ≡ demand_of (numbered (transport_of it)) t
-    demand_is = demand_alike (transport (network_of it)) no_arc _ arcs_many _ _ _ (column row_of) (column server_of) (column cost_of) s t same
-
-    pub capacity_is : capacity_of (transport (network_of it)) s ≡ capacity_of (numbered (transport_of it)) t
-    capacity_is = capacity_alike (transport (network_of it)) no_arc _ arcs_many _ _ _ (column row_of) (column server_of) (column cost_of) s t same
-
 module _ (it : Instance) (is : IsInstance it) (plan : PricedFlow) (met : IsMet (transport_of it) plan) where
   abbrev pub plan_of_flow : Plan
   plan_of_flow = table (uses_of (arcs_from 0 it.arcs) plan.flows.items)
 
   all : length plan.flows.items ≡ length (arcs_from 0 it.arcs)
-  all = met.many.flows ∙ sym (arcs_many it)
-
-  flow_is : (k : ℕ) → k < length (arcs_from 0 it.arcs) → planned plan_of_flow (arc (arcs_from 0 it.arcs) k) ≡ slice_index plan.flows.items k
-  flow_is = planned_is (arcs_from 0 it.arcs) plan.flows.items all (instance_ordered it is)
+  all = met.many.flows ∙ length-map (arcs_from 0 it.arcs) row_of
 
   pub plan_feasible : Feasible (network_of it) plan_of_flow
-  plan_feasible = record {
-    allowed = none_planned (arcs_from 0 it.arcs) plan.flows.items all;
-    flow = feasible_alike (transport (network_of it)) no_arc _ (arcs_many it) _ _ _ (column it row_of) (column it server_of) (column it cost_of) (planned plan_of_flow) _ flow_is met.balanced.feasible;
-  }
+  plan_feasible = feasible_is it (demands_in it) (arcs_from 0 it.arcs) (instance_ordered it is) plan.flows.items all met.balanced.feasible
 
   plan_prices : Prices (network_of it) plan_of_flow plan.source_prices.items plan.server_prices.items plan.host_prices.items
-  plan_prices = prices_alike (transport (network_of it)) no_arc _ (arcs_many it) _ _ _ (column it row_of) (column it server_of) (column it cost_of) (planned plan_of_flow) _ flow_is _ _ _ met.balanced.prices
+  plan_prices = prices_are it (demands_in it) (arcs_from 0 it.arcs) (instance_ordered it is) plan.flows.items all _ _ _ met.balanced.prices
 
   -- what the plan costs, by the columns
   pub cost_is : total (network_of it) plan_of_flow ≡ sum_below (length (arcs_from 0 it.arcs)) (λ k. slice_index (transport_of it).costs k * slice_index plan.flows.items k)
-  cost_is = cost_alike (transport (network_of it)) no_arc _ refl _ _ _ (column it row_of) (column it server_of) (column it cost_of) (planned plan_of_flow) _ flow_is
+  cost_is = cost_by it (demands_in it) (arcs_from 0 it.arcs) (instance_ordered it is) plan.flows.items all
 
   pub plan_valid : (most : ℕ) → most ≤ 1000000000000 → HasLowPrices plan.source_prices.items plan.server_prices.items plan.host_prices.items most →
       (cost : ℕ) → cost ≡ sum_below (length (arcs_from 0 it.arcs)) (λ k. slice_index (transport_of it).costs k * slice_index plan.flows.items k) →

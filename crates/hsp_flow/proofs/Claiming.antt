@@ -1,5 +1,5 @@
 -- A flow that meets every row, or a short set, makes a certificate.
-use Rattle.std.proofs.Common.{◌≡◌, ℕ, ◌+◌, ◌*◌, ◌<◌, ◌≤◌, ◌∙◌, Bool, false, List, length, map, slice_index, slice_index_or, refl, ap, arith}
+use Rattle.std.proofs.Common.{◌≡◌, ℕ, ◌+◌, ◌*◌, ◌<◌, ◌≤◌, ◌∙◌, Bool, List, length, map, slice_index, refl, ap, arith}
 use Rattle.std.specs.Prelude.{None}
 use Rattle.std.proofs.lemmas.List.{length-map, get_or-map}
 use Rattle.std.proofs.lemmas.List.Elements.{All-from_get_or, All-get_or}
@@ -8,8 +8,6 @@ use Rattle.hsp_cert.specs.Certificate.{Best, IsBest, IsShort}
 use Rattle.hsp_cert.specs.Certificate.Claim.{best}
 use Rattle.hsp_instance.specs.Instance.{Instance, Row, Server, Host, IsInstance}
 use Rattle.hsp_check.specs.Instance.{arcs_from, network_of}
-use Rattle.hsp_check.specs.Plan.{total, Feasible}
-use Rattle.hsp_check.specs.Uses.{table}
 use Rattle.hsp_check.specs.Valid.{IsValidPlan, IsValidSet}
 use Rattle.hsp_check.specs.declared.arc.NetworkArc.{NetworkArc}
 use Rattle.hsp_network.specs.Answer.{IsMet, BoundsCosts, IsShortSet}

@@ -8,3 +8,8 @@ pub mod Ordering
 pub mod Ranges
 pub mod ShortRows
 pub mod Showing
+pub mod Carrying
+pub mod GroupKinds
+pub mod Spreads
+pub mod GroupLists
+pub mod SpreadAnswers

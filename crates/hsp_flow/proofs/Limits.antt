@@ -18,10 +18,10 @@ use Rattle.hsp_transport.specs.Lists.{HostsAreBelow}
 use Rattle.hsp_transport.proofs.Places.{hosts_below}
 use Rattle.hsp_transport.proofs.Summing.{sum_by_le_all, by_key}
 use Rattle.hsp_shortest_paths.specs.Layout.{IsSmall}
-use Rattle.hsp_network.specs.Network.{IsNetwork, Transport, host_of, numbered}
+use Rattle.hsp_network.specs.Network.{IsNetwork, host_of, numbered}
 use Rattle.hsp_transport.specs.Cut.{demand_of}
 use Rattle.hsp_flow.specs.Nodes.{nodes_by}
-use Rattle.hsp_flow.specs.Planning.{transport_of, row_of, server_of, cost_of}
+use Rattle.hsp_flow.specs.Planning.{transport_of, transport_over, row_of, server_of, cost_of}
 use Rattle.hsp_flow.proofs.Ordering.{no_arc, each_weaker, each_at, all_ordered, rows_between, rows_ordered, arcs_many}
 use Rattle.hsp_flow.proofs.Bridging.{arc}
 use Rattle.hsp_shortest_paths.proofs.Sums.{sum_below_low}
@@ -76,20 +76,8 @@ module _ (it : Instance) (is : IsInstance it) where
       let on : IsHostOf (length it.hosts) (Some h) = subst (IsHostOf (length it.hosts)) (sym at ∙ e) ((each_at (IsServer it.sites (length it.hosts)) it.servers j no_server inside is.servers.each).host) in
       omega (arith, on, length-map it.hosts (λ (x : Host). x.limit)))
 
--- the network over the arcs of some lists
-abbrev pub network_over : Instance → List (List Arc) → List ℕ → Transport
-network_over it lists demands = record {
-  demands = demands;
-  capacities = (transport_of it).capacities;
-  limits = (transport_of it).limits;
-  hosts = (transport_of it).hosts;
-  sources = map row_of (arcs_from 0 lists);
-  servers = map server_of (arcs_from 0 lists);
-  costs = map cost_of (arcs_from 0 lists);
-}
-
 module _ (it : Instance) (is : IsInstance it) (lists : List (List Arc)) (each : AllByRecursion (AreArcs it.servers) lists) where
-  fits_at : (k : ℕ) → k < length (arcs_from 0 lists) → Fits it (arc (arcs_from 0 lists) k)
+  pub fits_at : (k : ℕ) → k < length (arcs_from 0 lists) → Fits it (arc (arcs_from 0 lists) k)
   fits_at k l = each_at (Fits it) (arcs_from 0 lists) k no_arc l (fits_all it is 0 lists each)
 
   pub row_at : (k : ℕ) → k < length (arcs_from 0 lists) → (arc (arcs_from 0 lists) k).row < length lists
@@ -109,7 +97,7 @@ module _ (it : Instance) (is : IsInstance it) (lists : List (List Arc)) (each : 
   cost_low k l = omega (arith, at cost_of k l, (fits_at k (inside k l)).cost)
 
   module _ (demands : List ℕ) (many : length demands ≡ length lists) where
-    pub over_is : IsNetwork (network_over it lists demands)
+    pub over_is : IsNetwork (transport_over it demands (arcs_from 0 lists))
     over_is = record {
       hosts_many = length-map it.servers (λ (s : Server). s.host) ∙ sym (length-map it.servers (λ (s : Server). s.capacity));
       servers_many = length-map (arcs_from 0 lists) server_of ∙ sym (length-map (arcs_from 0 lists) row_of);
@@ -124,7 +112,7 @@ module _ (it : Instance) (is : IsInstance it) (lists : List (List Arc)) (each : 
         ascending = each_weaker (AreArcs it.servers) IsAscending lists (λ arcs h. h.ascending) each
 
     -- the solver's numbers have room for it
-    pub over_small : length lists ≤ 8192 → ((i : ℕ) → i < length demands → slice_index demands i ≤ 8192000000) → IsSmall (network_over it lists demands)
+    pub over_small : length lists ≤ 8192 → ((i : ℕ) → i < length demands → slice_index demands i ≤ 8192000000) → IsSmall (transport_over it demands (arcs_from 0 lists))
     over_small few low =
         let hosts = length-map it.hosts (λ (h : Host). h.limit) in
         let servers = length-map it.servers (λ (s : Server). s.capacity) in

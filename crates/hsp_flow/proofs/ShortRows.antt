@@ -1,19 +1,19 @@
 -- A short set of a network's sources is a valid certificate's short set of rows.
-use Rattle.std.proofs.Common.{◌≡◌, ℕ, zero, suc, ◌+◌, ◌<◌, ◌==◌, ◌∙◌, Bool, true, false, List, [], ◌∷◌, length, slice_index_or, if◌then◌else◌, refl, ap, sym, inl, inr, arith, eq-eqb, ne_eqb, zero-add}
+use Rattle.std.proofs.Common.{◌≡◌, ℕ, zero, suc, ◌+◌, ◌<◌, ◌==◌, ◌∙◌, Bool, true, false, List, [], ◌∷◌, length, slice_index_or, refl, ap, sym, inl, inr, arith, eq-eqb, ne_eqb, zero-add}
 use Rattle.std.specs.Prelude.{◌&&◌, ◌||◌}
 use Rattle.std.specs.List.{AllByRecursion, list_any}
 use Rattle.std.proofs.lemmas.List.Elements.{All-from_recursion}
 use Rattle.std.proofs.lemmas.List.{length-map}
 use Rattle.std.proofs.lemmas.Bool.{cases_Bool}
 use Rattle.hsp_instance.specs.Instance.{Instance, Row}
-use Rattle.hsp_check.specs.Instance.{network_of}
+use Rattle.hsp_check.specs.Instance.{arcs_from, demands_in, network_of}
 use Rattle.hsp_check.specs.Verdict.{is_one_of}
 use Rattle.hsp_check.specs.Valid.{IsValidSet}
 use Rattle.hsp_network.specs.Network.{numbered}
 use Rattle.hsp_transport.specs.Cut.{IsShort, capacity_of, demand_of}
 use Rattle.hsp_transport.specs.Lists.{flag_at}
 use Rattle.hsp_flow.specs.Planning.{transport_of, flagged_from}
-use Rattle.hsp_flow.proofs.Certifying.{capacity_is, demand_is}
+use Rattle.hsp_flow.proofs.Carrying.{capacity_is, demand_is}
 use Rattle.hsp_flow.proofs.Ordering.{each_weaker}
 
 -- whether a number is among the flagged ones, by the first flag
@@ -68,7 +68,7 @@ module _ (it : Instance) (set : List Bool) (many : length set ≡ length it.rows
   set_valid demand capacity d c short = record {
     there = All-from_recursion (λ r. r < length (transport_of it).demands) (flagged_from 0 set)
         (each_weaker (λ r. r < 0 + length set) (λ r. r < length (transport_of it).demands) (flagged_from 0 set) (λ r l. omega (arith, l, many, length-map it.rows (λ (x : Row). x.count))) (flags_within 0 set));
-    is_short = rw (demand_is it _ _ chosen_is, capacity_is it _ _ chosen_is) short;
-    demand = d ∙ sym (demand_is it _ _ chosen_is);
-    capacity = c ∙ sym (capacity_is it _ _ chosen_is);
+    is_short = rw (demand_is it (demands_in it) (arcs_from 0 it.arcs) _ _ chosen_is, capacity_is it (demands_in it) (arcs_from 0 it.arcs) _ _ chosen_is) short;
+    demand = d ∙ sym (demand_is it (demands_in it) (arcs_from 0 it.arcs) _ _ chosen_is);
+    capacity = c ∙ sym (capacity_is it (demands_in it) (arcs_from 0 it.arcs) _ _ chosen_is);
   }

@@ -3,3 +3,5 @@ pub mod Ordered
 pub mod Columns
 pub mod Lists
 pub mod Nodes
+pub mod Grouped
+pub mod SpreadFlows

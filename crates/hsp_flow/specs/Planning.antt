@@ -6,7 +6,8 @@ use Rattle.hsp_cert.specs.Certificate.Claim.{best, short}
 use Rattle.hsp_instance.specs.Instance.{Instance}
 use Rattle.hsp_check.specs.Network.{Network}
 use Rattle.hsp_check.specs.declared.arc.NetworkArc.{NetworkArc}
-use Rattle.hsp_check.specs.Instance.{arcs_from}
+use Rattle.hsp_check.specs.ArcFlows.{host_in}
+use Rattle.hsp_check.specs.Instance.{arcs_from, capacities_in, demands_in, limits_in, server_hosts_in}
 use Rattle.hsp_network.specs.Network.{Transport}
 
 -- the row that an arc leaves, the server that it enters, and what a query costs on it
@@ -19,20 +20,31 @@ server_of a = a.server
 abbrev pub cost_of : NetworkArc → ℕ
 cost_of a = a.cost
 
--- the network of an instance over these arcs
-abbrev pub transport_over : Instance → List NetworkArc → Transport
-transport_over it arcs = record {
-  demands = map (λ r. r.count) it.rows;
-  capacities = map (λ s. s.capacity) it.servers;
-  limits = map (λ h. h.limit) it.hosts;
-  hosts = map (λ s. s.host) it.servers;
+-- the servers and hosts of an instance, and sources with these demands over these arcs
+abbrev pub network_over : Instance → List ℕ → List NetworkArc → Network
+network_over it demands arcs = record {
+  demands = demands;
+  capacities = capacities_in it;
+  limits = limits_in it;
+  host_of = host_in (server_hosts_in it);
+  arcs = arcs;
+}
+
+-- the same by columns
+abbrev pub transport_over : Instance → List ℕ → List NetworkArc → Transport
+transport_over it demands arcs = record {
+  demands = demands;
+  capacities = capacities_in it;
+  limits = limits_in it;
+  hosts = server_hosts_in it;
   sources = map row_of arcs;
   servers = map server_of arcs;
   costs = map cost_of arcs;
 }
 
+-- the network of an instance, whose sources are its rows
 abbrev pub transport_of : Instance → Transport
-transport_of it = transport_over it (arcs_from 0 it.arcs)
+transport_of it = transport_over it (demands_in it) (arcs_from 0 it.arcs)
 
 -- the use of an arc that has flow
 abbrev pub use_of : NetworkArc → ℕ → List UseLine

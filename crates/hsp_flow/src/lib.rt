@@ -7,9 +7,9 @@ mod amounts;
 mod arcs;
 mod certify;
 mod grouping;
+pub mod laws;
 mod planning;
 mod shortfall;
-mod small;
 mod spreading;
 
 pub use hsp_shortest_paths::{Frontier, HeapFrontier, ScanFrontier, SearchEffort};

@@ -8,21 +8,20 @@ ghost use Rattle.hsp_check.specs.Shown.{HasBestPlan, HasEqualSums, HasNoPlan};
 ghost use Rattle.hsp_check.specs.Valid.{IsValid};
 ghost use Rattle.hsp_network.specs.Answer.{Answers, IsShortSet};
 ghost use Rattle.hsp_network.specs.Problem.{problem_of};
-ghost use Rattle.hsp_shortest_paths.specs.Layout.{IsSmall};
 ghost use Rattle.hsp_shortest_paths.specs.Nodes.{MayHaveUpTo};
-ghost use Rattle.hsp_flow.specs.Lists.{transport_in, transport_with};
+ghost use Rattle.hsp_flow.specs.Grouped.{AreGroupArcs, AreRowsOfGroups, demands_by, transport_by};
+ghost use Rattle.hsp_flow.specs.Lists.{transport_in};
 ghost use Rattle.hsp_flow.specs.Nodes.{MayHaveNodesOf, nodes_by};
 ghost use Rattle.hsp_flow.specs.Planning.{HasLimitedPrices, transport_of};
 
 use crate::amounts::{TransportLists, lists_of};
 use crate::certify::plan_certificate;
-use crate::grouping::{GroupLists, group_lists};
+use crate::grouping::{group_arcs, group_demands, rows_of_groups};
 use crate::shortfall::short_certificate;
-use crate::small::is_small;
-use crate::spreading::spread;
+use crate::spreading::{GroupedRows, spread};
 use hsp_cert::Certificate;
 use hsp_instance::{Groups, Instance, groups};
-use hsp_network::{Network, NetworkLists, Outcome, accepts};
+use hsp_network::{Network, Outcome, accepts};
 use hsp_shortest_paths::{Frontier, HeapFrontier, SearchEffort, minimum_cost_flow};
 use hsp_simplex::{SimplexEffort, propose_counted};
 use std::alloc::{AllocError, Global};
@@ -54,25 +53,31 @@ fn row_network<'a>(instance: &Instance, rows: &'a TransportLists) -> Network<'a>
     }
 }
 
-// The network whose sources are the groups, where the loop's numbers have room for it.
-fn group_network<'a>(rows: &'a TransportLists, groups: &'a GroupLists) -> Option<Network<'a>>
-    ensures network { IfSome result (λ network.
-        problem_of network ≡ transport_with rows.now groups.now) }
-    ensures small { IfSome result (λ network. IsSmall (problem_of network)) }
+// The network whose sources are the groups.
+fn group_network<'a>(
+    instance: &Instance,
+    rows: &'a TransportLists,
+    grouped: &'a GroupedRows<'a>,
+    demands: &'a [u64],
+) -> Network<'a>
+    requires within { IsInstance instance.now }
+    requires lists { transport_in rows.now ≡ transport_of instance.now }
+    requires groups { AreGroups instance.now grouped.now.groups.now }
+    requires rows { AreRowsOfGroups instance.now grouped.now.groups.now grouped.now.rows.now }
+    requires arcs { AreGroupArcs instance.now grouped.now.rows.now grouped.now.arcs.now }
+    requires demands { demands.now ≡ demands_by instance.now grouped.now.groups.now }
+    ensures { problem_of result
+        ≡ transport_by instance.now grouped.now.groups.now grouped.now.rows.now }
 {
-    let network = Network::checked(NetworkLists {
-        demands: &groups.demands,
+    let _ = instance;
+    Network {
+        demands,
         capacities: &rows.capacities,
         limits: &rows.limits,
         hosts: &rows.hosts,
-        sources: &groups.arcs.sources,
-        servers: &groups.arcs.servers,
-        costs: &groups.arcs.costs,
-    })?;
-    if is_small(&network) {
-        Some(network)
-    } else {
-        None
+        sources: &grouped.arcs.columns.sources,
+        servers: &grouped.arcs.columns.servers,
+        costs: &grouped.arcs.columns.costs,
     }
 }
 
@@ -109,44 +114,51 @@ fn solve_rows<F: Frontier>(
     minimum_cost_flow::<F>(alloc, &network, effort)
 }
 
-// What the searches find for the groups, spread over their rows, or None where the loop has no room for the groups'
-// network.
-fn propose_by_groups<F: Frontier>(
+// What becomes of the groups' network.
+fn solve_grouped<F: Frontier>(
     alloc: Global,
     instance: &Instance,
-    groups: &Groups,
     rows: &TransportLists,
+    grouped: &GroupedRows<'_>,
     effort: &mut SearchEffort,
-) -> Result<Option<Outcome>, AllocError>
-    requires groups { AreGroups instance.now groups.now }
-    requires rows { transport_in rows.now ≡ transport_of instance.now }
-    requires nodes { MayHaveUpTo F.may_have (nodes_by instance.now groups.now.count) }
+) -> Result<Outcome, AllocError>
+    requires within { IsInstance instance.now }
+    requires lists { transport_in rows.now ≡ transport_of instance.now }
+    requires groups { AreGroups instance.now grouped.now.groups.now }
+    requires rows { AreRowsOfGroups instance.now grouped.now.groups.now grouped.now.rows.now }
+    requires arcs { AreGroupArcs instance.now grouped.now.rows.now grouped.now.arcs.now }
+    requires nodes { MayHaveUpTo F.may_have (nodes_by instance.now grouped.now.groups.now.count) }
+    ensures { IfOk result (Answers
+        (transport_by instance.now grouped.now.groups.now grouped.now.rows.now)) }
 {
-    let lists = group_lists(alloc, instance, groups)?;
-    let Some(network) = group_network(rows, &lists) else {
-        return Ok(None);
-    };
-    let of_groups = minimum_cost_flow::<F>(alloc, &network, effort)?;
-    Ok(Some(spread(alloc, instance, groups, &lists, of_groups)?))
+    let demands = group_demands(alloc, instance, grouped.groups)?;
+    let network = group_network(instance, rows, grouped, &demands);
+    minimum_cost_flow::<F>(alloc, &network, effort)
 }
 
-// What the searches find for the groups, where the test accepts it for their rows.
+// What becomes of the rows' network, by what becomes of that of the groups.
 fn solve_groups<F: Frontier>(
     alloc: Global,
     instance: &Instance,
     groups: &Groups,
     rows: &TransportLists,
     effort: &mut SearchEffort,
-) -> Result<Option<Outcome>, AllocError>
+) -> Result<Outcome, AllocError>
     requires within { IsInstance instance.now }
     requires groups { AreGroups instance.now groups.now }
     requires rows { transport_in rows.now ≡ transport_of instance.now }
     requires nodes { MayHaveUpTo F.may_have (nodes_by instance.now groups.now.count) }
-    ensures { IfOk result (λ found. IfSome found (Answers (transport_of instance.now))) }
+    ensures { IfOk result (Answers (transport_of instance.now)) }
 {
-    let proposal = propose_by_groups::<F>(alloc, instance, groups, rows, effort)?;
-    let network = row_network(instance, rows);
-    accepted(alloc, &network, proposal)
+    let of_groups = rows_of_groups(alloc, instance, groups)?;
+    let arcs = group_arcs(alloc, instance, groups, &of_groups)?;
+    let grouped = GroupedRows {
+        groups,
+        rows: &of_groups,
+        arcs: &arcs,
+    };
+    let outcome = solve_grouped::<F>(alloc, instance, rows, &grouped, effort)?;
+    spread(alloc, instance, &grouped, outcome)
 }
 
 // What becomes of the rows' network, by the loop of searches: by way of the groups where some rows are of one group.
@@ -165,10 +177,7 @@ fn solve_by_searches<F: Frontier>(
     if groups.len() == instance.rows() {
         return solve_rows::<F>(alloc, instance, rows, effort);
     }
-    match solve_groups::<F>(alloc, instance, &groups, rows, effort)? {
-        Some(outcome) => Ok(outcome),
-        None => solve_rows::<HeapFrontier>(alloc, instance, rows, effort),
-    }
+    solve_groups::<F>(alloc, instance, &groups, rows, effort)
 }
 
 // What is proposed, where the test accepts it.

@@ -1,39 +1,46 @@
-// What is found for groups, spread over their rows. The test decides whether it is right for the rows.
+// What is found for groups, spread over their rows.
 
-ghost use Rattle.std.specs.Prelude.{◌≤◌};
+ghost use Rattle.std.specs.Prelude.{◌≡◌, ◌++◌, IfOk, OnOk, length};
 ghost use Rattle.hsp_instance.specs.Groups.{AreGroups};
+ghost use Rattle.hsp_instance.specs.Instance.{IsInstance};
+ghost use Rattle.hsp_check.specs.Instance.{arcs_from};
+ghost use Rattle.hsp_check.specs.Plan.{Feasible};
+ghost use Rattle.hsp_network.specs.Answer.{Answers};
+ghost use Rattle.hsp_flow.specs.Grouped.{AreGroupArcs, AreRowsOfGroups, grouped, lists_of, transport_by};
+ghost use Rattle.hsp_flow.specs.Planning.{transport_of};
+ghost use Rattle.hsp_flow.specs.SpreadFlows.{AreOfGroups, flows_by, laid, plan_by};
 
-use crate::grouping::GroupLists;
+use crate::grouping::GroupArcs;
 use hsp_instance::{Groups, Instance};
 use hsp_network::{Outcome, PricedFlow};
 use std::alloc::{AllocError, Global};
 
-// Takes what is needed of what is left at a place, or all that is left there. Returns how much that is, 0 where there
-// is no such place.
-fn take(left: &mut [u64], place: usize, need: u64) -> u64
-    ensures { result ≤ need }
-{
-    let Some(here) = left.get_mut(place) else {
-        return 0;
-    };
-    let taken = need.min(*here);
-    *here -= taken;
-    taken
+/// Groups with a row and the arcs of each.
+#[derive(Clone, Copy)]
+pub(crate) struct GroupedRows<'a> {
+    pub(crate) groups: &'a Groups,
+    pub(crate) rows: &'a [u32],
+    pub(crate) arcs: &'a GroupArcs,
 }
 
-// Appends the flow of each of a row's `arcs` arcs: as much of what is left of its group's arc as the row still needs.
+// Appends the flow of each of a row's arcs, by those of its group. Earlier rows of the group take `skip`, and the row
+// needs `need`.
 fn push_flows(
     flows: &mut Vec<u64>,
-    left: &mut [u64],
-    begin: usize,
-    arcs: usize,
-    count: u64,
-) -> Result<(), AllocError> {
-    let mut need = count;
-    for place in 0..arcs {
-        let flow = take(left, begin.saturating_add(place), need);
-        flows.push(flow)?;
-        need -= flow;
+    skip: u64,
+    need: u64,
+    of_group: &[u64],
+) -> Result<(), AllocError>
+    ensures { OnOk result (flows.new.items ≡ flows.old.items ++ laid skip need of_group.now) }
+{
+    let mut skip = skip;
+    let mut need = need;
+    for flow in of_group {
+        let skipped = skip.min(*flow);
+        let own = need.min(*flow - skipped);
+        flows.push(own)?;
+        skip -= skipped;
+        need -= own;
     }
     Ok(())
 }
@@ -42,26 +49,29 @@ fn push_flows(
 fn spread_flows(
     alloc: Global,
     instance: &Instance,
-    groups: &Groups,
-    lists: &GroupLists,
+    with: &GroupedRows<'_>,
     of_groups: &[u64],
 ) -> Result<Vec<u64>, AllocError>
-    requires { AreGroups instance.now groups.now }
+    requires groups { AreGroups instance.now with.now.groups.now }
+    requires rows { AreRowsOfGroups instance.now with.now.groups.now with.now.rows.now }
+    requires arcs { AreGroupArcs instance.now with.now.rows.now with.now.arcs.now }
+    requires many { length of_groups.now
+        ≡ length (arcs_from 0 (lists_of instance.now with.now.rows.now)) }
+    requires feasible { Feasible
+        (grouped instance.now with.now.groups.now with.now.rows.now)
+        (plan_by instance.now with.now.rows.now of_groups.now) }
+    ensures { IfOk result (λ flows. flows.items
+        ≡ flows_by instance.now with.now.groups.now with.now.rows.now of_groups.now) }
 {
-    let mut left = of_groups.to_vec(alloc)?;
+    let mut asked = vec![in alloc; 0u64; with.groups.len() as usize]?;
     let mut flows = Vec::new(alloc);
     for row in 0..instance.rows() {
-        let Some(begin) = lists.begins.get(groups.of(row) as usize) else {
-            break;
-        };
+        let group = with.groups.of(row) as usize;
         let (_, _, count) = instance.row(row);
-        push_flows(
-            &mut flows,
-            &mut left,
-            *begin,
-            instance.arcs(row).len(),
-            count,
-        )?;
+        let (_, from) = of_groups.split_at(with.arcs.begins[group]);
+        let (own, _) = from.split_at(instance.arcs(row).len());
+        push_flows(&mut flows, asked[group], count, own)?;
+        asked[group] += count;
     }
     Ok(flows)
 }
@@ -73,14 +83,14 @@ fn spread_each<T: Copy>(
     groups: &Groups,
     of_groups: &[T],
 ) -> Result<Vec<T>, AllocError>
-    requires { AreGroups instance.now groups.now }
+    requires groups { AreGroups instance.now groups.now }
+    requires many { length of_groups.now ≡ groups.now.count }
+    ensures { IfOk result (λ each.
+        AreOfGroups instance.now groups.now of_groups.now each.items) }
 {
     let mut each = Vec::new(alloc);
     for row in 0..instance.rows() {
-        let Some(own) = of_groups.get(groups.of(row) as usize) else {
-            break;
-        };
-        each.push(*own)?;
+        each.push(of_groups[groups.of(row) as usize])?;
     }
     Ok(each)
 }
@@ -90,19 +100,27 @@ fn spread_each<T: Copy>(
 pub(crate) fn spread(
     alloc: Global,
     instance: &Instance,
-    groups: &Groups,
-    lists: &GroupLists,
+    with: &GroupedRows<'_>,
     of_groups: Outcome,
 ) -> Result<Outcome, AllocError>
-    requires { AreGroups instance.now groups.now }
+    requires within { IsInstance instance.now }
+    requires groups { AreGroups instance.now with.now.groups.now }
+    requires rows { AreRowsOfGroups instance.now with.now.groups.now with.now.rows.now }
+    requires arcs { AreGroupArcs instance.now with.now.rows.now with.now.arcs.now }
+    requires answers { Answers
+        (transport_by instance.now with.now.groups.now with.now.rows.now) of_groups }
+    ensures { IfOk result (Answers (transport_of instance.now)) }
 {
     match of_groups {
         Outcome::Met(plan) => Ok(Outcome::Met(PricedFlow {
-            flows: spread_flows(alloc, instance, groups, lists, &plan.flows)?,
-            source_prices: spread_each(alloc, instance, groups, &plan.source_prices)?,
+            flows: spread_flows(alloc, instance, with, &plan.flows)?,
+            source_prices: spread_each(alloc, instance, with.groups, &plan.source_prices)?,
             server_prices: plan.server_prices,
             host_prices: plan.host_prices,
         })),
-        Outcome::Short(set) => Ok(Outcome::Short(spread_each(alloc, instance, groups, &set)?)),
+        Outcome::Short(set) => {
+            let short = spread_each(alloc, instance, with.groups, &set)?;
+            Ok(Outcome::Short(short))
+        },
     }
 }
