@@ -16,6 +16,7 @@ from typing import Any
 
 from hsp.bounds import whole
 from hsp.faults import Unfit, shown
+from hsp.numbers import some
 from hsp.programs import Desk, Missing, Refused, table_of
 
 # The region of an address, or the reason why it has none.
@@ -105,7 +106,7 @@ class Networks:
                 raise Unfit(f"{path}: line 1: the header isn't network,region")
             for row in reader:
                 if row and len(row) != 2:
-                    raise Unfit(f"{path}: line {reader.line_num}: {len(row)} fields in place of network,region")
+                    raise Unfit(f"{path}: line {reader.line_num}: {some(len(row), 'field')} in place of network,region")
                 if row and not row[1]:
                     raise Unfit(f"{path}: line {reader.line_num}: no region")
                 if row:

@@ -7,13 +7,15 @@ from pathlib import Path
 
 import pytest
 
-from hsp.doctor import answer_faults, toml_faults
+from hsp.doctor import answer_faults, faults, toml_faults
 from hsp.doctor.findings import Text
 from hsp.doctor.numbers_advice import advice
+from hsp.doctor.printing import lines
 from hsp.doctor.question import Draft, Question, Said
 from hsp.doctor.table_faults import open_quote, spot_of
 from hsp.programs import Desk
 
+from printed import assert_kept
 from test_sites import invoke
 
 Example = Callable[[str], Path]
@@ -118,3 +120,21 @@ def test_units_are_doubted_from_ten_times_and_a_thousand_times_on(example: Examp
     (folder / "capacity.csv").write_text("\n".join([header, *lines]) + "\n")
     found = [it for it in invoke("doctor", folder).stdout.splitlines() if " far above " in it]
     assert found == ([f"warning: {message}"] if message else [])
+
+
+def test_faults_that_no_small_file_has() -> None:
+    """A row far behind, a log that is too long, memory that ran out, and a line that no version knows."""
+    question = question_of("log", "region,handle\n")
+    far = Said(1, "log: BadHandle row 9999999 NoSlash", "log", "BadHandle", "NoSlash", "", {"row": 9_999_999})
+    long = Said(1, "log: LogTooLong", "log", "LogTooLong")
+    memory, other = Said(4, "OutOfMemory", "", "OutOfMemory"), Said(1, "demand: Strange", "demand", "Strange")
+    for name, said in (("far", far), ("long", long), ("memory", memory), ("other", other), ("nothing", Said(9, ""))):
+        found = faults.explained(question, said, None)
+        assert found.finding and not found.is_whole_row and list(found.mended) == []
+        assert_kept("faults", f"part: {name}", "\n".join(lines([found.finding])))
+
+
+def test_octets_of_files_are_counted_where_memory_ran_out() -> None:
+    question = Question(Desk(), "plan", {"demand": Draft(text_of("a\n")), "costs": Draft(text_of("bcd\n"))})
+    (only,) = answer_faults.memory(question, Said(4, "OutOfMemory"))
+    assert only.finding and only.finding.why == "the files have 6 octets" and only.mended == []

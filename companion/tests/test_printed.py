@@ -57,6 +57,25 @@ def by_hosts() -> None:
     Path("s/hosts.toml").rename("s/settings.toml")
 
 
+# Lines of JSON: queries, and such as are passed over.
+LINES = [
+    f"{it}\n"
+    for it in (
+        '{"client": "10.0.0.1", "handle": "20.500.1/a", "time": "2026-11-26T10:00:00Z"}',
+        '{"client": "10.0.0.1", "handle": "20.500.1/a", "time": "2026-11-26T09:59:59Z"}',
+        '{"client": "192.0.2.9", "handle": "20.500.1/b,c", "time": 1795690800}',
+        '{"client": "203.0.113.1", "handle": "20.500.1/d"}',
+        '{"client": "host", "handle": "20.500.1/d"}',
+        '{"client": "10.0.0.1", "handle": "no handle"}',
+        '{"client": "10.0.0.1", "handle": "/a"}',
+        '{"client": "10.0.0.1", "handle": "20.500.1/a\\nb"}',
+        '{"client": "10.0.0.1"}',
+        "not JSON",
+        "[1]",
+        "",
+        '{"client": "::ffff:10.0.0.1", "handle": "20.500.1/e", "time": "x"}',
+    )
+]
 KINDS = '[demand]\nrows = "kinds"\nlog = ["a.log"]\nqueries = 6300\nhandles = 400\n'
 CASES: dict[str, list[Step]] = {
     "plan of two sites": [example("two-sites"), "plan s", "plan s --all --no-save", "plan s --csv", "show s/plan.txt"],
@@ -150,6 +169,74 @@ CASES: dict[str, list[Step]] = {
         "whatif s --from 1",
     ],
     "what if in units": [units, "whatif s", "whatif s --server south:1 --from 1000 --to 4000 --points 4"],
+    "sites and a demand": [
+        example("bring-in"),
+        "new m",
+        "sites s/paris.json s/reston.json --into m --capacity 120",
+        "sites s/paris.json --into m",
+        "sites s/paris.json s/paris.json --name one",
+        "sites s/paris.json --name one --name two",
+        "sites s/paris.json s/reston.json --name one --name one",
+        "show m/settings.toml m/capacity.csv",
+        "demand s/access.log --regions s/networks.csv --into m --log m/log.csv",
+        "show m/demand.csv m/hsp.toml",
+        lambda: [shutil.copy(TOP / "examples" / "two-sites" / "costs.csv", "m")].clear(),
+        "demand s/access.log --regions s/networks.csv --into m --unit 10",
+        "show m/demand.csv m/hsp.toml",
+        "plan m",
+        "demand s/access.log s/access.log --regions s/networks.csv --into m",
+        "demand s/access.log --regions s/networks.csv --prefix 20.1",
+        "demand s/access.log --regions s/networks.csv --prefix 20.500.1234 -o t.csv",
+        "demand s/access.log --regions s/networks.csv --busiest-hour -o t.csv",
+        "demand s/access.log --regions s/networks.csv --from 2026-11-26T09:30 --to 2026-11-26T09:31 -o t.csv",
+        "demand s/access.log --regions s/networks.csv --from 2026-11-26T09:30 --to 2026-11-26T09:30",
+        "demand s/access.log --regions s/networks.csv --from 2026-11-26T9",
+        "demand s/access.log --regions s/networks.csv --unit 10",
+        "demand s/access.log --regions s/networks.csv --format csv",
+        "demand s/access.log --regions s/networks.csv --regex x",
+        "demand s/access.log --regions s/networks.csv --regex (",
+        "demand - - --regions s/networks.csv",
+    ],
+    "a demand with odd lines": [
+        put("n.csv", "network,region\n10.0.0.0/8,eu\n192.0.2.0/24,us\n"),
+        put("a.json", "".join(LINES)),
+        "demand a.json --regions n.csv",
+        "demand a.json --regions n.csv --elsewhere far -o t.csv",
+        "show t.csv",
+        "demand a.json --regions n.csv --elsewhere far --log q.csv -o t.csv --from 2026-11-26T10:00Z",
+        "show q.csv t.csv",
+        "demand a.json --regions n.csv --path uri",
+        put("none.log", ""),
+        "demand none.log --regions n.csv",
+        "demand none.log a.json --regions none.csv",
+        put("n.csv", "network,region\n10.0.0.0/8,e u\n"),
+        "demand a.json --regions n.csv",
+        *[
+            step
+            for it in ("10.0.0.1/8,eu", "10.0.0.0/33,eu", "10.0.0,eu", "x,eu", "10.0.0.0/8", "10.0.0.0/8,eu\n10.0.0.0/8,us", "::1/x,eu")
+            for step in (put("n.csv", f"network,region\n{it}\n"), "demand a.json --regions n.csv")
+        ],
+        put("n.csv", "net,region\n10.0.0.0/8,eu\n"),
+        "demand a.json --regions n.csv",
+    ],
+    "a demand before its service is whole": [
+        example("two-sites"),
+        put("n.csv", "network,region\n10.0.0.0/8,eu\n192.0.2.0/24,mars\n198.51.100.0/24,venus\n"),
+        put("a.csv", "client,handle\n10.0.0.1,20.500.1/a\n192.0.2.1,20.500.1/b\n10.0.0.1,static/css\n" + "10.0.0.2,20.500.1/c\n" * 200),
+        "demand a.csv --regions n.csv --into s",
+        "show s/demand.csv",
+        "demand a.csv --regions n.csv --into s --unit 7",
+        edit("n.csv", "mars|venus", "us"),
+        "demand a.csv --regions n.csv --into s --unit 7",
+        "show s/demand.csv s/hsp.toml",
+        "demand a.csv --regions n.csv --into s",
+        "show s/demand.csv s/hsp.toml",
+        lambda: os.mkdir("empty"),
+        "demand a.csv --regions n.csv --into empty --unit 7",
+        "demand a.csv --regions n.csv --into empty",
+        "demand a.csv --regions n.csv --into empty --settings s/settings.toml --costs s/costs.csv --unit 2 -o t.csv",
+        "show t.csv",
+    ],
     "a new folder": ["new s", "show s/settings.toml s/hsp.toml s/README.txt s/demand.csv s/capacity.csv", "new s"],
     "an example": ["new s --example", "plan s", "show s/demand.csv s/costs.csv s/capacity.csv s/hsp.toml"],
 }  # fmt: skip
@@ -176,6 +263,26 @@ PAGES: dict[str, list[Step]] = {
         "view s --before t --unit ms -o p.html",
         "page p.html",
         "view t --before t -o p.html",
+    ],
+    "a page with an earlier plan of other sites": [
+        example("two-sites", "t"),
+        edit("t/demand.csv", "^us,.*\n", ""),
+        edit("t/settings.toml", '"reston"', '"rome"'),
+        edit("t/costs.csv", "reston", "rome"),
+        edit("t/capacity.csv", "reston", "rome"),
+        example("two-sites"),
+        "view s --before t -o p.html",
+        "page p.html",
+        "view t --before s -o p.html",
+        "page p.html",
+    ],
+    "a page with a shortage before": [
+        example("two-sites", "t"),
+        edit("t/capacity.csv", "paris,2,1510", "paris,2,15"),
+        edit("t/capacity.csv", "reston,2,1460", "reston,2,14"),
+        example("two-sites"),
+        "view s --before t -o p.html",
+        "page p.html",
     ],
     "a page without a query": [example("two-sites"), edit("s/demand.csv", r",\d+$", ",0"), "view s", "page s/plan.html"],
 }  # fmt: skip

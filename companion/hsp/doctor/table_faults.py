@@ -86,7 +86,6 @@ def renumbered(question: Question, kind: str, said: Said) -> str:
 def bad_number(spot: Spot, said: str) -> Explained:
     fields = spot.row.fields
     numeric = [at for at, it in enumerate(spot.header) if it in ("count", "cost", "capacity", "server_id", "front")]
-    numeric = [at for at in numeric if at < len(fields)] or [len(fields) - 1]
     at = numeric[-1]
     for it in numeric[:-1]:
         if spot.with_field(it, "1").ask().line != said:

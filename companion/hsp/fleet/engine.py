@@ -74,6 +74,11 @@ def refuses(address: str) -> bool:
     return False
 
 
+def reason_of(fault: Exception) -> str:
+    """The first line of a fault, or its name where it has none."""
+    return str(fault).splitlines()[0] if str(fault) else type(fault).__name__
+
+
 def needed() -> Any:
     """Dask's scheduler, which only these commands need."""
     try:
@@ -122,8 +127,7 @@ class Engine:
         try:
             self._client = self._dask.Client(address, security=secured, timeout=patience, set_as_default=False)
         except Exception as fault:  # Dask raises many kinds here, of which some name no file and no reason
-            why = str(fault).splitlines()[0] if str(fault) else type(fault).__name__
-            raise Gone(f"no scheduler answers at {address}: {why}") from None
+            raise Gone(f"no scheduler answers at {address}: {reason_of(fault)}") from None
 
     def close(self) -> None:
         """Leaves the cluster as it was."""
@@ -201,9 +205,7 @@ class Engine:
         except (Gone, Unfinished):
             raise
         except Exception as fault:
-            raise Gone(
-                f"the scheduler has gone away: {str(fault).splitlines()[0] if str(fault) else fault!r}"
-            ) from None
+            raise Gone(f"the scheduler has gone away: {reason_of(fault)}") from None
 
     def host(self, name: str) -> str:
         """The address of a host as Dask knows it."""
