@@ -70,6 +70,18 @@ def hsp() -> Hsp:
 
 
 @pytest.fixture(scope="session")
+def hsp_apart() -> Hsp:
+    """Runs hsp in a process of its own, as its users do."""
+
+    def run(*words: str, status: int = 0, **more: str) -> "subprocess.CompletedProcess[str]":
+        ended = _ran_apart(words, more)
+        assert ended.returncode == status, ended.stdout + ended.stderr
+        return ended
+
+    return run
+
+
+@pytest.fixture(scope="session")
 def twelve(tmp_path_factory: pytest.TempPathFactory) -> Path:
     """A folder with the example of twelve sites."""
     folder = tmp_path_factory.mktemp("twelve-sites")

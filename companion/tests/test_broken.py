@@ -2,13 +2,15 @@
 
 from __future__ import annotations
 
-import os
 import random
 import shutil
 import subprocess
 import sys
-from concurrent.futures import ThreadPoolExecutor
 from pathlib import Path
+
+from click.testing import CliRunner
+
+from hsp.cli import main
 
 from conftest import TOP, variables
 
@@ -50,20 +52,28 @@ def break_folder(folder: Path, draw: random.Random) -> None:
         (folder / "hsp.toml").write_text(draw.choice(('title = "a', "cost = 3", "[title]\n", 'title = "b"')))
 
 
-def ended(folder: Path, command: str) -> tuple[int, str]:
-    environment = variables()
+def apart(command: str, folder: Path) -> tuple[int, str]:
     words = [sys.executable, "-m", "hsp", command, str(folder)]
-    done = subprocess.run(words, capture_output=True, text=True, env=environment, errors="replace")
+    done = subprocess.run(words, capture_output=True, text=True, env=variables(), errors="replace")
     return done.returncode, done.stderr
 
 
+def here(command: str, folder: Path) -> tuple[int, str]:
+    """The same in this process, where a traceback is a fault other than an exit."""
+    done = CliRunner(mix_stderr=False).invoke(main, [command, str(folder)])
+    assert done.exception is None or isinstance(done.exception, SystemExit), f"{folder}: {done.exception!r}"
+    return done.exit_code, done.stderr
+
+
 def test_broken_folders_end_well(tmp_path: Path) -> None:
+    """One in ten has a process of its own."""
     draw = random.Random(50)
     folders = [tmp_path / f"{number}" for number in range(FOLDERS)]
     for folder in folders:
         break_folder(folder, draw)
-    with ThreadPoolExecutor(os.cpu_count()) as pool:
-        found = list(pool.map(lambda it: ended(it[1], "plan" if it[0] % 4 else "view"), enumerate(folders)))
+    found = [
+        (here if number % 10 else apart)("plan" if number % 4 else "view", it) for number, it in enumerate(folders)
+    ]
     for folder, (status, line) in zip(folders, found):
         assert "Traceback" not in line, f"{folder}: {line}"
         assert status in (0, 1, 3, 5), f"{folder}: {status} {line}"

@@ -23,6 +23,7 @@ from typing import NamedTuple
 
 import pytest
 
+from hsp.faults import Unfit
 from hsp.fleet import answers, local, parts, remote, tables
 from hsp.fleet.split import Parted
 from hsp.forms import Form
@@ -422,16 +423,20 @@ def test_a_damaged_log_is_named_and_not_tried_again(million: Million, tmp_path: 
         middle = len(octets) // 2
         octets = octets[:middle] + (b"damage" + octets[middle + 6 :] if damage == "xz inside" else b"")
         (tmp_path / name).write_bytes(octets)
-    options = ["--workers", 1, "--fronts", FRONTS]
-    for name, word in (("front", f"0={tmp_path}/front"), ("all", f"{tmp_path}/all")):
-        said = fleet("dispatch", million.folder, *options, word, status=1)
-        assert re.fullmatch(rf"hsp: {tmp_path}/{name}: line \d+: it can't be unpacked further: .+\n", said), said
+    wanted = rf"{tmp_path}/{{}}: line \d+: it can't be unpacked further: .+"
+    for name, word in {"gzip": ("front", f"0={tmp_path}/front"), "xz": ("all", f"{tmp_path}/all")}.items():
+        if name == damage:
+            said = fleet("dispatch", million.folder, "--workers", 1, "--fronts", FRONTS, word[1], status=1)
+            assert re.fullmatch(f"hsp: {wanted.format(word[0])}\n", said), said
     assert sorted(it.name for it in tmp_path.iterdir()) == ["all", "front"]
+    (tmp_path / "parts").mkdir()
+    with pytest.raises(Unfit, match=wanted.format("all")):
+        Parted(f"{tmp_path}/all", f"{tmp_path}/parts", FRONTS)
     files = {it.split(".")[0]: str(million.folder / it) for it in ("settings.toml", "demand.csv", "plan.txt")}
     files |= {it: str(million.folder / f"{it}.csv") for it in ("costs", "capacity")}
     asked = {"fronts": FRONTS, "any_handle": False, "unit": None, "files": files, "front": 0, "what": "answer"}
     reply = parts.replied({**asked, "logs": [f"{tmp_path}/front"], "staged": [f"{tmp_path}/out"]})
-    assert reply["status"] == 1 and "can't be unpacked further" in reply["fault"]
+    assert reply["status"] == 1 and re.fullmatch(wanted.format("front"), reply["fault"])
 
 
 def test_a_scheduler_that_goes_away_is_one_line(million: Million, tmp_path: Path) -> None:

@@ -174,7 +174,7 @@ def machines(service: Random, loads: Counter[tuple[str, int]]) -> Counter[str]:
     return sums
 
 
-@pytest.mark.parametrize("seed", range(12))
+@pytest.mark.parametrize("seed", range(6))
 def test_a_plan_in_units_keeps_to_what_servers_and_machines_take(hsp: Hsp, tmp_path: Path, seed: int) -> None:
     service, unit = random_service(tmp_path, seed), random.Random(seed).choice((3, 7, 10, 50))
     folder, kept = service.folder, tmp_path / "queries.csv"
