@@ -6,10 +6,13 @@ has changed before it is committed.
 
 from __future__ import annotations
 
+import difflib
 import functools
 import os
 import re
 from pathlib import Path
+
+import pytest
 
 FOLDER = Path(__file__).parent / "printed"
 HEAD = re.compile(r"^==== (.*)\n", re.M)
@@ -32,4 +35,6 @@ def assert_kept(name: str, head: str, text: str) -> None:
         whole = "".join(f"==== {head}\n{text}" for head, text in kept(name).items())
         (FOLDER / f"{name}.txt").write_bytes(whole.encode())
     assert head in kept(name), f"nothing is kept under {head}: run the test with HSP_KEEP=1"
-    assert text == kept(name)[head]
+    if text != kept(name)[head]:
+        changes = difflib.unified_diff(kept(name)[head].splitlines(), text.splitlines(), "kept", "printed", lineterm="")
+        pytest.fail("\n".join([f"{name}.txt, {head}:", *changes]), pytrace=False)

@@ -356,7 +356,7 @@ def test_regions_of_a_maxmind_database(tmp_path: Path) -> None:
     [
         (b"", "line 1: the header isn't network,region"),
         (b"region,network\n", "line 1: the header isn't network,region"),
-        (b"network,region\n10.0.0.0/8\n", "line 2: 1 fields in place of network,region"),
+        (b"network,region\n10.0.0.0/8\n", "line 2: 1 field in place of network,region"),
         (b"network,region\n\n10.0.0.0/33,eu\n", "line 3: '10.0.0.0/33' isn't a network such as"),
         (b"network,region\n10.0.0.0/x,eu\n", "isn't a network such as"),
         (b"network,region\n10.0.0.1/8,eu\n", "begins in the middle of a network of this length; write 10.0.0.0/8\n"),

@@ -529,10 +529,10 @@ def test_a_link_stays_a_link_and_rights_stay_as_they_are(tmp_path: Path) -> None
     assert sorted(os.listdir(tmp_path)) == ["link", "own"]
 
 
-def test_standard_output_may_be_the_file(hsp: Hsp, tmp_path: Path) -> None:
+def test_standard_output_may_be_the_file(hsp_apart: Hsp, tmp_path: Path) -> None:
     folder = tmp_path / "example"
-    hsp("new", str(folder), "--example")
-    assert hsp("plan", str(folder), "-o", "/dev/stdout").stdout.startswith("HSPLAN 1\nPLAN\n")
+    hsp_apart("new", str(folder), "--example")
+    assert hsp_apart("plan", str(folder), "-o", "/dev/stdout").stdout.startswith("HSPLAN 1\nPLAN\n")
 
 
 def test_a_key_twice_is_refused(tmp_path: Path) -> None:
