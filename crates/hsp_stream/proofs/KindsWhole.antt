@@ -40,7 +40,7 @@ name_is : (row : ℕ) (octets name : List ℕ) → name_in row octets ≡ Ok nam
 name_is row octets name e = grind arith
 
 -- what is read as a handle is the octets that were read
-handle_own : (octets found : List ℕ) → names.handle_in octets ≡ Ok found → octets ≡ found
+pub handle_own : (octets found : List ℕ) → names.handle_in octets ≡ Ok found → octets ≡ found
 handle_own octets found e = grind arith
 
 handle_is : (row : ℕ) (octets handle : List ℕ) → handle_or row (names.handle_in octets) ≡ Ok handle → names.handle_in handle ≡ Ok handle

@@ -1,6 +1,8 @@
 pub mod KindsBack
 pub mod KindsParts
 pub mod KindsRows
+mod KindsReading
+mod LogTables
 pub mod KindsRuns
 pub mod KindsText
 pub mod KindsWhole
@@ -12,3 +14,8 @@ mod RowsAnswered
 mod Accepting
 mod TalkEnds
 pub mod OwnHash
+mod PageCosts
+mod SpelledPortions
+mod AnswersShown
+mod Machines
+mod PlacesPrinted

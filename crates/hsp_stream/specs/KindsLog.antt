@@ -1,8 +1,9 @@
 -- The table of the kinds of a log, or the log's first fault.
 use Rattle.std.specs.Prelude.{◌≡◌, ◌+◌, ◌⊎◌, ℕ, List, [], ◌∷◌, codes, Option, None, Some, Result, Ok, Err}
-use Rattle.std.specs.Prelude.{if◌then◌else◌}
+use Rattle.std.specs.Prelude.{IfSome, if◌then◌else◌}
+use Rattle.csv.specs.declared.reader.Reader.{Reader}
 use Rattle.hsp_csv.specs.Header.{same_fields}
-use Rattle.hsp_csv.specs.Records.{Fields}
+use Rattle.hsp_csv.specs.Records.{Fields, IsKnown, records_left, records_of}
 use Rattle.hsp_csv.specs.declared.fault.RecordsFault.{RecordsFault}
 use Rattle.hsp_csv.specs.declared.fault.RecordsFault.TheVariants as records
 use Rattle.hsp_names.specs.Handle as names
@@ -123,6 +124,15 @@ log_joined kinds records = table_of kinds.costs kinds.sites kinds.rows records
 abbrev pub fault_of_records : RecordsFault → StreamFault
 fault_of_records records.ReadFailed = Log fault.ReadFailed
 fault_of_records records.OutOfMemory = OutOfMemory
+
+-- it is so of the records that a reader has left; of a reader whose octets are not known, of some records
+abbrev pub OfLeft : {R : Type 0} → (R → Option (List ℕ)) → Reader R → (List Fields → Type 0) → Type 0
+OfLeft remaining reader Is =
+    (records : List Fields) × (IsKnown remaining reader → records ≡ records_left remaining reader) × Is records
+
+-- it is so of the records of a log; of one whose octets are not known, of some records
+abbrev pub OfLog : Option (List ℕ) → (List Fields → Type 0) → Type 0
+OfLog log Is = (records : List Fields) × IfSome log (λ octets. records ≡ records_of octets) × Is records
 
 -- a read failed, or memory ran out
 abbrev pub IsReadFault : StreamFault → Type 0

@@ -7,7 +7,7 @@ use Rattle.hsp_text.specs.Answers.{◌>>=◌, Then, fault_as}
 use Rattle.hsp_instance.specs.Instance.{Site}
 use Rattle.hsp_stream.specs.Faults.{fault_of_input}
 use Rattle.hsp_stream.specs.KindsFiles.{AreFilesIn}
-use Rattle.hsp_stream.specs.KindsLog.{table_of}
+use Rattle.hsp_stream.specs.KindsLog.{OfLog, table_of}
 use Rattle.hsp_stream.specs.KindsTable.{text_in_units}
 use Rattle.hsp_stream.specs.Words.{unit_at}
 use Rattle.hsp_stream.specs.declared.fault.StreamFault.{StreamFault}
@@ -28,3 +28,7 @@ IsKindsText inputs word records =
     Then (λ unit. unit ≡ unit_at word) (λ unit.
     Then (AreFiles inputs) (λ files answer.
     answer ≡ kinds_text files.costs files.sites unit records))
+
+-- the same of a log with these octets, where they are known
+abbrev pub IsKindsOf : KindsInputs → Option (List ℕ) → Option (List ℕ) → Result (List ℕ) StreamFault → Type 0
+IsKindsOf inputs word log answer = OfLog log (λ records. IsKindsText inputs word records answer)

@@ -6,14 +6,17 @@ pub mod KindsLog
 pub mod KindsRun
 pub mod KindsShown
 pub mod KindsTable
+pub mod LogTables
 pub mod Asking
 pub mod Saying
 pub mod KindAnswers
 pub mod PlaceLines
 pub mod Places
 pub mod PlacesRun
+pub mod PlacesLaws
 pub mod AnswerTalk
 pub mod TalkFaults
 pub mod Words
 pub mod AnswerRun
+pub mod AnswersShown
 pub mod AnswerLaws

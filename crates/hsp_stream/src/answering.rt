@@ -8,6 +8,7 @@ ghost use Rattle.hsp_tables.specs.Costs.{CostEntry};
 ghost use Rattle.hsp_dispatch.specs.Portions.{portion_of};
 ghost use Rattle.hsp_dispatch.specs.Shares.{IsPlanFor, plan_of};
 ghost use Rattle.hsp_stream.specs.AnswerRun.{AnswersPortion, AnswersWhere, EndsLog, HasCosts, IsAnswered, run_of};
+ghost use Rattle.hsp_stream.specs.AnswersShown.{AnswersAlways, AnswersAlwaysAt, ShowsTalkBy, ShowsTalkOf};
 ghost use Rattle.hsp_stream.specs.TalkFaults.{IsBeforeLog};
 ghost use Rattle.hsp_stream.specs.Words.{IsPortion};
 
@@ -102,6 +103,9 @@ fn answer_inputs<P: Peer>(
     requires { IsPortion portion }
     ensures answered { AnswersPortion inputs.now certificate.now
         (run_of (P.known peer.old) (P.known peer.new) result) (Ok portion) }
+    ensures shows { ShowsTalkBy portion inputs.now certificate.now
+        (run_of (P.known peer.old) (P.known peer.new) result) }
+    ensures always { AnswersAlways inputs.now certificate.now result }
     ensures untouched { IfErr result (λ e. IsBeforeLog e → peer.new ≡ peer.old) }
 {
     match accepted_in(alloc, inputs, certificate) {
@@ -120,7 +124,9 @@ fn answer_inputs<P: Peer>(
 ///
 /// Faults in this order: `BadUnit`, `Input(BadFronts)`, `BadFront`, then `Input` with the faults of [`accepted_in`] and
 /// `WrongKind` for a shortage, all with nothing read or sent. Then `Log` with `Header`, `ReadFailed` or `WriteFailed`,
-/// when the rows before it were answered. A run stops anywhere if memory runs out.
+/// when the rows before it were answered. A run stops anywhere if memory runs out. Where the words spell a portion, the
+/// inputs define an instance, and the certificate is a plan that holds for it, there is no other fault than `Log`, unless
+/// memory runs out.
 pub fn answer_run<P: Peer>(
     alloc: Global,
     inputs: &Inputs,
@@ -130,6 +136,12 @@ pub fn answer_run<P: Peer>(
 ) -> Result<StreamSums, StreamFault>
     ensures answered { IsAnswered portion.now inputs.now certificate.now
         (run_of (P.known peer.old) (P.known peer.new) result) }
+    // The answers, also those before a fault, are by the portion of a best plan, and none beyond it. Each query goes by
+    // the hash of its own handle.
+    ensures shows { ShowsTalkOf portion.now inputs.now certificate.now
+        (run_of (P.known peer.old) (P.known peer.new) result) }
+    // By every plan that holds the log is answered, up to a fault of its own at most, unless memory runs out.
+    ensures always { AnswersAlwaysAt portion.now inputs.now certificate.now result }
     // Where the fault comes before the log, the peer is as it was, also one of which nothing is known.
     ensures untouched { IfErr result (λ e. IsBeforeLog e → peer.new ≡ peer.old) }
 {

@@ -1,9 +1,8 @@
 // The run `kinds`: the table of the kinds of a log.
 
-ghost use Rattle.std.specs.Prelude.{◌≡◌, ◌<◌, ◌≤◌, ◌⊎◌, [], Err, IfErr, IfOk, IfSome, Ok, option_map};
-ghost use Rattle.hsp_csv.specs.Records.{records_of};
-ghost use Rattle.hsp_stream.specs.KindsLog.{IsReadFault};
-ghost use Rattle.hsp_stream.specs.KindsRun.{IsKindsText, kinds_text};
+ghost use Rattle.std.specs.Prelude.{◌≡◌, ◌<◌, ◌≤◌, ◌⊎◌, [], Err, IfErr, IfOk, Ok, option_map};
+ghost use Rattle.hsp_stream.specs.KindsLog.{IsReadFault, OfLog};
+ghost use Rattle.hsp_stream.specs.KindsRun.{IsKindsOf, kinds_text};
 ghost use Rattle.hsp_tally.specs.Tally.{IsWhole};
 
 use crate::fault::StreamFault;
@@ -27,10 +26,10 @@ fn text_of_counted<R: Read + Drop>(
     requires none { kinds.old.rows ≡ [] }
     requires whole { IsWhole kinds.old }
     requires unit { 0 < unit }
-    ensures text { IfOk result (λ text. IfSome (R.remaining log) (λ octets.
-        kinds_text kinds.old.costs kinds.old.sites unit (records_of octets) ≡ Ok text.items)) }
-    ensures fault { IfErr result (λ fault. IsReadFault fault ⊎ IfSome (R.remaining log) (λ octets.
-        kinds_text kinds.old.costs kinds.old.sites unit (records_of octets) ≡ Err fault)) }
+    ensures text { IfOk result (λ text. OfLog (R.remaining log) (λ records.
+        kinds_text kinds.old.costs kinds.old.sites unit records ≡ Ok text.items)) }
+    ensures fault { IfErr result (λ fault. IsReadFault fault ⊎ OfLog (R.remaining log) (λ records.
+        kinds_text kinds.old.costs kinds.old.sites unit records ≡ Err fault)) }
 {
     count_log(alloc, kinds, log)?;
     text_of_kinds(alloc, kinds, u64::from(unit))
@@ -45,10 +44,10 @@ fn text_of_log<R: Read + Drop>(
     log: R,
 ) -> Result<Vec<u8>, StreamFault>
     requires { 0 < unit }
-    ensures text { IfOk result (λ text. IfSome (R.remaining log)
-        (λ octets. kinds_text costs.now sites.now unit (records_of octets) ≡ Ok text.items)) }
-    ensures fault { IfErr result (λ fault. IsReadFault fault ⊎ IfSome (R.remaining log)
-        (λ octets. kinds_text costs.now sites.now unit (records_of octets) ≡ Err fault)) }
+    ensures text { IfOk result (λ text. OfLog (R.remaining log)
+        (λ records. kinds_text costs.now sites.now unit records ≡ Ok text.items)) }
+    ensures fault { IfErr result (λ fault. IsReadFault fault ⊎ OfLog (R.remaining log)
+        (λ records. kinds_text costs.now sites.now unit records ≡ Err fault)) }
 {
     let mut kinds = Kinds::new(alloc, sites, costs);
     text_of_counted(alloc, &mut kinds, unit, log)
@@ -67,20 +66,18 @@ fn text_of_log<R: Read + Drop>(
 /// `BadNumber`, `TooManyRegions`, `TooManyKinds`; at the end `CountTooLarge`, with the least unit by which the whole
 /// table is printed. Sums above 2^64 - 1 count as 2^64 - 1.
 ///
-/// Where the octets of the log are known, the result is the one that these definitions give, unless a read fails or
-/// memory runs out.
+/// The result is the one that these definitions give, unless a read fails or memory runs out. Of a log whose octets no
+/// one can know, as of a file, it is the one of some records.
 pub fn kinds_run<R: Read + Drop>(
     alloc: Global,
     inputs: &KindsInputs,
     unit: Option<&[u8]>,
     log: R,
 ) -> Result<Vec<u8>, StreamFault>
-    ensures text { IfOk result (λ text. IfSome (R.remaining log)
-        (λ octets. IsKindsText inputs.now (option_map (λ o. o.now) unit.entry)
-        (records_of octets) (Ok text.items))) }
-    ensures fault { IfErr result (λ fault. IsReadFault fault ⊎ IfSome (R.remaining log)
-        (λ octets. IsKindsText inputs.now (option_map (λ o. o.now) unit.entry)
-        (records_of octets) (Err fault))) }
+    ensures text { IfOk result (λ text. IsKindsOf inputs.now (option_map (λ o. o.now) unit.entry)
+        (R.remaining log) (Ok text.items)) }
+    ensures fault { IfErr result (λ fault. IsReadFault fault
+        ⊎ IsKindsOf inputs.now (option_map (λ o. o.now) unit.entry) (R.remaining log) (Err fault)) }
 {
     let unit = unit_at(unit)?;
     let files = files_in(alloc, inputs)?;

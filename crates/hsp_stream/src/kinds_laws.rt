@@ -2,8 +2,11 @@
 
 ghost use Rattle.hsp_stream.specs.KindsLaws.{PartsMakeTheTable, PrintedTableIsReadBack, TableIsOfKinds};
 ghost use Rattle.hsp_stream.specs.KindsLaws.{ReportedUnitIsTheLeast};
+ghost use Rattle.hsp_stream.specs.LogTables.{TableSpeaksForTheLog};
 
-use hsp_kinds::log_in_parts;
+use hsp_headline::laws::instances_are_defined;
+use hsp_kinds::{log_in_parts, plan_is_the_same, prices_of_kinds, tables_are_of_kinds};
+use hsp_names::laws::readings_are_handles;
 use hsp_tables::laws::reading_is_the_relation;
 use hsp_text::laws::digits_spell_their_number;
 
@@ -32,4 +35,18 @@ pub fn parts_make_the_table()
 {
     digits_spell_their_number();
     log_in_parts();
+}
+
+/// Where [`crate::kinds_run`] printed the demand of inputs that define an instance, without a unit, that instance has
+/// the plans, the prices and the short sets of the rows of the log.
+pub fn table_speaks_for_the_log()
+    ensures { TableSpeaksForTheLog }
+{
+    readings_are_handles();
+    instances_are_defined();
+    digits_spell_their_number();
+    reading_is_the_relation();
+    plan_is_the_same();
+    tables_are_of_kinds();
+    prices_of_kinds();
 }

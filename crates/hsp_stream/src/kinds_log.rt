@@ -1,13 +1,13 @@
 // The rows of a log, joined to kinds.
 
-ghost use Rattle.std.specs.Prelude.{◌≡◌, ◌≤◌, ◌⊎◌, Err, IfErr, IfOk, Ok, IfSome, OnErr, OnOk, false, option_map, true};
+ghost use Rattle.std.specs.Prelude.{◌≡◌, ◌≤◌, ◌⊎◌, Err, IfErr, IfOk, Ok, OnErr, OnOk, false, option_map, true};
 ghost use Rattle.csv.specs.Records.{fields_of};
-ghost use Rattle.hsp_csv.specs.Records.{IsKnown, IsReading, records_left, records_of};
+ghost use Rattle.hsp_csv.specs.Records.{IsReading};
 ghost use Rattle.hsp_text.specs.Answers.{Gives};
 ghost use Rattle.hsp_text.specs.Name.{is_name};
 ghost use Rattle.hsp_tally.specs.Tally.{IsWhole};
-ghost use Rattle.hsp_stream.specs.KindsLog.{IsReadFault, count_in, form_of, fault_of_kinds, log_joined, parts_in};
-ghost use Rattle.hsp_stream.specs.KindsLog.{parts_joined, record_joined, row_of, rows_joined};
+ghost use Rattle.hsp_stream.specs.KindsLog.{IsReadFault, OfLeft, OfLog, count_in, form_of, fault_of_kinds};
+ghost use Rattle.hsp_stream.specs.KindsLog.{log_joined, parts_in, parts_joined, record_joined, row_of, rows_joined};
 ghost use Rattle.hsp_stream.specs.KindsShown.{parts_shown, row_shown};
 ghost use Rattle.hsp_stream.specs.declared.fault.StreamFault.TheVariants.{OutOfMemory};
 ghost use Rattle.hsp_stream.specs.declared.kinds_log.CountForm.TheVariants.{Counts, Ones};
@@ -233,10 +233,10 @@ fn count_rows<R: Read>(
 ) -> Result<(), StreamFault>
     requires reading { IsReading reader.old }
     requires whole { IsWhole kinds.old }
-    ensures counted { OnOk result (IsKnown R.remaining reader.old
-        → rows_joined kinds.old form (records_left R.remaining reader.old) ≡ Ok kinds.new.rows) }
-    ensures fault { IfErr result (λ fault. IsReadFault fault ⊎ (IsKnown R.remaining reader.old
-        → rows_joined kinds.old form (records_left R.remaining reader.old) ≡ Err fault)) }
+    ensures counted { OnOk result (OfLeft R.remaining reader.old
+        (λ records. rows_joined kinds.old form records ≡ Ok kinds.new.rows)) }
+    ensures fault { IfErr result (λ fault. IsReadFault fault ⊎ OfLeft R.remaining reader.old
+        (λ records. rows_joined kinds.old form records ≡ Err fault)) }
 {
     let mut row: u64 = 0;
     'rows: loop {
@@ -264,10 +264,10 @@ pub(crate) fn count_log<R: Read + Drop>(
     log: R,
 ) -> Result<(), StreamFault>
     requires { IsWhole kinds.old }
-    ensures counted { OnOk result (IfSome (R.remaining log)
-        (λ octets. log_joined kinds.old (records_of octets) ≡ Ok kinds.new.rows)) }
-    ensures fault { IfErr result (λ fault. IsReadFault fault ⊎ IfSome (R.remaining log)
-        (λ octets. log_joined kinds.old (records_of octets) ≡ Err fault)) }
+    ensures counted { OnOk result (OfLog (R.remaining log)
+        (λ records. log_joined kinds.old records ≡ Ok kinds.new.rows)) }
+    ensures fault { IfErr result (λ fault. IsReadFault fault ⊎ OfLog (R.remaining log)
+        (λ records. log_joined kinds.old records ≡ Err fault)) }
 {
     let mut reader = read_records(alloc, log);
     let mut record = ByteRecord::new(alloc);

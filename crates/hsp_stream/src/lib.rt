@@ -20,6 +20,7 @@ mod kinds_table;
 mod place_lines;
 mod places;
 mod places_desk;
+pub mod places_laws;
 mod portions;
 mod row_refusal;
 mod speaking;

@@ -1,10 +1,9 @@
 -- Texts and tables on an output.
-use Rattle.std.specs.Prelude.{◌≡◌, ◌⊎◌, ℕ, List, Option, None, IfSome, Ok, Err}
+use Rattle.std.specs.Prelude.{◌≡◌, ◌⊎◌, ℕ, List, Option, None, Ok, Err}
 use Rattle.std.specs.Io.KnownBytes.{Appends}
-use Rattle.hsp_csv.specs.Records.{records_of}
 use Rattle.hsp_cli.specs.Printing.{IsBegun}
 use Rattle.hsp_stream.specs.KindsLog.{IsReadFault}
-use Rattle.hsp_stream.specs.KindsRun.{IsKindsText}
+use Rattle.hsp_stream.specs.KindsRun.{IsKindsOf}
 use Rattle.hsp_stream.specs.declared.fault.StreamFault.{StreamFault}
 use Rattle.hsp_stream.specs.declared.kinds_files.KindsInputs.{KindsInputs}
 use Rattle.hsp_stream_cli.specs.Ending.{Ended}
@@ -18,11 +17,10 @@ PrintsText MayFail text old new (Err failure) = ⊥
 
 -- the table of a log with these octets left, where they are known, or its fault
 abbrev pub IsTable : KindsInputs → Option (List ℕ) → Option (List ℕ) → List ℕ → Type 0
-IsTable inputs unit left text = IfSome left (λ octets. IsKindsText inputs unit (records_of octets) (Ok text))
+IsTable inputs unit left text = IsKindsOf inputs unit left (Ok text)
 
 abbrev pub IsTableFault : KindsInputs → Option (List ℕ) → Option (List ℕ) → StreamFault → Type 0
-IsTableFault inputs unit left fault =
-    IsReadFault fault ⊎ IfSome left (λ octets. IsKindsText inputs unit (records_of octets) (Err fault))
+IsTableFault inputs unit left fault = IsReadFault fault ⊎ IsKindsOf inputs unit left (Err fault)
 
 -- the table is printed; or nothing was written, and its fault is returned
 abbrev pub PrintsTable : Type 0 → KindsInputs → Option (List ℕ) → Option (List ℕ) → Option (List ℕ)

@@ -1,0 +1,269 @@
+-- The instance of a printed table has the plans, the prices and the short sets of the rows of the log.
+use Rattle.std.proofs.Common.{◌≡◌, ◌∙◌, ◌+◌, ◌/◌, ◌≤◌, ℕ, true, false, inl, inr, List, [], ◌∷◌, ◌++◌, Option, None, Some, Result, Ok, Err, append-nil, append_assoc, map, option_map, refl, ap, subst, sym, arith}
+use Rattle.std.proofs.Math.Nat.{div-one}
+use Rattle.std.proofs.lemmas.Bool.{cases_Bool}
+use Rattle.std.proofs.lemmas.Bool.Decides.{nat_tests}
+use Rattle.std.specs.List.{AllByRecursion}
+use Rattle.std.specs.Prelude.{nat_lt}
+use Rattle.hsp_csv.specs.Header.{same_fields}
+use Rattle.hsp_csv.specs.Records.{Fields, records_of}
+use Rattle.hsp_csv.proofs.SameFields.{same_fields_are}
+use Rattle.hsp_names.specs.Handle.{ReadingsAreHandles}
+use Rattle.hsp_record.specs.Values.{HandleValue}
+use Rattle.hsp_tables.specs.Costs.{CostEntry}
+use Rattle.hsp_tables.specs.Demand.{DemandEntry, demand_table}
+use Rattle.hsp_tables.specs.Settings.{SettingsEntries}
+use Rattle.hsp_tables.specs.Table as tables
+use Rattle.hsp_tables.specs.Table.{ReadsAsItsRelation}
+use Rattle.hsp_tables.specs.declared.fault.TableFault.{TableFault}
+use Rattle.hsp_text.specs.Answers.{◌>>=◌, Then, fault_as}
+use Rattle.hsp_text.specs.Whole.{DigitsSpellTheirNumber}
+use Rattle.hsp_text.specs.declared.limits.TheConstants.{GREATEST_COUNT}
+use Rattle.hsp_instance.specs.Building as building
+use Rattle.hsp_instance.specs.Building.{AreSitesOf, IsBuilt, arcs_from, capacity_fault, cost_fault, instance_with, row_of, servers_from, unless}
+use Rattle.hsp_instance.specs.Instance.{Instance, Row, Server, Site}
+use Rattle.hsp_instance.specs.declared.fault.BuildFault.{BuildFault}
+use Rattle.hsp_instance.proofs.BuiltParts.{built_of}
+use Rattle.hsp_check.specs.Instance.{network_of}
+use Rattle.hsp_check.specs.Network.{IsNetwork, Network}
+use Rattle.hsp_check.proofs.InstanceNetwork.{is_network}
+use Rattle.hsp_kinds.specs.Keeping.{PricesOfKinds}
+use Rattle.hsp_kinds.specs.Rows.{TablesAreOfKinds, kinds_of, network_for}
+use Rattle.hsp_kinds.specs.Same.{PlanIsTheSame}
+use Rattle.hsp_kinds.specs.Units.{rounded_up}
+use Rattle.hsp_faults.specs.declared.fault.Fault.{Fault}
+use Rattle.hsp_faults.specs.declared.fault.Fault.TheVariants.{Build, Costs}
+use Rattle.hsp_headline.specs.Headline.{Defines}
+use Rattle.hsp_headline.specs.Instance.{IsInstanceOf, ReadsCosts}
+use Rattle.hsp_headline.specs.Laws.{AcceptsTheDefined, GivesOneAnswer}
+use Rattle.hsp_headline.specs.Readings.{AreSites, ReadsSettings, ReadsValues}
+use Rattle.hsp_headline.specs.declared.inputs.Inputs.{Inputs}
+use Rattle.hsp_headline.proofs.PageRead.{hold, is_instance, stated_well}
+use Rattle.hsp_headline.proofs.Steps.{went_on}
+use Rattle.hsp_tally.specs.Tally.{capped, capped_row}
+use Rattle.hsp_stream.specs.Faults.{fault_of_input}
+use Rattle.hsp_stream.specs.KindsFiles.{AreFilesIn, are_checked}
+use Rattle.hsp_stream.specs.KindsLaws.{SpellRows, entry_of}
+use Rattle.hsp_stream.specs.KindsLog.{form_of, header_of, rows_from, table_of}
+use Rattle.hsp_stream.specs.KindsRun.{AreFiles, IsKindsText, kinds_text}
+use Rattle.hsp_stream.specs.KindsTable.{in_unit, rows_in_units, table_in_units, with_count}
+use Rattle.hsp_stream.specs.LogTables.{SpeaksFor, SpellsLog, TableSpeaksForTheLog, kinds_inputs_of, service_of}
+use Rattle.hsp_stream.specs.Words.{unit_at}
+use Rattle.hsp_stream.specs.declared.fault.RowFault.TheVariants as row_fault
+use Rattle.hsp_stream.specs.declared.fault.StreamFault.{StreamFault}
+use Rattle.hsp_stream.specs.declared.fault.StreamFault.TheVariants.{Log}
+use Rattle.hsp_stream.specs.declared.kinds_files.Files.{Files}
+use Rattle.hsp_stream.specs.declared.kinds_files.KindsInputs.{KindsInputs}
+use Rattle.hsp_stream.specs.declared.kinds_log.CountForm.{CountForm}
+use Rattle.hsp_stream.specs.declared.kinds_log.CountForm.TheVariants.{Counts, Ones}
+use Rattle.hsp_stream.proofs.KindsBack.{IsCounted}
+use Rattle.hsp_stream.proofs.KindsParts.{table_is_of_kinds}
+use Rattle.hsp_stream.proofs.KindsWhole.{read_back, step}
+use Rattle.hsp_stream.proofs.PageCosts.{costs_of_page}
+
+-- ---- what `kinds` read of the inputs
+
+-- the settings, the values, the costs and the sites
+pub record FilesRead (inputs : KindsInputs) (files : Files) : Type 0 where
+  pub settings : SettingsEntries
+  pub values : Option (List HandleValue)
+  pub are_settings : ReadsSettings inputs.settings.items (Ok settings)
+  pub are_values : ReadsValues (option_map (λ v. v.items) inputs.values) (Ok values)
+  pub costs : ReadsCosts inputs.costs.items (Ok files.costs)
+  pub sites : AreSitesOf settings values (Ok files.sites)
+
+checked_are : (sites : List Site) (costs : List CostEntry) (files : Files) → Ok files ≡ are_checked sites costs → (sites ≡ files.sites) × (costs ≡ files.costs)
+checked_are sites costs files e = by (fault_as Build (unless (cost_fault sites 0 costs))) e
+  where
+    by : {A : Type 0} (r : Result A Fault) → ◌≡◌ {A = Result Files Fault} (Ok files) (r >>= λ _. Ok (record { sites = sites; costs = costs }))
+        → (sites ≡ files.sites) × (costs ≡ files.costs)
+    by (Ok a) same = let is : files ≡ record { sites = sites; costs = costs } = cc (same) in (sym (ap (λ (f : Files). f.sites) is), sym (ap (λ (f : Files). f.costs) is))
+    by (Err fault) same = cc (same)
+
+sites_are : (settings : SettingsEntries) (values : Option (List HandleValue)) (sites : List Site) → AreSites settings values (Ok sites) → AreSitesOf settings values (Ok sites)
+sites_are settings values sites (r, are, e) = subst (λ (own : Result (List Site) BuildFault). AreSitesOf settings values own) (stated_well Build r sites e) are
+
+files_read : (inputs : KindsInputs) (files : Files) → AreFilesIn inputs (Ok files) → FilesRead inputs files
+files_read inputs files is =
+    let settings = went_on _ _ files is in
+    let values = went_on _ _ files settings.2 in
+    let costs = went_on _ _ files values.2 in
+    let sites = went_on _ _ files costs.2 in
+    let are = checked_are sites.0 costs.0 files sites.2 in
+    record {
+      settings = settings.0;
+      values = values.0;
+      are_settings = settings.1;
+      are_values = values.1;
+      costs = subst (λ own. ReadsCosts inputs.costs.items (Ok own)) are.1 costs.1;
+      sites = subst (λ own. AreSitesOf settings.0 values.0 (Ok own)) are.0 (sites_are settings.0 values.0 sites.0 sites.1);
+    }
+
+-- the sites of an instance are those of the settings and the values
+built_sites : (read : building.Inputs) (sites : List Site) (it : Instance) → instance_with read sites ≡ Ok it → sites ≡ it.sites
+built_sites read sites it e = by (cost_fault sites 0 read.costs) (capacity_fault sites 0 read.capacities) (servers_from read.capacities (map building.host_of_entry read.settings.hosts) 0 [] sites) e
+  where
+    by : (a b : Option BuildFault) (r : Result (List Server) BuildFault)
+        → (unless a >>= λ _. unless b >>= λ _. r >>= λ servers.
+        Ok (record {
+          rows = map row_of read.demand;
+          sites = sites;
+          servers = servers;
+          hosts = map building.host_of_entry read.settings.hosts;
+          arcs = map (λ row. arcs_from read.costs row 0 0 sites) (map row_of read.demand);
+        })) ≡ Ok it
+        → sites ≡ it.sites
+    by a b r same = grind arith
+
+one_list : GivesOneAnswer → (inputs : Inputs) (files : Files) (it : Instance) → FilesRead (kinds_inputs_of inputs) files → IsInstanceOf inputs (Ok it) → files.sites ≡ it.sites
+one_list once inputs files it read is =
+    let settings = went_on _ _ it is in
+    let values = went_on _ _ it settings.2 in
+    let demand = went_on _ _ it values.2 in
+    let costs = went_on _ _ it demand.2 in
+    let capacities = went_on _ _ it costs.2 in
+    let own : building.Inputs = record { settings = read.settings; values = read.values; demand = demand.0; costs = costs.0; capacities = capacities.0 } in
+    let built = instance_with own files.sites in
+    let given : IsInstanceOf inputs (fault_as Build built) = (
+      Ok read.settings,
+      read.are_settings,
+      (Ok read.values, read.are_values, (Ok demand.0, demand.1, (Ok costs.0, costs.1, (Ok capacities.0, capacities.1, (built, (Ok files.sites, read.sites, refl), refl))))),
+    ) in
+    let same = once inputs (fault_as Build built) (Ok it) given is in
+    built_sites own files.sites it (stated_well Build built it (sym same))
+
+-- ---- the table in units of one
+
+one_unit : (count : ℕ) → rounded_up 1 count ≡ count
+one_unit count = let whole : (count + 0) / 1 ≡ count + 0 = div-one (count + 0) in omega (arith, whole)
+
+same_count : (table : List Row) (row count own : ℕ) → in_unit table row 1 count ≡ Ok own → (own ≡ count) × (count ≤ GREATEST_COUNT)
+same_count table row count own e = let one = one_unit count in grind (arith, nat_tests, one)
+
+units_of_one : (table : List Row) (row : ℕ) (done rest all : List Row) → rows_in_units table 1 done row rest ≡ Ok all → (all ≡ done ++ rest) × AllByRecursion IsCounted rest
+units_of_one table row done [] all e = let same : done ≡ all = cc (e) in (sym same ∙ sym (append-nil done), tt)
+units_of_one table row done (first ∷ rest) all e =
+    let count = step (in_unit table row 1 first.count) (λ count. rows_in_units table 1 (done ++ with_count first count ∷ []) (row + 1) rest) all e in
+    let own = same_count table row first.count count.0 count.1 in
+    let more = units_of_one table (row + 1) (done ++ with_count first count.0 ∷ []) rest all count.2 in
+    let same : with_count first count.0 ≡ first = ap (λ n. with_count first n) own.0 in
+    (more.0 ∙ ap (λ r. (done ++ r ∷ []) ++ rest) same ∙ append_assoc done (first ∷ []) rest, (own.1, more.1))
+
+-- ---- the kinds of the rows
+
+uncapped : (rows : List Row) → AllByRecursion IsCounted (map capped_row rows) → map capped_row rows ≡ rows
+uncapped [] few = refl
+uncapped (row ∷ rows) few =
+    let same : capped row.count ≡ row.count = omega (arith, few.0) in
+    let first : capped_row row ≡ row = ap (λ n. with_count row n) same in
+    let rest = uncapped rows few.1 in
+    cc (first, rest)
+
+header_is : (first : Fields) (form : CountForm) → form_of first ≡ Ok form → first ≡ header_of form
+header_is first form e = elim (cases_Bool (same_fields first (header_of Ones))) [
+  | inl ones ↦
+      let is : ◌≡◌ {A = Result CountForm StreamFault} (Ok Ones) (Ok form) = rw ones at e in
+      let same : Ones ≡ form = cc (is) in
+      same_fields_are first (header_of Ones) ones ∙ ap header_of same
+  | inr others ↦ elim (cases_Bool (same_fields first (header_of Counts))) [
+    | inl counts ↦
+        let is : ◌≡◌ {A = Result CountForm StreamFault} (Ok Counts) (Ok form) = rw (others, counts) at e in
+        let same : Counts ≡ form = cc (is) in
+        same_fields_are first (header_of Counts) counts ∙ ap header_of same
+    | inr none ↦ let is : ◌≡◌ {A = Result CountForm StreamFault} (Err (Log row_fault.Header)) (Ok form) = rw (others, none) at e in cc (is)
+  ]
+]
+
+-- a table whose counts are those of a demand is that of the kinds of the log's rows
+table_of_kinds : (costs : List CostEntry) (sites : List Site) (records : List Fields) (table : List Row) → table_of costs sites [] records ≡ Ok table → AllByRecursion IsCounted table
+    → (rows : List Row) × SpellsLog records rows × (table ≡ kinds_of costs sites rows)
+table_of_kinds costs sites [] table e few = let bad : ◌≡◌ {A = Result (List Row) StreamFault} (Err (Log row_fault.Header)) (Ok table) = e in cc (bad)
+table_of_kinds costs sites (first ∷ body) table e few =
+    let form = step (form_of first) (λ form. rows_from costs sites form 0 [] body) table e in
+    let of = table_is_of_kinds costs sites form.0 body table form.2 in
+    let whole = uncapped (kinds_of costs sites of.0) (rw of.2 at few) in
+    (of.0, (form.0, body, ap (λ h. h ∷ body) (header_is first form.0 form.1), of.1), of.2 ∙ whole)
+
+-- ---- the rows of the instance
+
+rows_again : (rows : List Row) → map row_of (map entry_of rows) ≡ rows
+rows_again [] = refl
+rows_again (row ∷ rows) = ap (λ t. row ∷ t) (rows_again rows)
+
+-- the network of an instance is that of its service and its rows
+network_is : (costs : List CostEntry) (it : Instance) (rows : List Row) → it.rows ≡ rows → it.arcs ≡ map (λ row. arcs_from costs row 0 0 it.sites) it.rows
+    → network_of it ≡ network_for (service_of costs it) rows
+network_is costs it rows are arcs =
+    let own : Instance = record { rows = it.rows; sites = it.sites; servers = it.servers; hosts = it.hosts; arcs = map (λ row. arcs_from costs row 0 0 it.sites) it.rows } in
+    let same : own ≡ it = rw (← arcs) refl in
+    ap network_of (sym same) ∙ ap (λ (r : List Row). network_for (service_of costs it) r) are
+
+-- the demand that inputs spell has the rows of the instance
+abbrev HasDemand : Inputs → Instance → Type 0
+HasDemand inputs it = (entries : List DemandEntry) × (tables.table_of demand_table (records_of inputs.demand.items) ≡ Ok entries) × (it.rows ≡ map row_of entries)
+
+files_are : (inputs : KindsInputs) (files : Files) → AreFiles inputs (Ok files) → AreFilesIn inputs (Ok files)
+files_are inputs files (r, are, e) = subst (λ (own : Result Files Fault). AreFilesIn inputs own) (by r e) are
+  where
+    by : (own : Result Files Fault) → ◌≡◌ {A = Result Files StreamFault} (Ok files) (fault_as fault_of_input own) → own ≡ Ok files
+    by own same = grind arith
+
+-- ---- the law
+
+module _ (handles : ReadingsAreHandles) (once : GivesOneAnswer) (accepts : AcceptsTheDefined) (digits : DigitsSpellTheirNumber) (reads : ReadsAsItsRelation demand_table)
+    (plans : PlanIsTheSame) (of_kinds : TablesAreOfKinds) (of_prices : PricesOfKinds) where
+  -- a network whose rows are kinds speaks for their rows
+  speaks_for : (costs : List CostEntry) (it : Instance) (rows : List Row) (m : Network) → m ≡ network_for (service_of costs it) (kinds_of costs it.sites rows) → IsNetwork m
+      → SpeaksFor (network_for (service_of costs it) rows) m
+  speaks_for costs it rows m same is =
+      let at = service_of costs it in
+      let table = network_for at (kinds_of costs it.sites rows) in
+      let own : IsNetwork table = subst IsNetwork same is in
+      let same_plans = plans at rows own in
+      let of = of_kinds at rows in
+      let whole = of.1 own in
+      rw same (record {
+        plans = same_plans.0;
+        short = same_plans.1;
+        kind = of.0.0;
+        are_kinds = of.0.1;
+        prices = λ x u kinds p q are. of_prices (network_for at rows) table of.0.0 whole own of.0.1 x u kinds p q are;
+      })
+
+  read_text : (inputs : Inputs) (records : List Fields) (it : Instance) (files : Files) → kinds_text files.costs files.sites 1 records ≡ Ok inputs.demand.items
+      → HasDemand inputs it
+      → (table : List Row) × (table_of files.costs files.sites [] records ≡ Ok table) × AllByRecursion IsCounted table × (it.rows ≡ table)
+  read_text inputs records it files e demand =
+      let back = read_back digits reads files.costs files.sites 1 records inputs.demand.items e in
+      let table = step (table_of files.costs files.sites [] records) (table_in_units 1) back.rows back.table in
+      let units = units_of_one table.0 0 [] table.0 back.rows table.2 in
+      let both : ◌≡◌ {A = Result (List DemandEntry) TableFault} (Ok demand.0) (Ok (map entry_of back.rows)) = sym demand.1 ∙ back.read in
+      let entries : demand.0 ≡ map entry_of back.rows = cc (both) in
+      (table.0, table.1, units.1, demand.2 ∙ ap (λ d. map row_of d) entries ∙ rows_again back.rows ∙ units.0)
+
+  pub table_speaks_for_the_log : TableSpeaksForTheLog
+  table_speaks_for_the_log inputs records it is page =
+      let text = inputs.demand.items in
+      let unit = went_on (λ (unit : Result ℕ StreamFault). unit ≡ unit_at None) _ text is in
+      let files = went_on (AreFiles (kinds_inputs_of inputs)) _ text unit.2 in
+      let one : unit.0 ≡ 1 = cc (unit.1) in
+      let given = accepts inputs it page in
+      let read = files_read (kinds_inputs_of inputs) files.0 (files_are (kinds_inputs_of inputs) files.0 files.1) in
+      let (own, holds, built) = hold inputs it given in
+      let of = built_of own it built in
+      let sites = one_list once inputs files.0 it read given in
+      let costs_both = sym holds.costs ∙ stated_well Costs _ files.0.costs read.costs in
+      let costs : own.costs ≡ files.0.costs = cc (costs_both) in
+      let rows = read_text inputs records it files.0 (subst (λ n. kinds_text files.0.costs files.0.sites n records ≡ Ok text) one (sym files.2)) (own.demand, holds.demand, of.rows) in
+      let kinds = table_of_kinds files.0.costs files.0.sites records rows.0 rows.1 rows.2 in
+      let table : it.rows ≡ kinds_of files.0.costs it.sites kinds.0 =
+      subst (λ own_sites. it.rows ≡ kinds_of files.0.costs own_sites kinds.0) sites (rows.3 ∙ kinds.2) in
+      let arcs : it.arcs ≡ map (λ row. arcs_from files.0.costs row 0 0 it.sites) it.rows =
+      subst (λ own_costs. it.arcs ≡ map (λ row. arcs_from own_costs row 0 0 it.sites) it.rows) costs of.arcs in (
+        files.0.costs,
+        kinds.0,
+        costs_of_page inputs it files.0.costs page read.costs,
+        kinds.1,
+        speaks_for files.0.costs it kinds.0 (network_of it) (network_is files.0.costs it (kinds_of files.0.costs it.sites kinds.0) table arcs)
+            (is_network it (is_instance handles inputs it given)),
+      )

@@ -1,0 +1,18 @@
+use Rattle.std.proofs.Common.{◌∙◌, inl, refl, sym}
+use Rattle.hsp_stream.proofs.AnswersShown.{shown_by_words, words_refused}
+use Rattle.hsp_stream.proofs.SpelledPortions.{portion_is_read}
+use Rattle.hsp_stream.proofs.answering.answer_run.Goals as goal
+
+pub returns-in-Ok-clause-shows : goal.returns-in-Ok-clause-shows
+returns-in-Ok-clause-shows g c =
+    shown_by_words c.args.portion.now c.in-Ok.portion c.args.inputs.now c.args.certificate.now _ c.in-Ok.ensures.given c.answer_inputs.ensures.shows
+
+pub returns-in-Err-clause-shows : goal.returns-in-Err-clause-shows
+returns-in-Err-clause-shows g c = inl (words_refused c.args.portion.now c.in-Err.fault _ c.in-Err.ensures.given (refl, refl))
+
+pub returns-in-Ok-clause-always : goal.returns-in-Ok-clause-always
+returns-in-Ok-clause-always g c = λ portion spells. c.answer_inputs.ensures.always
+
+pub returns-in-Err-clause-always : goal.returns-in-Err-clause-always
+returns-in-Err-clause-always g c = λ portion spells it plan page holds.
+    let both = sym (portion_is_read c.args.portion.now portion spells) ∙ c.in-Err.ensures.given in cc (both)
