@@ -8,3 +8,4 @@ pub mod Ending
 pub mod ShownLog
 pub mod ShownFronts
 pub mod Always
+pub mod Pricing

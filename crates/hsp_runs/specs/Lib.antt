@@ -9,6 +9,7 @@ pub mod Counts
 pub mod Dispatch
 pub mod Report
 pub mod Laws
+pub mod Pricing
 pub use Rattle.hsp_headline.specs.Headline
 pub use Rattle.hsp_headline.specs.Instance
 pub use Rattle.hsp_headline.specs.Memory

@@ -1,6 +1,7 @@
 // What holds of all runs over logs.
 
 ghost use Rattle.hsp_runs.specs.Laws.{DispatchedLogsShow, FrontsLogsShow, LogsGoByHash};
+ghost use Rattle.hsp_runs.specs.Pricing.{PrintedPricesAnswer};
 
 use hsp_names::laws::readings_are_handles;
 
@@ -16,6 +17,16 @@ pub fn logs_go_by_hash()
 pub fn dispatched_logs_show()
     ensures logs { DispatchedLogsShow }
     ensures fronts { FrontsLogsShow }
+{
+    readings_are_handles();
+}
+
+/// The prices of a printed plan speak of all inputs that differ from its own in counts, capacities and limits only. No
+/// plan for these costs less than what their rows pay beside what their servers and hosts take. So room for one query
+/// more at a server saves at most the server's price, room for one less costs at least that, and one query more in a row
+/// costs at least the row's price.
+pub fn printed_prices_answer()
+    ensures { PrintedPricesAnswer }
 {
     readings_are_handles();
 }
