@@ -39,7 +39,7 @@ count_is_read most n small some few =
 
 -- ---- the unit
 
-unit_is : (word : Option (List ℕ)) (n : ℕ) → unit_at word ≡ Ok n → SpellsOr word 1 n × (1 ≤ n) × (n ≤ GREATEST_UNIT)
+pub unit_is : (word : Option (List ℕ)) (n : ℕ) → unit_at word ≡ Ok n → SpellsOr word 1 n × (1 ≤ n) × (n ≤ GREATEST_UNIT)
 unit_is None n e = let one : 1 ≡ n = cc (e) in rw (← one) (refl, omega arith, omega arith)
 unit_is (Some word) n e = count_is GREATEST_UNIT word n (omega arith) (given_as BadUnit (count_at BadFronts GREATEST_UNIT word) n e)
 

@@ -2,10 +2,12 @@
 
 ghost use Rattle.hsp_stream.specs.KindsLaws.{PartsMakeTheTable, PrintedTableIsReadBack, TableIsOfKinds};
 ghost use Rattle.hsp_stream.specs.KindsLaws.{ReportedUnitIsTheLeast};
-ghost use Rattle.hsp_stream.specs.LogTables.{TableSpeaksForTheLog};
+ghost use Rattle.hsp_stream.specs.LogTables.{TableSpeaksForTheLog, UnitsServeTheLog};
 
 use hsp_headline::laws::instances_are_defined;
-use hsp_kinds::{log_in_parts, plan_is_the_same, prices_of_kinds, tables_are_of_kinds};
+use hsp_kinds::{
+    log_in_parts, plan_is_the_same, prices_of_kinds, tables_are_of_kinds, units_serve_rows,
+};
 use hsp_names::laws::readings_are_handles;
 use hsp_tables::laws::reading_is_the_relation;
 use hsp_text::laws::digits_spell_their_number;
@@ -49,4 +51,17 @@ pub fn table_speaks_for_the_log()
     plan_is_the_same();
     tables_are_of_kinds();
     prices_of_kinds();
+}
+
+/// Where [`crate::kinds_run`] printed the demand of inputs in a unit, each feasible plan of the instance that the inputs
+/// define serves the rows of the log, so many queries for each of its units.
+pub fn units_serve_the_log()
+    ensures { UnitsServeTheLog }
+{
+    readings_are_handles();
+    instances_are_defined();
+    digits_spell_their_number();
+    reading_is_the_relation();
+    tables_are_of_kinds();
+    units_serve_rows();
 }
