@@ -9,7 +9,7 @@ use Rattle.hsp_dispatch.specs.declared.answer.LogSums.{LogSums}
 use Rattle.hsp_cli.specs.declared.answer.Completed.{Completed}
 use Rattle.hsp_cli.specs.declared.failure.Failure.{Failure}
 use Rattle.hsp_cli.specs.declared.failure.Failure.TheVariants.{Usage, Memory, Read, Write, Refused}
-use Rattle.hsp_cli.specs.Printing.{IsBegun}
+use Rattle.hsp_talk.specs.Writing.{IsBegun}
 
 -- the line that reports a failure
 abbrev pub failure_text : Failure → List ℕ

@@ -1,22 +1,13 @@
 -- What a command has written where it ends.
-use Rattle.std.specs.Prelude.{◌≡◌, ◌⊎◌, ⊤, ℕ, List, Option, None, Result, Ok, Err, take}
+use Rattle.std.specs.Prelude.{◌≡◌, ◌⊎◌, ⊤, ℕ, List, Option, None, Result, Ok, Err}
 use Rattle.std.specs.Io.KnownBytes.{Appends}
-use Rattle.hsp_text.specs.declared.output.WriteFailed.{WriteFailed}
+use Rattle.hsp_talk.specs.Writing.{IsBegun}
 use Rattle.hsp_dispatch.specs.declared.fault.LogFault.TheVariants as log_fault
 use Rattle.hsp_faults.specs.declared.fault.Fault.TheVariants.{Log}
 use Rattle.hsp_cli.specs.declared.answer.Answer.{Answer}
 use Rattle.hsp_cli.specs.declared.answer.Completed.{Completed}
 use Rattle.hsp_cli.specs.declared.failure.Failure.{Failure}
 use Rattle.hsp_cli.specs.declared.failure.Failure.TheVariants.{Refused, Write}
-
--- a beginning of the text was written
-abbrev pub IsBegun : Option (List ℕ) → Option (List ℕ) → List ℕ → Type 0
-IsBegun old new text = (n : ℕ) × Appends old new (take n text)
-
--- the text was written; or a write failed, as it may, and a beginning of the text was written
-abbrev pub Puts : Type 0 → List ℕ → Option (List ℕ) → Option (List ℕ) → Result (Unit {0}) WriteFailed → Type 0
-Puts MayFail text old new (Ok done) = Appends old new text
-Puts MayFail text old new (Err failed) = MayFail × IsBegun old new text
 
 -- the text of an answer was written, and its status returned; or a write failed, as it may, and a beginning of the text
 -- was written

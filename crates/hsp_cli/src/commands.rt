@@ -22,9 +22,9 @@ use std::alloc::Global;
 // Carries out `locate` by a hash option and a number of servers.
 fn locate_place(
     alloc: Global,
-    option: &Word,
-    servers: &Word,
-    handle: &Word,
+    option: &Word<'_>,
+    servers: &Word<'_>,
+    handle: &Word<'_>,
 ) -> Result<Answer, Failure>
     ensures { IsAnswered text_reply (λ text.
         text ≡ placed option.now servers.now handle.now) result }
@@ -38,9 +38,9 @@ fn locate_place(
 fn locate_sites<S: FileSource>(
     alloc: Global,
     files: &S,
-    settings: &Word,
-    values: &Option<Word>,
-    handle: &Word,
+    settings: &Word<'_>,
+    values: &Option<Word<'_>>,
+    handle: &Word<'_>,
 ) -> Result<Answer, Failure>
     ensures { AnswersSites (S.disk files.now) settings.now values.now handle.now result }
 {
@@ -57,8 +57,8 @@ fn locate_sites<S: FileSource>(
 fn site<S: FileSource>(
     alloc: Global,
     files: &S,
-    index: &Option<Word>,
-    file: &Word,
+    index: &Option<Word<'_>>,
+    file: &Word<'_>,
 ) -> Result<Answer, Failure>
     ensures { AnswersSite (S.disk files.now) index.now file.now result }
 {
@@ -70,7 +70,7 @@ fn site<S: FileSource>(
 }
 
 // Carries out `plan`.
-fn plan<S: FileSource>(alloc: Global, files: &S, named: &InputFiles) -> Result<Answer, Failure>
+fn plan<S: FileSource>(alloc: Global, files: &S, named: &InputFiles<'_>) -> Result<Answer, Failure>
     ensures { AnswersPlan (S.disk files.now) named.now result }
 {
     let inputs = read_inputs(alloc, files, named)?;
@@ -81,8 +81,8 @@ fn plan<S: FileSource>(alloc: Global, files: &S, named: &InputFiles) -> Result<A
 fn check<S: FileSource>(
     alloc: Global,
     files: &S,
-    named: &InputFiles,
-    plan: &Word,
+    named: &InputFiles<'_>,
+    plan: &Word<'_>,
 ) -> Result<Answer, Failure>
     ensures { AnswersCheck (S.disk files.now) named.now plan.now result }
 {
@@ -106,8 +106,8 @@ fn kind_of_report(kind: Kind) -> ReportKind
 fn report<S: FileSource>(
     alloc: Global,
     files: &S,
-    named: &InputFiles,
-    plan: &Word,
+    named: &InputFiles<'_>,
+    plan: &Word<'_>,
     kind: Kind,
 ) -> Result<Answer, Failure>
     ensures { AnswersReport (S.disk files.now) named.now plan.now kind result }
@@ -121,7 +121,7 @@ fn report<S: FileSource>(
 fn carry_out<S: FileSource, O: Output>(
     alloc: Global,
     files: &S,
-    order: &Order,
+    order: &Order<'_>,
     out: &mut O,
 ) -> Result<Completed, Failure>
     ensures carries_out { CarriesOut (S.disk files.now) O.may_fail order.now (O.contents out.old)

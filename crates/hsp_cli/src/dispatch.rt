@@ -30,12 +30,14 @@ pub struct OpenLog<F: OpenFile> {
 pub fn open_log<S: FileSource>(
     alloc: Global,
     files: &S,
-    named: &InputFiles,
-    plan: &Word,
-    log: &Word,
+    named: &InputFiles<'_>,
+    plan: &Word<'_>,
+    log: &Word<'_>,
 ) -> Result<OpenLog<S::File>, Failure>
     ensures opened { IfOk result (λ it. AreOpened (S.disk files.now) named.now plan.now log.now
         (opened_log it.inputs it.certificate.items (S.File.remaining it.log))) }
+    ensures reads { IfOk result
+        (λ it. S.File.may_read_fail it.log → (S.disk files.now).fails log.now) }
     ensures unread { IfErr result (IsUnread
         (DispatchFails (S.disk files.now) named.now plan.now log.now)) }
 {
@@ -94,7 +96,7 @@ fn complete<O: Output>(out: &mut O, sums: Option<LogSums>) -> Result<Completed, 
 pub fn dispatch<F: OpenFile, O: Output>(
     alloc: Global,
     opened: OpenLog<F>,
-    fronts: &Option<Word>,
+    fronts: &Option<Word<'_>>,
     out: &mut O,
 ) -> Result<Completed, Failure>
     ensures dispatches { Dispatches O.may_fail fronts.now
@@ -134,7 +136,7 @@ fn dispatch_entries<F: OpenFile, O: Output>(
 fn dispatch_events<F: OpenFile, O: Output>(
     alloc: Global,
     opened: OpenLog<F>,
-    fronts: &Word,
+    fronts: &Word<'_>,
     out: &mut O,
 ) -> Result<Completed, Failure>
     ensures answers { AnswersEvents O.may_fail fronts.now

@@ -6,6 +6,7 @@ ghost use Rattle.hsp_cli.specs.Files.{Disk, HoldsRest, MayRead};
 
 use crate::failure::Failure;
 use hsp_cli_orders::Word;
+use hsp_talk::Source;
 use hsp_text::read_file;
 use std::alloc::Global;
 use std::io::Read;
@@ -13,8 +14,8 @@ use std::rt::Files;
 use std::{fs, io};
 
 /// A file that was opened: its octets, read from the first on.
-pub trait OpenFile: Read + Drop {
-    /// Whether a read may fail, or there are too many octets to be read whole.
+pub trait OpenFile: Source + Drop {
+    /// Whether it may fail to be read whole: a read fails, or there are too many octets.
     ghost may_fail: { Self → Type 0 };
 
     /// Every octet.
@@ -43,11 +44,13 @@ pub trait FileSource {
     ghost disk: { Self → Disk };
 
     /// The file at this path, to be read.
-    fn open(&self, path: &Word) -> Result<Self::File, Failure>
+    fn open(&self, path: &Word<'_>) -> Result<Self::File, Failure>
         ensures held { IfOk result
             (λ file. HoldsRest (disk self.now) path.now (Self.File.remaining file)) }
         ensures stops { IfOk result
             (λ file. Self.File.may_fail file → (disk self.now).fails path.now) }
+        ensures reads { IfOk result
+            (λ file. Self.File.may_read_fail file → (disk self.now).fails path.now) }
         ensures unopened { IfErr result (IsUnread ((disk self.now).fails path.now)) };
 }
 
@@ -57,7 +60,7 @@ impl<R: Files + AllocGlobal> FileSource for R {
 
     ghost disk = { λ _. record { holds = λ _ _. ⊤; fails = λ _. ⊤ } };
 
-    fn open(&self, path: &Word) -> Result<R::File, Failure> {
+    fn open(&self, path: &Word<'_>) -> Result<R::File, Failure> {
         match fs::open(self, path.as_str()) {
             Ok(file) => Ok(file),
             Err(error) if error.kind() == io::ErrorKind::OutOfMemory => Err(Failure::Memory),
@@ -67,7 +70,11 @@ impl<R: Files + AllocGlobal> FileSource for R {
 }
 
 /// Every octet of the file at this path.
-pub fn read_whole<S: FileSource>(alloc: Global, files: &S, path: &Word) -> Result<Vec<u8>, Failure>
+pub fn read_whole<S: FileSource>(
+    alloc: Global,
+    files: &S,
+    path: &Word<'_>,
+) -> Result<Vec<u8>, Failure>
     ensures octets { IfOk result (λ octets. (S.disk files.now).holds path.now octets.items) }
     ensures unread { IfErr result (IsUnread ((S.disk files.now).fails path.now)) }
 {

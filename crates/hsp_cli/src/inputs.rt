@@ -14,7 +14,7 @@ use std::alloc::Global;
 pub fn read_named<S: FileSource>(
     alloc: Global,
     files: &S,
-    path: &Option<Word>,
+    path: &Option<Word<'_>>,
 ) -> Result<Option<Vec<u8>>, Failure>
     ensures octets { IfOk result
         (λ octets. HoldsNamed (S.disk files.now) path.now (option_map (λ v. v.items) octets)) }
@@ -30,7 +30,7 @@ pub fn read_named<S: FileSource>(
 pub fn read_inputs<S: FileSource>(
     alloc: Global,
     files: &S,
-    named: &InputFiles,
+    named: &InputFiles<'_>,
 ) -> Result<Inputs, Failure>
     ensures held { IfOk result (λ inputs. AreHeld (S.disk files.now) named.now inputs) }
     ensures unread { IfErr result (IsUnread (OneFails (S.disk files.now) named.now)) }

@@ -2,10 +2,8 @@
 #![tactic(auto)]
 
 mod fault;
-mod form;
 mod order;
 mod reading;
-mod stream_form;
 mod stream_order;
 mod stream_reading;
 mod words;

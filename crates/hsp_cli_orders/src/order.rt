@@ -1,38 +1,38 @@
 // What the program is asked to do.
 
-ghost use Rattle.std.specs.Prelude.{◌≡◌, ℕ, List, string_bytes};
+ghost use Rattle.std.specs.Prelude.{◌≡◌, ℕ, List};
 
 use std::marker::Model;
 
-/// The value of an option, or a word by its place: text, seen as its octets.
+/// The value of an option, or a word by its place: text among the words, seen as its octets.
 #[derive(Debug, Drop)]
-pub struct Word {
-    text: String,
+pub struct Word<'a> {
+    text: &'a str,
 }
 
-impl Model for Word {
+impl<'a> Model for Word<'a> {
     ghost Value = { List ℕ };
 
-    ghost view = { λ word. string_bytes word.text };
+    ghost view = { λ word. word.text.now };
 }
 
-impl Word {
-    /// The word that a text spells.
-    pub(crate) fn new(text: String) -> Word
-        ensures { result ≡ string_bytes text }
+impl<'a> Word<'a> {
+    /// The word that a text is.
+    pub(crate) fn of(text: &'a str) -> Word<'a>
+        ensures { result ≡ text.now }
     {
         Word { text }
     }
 
     /// The word's text.
-    pub fn as_str(&self) -> &str
+    pub fn as_str(&self) -> &'a str
         ensures { result.now ≡ self.now }
     {
-        self.text.as_str()
+        self.text
     }
 
     /// The word's octets.
-    pub fn as_bytes(&self) -> &[u8]
+    pub fn as_bytes(&self) -> &'a [u8]
         ensures { result.now ≡ self.now }
     {
         self.text.as_bytes()
@@ -41,12 +41,12 @@ impl Word {
 
 /// The files that say what is to be planned: `--settings F [--values F] --demand F --costs F --capacity F`.
 #[derive(Debug, Drop)]
-pub struct InputFiles {
-    pub settings: Word,
-    pub values: Option<Word>,
-    pub demand: Word,
-    pub costs: Word,
-    pub capacity: Word,
+pub struct InputFiles<'a> {
+    pub settings: Word<'a>,
+    pub values: Option<Word<'a>>,
+    pub demand: Word<'a>,
+    pub costs: Word<'a>,
+    pub capacity: Word<'a>,
 }
 
 /// What a report shows.
@@ -62,44 +62,44 @@ pub enum Kind {
 
 /// One command with its values.
 #[derive(Debug, Drop)]
-pub enum Order {
+pub enum Order<'a> {
     /// `locate --option O --servers N HANDLE`
     LocatePlace {
-        option: Word,
-        servers: Word,
-        handle: Word,
+        option: Word<'a>,
+        servers: Word<'a>,
+        handle: Word<'a>,
     },
     /// `locate --settings F [--values F] HANDLE`
     LocateSites {
-        settings: Word,
-        values: Option<Word>,
-        handle: Word,
+        settings: Word<'a>,
+        values: Option<Word<'a>>,
+        handle: Word<'a>,
     },
     /// `site [--index N] F`
     Site {
-        index: Option<Word>,
-        file: Word,
+        index: Option<Word<'a>>,
+        file: Word<'a>,
     },
     /// `plan` with the files of the inputs
     Plan {
-        inputs: InputFiles,
+        inputs: InputFiles<'a>,
     },
     /// `check` with the files of the inputs and `--plan F`
     Check {
-        inputs: InputFiles,
-        plan: Word,
+        inputs: InputFiles<'a>,
+        plan: Word<'a>,
     },
     /// `dispatch` with the files of the inputs, `--plan F`, `--log F` and `[--fronts N]`
     Dispatch {
-        inputs: InputFiles,
-        plan: Word,
-        log: Word,
-        fronts: Option<Word>,
+        inputs: InputFiles<'a>,
+        plan: Word<'a>,
+        log: Word<'a>,
+        fronts: Option<Word<'a>>,
     },
     /// `report` with the files of the inputs, `--plan F` and `--kind K`
     Report {
-        inputs: InputFiles,
-        plan: Word,
+        inputs: InputFiles<'a>,
+        plan: Word<'a>,
         kind: Kind,
     },
 }

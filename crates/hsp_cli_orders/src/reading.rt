@@ -5,7 +5,6 @@ ghost use Rattle.std.specs.Prelude.{option_map, string_bytes};
 ghost use Rattle.clap.specs.Words.{fault_of, found_of, kind_of, rows_of, first_of, subcommand_of};
 ghost use Rattle.clap.specs.declared.error.kind.ErrorKind.TheVariants as kind;
 ghost use Rattle.hsp_cli_options.specs.Commands.{hsplan_app};
-ghost use Rattle.hsp_cli_orders.specs.Forms.{files_in, order_in};
 ghost use Rattle.hsp_cli_orders.specs.Orders.{HasInputs, HasNoPlace, IsOrderIn, IsOrderOf, IsUsage, kind_word};
 ghost use Rattle.hsp_cli_orders.specs.declared.fault.CommandFault.TheVariants as fault;
 ghost use Rattle.hsp_cli_orders.specs.declared.order.InputFiles.{InputFiles};
@@ -13,8 +12,7 @@ ghost use Rattle.hsp_cli_orders.specs.declared.order.Kind.{Kind};
 ghost use Rattle.hsp_cli_orders.specs.declared.order.Order.{Order};
 
 use crate::fault::CommandFault;
-use crate::form::{Form, InputTexts, copied};
-use crate::order::{Kind, Order};
+use crate::order::{InputFiles, Kind, Order, Word};
 use clap::error::ErrorKind;
 use clap::{ArgMatches, Error};
 use hsp_cli_options::hsplan_command;
@@ -28,19 +26,29 @@ pub(crate) fn text_of<'a>(matches: &ArgMatches<'a>, name: &str) -> Option<&'a st
     matches.get_str(name)
 }
 
+// The same as a word.
+pub(crate) fn word_of<'a>(matches: &ArgMatches<'a>, name: &str) -> Option<Word<'a>>
+    ensures { first_of name.now (rows_of (found_of matches.now)) ≡ result }
+{
+    match text_of(matches, name) {
+        Some(text) => Some(Word::of(text)),
+        None => None,
+    }
+}
+
 /// The names of the input files, or None where one is absent.
-pub(crate) fn inputs_of<'a>(matches: &ArgMatches<'a>) -> Option<InputTexts<'a>>
+pub(crate) fn inputs_of<'a>(matches: &ArgMatches<'a>) -> Option<InputFiles<'a>>
     ensures given { IfSome result
-        (λ texts. HasInputs (rows_of (found_of matches.now)) (files_in texts)) }
+        (λ texts. HasInputs (rows_of (found_of matches.now)) texts) }
     ensures absent { IfNone result ((inputs : InputFiles)
         → HasInputs (rows_of (found_of matches.now)) inputs → ⊥) }
 {
-    Some(InputTexts {
-        settings: text_of(matches, "settings")?,
-        values: text_of(matches, "values"),
-        demand: text_of(matches, "demand")?,
-        costs: text_of(matches, "costs")?,
-        capacity: text_of(matches, "capacity")?,
+    Some(InputFiles {
+        settings: word_of(matches, "settings")?,
+        values: word_of(matches, "values"),
+        demand: word_of(matches, "demand")?,
+        costs: word_of(matches, "costs")?,
+        capacity: word_of(matches, "capacity")?,
     })
 }
 
@@ -58,41 +66,41 @@ fn is_given(matches: &ArgMatches<'_>, name: &str) -> bool
 }
 
 // The form of `locate` that asks for a place.
-fn place_of<'a>(matches: &ArgMatches<'a>) -> Option<Form<'a>>
+fn place_of<'a>(matches: &ArgMatches<'a>) -> Option<Order<'a>>
     requires settings { first_of (codes "settings") (rows_of (found_of matches.now)) ≡ None }
     requires values { first_of (codes "values") (rows_of (found_of matches.now)) ≡ None }
-    ensures order { IfSome result (λ form.
-        IsOrderIn (order_in form) (codes "locate") (rows_of (found_of matches.now))) }
+    ensures order { IfSome result (λ order.
+        IsOrderIn order (codes "locate") (rows_of (found_of matches.now))) }
     ensures none { IfNone result ((order : Order)
         → IsOrderIn order (codes "locate") (rows_of (found_of matches.now))
         → HasNoPlace (rows_of (found_of matches.now))) }
 {
-    Some(Form::LocatePlace {
-        option: text_of(matches, "option")?,
-        servers: text_of(matches, "servers")?,
-        handle: text_of(matches, "handle")?,
+    Some(Order::LocatePlace {
+        option: word_of(matches, "option")?,
+        servers: word_of(matches, "servers")?,
+        handle: word_of(matches, "handle")?,
     })
 }
 
 // The form of `locate` that asks for sites.
-fn sites_of<'a>(matches: &ArgMatches<'a>) -> Option<Form<'a>>
+fn sites_of<'a>(matches: &ArgMatches<'a>) -> Option<Order<'a>>
     requires { HasNoPlace (rows_of (found_of matches.now)) }
-    ensures order { IfSome result (λ form.
-        IsOrderIn (order_in form) (codes "locate") (rows_of (found_of matches.now))) }
+    ensures order { IfSome result (λ order.
+        IsOrderIn order (codes "locate") (rows_of (found_of matches.now))) }
     ensures none { IfNone result ((order : Order)
         → IsOrderIn order (codes "locate") (rows_of (found_of matches.now)) → ⊥) }
 {
-    Some(Form::LocateSites {
-        settings: text_of(matches, "settings")?,
-        values: text_of(matches, "values"),
-        handle: text_of(matches, "handle")?,
+    Some(Order::LocateSites {
+        settings: word_of(matches, "settings")?,
+        values: word_of(matches, "values"),
+        handle: word_of(matches, "handle")?,
     })
 }
 
 // One of the two forms of `locate`, and neither a mixture nor a part.
-fn locate_of<'a>(matches: &ArgMatches<'a>) -> Option<Form<'a>>
-    ensures order { IfSome result (λ form.
-        IsOrderIn (order_in form) (codes "locate") (rows_of (found_of matches.now))) }
+fn locate_of<'a>(matches: &ArgMatches<'a>) -> Option<Order<'a>>
+    ensures order { IfSome result (λ order.
+        IsOrderIn order (codes "locate") (rows_of (found_of matches.now))) }
     ensures none { IfNone result ((order : Order)
         → IsOrderIn order (codes "locate") (rows_of (found_of matches.now)) → ⊥) }
 {
@@ -106,55 +114,55 @@ fn locate_of<'a>(matches: &ArgMatches<'a>) -> Option<Form<'a>>
 }
 
 // The form of `site`, or None where a word is absent.
-fn site_of<'a>(matches: &ArgMatches<'a>) -> Option<Form<'a>>
-    ensures order { IfSome result (λ form.
-        IsOrderIn (order_in form) (codes "site") (rows_of (found_of matches.now))) }
+fn site_of<'a>(matches: &ArgMatches<'a>) -> Option<Order<'a>>
+    ensures order { IfSome result (λ order.
+        IsOrderIn order (codes "site") (rows_of (found_of matches.now))) }
     ensures none { IfNone result ((order : Order)
         → IsOrderIn order (codes "site") (rows_of (found_of matches.now)) → ⊥) }
 {
-    Some(Form::Site {
-        index: text_of(matches, "index"),
-        file: text_of(matches, "file")?,
+    Some(Order::Site {
+        index: word_of(matches, "index"),
+        file: word_of(matches, "file")?,
     })
 }
 
 // The form of `plan`, or None where a word is absent.
-fn plan_of<'a>(matches: &ArgMatches<'a>) -> Option<Form<'a>>
-    ensures order { IfSome result (λ form.
-        IsOrderIn (order_in form) (codes "plan") (rows_of (found_of matches.now))) }
+fn plan_of<'a>(matches: &ArgMatches<'a>) -> Option<Order<'a>>
+    ensures order { IfSome result (λ order.
+        IsOrderIn order (codes "plan") (rows_of (found_of matches.now))) }
     ensures none { IfNone result ((order : Order)
         → IsOrderIn order (codes "plan") (rows_of (found_of matches.now)) → ⊥) }
 {
-    Some(Form::Plan {
+    Some(Order::Plan {
         inputs: inputs_of(matches)?,
     })
 }
 
 // The form of `check`, or None where a word is absent.
-fn check_of<'a>(matches: &ArgMatches<'a>) -> Option<Form<'a>>
-    ensures order { IfSome result (λ form.
-        IsOrderIn (order_in form) (codes "check") (rows_of (found_of matches.now))) }
+fn check_of<'a>(matches: &ArgMatches<'a>) -> Option<Order<'a>>
+    ensures order { IfSome result (λ order.
+        IsOrderIn order (codes "check") (rows_of (found_of matches.now))) }
     ensures none { IfNone result ((order : Order)
         → IsOrderIn order (codes "check") (rows_of (found_of matches.now)) → ⊥) }
 {
-    Some(Form::Check {
+    Some(Order::Check {
         inputs: inputs_of(matches)?,
-        plan: text_of(matches, "plan")?,
+        plan: word_of(matches, "plan")?,
     })
 }
 
 // The form of `dispatch`, or None where a word is absent.
-fn dispatch_of<'a>(matches: &ArgMatches<'a>) -> Option<Form<'a>>
-    ensures order { IfSome result (λ form.
-        IsOrderIn (order_in form) (codes "dispatch") (rows_of (found_of matches.now))) }
+fn dispatch_of<'a>(matches: &ArgMatches<'a>) -> Option<Order<'a>>
+    ensures order { IfSome result (λ order.
+        IsOrderIn order (codes "dispatch") (rows_of (found_of matches.now))) }
     ensures none { IfNone result ((order : Order)
         → IsOrderIn order (codes "dispatch") (rows_of (found_of matches.now)) → ⊥) }
 {
-    Some(Form::Dispatch {
+    Some(Order::Dispatch {
         inputs: inputs_of(matches)?,
-        plan: text_of(matches, "plan")?,
-        log: text_of(matches, "log")?,
-        fronts: text_of(matches, "fronts"),
+        plan: word_of(matches, "plan")?,
+        log: word_of(matches, "log")?,
+        fronts: word_of(matches, "fronts"),
     })
 }
 
@@ -172,26 +180,26 @@ fn kind_of(word: &str) -> Option<Kind>
 }
 
 // The form of `report`, or None where a word is absent.
-fn report_of<'a>(matches: &ArgMatches<'a>) -> Option<Form<'a>>
-    ensures order { IfSome result (λ form.
-        IsOrderIn (order_in form) (codes "report") (rows_of (found_of matches.now))) }
+fn report_of<'a>(matches: &ArgMatches<'a>) -> Option<Order<'a>>
+    ensures order { IfSome result (λ order.
+        IsOrderIn order (codes "report") (rows_of (found_of matches.now))) }
     ensures none { IfNone result ((order : Order)
         → IsOrderIn order (codes "report") (rows_of (found_of matches.now)) → ⊥) }
 {
-    Some(Form::Report {
+    Some(Order::Report {
         inputs: inputs_of(matches)?,
-        plan: text_of(matches, "plan")?,
+        plan: word_of(matches, "plan")?,
         kind: kind_of(text_of(matches, "kind")?)?,
     })
 }
 
 // The form of a subcommand that takes a certificate.
-fn certificate_form_of<'a>(name: &str, matches: &ArgMatches<'a>) -> Option<Form<'a>>
+fn certificate_form_of<'a>(name: &str, matches: &ArgMatches<'a>) -> Option<Order<'a>>
     requires locate { name.now ≢ codes "locate" }
     requires site { name.now ≢ codes "site" }
     requires plan { name.now ≢ codes "plan" }
-    ensures order { IfSome result (λ form.
-        IsOrderIn (order_in form) name.now (rows_of (found_of matches.now))) }
+    ensures order { IfSome result (λ order.
+        IsOrderIn order name.now (rows_of (found_of matches.now))) }
     ensures none { IfNone result ((order : Order)
         → IsOrderIn order name.now (rows_of (found_of matches.now)) → ⊥) }
 {
@@ -204,9 +212,9 @@ fn certificate_form_of<'a>(name: &str, matches: &ArgMatches<'a>) -> Option<Form<
 }
 
 // The form of a subcommand with its values. It is decided before anything is copied, so memory can't run out meanwhile.
-fn form_of<'a>(name: &str, matches: &ArgMatches<'a>) -> Option<Form<'a>>
-    ensures order { IfSome result (λ form.
-        IsOrderIn (order_in form) name.now (rows_of (found_of matches.now))) }
+fn form_of<'a>(name: &str, matches: &ArgMatches<'a>) -> Option<Order<'a>>
+    ensures order { IfSome result (λ order.
+        IsOrderIn order name.now (rows_of (found_of matches.now))) }
     ensures none { IfNone result ((order : Order)
         → IsOrderIn order name.now (rows_of (found_of matches.now)) → ⊥) }
 {
@@ -218,17 +226,16 @@ fn form_of<'a>(name: &str, matches: &ArgMatches<'a>) -> Option<Form<'a>>
     }
 }
 
-// The order of a subcommand with its values. Memory can run out only where they give one.
-fn order_of(alloc: Global, name: &str, matches: &ArgMatches<'_>) -> Result<Order, CommandFault>
+// The order of a subcommand with its values.
+fn order_of<'a>(name: &str, matches: &ArgMatches<'a>) -> Result<Order<'a>, CommandFault>
     ensures order { IfOk result
         (λ order. IsOrderIn order name.now (rows_of (found_of matches.now))) }
     ensures usage { result ≡ Err fault.Usage → (order : Order)
         → IsOrderIn order name.now (rows_of (found_of matches.now)) → ⊥ }
-    ensures memory { result ≡ Err fault.OutOfMemory
-        → (order : Order) × IsOrderIn order name.now (rows_of (found_of matches.now)) }
+    ensures sure { result ≢ Err fault.OutOfMemory }
 {
     match form_of(name, matches) {
-        Some(form) => Ok(copied(alloc, &form)?),
+        Some(order) => Ok(order),
         None => Err(CommandFault::Usage),
     }
 }
@@ -248,7 +255,7 @@ pub(crate) fn command_fault(error: &Error) -> CommandFault
 ///
 /// The fault is `Usage` for what clap's parser refuses, for a request for help, for a mixture or a part of the two
 /// forms of `locate`, and for an unknown kind of report.
-pub fn read_command(alloc: Global, words: &[String]) -> Result<Order, CommandFault>
+pub fn read_command<'a>(alloc: Global, words: &'a [String]) -> Result<Order<'a>, CommandFault>
     ensures order { IfOk result
         (λ order. IsOrderOf order (subcommand_of hsplan_app (map string_bytes words.now))) }
     ensures taken { OnOk result (fault_of hsplan_app (map string_bytes words.now) ≡ []) }
@@ -260,7 +267,7 @@ pub fn read_command(alloc: Global, words: &[String]) -> Result<Order, CommandFau
         Err(error) => return Err(command_fault(&error)),
     };
     match matches.remove_subcommand() {
-        Some((name, found)) => order_of(alloc, name, &found),
+        Some((name, found)) => order_of(name, &found),
         None => Err(CommandFault::Usage),
     }
 }

@@ -4,38 +4,38 @@ use crate::order::{InputFiles, Word};
 
 /// The number of fronts, and the number of one of them: `--fronts N --front K`.
 #[derive(Debug, Drop)]
-pub struct FrontWords {
-    pub fronts: Word,
-    pub front: Word,
+pub struct FrontWords<'a> {
+    pub fronts: Word<'a>,
+    pub front: Word<'a>,
 }
 
 /// One command of `hsplan-stream` with its values.
 #[derive(Debug, Drop)]
-pub enum StreamOrder {
+pub enum StreamOrder<'a> {
     /// `--help`, also behind a command
     Help,
     /// `--version`
     Version,
     /// `kinds --settings F [--values F] --costs F [--unit N] --log F`
     Kinds {
-        settings: Word,
-        values: Option<Word>,
-        costs: Word,
-        unit: Option<Word>,
-        log: Word,
+        settings: Word<'a>,
+        values: Option<Word<'a>>,
+        costs: Word<'a>,
+        unit: Option<Word<'a>>,
+        log: Word<'a>,
     },
     /// `places --settings F [--values F] --log F`
     Places {
-        settings: Word,
-        values: Option<Word>,
-        log: Word,
+        settings: Word<'a>,
+        values: Option<Word<'a>>,
+        log: Word<'a>,
     },
     /// `answer` with the files of the inputs, `--plan F`, `--log F`, `[--unit N]` and `[--fronts N --front K]`
     Answer {
-        inputs: InputFiles,
-        plan: Word,
-        log: Word,
-        unit: Option<Word>,
-        front: Option<FrontWords>,
+        inputs: InputFiles<'a>,
+        plan: Word<'a>,
+        log: Word<'a>,
+        unit: Option<Word<'a>>,
+        front: Option<FrontWords<'a>>,
     },
 }

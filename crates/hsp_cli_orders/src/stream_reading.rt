@@ -4,7 +4,6 @@ ghost use Rattle.std.specs.Prelude.{◌≡◌, [], IfNone, IfOk, IfSome, OnOk, E
 ghost use Rattle.std.specs.Prelude.{string_bytes};
 ghost use Rattle.clap.specs.Words.{fault_of, found_of, rows_of, subcommand_of};
 ghost use Rattle.hsp_cli_options.specs.Commands.{stream_app};
-ghost use Rattle.hsp_cli_orders.specs.StreamForms.{front_in, stream_order_in};
 ghost use Rattle.hsp_cli_orders.specs.StreamOrders.{HasFront, IsStreamOrder, IsStreamOrderIn, IsStreamOrdered};
 ghost use Rattle.hsp_cli_orders.specs.StreamOrders.{IsStreamUsage, asked, is_help, is_version};
 ghost use Rattle.hsp_cli_orders.specs.declared.fault.CommandFault.TheVariants as fault;
@@ -13,9 +12,8 @@ ghost use Rattle.hsp_cli_orders.specs.declared.stream_order.StreamOrder.{StreamO
 ghost use Rattle.std.specs.Prelude.{Option};
 
 use crate::fault::CommandFault;
-use crate::reading::{command_fault, inputs_of, text_of};
-use crate::stream_form::{FrontTexts, StreamForm, stream_copied};
-use crate::stream_order::StreamOrder;
+use crate::reading::{command_fault, inputs_of, word_of};
+use crate::stream_order::{FrontWords, StreamOrder};
 use clap::ArgMatches;
 use hsp_cli_options::stream_command;
 use std::alloc::Global;
@@ -33,7 +31,7 @@ fn is_version(word: &str) -> bool
 }
 
 // The request for help or for the version, if the words are one.
-fn asked(words: &[String]) -> Option<StreamOrder>
+fn asked<'a>(words: &'a [String]) -> Option<StreamOrder<'a>>
     ensures { result ≡ asked (map string_bytes words.now) }
 {
     match words {
@@ -45,66 +43,66 @@ fn asked(words: &[String]) -> Option<StreamOrder>
 }
 
 // The texts of a front, where both are given, or None where only one is.
-fn front_of<'a>(matches: &ArgMatches<'a>) -> Option<Option<FrontTexts<'a>>>
+fn front_of<'a>(matches: &ArgMatches<'a>) -> Option<Option<FrontWords<'a>>>
     ensures given { IfSome result
-        (λ texts. HasFront (rows_of (found_of matches.now)) (option_map front_in texts)) }
+        (λ texts. HasFront (rows_of (found_of matches.now)) texts) }
     ensures absent { IfNone result ((front : Option FrontWords)
         → HasFront (rows_of (found_of matches.now)) front → ⊥) }
 {
-    match (text_of(matches, "fronts"), text_of(matches, "front")) {
-        (Some(fronts), Some(front)) => Some(Some(FrontTexts { fronts, front })),
+    match (word_of(matches, "fronts"), word_of(matches, "front")) {
+        (Some(fronts), Some(front)) => Some(Some(FrontWords { fronts, front })),
         (None, None) => Some(None),
         _ => None,
     }
 }
 
-fn kinds_of<'a>(matches: &ArgMatches<'a>) -> Option<StreamForm<'a>>
-    ensures order { IfSome result (λ form.
-        IsStreamOrderIn (stream_order_in form) (codes "kinds") (rows_of (found_of matches.now))) }
+fn kinds_of<'a>(matches: &ArgMatches<'a>) -> Option<StreamOrder<'a>>
+    ensures order { IfSome result (λ order.
+        IsStreamOrderIn order (codes "kinds") (rows_of (found_of matches.now))) }
     ensures none { IfNone result ((order : StreamOrder)
         → IsStreamOrderIn order (codes "kinds") (rows_of (found_of matches.now)) → ⊥) }
 {
-    Some(StreamForm::Kinds {
-        settings: text_of(matches, "settings")?,
-        values: text_of(matches, "values"),
-        costs: text_of(matches, "costs")?,
-        unit: text_of(matches, "unit"),
-        log: text_of(matches, "log")?,
+    Some(StreamOrder::Kinds {
+        settings: word_of(matches, "settings")?,
+        values: word_of(matches, "values"),
+        costs: word_of(matches, "costs")?,
+        unit: word_of(matches, "unit"),
+        log: word_of(matches, "log")?,
     })
 }
 
-fn places_of<'a>(matches: &ArgMatches<'a>) -> Option<StreamForm<'a>>
-    ensures order { IfSome result (λ form.
-        IsStreamOrderIn (stream_order_in form) (codes "places") (rows_of (found_of matches.now))) }
+fn places_of<'a>(matches: &ArgMatches<'a>) -> Option<StreamOrder<'a>>
+    ensures order { IfSome result (λ order.
+        IsStreamOrderIn order (codes "places") (rows_of (found_of matches.now))) }
     ensures none { IfNone result ((order : StreamOrder)
         → IsStreamOrderIn order (codes "places") (rows_of (found_of matches.now)) → ⊥) }
 {
-    Some(StreamForm::Places {
-        settings: text_of(matches, "settings")?,
-        values: text_of(matches, "values"),
-        log: text_of(matches, "log")?,
+    Some(StreamOrder::Places {
+        settings: word_of(matches, "settings")?,
+        values: word_of(matches, "values"),
+        log: word_of(matches, "log")?,
     })
 }
 
-fn answer_of<'a>(matches: &ArgMatches<'a>) -> Option<StreamForm<'a>>
-    ensures order { IfSome result (λ form.
-        IsStreamOrderIn (stream_order_in form) (codes "answer") (rows_of (found_of matches.now))) }
+fn answer_of<'a>(matches: &ArgMatches<'a>) -> Option<StreamOrder<'a>>
+    ensures order { IfSome result (λ order.
+        IsStreamOrderIn order (codes "answer") (rows_of (found_of matches.now))) }
     ensures none { IfNone result ((order : StreamOrder)
         → IsStreamOrderIn order (codes "answer") (rows_of (found_of matches.now)) → ⊥) }
 {
-    Some(StreamForm::Answer {
+    Some(StreamOrder::Answer {
         inputs: inputs_of(matches)?,
-        plan: text_of(matches, "plan")?,
-        log: text_of(matches, "log")?,
-        unit: text_of(matches, "unit"),
+        plan: word_of(matches, "plan")?,
+        log: word_of(matches, "log")?,
+        unit: word_of(matches, "unit"),
         front: front_of(matches)?,
     })
 }
 
 // The form of a subcommand with its values. It is decided before anything is copied, so memory can't run out meanwhile.
-fn form_of<'a>(name: &str, matches: &ArgMatches<'a>) -> Option<StreamForm<'a>>
-    ensures order { IfSome result (λ form.
-        IsStreamOrderIn (stream_order_in form) name.now (rows_of (found_of matches.now))) }
+fn form_of<'a>(name: &str, matches: &ArgMatches<'a>) -> Option<StreamOrder<'a>>
+    ensures order { IfSome result (λ order.
+        IsStreamOrderIn order name.now (rows_of (found_of matches.now))) }
     ensures none { IfNone result ((order : StreamOrder)
         → IsStreamOrderIn order name.now (rows_of (found_of matches.now)) → ⊥) }
 {
@@ -117,24 +115,20 @@ fn form_of<'a>(name: &str, matches: &ArgMatches<'a>) -> Option<StreamForm<'a>>
 }
 
 // The order of a subcommand with its values. Memory can run out only where they give one.
-fn order_of(
-    alloc: Global,
-    name: &str,
-    matches: &ArgMatches<'_>,
-) -> Result<StreamOrder, CommandFault>
+fn order_of<'a>(name: &str, matches: &ArgMatches<'a>) -> Result<StreamOrder<'a>, CommandFault>
     ensures order { IfOk result
         (λ order. IsStreamOrderIn order name.now (rows_of (found_of matches.now))) }
     ensures usage { result ≡ Err fault.Usage → (order : StreamOrder)
         → IsStreamOrderIn order name.now (rows_of (found_of matches.now)) → ⊥ }
 {
     match form_of(name, matches) {
-        Some(form) => Ok(stream_copied(alloc, &form)?),
+        Some(order) => Ok(order),
         None => Err(CommandFault::Usage),
     }
 }
 
 // The order of a command, of words that ask for neither help nor the version.
-fn command_order(alloc: Global, words: &[String]) -> Result<StreamOrder, CommandFault>
+fn command_order<'a>(alloc: Global, words: &'a [String]) -> Result<StreamOrder<'a>, CommandFault>
     ensures order { IfOk result
         (λ order. IsStreamOrder order (subcommand_of stream_app (map string_bytes words.now))) }
     ensures taken { OnOk result (fault_of stream_app (map string_bytes words.now) ≡ []) }
@@ -146,7 +140,7 @@ fn command_order(alloc: Global, words: &[String]) -> Result<StreamOrder, Command
         Err(error) => return Err(command_fault(&error)),
     };
     match matches.remove_subcommand() {
-        Some((name, found)) => order_of(alloc, name, &found),
+        Some((name, found)) => order_of(name, &found),
         None => Err(CommandFault::Usage),
     }
 }
@@ -155,7 +149,10 @@ fn command_order(alloc: Global, words: &[String]) -> Result<StreamOrder, Command
 ///
 /// `--help` and `--version` are orders where they stand by themselves, and `--help` also behind one word. The fault is
 /// `Usage` for whatever else clap's parser refuses, and for only one of `--fronts` and `--front`.
-pub fn read_stream_command(alloc: Global, words: &[String]) -> Result<StreamOrder, CommandFault>
+pub fn read_stream_command<'a>(
+    alloc: Global,
+    words: &'a [String],
+) -> Result<StreamOrder<'a>, CommandFault>
     ensures { IsStreamOrdered (map string_bytes words.now) result }
 {
     match asked(words) {

@@ -18,14 +18,14 @@ fn held_words(rt: &impl Abort, alloc: Global, line: &[u8]) -> Vec<String> {
 }
 
 // The order of the words.
-fn order_of(alloc: Global, words: &[String]) -> Result<Order, CommandFault> {
+fn order_of<'a>(alloc: Global, words: &'a [String]) -> Result<Order<'a>, CommandFault> {
     match read_command(alloc, words) {
         Err(CommandFault::OutOfMemory) => read_command(alloc, words),
         answer => answer,
     }
 }
 
-fn or_none(text: &Option<Word>) -> &str {
+fn or_none(text: &Option<Word<'_>>) -> &str {
     match text {
         Some(text) => text.as_str(),
         None => "none",
@@ -63,18 +63,18 @@ fn shown_values(
     name: &str,
     first: &str,
     second: &str,
-    handle: &Word,
+    handle: &Word<'_>,
 ) -> Option<String> {
     let handle = handle.as_str();
     format!(in alloc; "{name}|{first}|{second}|{handle}").ok()
 }
 
-fn shown_record(alloc: Global, index: &str, file: &Word) -> Option<String> {
+fn shown_record(alloc: Global, index: &str, file: &Word<'_>) -> Option<String> {
     let file = file.as_str();
     format!(in alloc; "site|{index}|{file}").ok()
 }
 
-fn shown_inputs(alloc: Global, name: &str, inputs: &InputFiles, plan: &str) -> Option<String> {
+fn shown_inputs(alloc: Global, name: &str, inputs: &InputFiles<'_>, plan: &str) -> Option<String> {
     let (settings, demand) = (inputs.settings.as_str(), inputs.demand.as_str());
     let (costs, capacity) = (inputs.costs.as_str(), inputs.capacity.as_str());
     let values = or_none(&inputs.values);
@@ -83,9 +83,9 @@ fn shown_inputs(alloc: Global, name: &str, inputs: &InputFiles, plan: &str) -> O
 
 fn shown_log(
     alloc: Global,
-    inputs: &InputFiles,
-    plan: &Word,
-    log: &Word,
+    inputs: &InputFiles<'_>,
+    plan: &Word<'_>,
+    log: &Word<'_>,
     fronts: &str,
 ) -> Option<String> {
     let shown = shown_inputs(alloc, "dispatch", inputs, plan.as_str())?;
@@ -93,14 +93,19 @@ fn shown_log(
     format!(in alloc; "{shown}|{log}|{fronts}").ok()
 }
 
-fn shown_report(alloc: Global, inputs: &InputFiles, plan: &Word, kind: Kind) -> Option<String> {
+fn shown_report(
+    alloc: Global,
+    inputs: &InputFiles<'_>,
+    plan: &Word<'_>,
+    kind: Kind,
+) -> Option<String> {
     let shown = shown_inputs(alloc, "report", inputs, plan.as_str())?;
     let shown = shown.as_str();
     format!(in alloc; "{shown}|{kind:?}").ok()
 }
 
 // The order is shown so.
-fn is_shown(rt: &impl Abort, alloc: Global, order: &Order, wanted: &str) {
+fn is_shown(rt: &impl Abort, alloc: Global, order: &Order<'_>, wanted: &str) {
     let text = match shown(alloc, order) {
         Some(text) => text,
         None => shown(alloc, order).expect(rt, "there is memory"),

@@ -13,6 +13,7 @@ pub mod PlaceTalks
 mod RowsAnswered
 mod Accepting
 mod TalkEnds
+mod TalkFails
 pub mod OwnHash
 mod PageCosts
 mod SpelledPortions

@@ -1,5 +1,7 @@
 -- The faults of talks that stopped.
-use Rattle.std.specs.Prelude.{◌≢◌}
+use Rattle.std.specs.Prelude.{◌≢◌, ◌⊎◌, ⊤, Result, Err}
+use Rattle.hsp_talk.specs.Known.{Known, Went}
+use Rattle.hsp_talk.specs.Stopping.{HasReadAll}
 use Rattle.hsp_talk.specs.declared.stop.Stop.{Stop}
 use Rattle.hsp_talk.specs.declared.stop.Stop.TheVariants as stop
 use Rattle.hsp_stream.specs.declared.answerer.NoHeader.{NoHeader}
@@ -18,3 +20,15 @@ fault_of (stop.Fault none) = Log Header
 pub record IsBeforeLog (fault : StreamFault) : Type 0 where
   pub memory : fault ≢ OutOfMemory
   pub log : (of : RowFault) → fault ≢ Log of
+
+-- A failed read is reported only where a read may fail, or no further one is made; a failed write only where a write
+-- may fail.
+abbrev pub MayStopBy : Type 0 → Type 0 → Known → Known → StreamFault → Type 0
+MayStopBy MayReadFail MaySendFail old new (Log ReadFailed) = MayReadFail ⊎ Went old new HasReadAll
+MayStopBy MayReadFail MaySendFail old new (Log WriteFailed) = MaySendFail
+MayStopBy MayReadFail MaySendFail old new fault = ⊤
+
+-- a failed write is reported
+abbrev pub IsFailedWrite : {X : Type 0} → Result X StreamFault → Type 0
+IsFailedWrite (Err (Log WriteFailed)) = ⊤
+IsFailedWrite result = ⊥

@@ -1,6 +1,6 @@
 // The run that answers the rows of a log by a portion of the plan of a certificate.
 
-ghost use Rattle.std.specs.Prelude.{◌≡◌, IfErr, List, Ok};
+ghost use Rattle.std.specs.Prelude.{◌≡◌, ◌⊎◌, IfErr, List, Ok};
 ghost use Rattle.hsp_check.specs.Instance.{network_of};
 ghost use Rattle.hsp_check.specs.Valid.{IsValid};
 ghost use Rattle.hsp_runs.specs.Instance.{ReadsCosts};
@@ -9,7 +9,8 @@ ghost use Rattle.hsp_dispatch.specs.Portions.{portion_of};
 ghost use Rattle.hsp_dispatch.specs.Shares.{IsPlanFor, plan_of};
 ghost use Rattle.hsp_stream.specs.AnswerRun.{AnswersPortion, AnswersWhere, EndsLog, HasCosts, IsAnswered, run_of};
 ghost use Rattle.hsp_stream.specs.AnswersShown.{AnswersAlways, AnswersAlwaysAt, ShowsTalkBy, ShowsTalkOf};
-ghost use Rattle.hsp_stream.specs.TalkFaults.{IsBeforeLog};
+ghost use Rattle.hsp_talk.specs.Known.{IsHandedOn};
+ghost use Rattle.hsp_stream.specs.TalkFaults.{IsBeforeLog, IsFailedWrite, MayStopBy};
 ghost use Rattle.hsp_stream.specs.Words.{IsPortion};
 
 use crate::answerer::Answerer;
@@ -37,6 +38,9 @@ fn answer_portion<P: Peer>(
         (portion_of portion (plan_of accepted.now.certificate))
         (run_of (P.known peer.old) (P.known peer.new) result) }
     ensures untouched { IfErr result (λ e. IsBeforeLog e → peer.new ≡ peer.old) }
+    ensures handed { IsHandedOn (P.known peer.old) (P.known peer.new) ⊎ IsFailedWrite result }
+    ensures may_stop { IfErr result (MayStopBy (P.may_read_fail peer.old) P.may_send_fail
+        (P.known peer.old) (P.known peer.new)) }
 {
     let dispatcher = Dispatcher::by_portion(
         alloc,
@@ -64,6 +68,9 @@ fn answer_costs<P: Peer>(
         (portion_of portion (plan_of accepted.now.certificate))
         (run_of (P.known peer.old) (P.known peer.new) result) }
     ensures untouched { IfErr result (λ e. IsBeforeLog e → peer.new ≡ peer.old) }
+    ensures handed { IsHandedOn (P.known peer.old) (P.known peer.new) ⊎ IsFailedWrite result }
+    ensures may_stop { IfErr result (MayStopBy (P.may_read_fail peer.old) P.may_send_fail
+        (P.known peer.old) (P.known peer.new)) }
 {
     match costs_in(alloc, &inputs.costs) {
         Ok(costs) => answer_portion(alloc, accepted, &costs, portion, peer),
@@ -85,6 +92,9 @@ fn answer_accepted<P: Peer>(
     ensures answered { AnswersWhere portion inputs.now (Ok accepted.now)
         (run_of (P.known peer.old) (P.known peer.new) result) }
     ensures untouched { IfErr result (λ e. IsBeforeLog e → peer.new ≡ peer.old) }
+    ensures handed { IsHandedOn (P.known peer.old) (P.known peer.new) ⊎ IsFailedWrite result }
+    ensures may_stop { IfErr result (MayStopBy (P.may_read_fail peer.old) P.may_send_fail
+        (P.known peer.old) (P.known peer.new)) }
 {
     match accepted.plan() {
         Ok(_plan) => answer_costs(alloc, inputs, accepted, portion, peer),
@@ -107,6 +117,9 @@ fn answer_inputs<P: Peer>(
         (run_of (P.known peer.old) (P.known peer.new) result) }
     ensures always { AnswersAlways inputs.now certificate.now result }
     ensures untouched { IfErr result (λ e. IsBeforeLog e → peer.new ≡ peer.old) }
+    ensures handed { IsHandedOn (P.known peer.old) (P.known peer.new) ⊎ IsFailedWrite result }
+    ensures may_stop { IfErr result (MayStopBy (P.may_read_fail peer.old) P.may_send_fail
+        (P.known peer.old) (P.known peer.new)) }
 {
     match accepted_in(alloc, inputs, certificate) {
         Ok(accepted) => answer_accepted(alloc, inputs, &accepted, portion, peer),
@@ -144,6 +157,11 @@ pub fn answer_run<P: Peer>(
     ensures always { AnswersAlwaysAt portion.now inputs.now certificate.now result }
     // Where the fault comes before the log, the peer is as it was, also one of which nothing is known.
     ensures untouched { IfErr result (λ e. IsBeforeLog e → peer.new ≡ peer.old) }
+    // No octet of an answer waits in a buffer of the peer, unless a write failed.
+    ensures handed { IsHandedOn (P.known peer.old) (P.known peer.new) ⊎ IsFailedWrite result }
+    // A failure is reported only of what may fail.
+    ensures may_stop { IfErr result (MayStopBy (P.may_read_fail peer.old) P.may_send_fail
+        (P.known peer.old) (P.known peer.new)) }
 {
     match portion_in(portion) {
         Ok(portion) => answer_inputs(alloc, inputs, certificate, portion, peer),

@@ -1,7 +1,9 @@
 // The run `places`: the server of each handle of a log, at each site.
 
-ghost use Rattle.std.specs.Prelude.{IfErr, OnOk, option_map};
+ghost use Rattle.std.specs.Prelude.{◌⊎◌, IfErr, OnOk, option_map};
+ghost use Rattle.hsp_talk.specs.Known.{IsHandedOn};
 ghost use Rattle.hsp_stream.specs.PlacesRun.{ArePlaced, ArePlacedUntil};
+ghost use Rattle.hsp_stream.specs.TalkFaults.{IsFailedWrite, MayStopBy};
 
 use crate::fault::{RowFault, StreamFault};
 use crate::places_desk::PlacesDesk;
@@ -28,6 +30,11 @@ pub fn places_run<P: Peer>(
         (P.known peer.old) (P.known peer.new)) }
     ensures stops { IfErr result
         (ArePlacedUntil settings.now (option_map (λ v. v.now) values.entry)
+        (P.known peer.old) (P.known peer.new)) }
+    // No octet of an answer waits in a buffer of the peer, unless a write failed.
+    ensures handed { IsHandedOn (P.known peer.old) (P.known peer.new) ⊎ IsFailedWrite result }
+    // A failure is reported only of what may fail.
+    ensures may_stop { IfErr result (MayStopBy (P.may_read_fail peer.old) P.may_send_fail
         (P.known peer.old) (P.known peer.new)) }
 {
     let sites = sites_in(alloc, settings, values)?;

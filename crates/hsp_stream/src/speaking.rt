@@ -1,12 +1,11 @@
 // A talk in which the rows of a log are answered.
 
-ghost use Rattle.std.specs.Prelude.{◌≡◌, ◌≢◌, IfErr, None};
+ghost use Rattle.std.specs.Prelude.{◌≡◌, ◌≢◌, ◌⊎◌, IfErr, None};
 ghost use Rattle.hsp_dispatch.specs.Shares.{left_of};
-ghost use Rattle.hsp_talk.specs.Known.{Went};
+ghost use Rattle.hsp_talk.specs.Known.{IsHandedOn, Went};
 ghost use Rattle.hsp_stream.specs.AnswerTalk.{EndsBy};
-ghost use Rattle.hsp_stream.specs.TalkFaults.{IsBeforeLog};
+ghost use Rattle.hsp_stream.specs.TalkFaults.{IsBeforeLog, IsFailedWrite, MayStopBy, fault_of};
 ghost use Rattle.hsp_stream.specs.Saying.{none_said};
-ghost use Rattle.hsp_stream.specs.TalkFaults.{fault_of};
 
 use crate::answerer::{Answerer, NoHeader};
 use crate::fault::{RowFault, StreamFault};
@@ -38,6 +37,9 @@ pub(crate) fn answer_rows<P: Peer>(
         EndsBy desk.old.kind_dispatcher.costs desk.old.kind_dispatcher.held.instance
         (left_of desk.old.kind_dispatcher.held) events result) }
     ensures log { IfErr result (λ e. IsBeforeLog e → ⊥) }
+    ensures handed { IsHandedOn (P.known peer.old) (P.known peer.new) ⊎ IsFailedWrite result }
+    ensures may_stop { IfErr result (MayStopBy (P.may_read_fail peer.old) P.may_send_fail
+        (P.known peer.old) (P.known peer.new)) }
 {
     match talk(alloc, desk, peer) {
         Ok(()) => match desk.ending() {

@@ -1,5 +1,5 @@
 -- A run gives back the writer that it was lent.
-use Rattle.std.proofs.Common.{◌≡◌, inl, inr, ℕ, List, None, Option, Some, Result, Ok, Err, ap, subst, sym}
+use Rattle.std.proofs.Common.{◌≡◌, ◌⊎◌, inl, inr, ℕ, List, None, Option, Some, Result, Ok, Err, ap, subst, sym}
 use Rattle.std.specs.Borrow.{GName}
 use Rattle.hsp_cert.specs.Certificate.{Claim}
 use Rattle.hsp_cert.specs.Certificate.Claim.{best, short}
@@ -10,14 +10,17 @@ use Rattle.hsp_runs.specs.declared.accepted.Accepted.{Accepted}
 use Rattle.hsp_headline.specs.declared.inputs.Inputs.{Inputs}
 use Rattle.hsp_tables.specs.Costs.{CostEntry}
 use Rattle.hsp_talk.specs.Known.{Known}
+use Rattle.hsp_talk.specs.Known.{IsHandedOn as IsKnownHanded}
 use Rattle.hsp_stream.specs.AnswerRun.{AnswersAs, AnswersPortion, AnswersWhere, Refuses, Run}
 use Rattle.hsp_stream.specs.PlacesRun.{ArePlacedUntil}
 use Rattle.hsp_stream.specs.Words.{portion_at}
+use Rattle.hsp_stream.specs.declared.fault.RowFault.TheVariants as row
 use Rattle.hsp_stream.specs.declared.fault.StreamFault.{StreamFault}
 use Rattle.hsp_stream.specs.declared.fault.StreamFault.TheVariants as fault
 use Rattle.hsp_stream.specs.declared.portions.PortionWords.{PortionWords}
 use Rattle.hsp_stream_cli.specs.Ending.{Ended}
-use Rattle.hsp_stream_cli.specs.Talking.{EndsAnswers, EndsPlaces, octets_known}
+use Rattle.hsp_stream_cli.specs.Printing.{IsFailedWrite, IsHandedOn}
+use Rattle.hsp_stream_cli.specs.Talking.{EndsAnswers, EndsPlaces, MayEnd, TalksOver}
 use Rattle.hsp_stream_cli.specs.declared.failure.StreamFailure.TheVariants.{Usage, Memory, Read, Write, Refused}
 use Rattle.hsp_stream_cli.specs.declared.files.Sources.{Sources}
 
@@ -84,8 +87,35 @@ pub same_name : (a b : GName) → Some a ≡ Some b → a ≡ b
 same_name a b e = cc e
 
 -- what holds of a writer that is lent holds of the writer that is given back
-pub given_back : {W : Type 0} (contents : W → Option (List ℕ)) (Holds : Known → Type 0) (left : Option (List ℕ)) (writer last : W) (before after : GName) →
-    (before ≡ after → writer ≡ last) → after ≡ before → Holds (octets_known left (contents last) after) → Holds (octets_known left (contents writer) before)
-given_back contents Holds left writer last before after back same so =
-    subst (λ (w : Option (List ℕ)). Holds (octets_known left w before)) (sym (ap contents (back (sym same))))
-    (subst (λ (name : GName). Holds (octets_known left (contents last) name)) same so)
+pub given_back : {W : Type 0} (Holds : W → Type 0) (writer last : W) (before after : GName) → (before ≡ after → writer ≡ last) → after ≡ before → Holds last → Holds writer
+given_back Holds writer last before after back same so = subst Holds (sym (back (sym same))) so
+
+-- ---- outputs
+
+pub hands : (old new : Known) (ended : Ended) → IsKnownHanded old new ⊎ IsFailedWrite ended → IsHandedOn old.written old.handed new.written new.handed ended
+hands old new ended (inl (inl none)) = inl (none.written, none.handed)
+hands old new ended (inl (inr all)) = inr (inl all)
+hands old new ended (inr failed) = inr (inr failed)
+
+-- a reader may fail only where its file may
+may_weaker : (MayReadFail DiskFails MayFail : Type 0) (ended : Ended) (old new : Known) → (MayReadFail → DiskFails) → MayEnd MayReadFail MayFail ended old new → MayEnd DiskFails MayFail ended old new
+may_weaker MayReadFail DiskFails MayFail (Err (Refused (fault.Log row.ReadFailed))) old new weaker may = elim may [
+  | inl fails ↦ inl (weaker fails)
+  | inr all ↦ inr all
+]
+may_weaker MayReadFail DiskFails MayFail (Err (Refused (fault.Log row.WriteFailed))) old new weaker may = may
+may_weaker MayReadFail DiskFails MayFail (Err (Refused (fault.Log other))) old new weaker may = tt
+may_weaker MayReadFail DiskFails MayFail (Err (Refused other)) old new weaker may = tt
+may_weaker MayReadFail DiskFails MayFail ended old new weaker may = tt
+
+pub talks_weaker : (MayReadFail DiskFails MayFail : Type 0) (left old new : Option (List ℕ)) (ended : Ended) (Holds : Known → Known → Type 0) → (MayReadFail → DiskFails) →
+    TalksOver MayReadFail MayFail left old new ended Holds → TalksOver DiskFails MayFail left old new ended Holds
+talks_weaker MayReadFail DiskFails MayFail left old new ended Holds weaker so = record {
+  before = so.before;
+  after = so.after;
+  coming = so.coming;
+  held = so.held;
+  written = so.written;
+  holds = so.holds;
+  may_end = may_weaker MayReadFail DiskFails MayFail ended so.before so.after weaker so.may_end;
+}

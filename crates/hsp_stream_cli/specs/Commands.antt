@@ -37,20 +37,21 @@ PrintsKinds disk MayFail settings values costs unit log old new ended =
     × PrintsTable MayFail inputs unit left old new ended)
 
 -- the places of a log's handles are stated
-abbrev pub StatesPlaces : Disk → List ℕ → Option (List ℕ) → List ℕ → Option (List ℕ) → Option (List ℕ) → Ended → Type 0
-StatesPlaces disk settings values log old new ended =
+abbrev pub StatesPlaces : Disk → Type 0 → List ℕ → Option (List ℕ) → List ℕ → Option (List ℕ) → Option (List ℕ) → Ended
+    → Type 0
+StatesPlaces disk MayFail settings values log old new ended =
     LacksFile (SourcesFail disk settings values ⊎ disk.fails log) old new ended
     ⊎ ((sources : Sources) × (left : Option (List ℕ)) × AreSourcesHeld disk settings values sources
     × HoldsRest disk log left
-    × TalksOver left old new (EndsPlaces sources ended))
+    × TalksOver (disk.fails log) MayFail left old new ended (EndsPlaces sources ended))
 
 -- a log is answered
-abbrev pub AnswersLog : Disk → InputFiles → List ℕ → List ℕ → Option (List ℕ) → Option FrontWords → Option (List ℕ)
-    → Option (List ℕ) → Ended → Type 0
-AnswersLog disk files plan log unit front old new ended =
+abbrev pub AnswersLog : Disk → Type 0 → InputFiles → List ℕ → List ℕ → Option (List ℕ) → Option FrontWords
+    → Option (List ℕ) → Option (List ℕ) → Ended → Type 0
+AnswersLog disk MayFail files plan log unit front old new ended =
     LacksFile (DispatchFails disk files plan log) old new ended ⊎ ((new ≡ old) × (ended ≡ Err Memory))
     ⊎ ((it : Opened) × (words : PortionWords) × AreOpened disk files plan log it × IsPortion unit front words
-    × TalksOver it.left old new (EndsAnswers it.inputs it.certificate words ended))
+    × TalksOver (disk.fails log) MayFail it.left old new ended (EndsAnswers it.inputs it.certificate words ended))
 
 -- an order is carried out on an output, whose writes may fail or not
 abbrev pub CarriesOut : Disk → Type 0 → StreamOrder → Option (List ℕ) → Option (List ℕ) → Ended → Type 0
@@ -59,9 +60,9 @@ CarriesOut disk MayFail order.Version old new ended = PrintsText MayFail VERSION
 CarriesOut disk MayFail (order.Kinds settings values costs unit log) old new ended =
     PrintsKinds disk MayFail settings values costs unit log old new ended
 CarriesOut disk MayFail (order.Places settings values log) old new ended =
-    StatesPlaces disk settings values log old new ended
+    StatesPlaces disk MayFail settings values log old new ended
 CarriesOut disk MayFail (order.Answer files plan log unit front) old new ended =
-    AnswersLog disk files plan log unit front old new ended
+    AnswersLog disk MayFail files plan log unit front old new ended
 
 -- the order is carried out; where there is none, nothing was written, and the failure is reported
 abbrev pub ActsOn : Disk → Type 0 → Result StreamOrder CommandFault → Option (List ℕ) → Option (List ℕ) → Ended → Type 0

@@ -1,10 +1,12 @@
 -- Texts and tables on an output.
-use Rattle.std.specs.Prelude.{◌≡◌, ◌⊎◌, ℕ, List, Option, None, Ok, Err}
+use Rattle.std.specs.Prelude.{◌≡◌, ◌⊎◌, ⊤, ℕ, List, Option, None, Ok, Err}
 use Rattle.std.specs.Io.KnownBytes.{Appends}
-use Rattle.hsp_cli.specs.Printing.{IsBegun}
+use Rattle.hsp_talk.specs.Writing.{IsBegun}
 use Rattle.hsp_stream.specs.KindsLog.{IsReadFault}
 use Rattle.hsp_stream.specs.KindsRun.{IsKindsOf}
+use Rattle.hsp_stream.specs.declared.fault.RowFault.TheVariants.{WriteFailed}
 use Rattle.hsp_stream.specs.declared.fault.StreamFault.{StreamFault}
+use Rattle.hsp_stream.specs.declared.fault.StreamFault.TheVariants.{Log}
 use Rattle.hsp_stream.specs.declared.kinds_files.KindsInputs.{KindsInputs}
 use Rattle.hsp_stream_cli.specs.Ending.{Ended}
 use Rattle.hsp_stream_cli.specs.declared.failure.StreamFailure.TheVariants.{Refused, Write}
@@ -28,3 +30,14 @@ abbrev pub PrintsTable : Type 0 → KindsInputs → Option (List ℕ) → Option
 PrintsTable MayFail inputs unit left old new ended =
     ((text : List ℕ) × IsTable inputs unit left text × PrintsText MayFail text old new ended)
     ⊎ ((fault : StreamFault) × IsTableFault inputs unit left fault × (new ≡ old) × (ended ≡ Err (Refused fault)))
+
+-- a failed write is reported
+abbrev pub IsFailedWrite : Ended → Type 0
+IsFailedWrite (Err Write) = ⊤
+IsFailedWrite (Err (Refused (Log WriteFailed))) = ⊤
+IsFailedWrite ended = ⊥
+
+-- nothing was written; or what the output holds was handed on; or a write failed
+abbrev pub IsHandedOn : Option (List ℕ) → Option (List ℕ) → Option (List ℕ) → Option (List ℕ) → Ended → Type 0
+IsHandedOn contents_before handed_before contents handed ended =
+    ((contents ≡ contents_before) × (handed ≡ handed_before)) ⊎ (handed ≡ contents) ⊎ IsFailedWrite ended

@@ -1,11 +1,11 @@
 -- Logs that are answered in a talk.
-use Rattle.std.specs.Prelude.{◌≡◌, ℕ, List, Option, None, Some, Ok, Err, option_map}
-use Rattle.std.specs.Borrow.{GName}
+use Rattle.std.specs.Prelude.{◌≡◌, ⊤, ℕ, List, Option, None, Some, Ok, Err, option_map}
 use Rattle.hsp_cli_orders.specs.declared.stream_order.FrontWords.{FrontWords}
 use Rattle.hsp_headline.specs.declared.inputs.Inputs.{Inputs}
 use Rattle.hsp_talk.specs.Known.{Known}
 use Rattle.hsp_stream.specs.AnswerRun.{IsAnswered, run_of}
 use Rattle.hsp_stream.specs.PlacesRun.{ArePlaced, ArePlacedUntil}
+use Rattle.hsp_stream.specs.TalkFaults.{MayStopBy}
 use Rattle.hsp_stream.specs.declared.portions.PortionWords.{PortionWords}
 use Rattle.hsp_stream_cli.specs.Ending.{Ended}
 use Rattle.hsp_stream_cli.specs.declared.failure.StreamFailure.TheVariants.{Refused}
@@ -17,14 +17,22 @@ pub record IsPortion (unit : Option (List ℕ)) (front : Option FrontWords) (wor
   pub fronts_are : option_map (λ v. v.items) words.fronts ≡ option_map (λ (it : FrontWords). it.fronts) front
   pub front_is : option_map (λ v. v.items) words.front ≡ option_map (λ (it : FrontWords). it.front) front
 
--- what is known of a reader and a writer that is lent
-abbrev pub octets_known : Option (List ℕ) → Option (List ℕ) → GName → Known
-octets_known coming written name = record { events = None; coming = coming; written = written; lent = Some name }
+-- a failed read or write of the talk is reported only where one may fail
+abbrev pub MayEnd : Type 0 → Type 0 → Ended → Known → Known → Type 0
+MayEnd MayReadFail MayFail (Err (Refused fault)) old new = MayStopBy MayReadFail MayFail old new fault
+MayEnd MayReadFail MayFail ended old new = ⊤
 
--- what holds of a peer before a talk and after it: of a reader that has some octets left, and of a writer
-abbrev pub TalksOver : Option (List ℕ) → Option (List ℕ) → Option (List ℕ) → (Known → Known → Type 0) → Type 0
-TalksOver left old new Holds =
-    (rest : Option (List ℕ)) × (name : GName) × Holds (octets_known left old name) (octets_known rest new name)
+-- A talk over a reader that has some octets left, and over an output: what holds of a peer before it and after it, and
+-- how it ended.
+pub record TalksOver (MayReadFail MayFail : Type 0) (left old new : Option (List ℕ)) (ended : Ended)
+    (Holds : Known → Known → Type 0) : Type 0 where
+  pub before : Known
+  pub after : Known
+  pub coming : before.coming ≡ left
+  pub held : before.written ≡ old
+  pub written : after.written ≡ new
+  pub holds : Holds before after
+  pub may_end : MayEnd MayReadFail MayFail ended before after
 
 -- places were stated, or the run's fault is returned
 abbrev pub EndsPlaces : Sources → Ended → Known → Known → Type 0

@@ -2,6 +2,7 @@
 
 ghost use Rattle.std.specs.Prelude.{map, string_bytes};
 ghost use Rattle.hsp_stream_cli.specs.Commands.{CarriesOut, Obeys};
+ghost use Rattle.hsp_stream_cli.specs.Printing.{IsHandedOn};
 
 use crate::failure::StreamFailure;
 use crate::files::{read_kinds, read_sources};
@@ -18,11 +19,13 @@ use std::alloc::Global;
 fn carry_out<S: FileSource, O: Output>(
     alloc: Global,
     files: &S,
-    order: &StreamOrder,
+    order: &StreamOrder<'_>,
     out: &mut O,
 ) -> Result<Option<StreamSums>, StreamFailure>
-    ensures { CarriesOut (S.disk files.now) O.may_fail order.now (O.contents out.old)
+    ensures carries_out { CarriesOut (S.disk files.now) O.may_fail order.now (O.contents out.old)
         (O.contents out.new) result }
+    ensures handed { IsHandedOn (O.contents out.old) (O.handed out.old) (O.contents out.new)
+        (O.handed out.new) result }
 {
     match order {
         StreamOrder::Help => print(out, HELP),
@@ -68,8 +71,11 @@ pub fn obey<S: FileSource, O: Output>(
     words: &[String],
     out: &mut O,
 ) -> Result<Option<StreamSums>, StreamFailure>
-    ensures { Obeys (S.disk files.now) O.may_fail (map string_bytes words.now)
+    ensures obeys { Obeys (S.disk files.now) O.may_fail (map string_bytes words.now)
         (O.contents out.old) (O.contents out.new) result }
+    // Nothing that was written waits in a buffer of the output, unless a write failed.
+    ensures handed { IsHandedOn (O.contents out.old) (O.handed out.old) (O.contents out.new)
+        (O.handed out.new) result }
 {
     let order = read_stream_command(alloc, words)?;
     carry_out(alloc, files, &order, out)

@@ -20,8 +20,8 @@ pub(crate) struct Sources {
 pub(crate) fn read_sources<S: FileSource>(
     alloc: Global,
     files: &S,
-    settings: &Word,
-    values: &Option<Word>,
+    settings: &Word<'_>,
+    values: &Option<Word<'_>>,
 ) -> Result<Sources, Failure>
     ensures held { IfOk result
         (λ sources. AreSourcesHeld (S.disk files.now) settings.now values.now sources) }
@@ -38,9 +38,9 @@ pub(crate) fn read_sources<S: FileSource>(
 pub(crate) fn read_kinds<S: FileSource>(
     alloc: Global,
     files: &S,
-    settings: &Word,
-    values: &Option<Word>,
-    costs: &Word,
+    settings: &Word<'_>,
+    values: &Option<Word<'_>>,
+    costs: &Word<'_>,
 ) -> Result<KindsInputs, Failure>
     ensures held { IfOk result
         (λ inputs. AreKindsHeld (S.disk files.now) settings.now values.now costs.now inputs) }

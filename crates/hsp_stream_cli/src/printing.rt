@@ -1,7 +1,7 @@
 // Texts and tables on an output.
 
 ghost use Rattle.std.specs.Prelude.{IfErr, IfOk, option_map};
-ghost use Rattle.hsp_stream_cli.specs.Printing.{IsTable, IsTableFault, PrintsTable, PrintsText};
+ghost use Rattle.hsp_stream_cli.specs.Printing.{IsHandedOn, IsTable, IsTableFault, PrintsTable, PrintsText};
 
 use crate::failure::StreamFailure;
 use hsp_cli::{OpenFile, Output};
@@ -14,7 +14,10 @@ pub(crate) fn print<O: Output>(
     out: &mut O,
     text: &[u8],
 ) -> Result<Option<StreamSums>, StreamFailure>
-    ensures { PrintsText O.may_fail text.now (O.contents out.old) (O.contents out.new) result }
+    ensures prints { PrintsText O.may_fail text.now (O.contents out.old) (O.contents out.new)
+        result }
+    ensures handed { IsHandedOn (O.contents out.old) (O.handed out.old) (O.contents out.new)
+        (O.handed out.new) result }
 {
     match out.put(text) {
         Ok(()) => Ok(None),
@@ -26,7 +29,7 @@ pub(crate) fn print<O: Output>(
 fn table_of<F: OpenFile>(
     alloc: Global,
     inputs: &KindsInputs,
-    unit: &Option<Word>,
+    unit: &Option<Word<'_>>,
     log: F,
 ) -> Result<Vec<u8>, StreamFault>
     ensures table { IfOk result
@@ -43,12 +46,14 @@ fn table_of<F: OpenFile>(
 pub(crate) fn print_table<F: OpenFile, O: Output>(
     alloc: Global,
     inputs: &KindsInputs,
-    unit: &Option<Word>,
+    unit: &Option<Word<'_>>,
     log: F,
     out: &mut O,
 ) -> Result<Option<StreamSums>, StreamFailure>
-    ensures { PrintsTable O.may_fail inputs.now unit.now (F.remaining log) (O.contents out.old)
-        (O.contents out.new) result }
+    ensures prints { PrintsTable O.may_fail inputs.now unit.now (F.remaining log)
+        (O.contents out.old) (O.contents out.new) result }
+    ensures handed { IsHandedOn (O.contents out.old) (O.handed out.old) (O.contents out.new)
+        (O.handed out.new) result }
 {
     match table_of(alloc, inputs, unit, log) {
         Ok(text) => print(out, &text),

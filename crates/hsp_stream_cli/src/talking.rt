@@ -1,7 +1,9 @@
 // Logs that are answered in a talk.
 
-ghost use Rattle.std.specs.Prelude.{◌≡◌, IfOk, option_map};
-ghost use Rattle.hsp_stream_cli.specs.Talking.{EndsAnswers, EndsPlaces, IsPortion, TalksOver, octets_known};
+ghost use Rattle.std.specs.Prelude.{◌≡◌, ◌⊎◌, IfOk, option_map};
+ghost use Rattle.hsp_talk.specs.Known.{IsHandedOn as IsKnownHanded};
+ghost use Rattle.hsp_stream_cli.specs.Printing.{IsFailedWrite, IsHandedOn};
+ghost use Rattle.hsp_stream_cli.specs.Talking.{EndsAnswers, EndsPlaces, IsPortion, MayEnd, TalksOver};
 
 use crate::failure::StreamFailure;
 use crate::files::Sources;
@@ -18,7 +20,10 @@ fn state_to<P: Peer>(
     sources: &Sources,
     peer: &mut P,
 ) -> Result<Option<StreamSums>, StreamFailure>
-    ensures { EndsPlaces sources.now result (P.known peer.old) (P.known peer.new) }
+    ensures ends { EndsPlaces sources.now result (P.known peer.old) (P.known peer.new) }
+    ensures handed { IsKnownHanded (P.known peer.old) (P.known peer.new) ⊎ IsFailedWrite result }
+    ensures may_end { MayEnd (P.may_read_fail peer.old) P.may_send_fail result
+        (P.known peer.old) (P.known peer.new) }
 {
     match places_run(alloc, &sources.settings, sources.values.as_deref(), peer) {
         Ok(()) => Ok(None),
@@ -33,11 +38,11 @@ fn state_joined<F: OpenFile, O: Output>(
     peer: &mut Joined<'_, F, O>,
 ) -> Result<Option<StreamSums>, StreamFailure>
     ensures same_reference { peer.new.writer.ghost_name ≡ peer.old.writer.ghost_name }
-    ensures ends { EndsPlaces sources.now result
-        (octets_known (F.remaining peer.old.reader) (O.contents peer.old.writer.now)
-        peer.old.writer.ghost_name)
-        (octets_known (F.remaining peer.new.reader) (O.contents peer.new.writer.now)
-        peer.new.writer.ghost_name) }
+    ensures ends { TalksOver (F.may_read_fail peer.old.reader) O.may_fail
+        (F.remaining peer.old.reader) (O.contents peer.old.writer.now)
+        (O.contents peer.new.writer.now) result (EndsPlaces sources.now result) }
+    ensures handed { IsHandedOn (O.contents peer.old.writer.now) (O.handed peer.old.writer.now)
+        (O.contents peer.new.writer.now) (O.handed peer.new.writer.now) result }
 {
     state_to(alloc, sources, peer)
 }
@@ -49,8 +54,10 @@ pub(crate) fn state_places<F: OpenFile, O: Output>(
     log: F,
     out: &mut O,
 ) -> Result<Option<StreamSums>, StreamFailure>
-    ensures { TalksOver (F.remaining log) (O.contents out.old) (O.contents out.new)
-        (EndsPlaces sources.now result) }
+    ensures talks { TalksOver (F.may_read_fail log) O.may_fail (F.remaining log)
+        (O.contents out.old) (O.contents out.new) result (EndsPlaces sources.now result) }
+    ensures handed { IsHandedOn (O.contents out.old) (O.handed out.old) (O.contents out.new)
+        (O.handed out.new) result }
 {
     let mut peer = Joined {
         reader: log,
@@ -66,7 +73,7 @@ pub(crate) fn state_places<F: OpenFile, O: Output>(
 }
 
 // The octets of a word, if there is one.
-fn octets_of(alloc: Global, word: &Option<Word>) -> Result<Option<Vec<u8>>, AllocError>
+fn octets_of(alloc: Global, word: &Option<Word<'_>>) -> Result<Option<Vec<u8>>, AllocError>
     ensures { IfOk result (λ octets. option_map (λ v. v.items) octets ≡ word.now) }
 {
     match word {
@@ -78,8 +85,8 @@ fn octets_of(alloc: Global, word: &Option<Word>) -> Result<Option<Vec<u8>>, Allo
 /// The words of a portion: the unit, and the number of fronts with that of one of them.
 pub(crate) fn portion_words(
     alloc: Global,
-    unit: &Option<Word>,
-    front: &Option<FrontWords>,
+    unit: &Option<Word<'_>>,
+    front: &Option<FrontWords<'_>>,
 ) -> Result<PortionWords, AllocError>
     ensures { IfOk result (IsPortion unit.now front.now) }
 {
@@ -106,7 +113,10 @@ fn answer_to<P: Peer>(
     portion: &PortionWords,
     peer: &mut P,
 ) -> Result<Option<StreamSums>, StreamFailure>
-    ensures { EndsAnswers inputs.now certificate.now portion.now result
+    ensures ends { EndsAnswers inputs.now certificate.now portion.now result
+        (P.known peer.old) (P.known peer.new) }
+    ensures handed { IsKnownHanded (P.known peer.old) (P.known peer.new) ⊎ IsFailedWrite result }
+    ensures may_end { MayEnd (P.may_read_fail peer.old) P.may_send_fail result
         (P.known peer.old) (P.known peer.new) }
 {
     match answer_run(alloc, inputs, certificate, portion, peer) {
@@ -124,11 +134,12 @@ fn answer_joined<F: OpenFile, O: Output>(
     peer: &mut Joined<'_, F, O>,
 ) -> Result<Option<StreamSums>, StreamFailure>
     ensures same_reference { peer.new.writer.ghost_name ≡ peer.old.writer.ghost_name }
-    ensures ends { EndsAnswers inputs.now certificate.now portion.now result
-        (octets_known (F.remaining peer.old.reader) (O.contents peer.old.writer.now)
-        peer.old.writer.ghost_name)
-        (octets_known (F.remaining peer.new.reader) (O.contents peer.new.writer.now)
-        peer.new.writer.ghost_name) }
+    ensures ends { TalksOver (F.may_read_fail peer.old.reader) O.may_fail
+        (F.remaining peer.old.reader) (O.contents peer.old.writer.now)
+        (O.contents peer.new.writer.now) result (EndsAnswers inputs.now certificate.now portion.now
+        result) }
+    ensures handed { IsHandedOn (O.contents peer.old.writer.now) (O.handed peer.old.writer.now)
+        (O.contents peer.new.writer.now) (O.handed peer.new.writer.now) result }
 {
     answer_to(alloc, inputs, certificate, portion, peer)
 }
@@ -140,8 +151,11 @@ pub(crate) fn answer_log<F: OpenFile, O: Output>(
     portion: &PortionWords,
     out: &mut O,
 ) -> Result<Option<StreamSums>, StreamFailure>
-    ensures { TalksOver (F.remaining opened.log) (O.contents out.old) (O.contents out.new)
+    ensures talks { TalksOver (F.may_read_fail opened.log) O.may_fail (F.remaining opened.log)
+        (O.contents out.old) (O.contents out.new) result
         (EndsAnswers opened.inputs opened.certificate.items portion.now result) }
+    ensures handed { IsHandedOn (O.contents out.old) (O.handed out.old) (O.contents out.new)
+        (O.handed out.new) result }
 {
     let OpenLog {
         inputs,

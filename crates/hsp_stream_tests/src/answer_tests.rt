@@ -9,7 +9,7 @@ use hsp_cert::CertFault;
 use hsp_check::Reason;
 use hsp_faults::Fault;
 use hsp_stream::{PortionWords, RowFault, StreamFault, StreamSums, answer_run};
-use hsp_talk::{Joined, LONGEST_ROW};
+use hsp_talk::Joined;
 use std::alloc::{AllocError, Global};
 use std::process::Abort;
 
@@ -313,9 +313,9 @@ fn longest_rows(alloc: Global) -> Result<Vec<u8>, AllocError> {
     let mut log = Vec::from_slice(alloc, b"region,handle\n")?;
     push_row(&mut log, b"r1,10/", 4_099)?;
     push_row(&mut log, b"r1,10/", 4_100)?;
-    push_row(&mut log, b"r1,10/", LONGEST_ROW)?;
-    push_row(&mut log, b"\"r1\",10/", LONGEST_ROW)?;
-    push_row(&mut log, b"r1,10/", LONGEST_ROW + 1)?;
+    push_row(&mut log, b"r1,10/", 1_048_576)?;
+    push_row(&mut log, b"\"r1\",10/", 1_048_576)?;
+    push_row(&mut log, b"r1,10/", 1_048_577)?;
     Ok(log)
 }
 

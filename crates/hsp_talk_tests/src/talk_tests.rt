@@ -1,7 +1,6 @@
 use crate::fakes::{CountingDesk, First, Note};
 use crate::held::{ALL, Limits, goes, goes_joined, repeats};
 use crate::known::{KnownPeer, Turn, hold};
-use hsp_talk::LONGEST_ROW;
 
 #[test]
 fn each_row_is_answered_before_the_next_read(rt: HostRuntime) {
@@ -82,7 +81,8 @@ fn a_reader_and_a_writer_are_a_peer(rt: HostRuntime) {
     }
 }
 
-// Pieces that are a row each, a row of more octets than may reach a desk, and a piece of rows that have two lines each.
+// Pieces that are a row each; a row of more octets than may reach a desk, of which 1,048,577 do; and a piece of rows
+// that have two lines each.
 #[test]
 fn long_rows_and_many_rows_are_answered(rt: HostRuntime) {
     let long = [b'x'; 8192];
@@ -93,7 +93,7 @@ fn long_rows_and_many_rows_are_answered(rt: HostRuntime) {
         }
     }
     repeats(&rt, rt.alloc(), b"a\n", 70_000, (70_000, 280_000));
-    repeats(&rt, rt.alloc(), &long, 129, (1, LONGEST_ROW + 4));
+    repeats(&rt, rt.alloc(), &long, 129, (1, 1_048_580));
     repeats(&rt, rt.alloc(), &rows, 1, (1, 32_768));
 }
 

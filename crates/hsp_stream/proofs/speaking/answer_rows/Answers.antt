@@ -1,4 +1,5 @@
 use Rattle.hsp_stream.proofs.TalkEnds.{ended, ended_early, stopped}
+use Rattle.hsp_stream.proofs.TalkFails.{stop_hands, stop_may}
 use Rattle.hsp_stream.proofs.speaking.answer_rows.Goals as goal
 
 pub returns-in-Some-clause-answered : goal.returns-in-Some-clause-answered
@@ -14,3 +15,12 @@ pub returns-in-Err-clause-answered : goal.returns-in-Err-clause-answered
 returns-in-Err-clause-answered g c =
     rw c.fault_of.ensures
     (stopped c.args.desk.now c.requires.form c.requires.sums c.talk.new.desk (g.P.Peer.known c.args.peer.now) (g.P.Peer.known c.talk.new.peer) c.in-Err.stop c.in-Err.ensures.stops)
+
+pub returns-in-Err-clause-handed : goal.returns-in-Err-clause-handed
+returns-in-Err-clause-handed g c =
+    rw c.fault_of.ensures (stop_hands (g.P.Peer.known c.args.peer.now) (g.P.Peer.known c.talk.new.peer) c.in-Err.stop c.in-Err.ensures.handed)
+
+pub returns-in-Err-clause-may_stop : goal.returns-in-Err-clause-may_stop
+returns-in-Err-clause-may_stop g c =
+    rw c.fault_of.ensures
+    (stop_may (g.P.Peer.may_read_fail c.args.peer.now) g.P.Peer.may_send_fail (g.P.Peer.known c.args.peer.now) (g.P.Peer.known c.talk.new.peer) c.in-Err.stop c.in-Err.ensures.may_stop)

@@ -1,21 +1,22 @@
 use Rattle.std.proofs.Common.{inr}
 use Rattle.hsp_cli.specs.Dispatching.{opened_log}
+use Rattle.hsp_stream_cli.proofs.Lent.{talks_weaker}
 use Rattle.hsp_stream_cli.proofs.commands.carry_out.Goals as goal
 
-pub returns-in_ok-log-in-Kinds : goal.returns-in_ok-log-in-Kinds
-returns-in_ok-log-in-Kinds g c =
+pub returns-in_ok-log-in-Kinds-clause-carries_out : goal.returns-in_ok-log-in-Kinds-clause-carries_out
+returns-in_ok-log-in-Kinds-clause-carries_out g c =
     let inputs = c.in_ok-inputs-in-Kinds in
     let log = c.in_ok-log-in-Kinds in
-    rw c.in-Kinds.is (inr (inputs.inputs, g.S.File.Read.remaining log.log, inputs.ensures.held, log.ensures.held, c.print_table.ensures))
+    rw c.in-Kinds.is (inr (inputs.inputs, g.S.File.Read.remaining log.log, inputs.ensures.held, log.ensures.held, c.print_table.ensures.prints))
 
-pub returns-in_ok-log-in-Places : goal.returns-in_ok-log-in-Places
-returns-in_ok-log-in-Places g c =
+pub returns-in_ok-log-in-Places-clause-carries_out : goal.returns-in_ok-log-in-Places-clause-carries_out
+returns-in_ok-log-in-Places-clause-carries_out g c =
     let sources = c.in_ok-sources-in-Places in
     let log = c.in_ok-log-in-Places in
-    rw c.in-Places.is (inr (sources.sources, g.S.File.Read.remaining log.log, sources.ensures.held, log.ensures.held, c.state_places.ensures))
+    rw c.in-Places.is (inr (sources.sources, g.S.File.Read.remaining log.log, sources.ensures.held, log.ensures.held, talks_weaker _ _ _ _ _ _ _ _ log.ensures.reads c.state_places.ensures.talks))
 
-pub returns-in_ok-portion-in-Answer : goal.returns-in_ok-portion-in-Answer
-returns-in_ok-portion-in-Answer g c =
+pub returns-in_ok-portion-in-Answer-clause-carries_out : goal.returns-in_ok-portion-in-Answer-clause-carries_out
+returns-in_ok-portion-in-Answer-clause-carries_out g c =
     let it = c.in_ok-opened-in-Answer.opened in
     let opened = opened_log it.inputs it.certificate.items (g.S.File.Read.remaining it.log) in
-    rw c.in-Answer.is (inr (inr (opened, c.in_ok-portion-in-Answer.portion, c.in_ok-opened-in-Answer.ensures.opened, c.in_ok-portion-in-Answer.ensures, c.answer_log.ensures)))
+    rw c.in-Answer.is (inr (inr (opened, c.in_ok-portion-in-Answer.portion, c.in_ok-opened-in-Answer.ensures.opened, c.in_ok-portion-in-Answer.ensures, talks_weaker _ _ _ _ _ _ _ _ c.in_ok-opened-in-Answer.ensures.reads c.answer_log.ensures.talks)))
