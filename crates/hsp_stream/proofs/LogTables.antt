@@ -51,7 +51,7 @@ use Rattle.hsp_stream.specs.KindsLaws.{SpellRows, entry_of}
 use Rattle.hsp_stream.specs.KindsLog.{form_of, header_of, rows_from, table_of}
 use Rattle.hsp_stream.specs.KindsRun.{AreFiles, IsKindsText, kinds_text}
 use Rattle.hsp_stream.specs.KindsTable.{in_unit, rows_in_units, table_in_units, with_count}
-use Rattle.hsp_stream.specs.LogTables.{SpeaksFor, SpellsLog, TableSpeaksForTheLog, UnitsServeTheLog, host_times, kinds_inputs_of, server_times, service_of, service_times}
+use Rattle.hsp_stream.specs.LogTables.{SpeaksFor, SpellsLog, TableSpeaksOfTheLog, UnitsServeTheLog, host_times, kinds_inputs_of, server_times, service_of, service_times}
 use Rattle.hsp_stream.specs.Words.{unit_at}
 use Rattle.hsp_stream.specs.declared.fault.RowFault.TheVariants as row_fault
 use Rattle.hsp_stream.specs.declared.fault.StreamFault.{StreamFault}
@@ -310,9 +310,9 @@ speaks_for plans of_kinds of_prices costs it rows m same is =
       prices = λ x u kinds p q are. of_prices (network_for at rows) table of.0.0 whole own of.0.1 x u kinds p q are;
     })
 
-pub table_speaks_for_the_log : ReadingsAreHandles → GivesOneAnswer → AcceptsTheDefined → DigitsSpellTheirNumber → ReadsAsItsRelation demand_table → PlanIsTheSame → TablesAreOfKinds → PricesOfKinds
-    → TableSpeaksForTheLog
-table_speaks_for_the_log handles once accepts digits reads plans of_kinds of_prices inputs records it is page =
+pub table_speaks_of_the_log : ReadingsAreHandles → GivesOneAnswer → AcceptsTheDefined → DigitsSpellTheirNumber → ReadsAsItsRelation demand_table → PlanIsTheSame → TablesAreOfKinds → PricesOfKinds
+    → TableSpeaksOfTheLog
+table_speaks_of_the_log handles once accepts digits reads plans of_kinds of_prices inputs records it is page =
     let log = log_read handles once accepts digits reads inputs None 1 records it refl is page in
     let table = log.table ∙ of_one_unit (kinds_of log.costs it.sites log.rows) in (
       log.costs,

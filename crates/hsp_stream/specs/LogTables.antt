@@ -46,8 +46,8 @@ pub record SpeaksFor (n m : Network) : Type 0 where
 
 -- Where `kinds` printed the demand of inputs for a log, and the inputs define an instance, that instance speaks for the
 -- rows of the log, of which there may be any number.
-abbrev pub TableSpeaksForTheLog : Type 0
-TableSpeaksForTheLog =
+abbrev pub TableSpeaksOfTheLog : Type 0
+TableSpeaksOfTheLog =
     (inputs : Inputs) (records : List Fields) (it : Instance)
     → IsKindsText (kinds_inputs_of inputs) None records (Ok inputs.demand.items) → Defines inputs it
     → (costs : List CostEntry) × (rows : List Row) × AreCosts it.sites inputs.costs.items costs

@@ -2,7 +2,7 @@
 
 ghost use Rattle.hsp_stream.specs.KindsLaws.{PartsMakeTheTable, PrintedTableIsReadBack, TableIsOfKinds};
 ghost use Rattle.hsp_stream.specs.KindsLaws.{ReportedUnitIsTheLeast};
-ghost use Rattle.hsp_stream.specs.LogTables.{TableSpeaksForTheLog, UnitsServeTheLog};
+ghost use Rattle.hsp_stream.specs.LogTables.{TableSpeaksOfTheLog, UnitsServeTheLog};
 
 use hsp_headline::laws::instances_are_defined;
 use hsp_kinds::{
@@ -41,8 +41,8 @@ pub fn parts_make_the_table()
 
 /// Where [`crate::kinds_run`] printed the demand of inputs that define an instance, without a unit, that instance has
 /// the plans, the prices and the short sets of the rows of the log.
-pub fn table_speaks_for_the_log()
-    ensures { TableSpeaksForTheLog }
+pub fn table_speaks_of_the_log()
+    ensures { TableSpeaksOfTheLog }
 {
     readings_are_handles();
     instances_are_defined();
