@@ -1,12 +1,13 @@
 #!/usr/bin/env python3
 """Runs the built program where everything stands at its limit at once.
 
-    tools/check_limits.py [--program FILE] [--jobs N]
+    tools/check_limits.py [--program FILE] [--stream FILE] [--jobs N]
 
 One service has 64 regions, 32 sites, 1,024 servers, 1,024 hosts and 8,192 rows of 1,000,000 queries, nearly all of
 them with handles of 4,096 octets; names, identifiers and costs are the longest and greatest. Every command runs over
 it, with a plan that sends each row to all sites, and with a shortage of all rows. Logs have 1,000,000 answers of each
-kind, by a dispatcher and by 64 fronts, and end with a bad row of seven digits.
+kind, by a dispatcher and by 64 fronts, and end with a bad row of seven digits. hsplan-stream joins a log of 8,192 kinds,
+and refuses one of a kind more.
 
 Then files of each length from 0 to 8,193, and of 65,535 to 65,537 octets, are read whole.
 
@@ -26,6 +27,7 @@ from dataclasses import dataclass
 from typing import Iterable, Iterator
 
 import check_growth
+import programs
 
 SITES, SERVERS, REGIONS, ROWS = 32, 32, 64, 8_192
 COUNT, COST, CAPACITY, LIMIT = 1_000_000, 1_000_000, 1_000_000_000, 10**12
@@ -225,6 +227,33 @@ def log_cases(folder: str, log: Log, header: str, bad: str, more: list[str]) -> 
         yield Case(LOG + [name] + more, printed, reported, status)
 
 
+def kinds() -> list[str]:
+    """Rows of as many kinds as there may be and of one more, in all regions by turns. At each site the responsible
+    server goes by one of the three hash options."""
+    rows: list[str] = []
+    seen: set[tuple[int, ...]] = set()
+    number = 0
+    while len(rows) <= ROWS:
+        handle = f"{number}/x{number}"
+        kind = (number % REGIONS, *(place_of(option, handle) for option in range(3)))
+        if kind not in seen:
+            seen.add(kind)
+            rows.append(f"{name_of('r', number % REGIONS)},{handle}")
+        number += 1
+    return rows
+
+
+def stream_cases(folder: str) -> Iterator[Case]:
+    rows = kinds()
+    table = lines(["region,handle,count", *(f"{row},1" for row in rows[:-1])])
+    fault = f"hsplan-stream: log: TooManyKinds row {ROWS}\n"
+    for name, log, printed, reported, status in [("kinds", rows[:-1], table, "", 0), ("more", rows, b"", fault, 1)]:
+        with open(os.path.join(folder, name), "wb") as file:
+            file.write(lines(["region,handle", *log]))
+        words = ["kinds", "--settings", "settings.toml", "--costs", "costs.csv", "--log", name]
+        yield Case(words, printed, reported, status)
+
+
 def cases(folder: str) -> Iterator[Case]:
     cost = f"HSPLAN 2\nPLAN\ncost {ROWS * COUNT * COST}\n".encode()
     yield Case(["plan"] + INPUTS, cost, end=b"END\n")
@@ -295,11 +324,13 @@ def main() -> int:
         description="Runs the built program where everything stands at its limit at once."
     )
     words.add_argument("--program", default=os.path.join(check_growth.TOP, "crates", "hsplan", "out", "hsplan"))
+    words.add_argument("--stream", default=programs.built_path("hsplan-stream"), metavar="FILE")
     words.add_argument("--jobs", type=int, default=os.cpu_count() or 1)
     given = words.parse_args()
-    program = os.path.abspath(given.program)
-    if not os.access(program, os.X_OK):
-        print(f"no program {program}: run rt ci first")
+    program, stream = os.path.abspath(given.program), os.path.abspath(given.stream)
+    absent = [it for it in (program, stream) if not os.access(it, os.X_OK)]
+    if absent:
+        print(f"no program {absent[0]}: run rt ci first")
         return 1
     lengths = [*range(8_194), 65_535, 65_536, 65_537]
     with tempfile.TemporaryDirectory() as folder, concurrent.futures.ThreadPoolExecutor(given.jobs) as pool:
@@ -307,6 +338,7 @@ def main() -> int:
             with open(os.path.join(folder, name), "wb") as file:
                 file.write(text)
         found = [fault_of(program, folder, case) for case in cases(folder)]
+        found += [fault_of(stream, folder, case) for case in stream_cases(folder)]
         found_in_lengths = list(pool.map(lambda it: length_fault(program, folder, it), lengths))
     faults = [fault for it in found + found_in_lengths for fault in it]
     for fault in faults:

@@ -25,7 +25,7 @@ fn order_of<'a>(alloc: Global, words: &'a [String]) -> Result<Order<'a>, Command
     }
 }
 
-fn or_none(text: &Option<Word<'_>>) -> &str {
+fn or_none<'a>(text: &'a Option<Word<'_>>) -> &'a str {
     match text {
         Some(text) => text.as_str(),
         None => "none",
