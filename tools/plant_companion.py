@@ -180,6 +180,13 @@ class Reached:
         rows = self._data.execute("select test, seconds from seconds").fetchall() if path else []
         self.seconds: dict[str, float] = dict(rows)
 
+    def keep(self, room: str) -> None:
+        """Forgets the tests that a copy no longer has."""
+        words = [PYTHON, "-m", "pytest", "--collect-only", "-q", "-p", "no:cacheprovider", "tests"]
+        done = subprocess.run(words, cwd=os.path.join(room, "companion"), stdout=subprocess.PIPE, text=True)
+        there = set(done.stdout.splitlines())
+        self.seconds = {test: it for test, it in self.seconds.items() if test in there}
+
     def tests(self, change: Change) -> list[str]:
         """The tests that reach a change, those of its module first, and then the cheap ones."""
         if not self.is_known:
@@ -254,8 +261,7 @@ def planted(changes: list[Change], jobs: int, reached: Reached) -> list[Change]:
         for at in range(jobs):
             os.mkdir(os.path.join(top, str(at)))
             rooms.put(copied(os.path.join(top, str(at))))
-        if not are_passed(os.path.join(top, "0"), ["--collect-only", *reached.seconds], SECONDS):
-            sys.exit("the tests are not those that were measured: run tools/cover_companion.py --data again")
+        reached.keep(os.path.join(top, "0"))
 
         def tried(change: Change) -> bool:
             room = rooms.get()

@@ -76,7 +76,7 @@ def curve(service: Service, cases: list[Case]) -> str:
     unit = f" ({service.titles.cost})" if service.titles.cost else ""
     parts = [f'<text class="head" x="12" y="22">{escape(f"Cost of the plan{unit} by room at {what}")}</text>']
     if len(good) < len(cases):
-        left, wide = axes.x(axes.low), axes.x(good[0][0]) - axes.x(axes.low)
+        left, wide = axes.x(axes.low), round(axes.x(good[0][0]) - axes.x(axes.low), 1)
         height = axes.HIGH - axes.TOP - axes.BOTTOM
         parts.append(f'<rect class="short" x="{left}" y="{axes.TOP}" width="{wide}" height="{height}"/>')
         parts.append(f'<text class="soft" x="{left + 6}" y="{axes.TOP + 18}">short</text>')

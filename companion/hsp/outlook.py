@@ -74,8 +74,8 @@ def fewer(sites: list[Site], costs: Costs) -> Iterator[str]:
     if len(kinds) > 1:
         yield f"{whole - kinds[region]:,} remain without region {region}, which brings most"
     rests = {it.name: _sum(sites, rest) for it in sites if (rest := _without(it.name, costs)) is not None}
-    if rests:
-        site = min(rests, key=lambda it: rests[it])
+    site = min(rests, key=lambda it: rests[it], default="")
+    if site and rests[site] < whole:
         yield f"{rests[site]:,} remain without costs to {site}, the site that brings most"
     for most in range(max(map(len, costs.values())) - 1, 0, -1):
         rest_of = _sum(sites, _cheapest(costs, most))

@@ -11,7 +11,7 @@ from pathlib import Path
 
 import pytest
 
-from hsp import prefixes, progress, queries, tally, times
+from hsp import outlook, prefixes, progress, queries, tally, text, times
 from hsp.charts import Axes
 from hsp.doctor.findings import Text, quoted
 from hsp.doctor.printing import _window
@@ -25,10 +25,15 @@ from hsp.page import step_of
 from hsp.prefixes import MOST_SHOWN, Prefixes
 from hsp.programs import Desk
 from hsp.queries import Judge, Reading
-from hsp.sitefiles import stem, tidy
+from hsp.outlook import sites_in
+from hsp.sitefiles import Files, stem, tidy
 from hsp.tally import MOST_COUNT, MOST_ROWS, Tally
 from hsp.times import Span, iso_seconds, seconds_of, shown_time
 from hsp.whatif import bar
+
+from test_engine import Client, Future, fit, made
+from test_kinds import inputs_of, place
+from test_units import written
 
 
 def test_a_value_is_shown_up_to_sixty_letters() -> None:
@@ -77,24 +82,24 @@ def test_a_long_line_is_shown_about_the_column() -> None:
     assert _window("x" * 96, 90) == ("x" * 96, 90)
     line = "".join(chr(0x4E00 + it) for it in range(97))
     for column in (0, 1, 40, 41, 46, 97, 98):
-        text, own = _window(line, column)
+        said, own = _window(line, column)
         if 0 < column <= 97:
-            assert text[own - 1] == line[column - 1], column
-        assert len(text.strip("\u2026")) in (90, 91)
-        assert text.startswith("\u2026") == (text.strip("\u2026")[0] != line[0])
-        assert text.endswith("\u2026") == (text.strip("\u2026")[-1] != line[-1])
+            assert said[own - 1] == line[column - 1], column
+        assert len(said.strip("\u2026")) in (90, 91)
+        assert said.startswith("\u2026") == (said.strip("\u2026")[0] != line[0])
+        assert said.endswith("\u2026") == (said.strip("\u2026")[-1] != line[-1])
     line = "".join(chr(0x4E00 + it) for it in range(300))
     assert [_window(line, it)[1] for it in (10, 40, 41, 42, 150, 290)] == [10, 40, 41, 41, 41, 81]
     assert [_window(line, it)[0][:2] for it in (40, 41, 42)] == [line[:2], "\u2026" + line[1], "\u2026" + line[2]]
 
 
 def test_lines_and_places_of_a_text() -> None:
-    text = Text("a/b.csv", "\ufeff  x y \r\n\rlast".encode())
-    assert (text.name, text.lines) == ("b.csv", ["  x y ", "", "last"])
-    assert [text.line(it) for it in (-1, 0, 1, 3, 4)] == ["", "", "  x y ", "last", ""]
-    assert [(it.column, it.width, it.end) for it in map(text.whole, (1, 2, 3))] == [(3, 3, 6), (1, 0, 2), (1, 4, 5)]
-    assert text.part(1, 0, 0).end == 2 and text.part(1, 4, 1).column == 5
-    found = text.match("x (y)"), text.match("x y"), text.match("last", 1, 2), text.match("last", 3), text.match("x", 2)
+    whole = Text("a/b.csv", "\ufeff  x y \r\n\rlast".encode())
+    assert (whole.name, whole.lines) == ("b.csv", ["  x y ", "", "last"])
+    assert [whole.line(it) for it in (-1, 0, 1, 3, 4)] == ["", "", "  x y ", "last", ""]
+    assert [(it.column, it.width, it.end) for it in map(whole.whole, (1, 2, 3))] == [(3, 3, 6), (1, 0, 2), (1, 4, 5)]
+    assert whole.part(1, 0, 0).end == 2 and whole.part(1, 4, 1).column == 5
+    found = whole.match("x (y)"), whole.match("x y"), whole.match("last", 1, 2), whole.match("last", 3), whole.match("x", 2)
     assert [it and (it.line, it.column, it.width) for it in found] == [(1, 5, 1), (1, 3, 3), None, (3, 1, 4), None]
 
 
@@ -176,8 +181,8 @@ def test_a_table_is_joined_above_so_many_rows_and_so_great_counts() -> None:
     for rows, count in ((MOST_ROWS, 1), (1, MOST_COUNT)):
         own = Tally(Desk())
         own.take({(b"eu", b"20.500.1/%d" % at): count for at in range(rows)}, False)
-        text, is_joined = own.demand(None, None)
-        assert (text.count(b"\n"), is_joined, own.handles) == (rows + 1, False, rows)
+        table, is_joined = own.demand(None, None)
+        assert (table.count(b"\n"), is_joined, own.handles) == (rows + 1, False, rows)
     for rows, count, said in (
         (MOST_ROWS + 1, 1, "more than 8,192 rows of demand"),
         (1, MOST_COUNT + 1, "1 row of demand"),
@@ -314,4 +319,70 @@ def test_most_first_is_by_count() -> None:
         ((b"c", b"z"), 2),
         ((b"a", b"y"), 1),
         ((b"b", b"x"), 1),
+    ]
+
+
+def test_what_is_nested_too_deep_is_said(monkeypatch: pytest.MonkeyPatch) -> None:
+    def deep(*_: object) -> None:
+        raise RecursionError
+
+    monkeypatch.setattr(Files, "_sites", deep)
+    with pytest.raises(Unfit, match="^a.json: its JSON is nested too deep$"):
+        Files(Desk()).read("a.json", b"[]")
+
+
+def test_what_brings_most_kinds(tmp_path: Path, monkeypatch: pytest.MonkeyPatch) -> None:
+    """Nothing is said of sites or of regions that can't be left out."""
+    places = [place("a", 2, 7), place("b", 2, 8), place("c", 2, 3)]
+    folder = written(tmp_path / "s", settings="".join(it.block() for it in places), costs="", capacity="")
+    sites = sites_in(inputs_of(folder), Desk())
+    monkeypatch.setattr(outlook, "MOST_KINDS", 10)
+    apart = {"eu": {"a": 1}, "us": {"b": 1}}
+    assert list(outlook.fewer(sites, apart)) == ["7 remain without region us, which brings most"]
+    assert list(outlook.fewer(sites, {"eu": {"a": 1, "b": 2}})) == [
+        "7 remain without costs to b, the site that brings most",
+        "7 remain with costs to only the 1 cheapest sites of each region",
+    ]
+    assert list(outlook.fewer(sites, {"eu": {"b": 3, "a": 2, "c": 1}, "us": {"c": 1}})) == [
+        "3 remain without region eu, which brings most",
+        "24 remain without costs to b, the site that brings most",
+        "6 remain with costs to only the 1 cheapest sites of each region",
+    ]
+
+
+def test_sweeps_at_hosts_are_waited_for() -> None:
+    """As long as they are under way."""
+    client = Client(a=fit("h"))
+    waiting = Future({}, looks=3)
+    client.submit = lambda *_, **__: waiting  # type: ignore[method-assign, assignment]
+    made(client)._sweep_hosts([(["/far/log"], "h")])
+    assert waiting.looks < 0
+
+
+def test_a_terminal_gets_bold_dim_and_coloured_words(monkeypatch: pytest.MonkeyPatch) -> None:
+    assert [text.bold("a"), text.dim("a"), text.colored("a", "red")] == ["a"] * 3
+    monkeypatch.setattr(text.sys.stdout, "isatty", lambda: True, raising=False)
+    monkeypatch.delenv("NO_COLOR", raising=False)
+    found = [text.bold("a"), text.dim("a"), text.colored("a", "red"), text.colored("a", "yellow")]
+    assert found == ["\x1b[1ma\x1b[0m", "\x1b[2ma\x1b[0m", "\x1b[31m\x1b[1ma\x1b[0m", "\x1b[33m\x1b[1ma\x1b[0m"]
+    said: list[tuple[str, bool]] = []
+    monkeypatch.setattr(text.click, "echo", lambda line, err=False, nl=True: said.append((line, nl)))
+    text.say(f"{found[0]}\x1b[2J")
+    text.give("a\x07\nb\n")
+    text.give(b"\xffc")
+    text.show_progress("50%\x07")
+    monkeypatch.setenv("NO_COLOR", "1")
+    text.say("\x1b[1m")
+    assert said == [
+        ("\x1b[1ma\x1b[0m\\x1b[2J", True),
+        ("a\\x07", True),
+        ("b", True),
+        ("\ufffdc", True),
+        ("\r50%\\x07\x1b[K", False),
+        ("\\x1b[1m", True),
+    ]
+    assert text.is_plain() and [text.visible(it) for it in ("a\tb", "a\x07", "\ufeffé\u00a0")] == [
+        "a\u2423b",
+        "a\ufffd",
+        "\u2423é\u2423",
     ]

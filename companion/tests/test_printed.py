@@ -157,7 +157,8 @@ CASES: dict[str, list[Step]] = {
     "what if by size": [
         example("two-sites"),
         put("s/hsp.toml", TITLES),
-        "whatif s --server paris:2",
+        "whatif s --server paris:2 --chart b.svg",
+        "show b.svg",
         "whatif s --server paris:2 --from 1000 --to 1600 --points 4 --chart c.svg",
         "show c.svg",
         "whatif s --server paris:2 --from 1 --to 2 --points 2 --csv",
