@@ -245,6 +245,8 @@ def shortage(folder: Path) -> None:
     (folder / "plan.txt").write_text(run(*words).out)
 
 
+# The index of the first site of the example's value list, and what stands behind it.
+FIRST = b"\0\0\0\3\0\0\0\7HS_SITE"
 CHECK, DISPATCH, REPORT = COMMANDS["check"], COMMANDS["dispatch"], COMMANDS["report"]
 PREMIERE = FILES.replace("demand.csv", "premiere.csv")
 BODIES = ["00 0a", "abc", "0a0b", "AAECAwQFBgcICQoL", "zz", "0x00", ""]
@@ -284,6 +286,9 @@ WORDS: dict[str, tuple[Callable[[Path], None], str]] = {
     "no word": (lambda _: None, "hsplan"),
     "no word of hsplan-stream": (lambda _: None, "hsplan-stream"),
     "the version of hsplan-stream": (lambda _: None, "hsplan-stream --version"),
+    "an index that is the first": (lambda folder: swapped(folder / "sites.values", FIRST, FIRST[:3] + b"\1" + FIRST[4:]), "site --index 2 sites.values"),
+    "a file that is no text": (lambda _: None, f"plan {FILES}".replace("demand.csv", "caf\udce9.csv")),
+    "a handle that is no text": (lambda _: None, "locate --settings settings.toml 20.1/caf\udce9"),
     "fronts of a dispatch without a log": (lambda _: None, f"dispatch {FILES} --plan plan.txt --fronts 2"),
     "a front of a dispatch": (lambda _: None, f"dispatch {FILES} --plan plan.txt --log log.csv --front 2"),
     "an answer of a front": (lambda _: None, f"answer {FILES} --plan plan.txt --log log.csv --front 2"),

@@ -98,6 +98,14 @@ CASES: dict[str, list[Step]] = {
         "plan s --no-save --json",
         "whatif s",
     ],
+    "plan of sites without rows": [
+        example("two-sites"),
+        put("s/demand.csv", "region,handle,count\n"),
+        "plan s --no-save",
+        edit("s/capacity.csv", r"\d+$", "0"),
+        "plan s --no-save",
+        "plan s --no-save --demand s/premiere.csv",
+    ],
     "plan without sites": [
         "new s",
         put("s/demand.csv", "region,handle,count\n"),
@@ -219,6 +227,22 @@ CASES: dict[str, list[Step]] = {
         ],
         put("n.csv", "net,region\n10.0.0.0/8,eu\n"),
         "demand a.json --regions n.csv",
+    ],
+    "a demand by the time of rows": [
+        put("n.csv", "network,region\n10.0.0.0/8,eu\n"),
+        put(
+            "a.csv",
+            "client,handle,time\n"
+            '10.0.0.1,"20.500.1/a,b",2026-11-26T10:00:00Z\n'
+            "10.0.0.1,20.500.1/c,2026-11-26T10:00:00Z\n"
+            "10.0.0.1,20.500.1/c\n"
+            "10.0.0.1,20.500.1/c,2026-11-26T10:00:00Z,more\n"
+            '"10.0.0.1",20.500.1/d,2026-11-26T09:59:59Z\n',
+        ),
+        "demand a.csv --regions n.csv --from 2026-11-26T10:00Z",
+        "demand a.csv --regions n.csv --time when --from 2026-11-26T10:00Z",
+        "demand a.csv --regions n.csv --busiest-hour -o t.csv",
+        "demand a.csv --regions n.csv",
     ],
     "a demand before its service is whole": [
         example("two-sites"),
