@@ -4,9 +4,9 @@
     tools/plant_companion.py [--reached FILE] [--number N] [--seed S] [--jobs J] [--only MODULE] [--list]
 
 A change is drawn by the seed: a comparison turned, an operator or a constant exchanged, a condition negated, arguments
-swapped, a statement left out. Tests are run until one fails. `FILE` is what `tools/cover_companion.py --data FILE` keeps:
-with it these are the tests that reach the changed line, those of its module first. Without it, and for a line that
-Python reads when it loads the module, they are those that `TESTS` names for the module.
+swapped, a statement left out. Tests are run until one fails. `FILE` is what `tools/cover_companion.py --data FILE`
+keeps: with it these are the tests that reach the changed line, those of its module first and dear ones last, as long
+as they take a minute and a half together. Without it they are those that `TESTS` names for the module.
 
 Printed are the changes that no test refused, and how many there were. Some of these change nothing that anybody sees:
 a person judges that. `--list` prints the changes and runs nothing. The gate doesn't run this script.
@@ -37,8 +37,8 @@ import programs
 PYTHON = "/usr/bin/python3"
 # Seconds that a test takes at most, and those that are added where it is known how long it takes.
 SECONDS, MORE = 900, 100
-# Tests of a line are run as long as these measured seconds together; the cheap ones first.
-MOST = 120.0
+# Tests of a line are run as long as these measured seconds together, and one that takes more is run late.
+MOST, DEAR = 90.0, 4.0
 COMPANION = os.path.join(programs.TOP, "companion")
 # The tests of a module, by the beginning of its path; the first that fits counts.
 TESTS = {
@@ -187,17 +187,24 @@ class Reached:
         there = set(done.stdout.splitlines())
         self.seconds = {test: it for test, it in self.seconds.items() if test in there}
 
-    def tests(self, change: Change) -> list[str]:
-        """The tests that reach a change, those of its module first, and then the cheap ones."""
-        if not self.is_known:
-            return []
+    def _names(self, path: str, first: int, last: int) -> set[str]:
+        """The names of what reaches lines of a module: tests, and nothing where Python loads it."""
         query = """select distinct context from arc join context on context.id = context_id
             join file on file.id = file_id where file.path like ? and abs(tono) between ? and ?"""
-        rows = self._data.execute(query, (f"%/hsp/{change.path}", change.line, change.last)).fetchall()
-        names = {re.sub(r" \((call|setup|teardown)\)$", "", name) for (name,) in rows} & set(self.seconds)
-        own = tests_of(change.path)
-        ordered = sorted(names, key=lambda it: (it.partition("::")[0] not in own, self.seconds[it]))
-        whole = itertools.accumulate(self.seconds[it] for it in ordered)
+        rows = self._data.execute(query, (f"%/hsp/{path}", first, last)).fetchall()
+        return {re.sub(r" \((call|setup|teardown)\)$", "", name) for (name,) in rows}
+
+    def tests(self, change: Change) -> list[str]:
+        """The tests that reach a change: those of its module, then others, the cheap ones first, and dear ones last."""
+        if not self.is_known:
+            return tests_of(change.path)
+        found = self._names(change.path, change.line, change.last)
+        if found == {""}:  # a line that is run where the module is loaded
+            found = self._names(change.path, 1, 1 << 20)
+        of, own = self.seconds, tests_of(change.path)
+        names = found & set(of)
+        ordered = sorted(names, key=lambda it: (of[it] > DEAR, it.partition("::")[0] not in own, of[it]))
+        whole = itertools.accumulate(of[it] for it in ordered)
         return [it for it, seconds in zip(ordered, whole) if seconds <= MOST]
 
 
@@ -232,13 +239,15 @@ def is_refused(change: Change, room: str, reached: Reached) -> bool:
     """Whether a test fails where a copy has the change. A run without an end is refused too."""
     path = os.path.join(room, "companion", "hsp", change.path)
     tests = reached.tests(change)
-    seconds = MORE + 4 * sum(reached.seconds[it] for it in tests) if tests else SECONDS
+    if not tests:  # nothing reaches it, so nothing refuses it
+        return False
+    seconds = MORE + 4 * sum(reached.seconds[it] for it in tests) if reached.is_known else SECONDS
     with open(path, encoding="utf-8") as file:
         before = file.read()
     with open(path, "w", encoding="utf-8") as file:
         file.write(change.text)
     try:
-        return not are_passed(room, tests or tests_of(change.path), seconds)
+        return not are_passed(room, tests, seconds)
     finally:
         with open(path, "w", encoding="utf-8") as file:
             file.write(before)

@@ -15,6 +15,7 @@ from hsp.doctor.findings import NOTE, WARNING, Finding
 from test_sites import invoke
 
 Example = Callable[[str], Path]
+FILES = ("settings.toml", "demand.csv", "costs.csv", "capacity.csv")
 HEADER = "region,handle,count\n"
 AGAIN = "mend these, and ask again"
 
@@ -60,8 +61,7 @@ def test_the_findings_of_all_rows_are_estimated_by_those_that_were_read(
 def test_faults_of_words_are_estimated_too(example: Example, few: None) -> None:
     folder = example("two-sites")
     (folder / "demand.csv").write_text(rows(1, 1, 500))
-    files = ("settings.toml", "demand.csv", "costs.csv", "capacity.csv")
-    words = [it for name in files for it in (f"--{name.partition('.')[0]}", folder / name)]
+    words = [it for name in FILES for it in (f"--{name.partition('.')[0]}", folder / name)]
     assert f"the first 12 of some 500 findings: {AGAIN}\n" in invoke("doctor", "--", "plan", *words, status=1).stdout
 
 
@@ -90,3 +90,13 @@ def test_warnings_without_an_end_are_said_in_json_too(example: Example, monkeypa
     monkeypatch.setattr(guard, "SECONDS", 0.0)
     (only,) = json.loads(invoke("doctor", example("two-sites"), "--json", "--strict").stdout)
     assert (only["severity"], only["message"]) == (NOTE, "the files are too large to be looked at for warnings")
+
+
+def test_large_files_are_asked_about_a_few_times(example: Example, few: None, monkeypatch: pytest.MonkeyPatch) -> None:
+    """As often as there is room for copies, but three times at least."""
+    folder = example("two-sites")
+    (folder / "demand.csv").write_text(rows(1, 0, 100))
+    octets = sum((folder / it).stat().st_size for it in (*FILES, "sites.values"))
+    for room, turns in ((1, 3), (4 * octets, 4), (5 * octets - 1, 4), (10**9, 12)):
+        monkeypatch.setattr(faults, "OCTETS", room)
+        assert f"\nthe first {turns} of some 100 findings: " in invoke("doctor", folder, status=1).stdout

@@ -17,9 +17,10 @@ from typing import Any
 
 import pytest
 
-from hsp.fleet import engine, local, parts, progress, remote, session
+from hsp.fleet import answers, engine, local, parts, progress, remote, session
 from hsp.fleet.engine import NOT_YET, ByValue, Engine, Place, Unfinished
 from hsp.fleet.local import Gone, Local
+from hsp.fleet.split import Parted
 from hsp.fleet.tables import Table, joined
 from hsp.faults import Unfit
 from hsp.programs import Desk, Inputs, Missing, Refused
@@ -458,7 +459,7 @@ def test_what_a_part_prints_and_how_it_ends() -> None:
         (Unfit("odd"), {"fault": "odd", "status": 1}),
         (Refused(3, "demand: Header"), {"fault": "demand: Header", "status": 3}),
         (Missing("a", "b"), {"fault": "a; b", "status": 5}),
-        (parts.answers.Again("later", 7), {"again": "later", "status": 7}),
+        (answers.Again("later", 7), {"again": "later", "status": 7}),
         (MemoryError(), {"again": "out of memory", "status": 4}),
         (OSError(28, "No space left on device", "there"), {"again": "there: No space left on device", "status": 5}),
     ],
@@ -520,3 +521,94 @@ def test_where_a_run_takes_place() -> None:
     ):
         with pytest.raises(session.click.UsageError, match=line):
             session.place_of({**given, **wrong})
+
+
+def test_rows_of_a_front_and_their_lines(tmp_path: Path) -> None:
+    path = tmp_path / "log"
+
+    def rows(text: bytes, front: bytes = b"") -> tuple[bytes, int]:
+        path.write_bytes(text)
+        found = list(answers.rows_of_front(str(path), front))
+        return b"".join(it for it, _ in found), sum(count for _, count in found)
+
+    assert rows(b"region,handle\neu,20.1/a\nus,20.1/b") == (b"eu,20.1/a\nus,20.1/b\n", 2)
+    assert rows(b"region,handle\r\n\neu,a\r\n\r\n\nus,b\n", b"7,") == (b"7,eu,a\r\n7,us,b\n", 2)
+    assert rows(b"region,handle\n\n\n", b"7,") == (b"", 0) and rows(b"region,handle") == (b"", 0)
+    for text in (b"handle,region\neu,a\n", b"eu,a\n", b"region,handle,x\n", b""):
+        with pytest.raises(Unfit, match="^.*/log: line 1: the header isn't region,handle$"):
+            rows(text)
+    path.write_bytes(b"region,handle\n\neu,a\r\n\r\nus,b\n")
+    assert [answers.line_of_row(str(path), it) for it in (0, 1, 2)] == [3, 5, 0]
+    request = {"logs": [str(path), f"{path}2"]}
+    (tmp_path / "log2").write_bytes(b"region,handle\neu,c\n")
+    assert [answers._place(request, [2, 1], it) for it in (1, 2, 3)] == [
+        f"{path}: line 5",
+        f"{path}2: line 2",
+        f"{path}2: row 0",
+    ]
+
+
+def test_what_a_refusal_of_hsplan_comes_to(tmp_path: Path) -> None:
+    path = tmp_path / "log"
+    path.write_bytes(b"region,handle\neu,a\n")
+    request = {"logs": [str(path)]}
+
+    def refused(status: int, said: str) -> dict[str, Any]:
+        return answers._refused(request, status, said, [1])
+
+    fault = {"fault": f"{path}: line 2: BadHandle NoSlash", "status": 1, "row": 0, "word": "BadHandle"}
+    assert refused(1, "hsplan: log: BadHandle row 0 NoSlash") == fault
+    assert refused(1, "hsplan-stream: log: Header") == {"fault": f"{path}: Header", "status": 1}
+    assert refused(1, "hsplan: costs: Header") == {"fault": "hsplan refuses these files: costs: Header", "status": 1}
+    for status, said, line, own in (
+        (-9, "", "hsplan ended with signal 9", 5),
+        (4, "hsplan: OutOfMemory", "hsplan ended with status 4: OutOfMemory", 4),
+        (5, "hsplan: log: ReadFailed", "hsplan ended with status 5: log: ReadFailed", 5),
+    ):
+        with pytest.raises(answers.Again) as again:
+            refused(status, said)
+        assert (str(again.value), again.value.status) == (f"{path}: {line}", own)
+
+
+def test_sums_and_parts_of_answers(tmp_path: Path, monkeypatch: pytest.MonkeyPatch) -> None:
+    text = b"assigned paris 0 1\nspent\nunknown\nrefused Fields\nassigned reston 1 2\nspent\n"
+    sums = dict(zip(answers.SUMS, (2, 2, 1, 0, 1)))
+    for size in (1, 2, 7, 1 << 16):
+        monkeypatch.setattr(answers, "BLOCK", size)
+        (tmp_path / "whole").write_bytes(text)
+        assert answers.sums_of(str(tmp_path / "whole")) == sums
+    paths = [str(tmp_path / it) for it in "abc"]
+    answers._cut(str(tmp_path / "whole"), paths, [2, 0, 4])
+    lines = text.splitlines(keepends=True)
+    assert [Path(it).read_bytes() for it in paths] == [b"".join(lines[:2]), b"", b"".join(lines[2:])]
+    assert not (tmp_path / "whole").exists()
+
+
+def test_rows_of_several_lines_are_refused(tmp_path: Path, monkeypatch: pytest.MonkeyPatch) -> None:
+    """As many lines as were passed on have to be answered."""
+    monkeypatch.setattr(answers, "_ran", lambda request, out: out.write(b"spent\n" * 3) and (0, "", [2, 2]))
+    request = {"staged": [str(tmp_path / "out"), str(tmp_path / "out2")], "logs": ["a", "b"]}
+    with pytest.raises(Unfit, match="^a, b: 4 lines have 3 rows: a row may have no line end in quotes$"):
+        answers.answer(request)
+
+
+def test_parts_of_a_log_of_all_fronts(tmp_path: Path) -> None:
+    path = tmp_path / "log"
+    path.write_bytes(b"front,region,handle\r\n1,eu,a\n\n0,eu,b\n1,eu,c\n1,us,d\n")
+    own = Parted(str(path), str(tmp_path), 2)
+    assert own.is_plain and list(own.order) == [1, 0, 1, 1]
+    head = b"region,handle\n"
+    assert [Path(it).read_bytes() for it in own.logs] == [head + b"eu,b\n", head + b"eu,a\neu,c\nus,d\n"]
+    assert [own.row(1, it) for it in (0, 1, 2)] == [0, 2, 3] and own.row(0, 0) == 1
+    outs = [str(tmp_path / "x"), str(tmp_path / "y")]
+    Path(outs[0]).write_bytes(b"B\n")
+    Path(outs[1]).write_bytes(b"A\nC\nD\n")
+    own.merge(outs, str(tmp_path / "merged"))
+    assert (tmp_path / "merged").read_bytes() == b"A\nB\nC\nD\n"
+    for text in (b"region,handle\n", b"0,eu,a\n", b""):
+        path.write_bytes(text)
+        with pytest.raises(Unfit, match="^.*/log: line 1: the header isn't front,region,handle"):
+            Parted(str(path), str(tmp_path), 2)
+    for text in (b"2,eu,a", b"x,eu,a", b"0", b'0,"eu",a', b"0,eu,a\r"):
+        path.write_bytes(b"front,region,handle\n" + text + b"\n")
+        assert not Parted(str(path), str(tmp_path), 2).is_plain

@@ -19,6 +19,7 @@ from hsp.doctor.findings import Text, quoted
 from hsp.doctor.printing import _window
 from hsp.doctor.rows import near, spans_of
 from hsp.faults import Unfit, shown
+from hsp.fleet import engine
 from hsp.fleet.answers import blocks
 from hsp.forms import Form
 from hsp.logs import LONGEST, MOST_OF_LINE, Skipped, numbered
@@ -352,13 +353,15 @@ def test_what_brings_most_kinds(tmp_path: Path, monkeypatch: pytest.MonkeyPatch)
     ]
 
 
-def test_sweeps_at_hosts_are_waited_for() -> None:
-    """As long as they are under way."""
+def test_sweeps_at_hosts_are_waited_for(monkeypatch: pytest.MonkeyPatch) -> None:
+    """As long as they are under way, and not without a pause."""
+    pauses: list[float] = []
+    monkeypatch.setattr(engine.time, "sleep", pauses.append)
     client = Client(a=fit("h"))
     waiting = Future({}, looks=3)
     client.submit = lambda *_, **__: waiting  # type: ignore[method-assign, assignment]
     made(client)._sweep_hosts([(["/far/log"], "h")])
-    assert waiting.looks < 0
+    assert waiting.looks < 0 and pauses == [0.02] * 3
 
 
 def test_a_terminal_gets_bold_dim_and_coloured_words(monkeypatch: pytest.MonkeyPatch) -> None:
