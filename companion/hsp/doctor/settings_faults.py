@@ -139,8 +139,6 @@ def record_words(record: str, folder: str) -> Words:
     bare = re.sub(r"[\s:]", "", record)
     if "\n" in record:
         return Words("", "write the digits in one line, between two quotes", "line ends between the digits")
-    if not record:
-        return Words("", "hsp sites prints the block with its record", "the record is empty")
     if re.match(r"0[xX]", record):
         return Words("", "take out 0x", "0x before the digits")
     if re.fullmatch(r"[0-9A-Fa-f]+", record):

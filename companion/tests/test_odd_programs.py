@@ -1,0 +1,310 @@
+"""hsp beside programs that print what they shouldn't, and files that change or can't be read."""
+
+from __future__ import annotations
+
+import errno
+import os
+from collections.abc import Callable
+from pathlib import Path
+from types import SimpleNamespace
+from typing import Any
+
+import pytest
+
+from hsp import cli, files, forms, logs, outlook, regions, service, signals, units
+from hsp.doctor import examined, examined_words, faults, guard
+from hsp.doctor.question import Said, said_of
+from hsp.faults import Unfit
+from hsp.fleet import demand, dispatch
+from hsp.fleet.remote import Mark, Seal
+from hsp.programs import Desk, Inputs, Missing
+from hsp.tally import Tally
+
+from conftest import TOP
+from test_sites import invoke
+from test_units import OTHER, TWO_IN_ONE, Place, host, written
+
+Example = Callable[[str], Path]
+
+
+@pytest.fixture
+def odd(tmp_path: Path, monkeypatch: pytest.MonkeyPatch) -> Callable[[str, str], None]:
+    """Puts a script before a program: it has the real one in REAL."""
+
+    def put(name: str, script: str) -> None:
+        key = name.upper().replace("-", "_")
+        path = tmp_path / f"odd-{name}"
+        path.write_text(f"#!/bin/sh\nREAL={os.environ[key]}\n{script}\nexec $REAL \"$@\"\n")
+        path.chmod(0o755)
+        monkeypatch.setenv(key, str(path))
+
+    return put
+
+
+def test_a_plan_that_its_own_checker_refuses(example: Example, odd: Callable[[str, str], None]) -> None:
+    folder = example("two-sites")
+    odd("hsplan", '[ "$1" = check ] && { echo "no 5 Cost"; exit 3; }')
+    said = invoke("plan", folder, status=1)
+    assert said.stdout == "" and not (folder / "plan.txt").exists()
+    line = "hsp: hsplan check says no 5 Cost to hsplan's own plan: please report this with your files\n"
+    assert said.stderr == line
+    said = invoke("view", folder, status=5)
+    assert said.stderr == "hsp: hsplan check doesn't say yes to hsplan's own plan: please report this with your files\n"
+    assert (folder / "plan.html").read_bytes() == (TOP / "examples" / "two-sites" / "plan.html").read_bytes()
+
+
+def test_reports_that_differ_from_the_plan(example: Example, odd: Callable[[str, str], None]) -> None:
+    odd("hsplan", '[ "$1" = report ] && { $REAL "$@" | sed "s/ 1049 / 1050 /"; exit 0; }')
+    line = "hsp: the uses by place differ from hsplan's report of loads: please report this with your files\n"
+    assert invoke("plan", example("two-sites"), status=5).stderr == line
+
+
+def test_programs_that_print_nothing(example: Example, odd: Callable[[str, str], None]) -> None:
+    odd("hsplan-stream", '[ "$1" = answer ] && exit 0')
+    with pytest.raises(Missing, match="^hsplan-stream answered 0 of 2 rows: please report this with your log$"):
+        Desk().answers_without_sites(b"region,handle\nany,20.1/a\nany,20.1/b\n", 2)
+    odd("hsplan", '[ "$1" = plan ] && { echo what; exit 0; }')
+    assert "printed no plan: is it hsplan?" in invoke("plan", example("two-sites"), status=5).stderr
+
+
+def test_files_that_only_hsplan_can_not_read(example: Example, odd: Callable[[str, str], None]) -> None:
+    """Nothing is wrong with any of them by itself."""
+    odd("hsplan", 'echo "hsplan: read failed" >&2; exit 5')
+    (only,) = examined(str(example("two-sites")), Desk(), {}).findings
+    assert (only.message, only.said) == ("a file can't be read", "read failed")
+    assert only.remedy == "look at the files one by one: cat FILE > /dev/null"
+    assert only.why == "a file that changes, or a disk that fails"
+
+
+def test_words_that_can_not_be_explained_in_time(example: Example, monkeypatch: pytest.MonkeyPatch) -> None:
+    monkeypatch.chdir(example("two-sites"))
+    monkeypatch.setattr(guard, "SECONDS", 0.0)
+    (only,) = (found := examined_words(["plan", "--settings", "settings.toml"], Desk())).findings
+    assert (found.is_cut_short, found.status, only.message, only.said) == (True, 2, "hsplan says Usage", "Usage")
+    whole = examined_words(["locate", "--settings", "settings.toml", "20.1/a"], Desk())
+    assert (whole.findings, whole.status, whole.is_cut_short) == ([], 0, True)
+
+
+def test_what_is_no_line_of_hsplan() -> None:
+    assert said_of(7, "?!") == Said(7, "?!") and said_of(1, "") == Said(1, "")
+    none: Any = SimpleNamespace(files={})
+    assert faults._of_log(none, Said(1, "log: Strange", "log", "Strange")) is None
+    assert faults._of_table(none, Said(1, "log: Header", "log", "Header")) is None
+
+
+def test_the_memory_of_a_process_that_has_ended() -> None:
+    child = os.fork()
+    if not child:
+        os._exit(0)
+    os.waitpid(child, 0)
+    assert guard._octets(child) == 0 and guard._octets(os.getpid()) > 1_000_000
+
+
+def test_a_file_that_may_not_be_read(example: Example, monkeypatch: pytest.MonkeyPatch) -> None:
+    folder = example("two-sites")
+    monkeypatch.setattr("hsp.doctor.file_faults.os.access", lambda path, mode: False)
+    monkeypatch.setattr("hsp.doctor.question.read_text", lambda path: (_ for _ in ()).throw(PermissionError(13, "no")))
+    found = examined(str(folder), Desk(), {"demand": str(folder / "none.csv")})
+    closed = [it for it in found.findings if it.message == "you may not read this file"]
+    assert closed and closed[0].remedy == f"chmod +r {closed[0].file}, or run as its owner"
+
+
+def test_folders_that_are_not_there_lock_nothing(tmp_path: Path) -> None:
+    with files.locked([str(tmp_path / "none")]):
+        assert files._locked == set()
+
+
+def test_progress_of_plans_at_a_terminal(monkeypatch: pytest.MonkeyPatch) -> None:
+    lines: list[str] = []
+    monkeypatch.setattr(cli, "show_progress", lines.append)
+    monkeypatch.setattr(cli.sys.stderr, "isatty", lambda: True, raising=False)
+    for number in (7, 8):
+        done = cli.progress(number)
+        for _ in range(number):
+            done()
+    assert lines == [f"planning: {at} of 8" for at in range(1, 8)] + [""]
+
+
+def test_signals_of_several_steps(monkeypatch: pytest.MonkeyPatch) -> None:
+    raised: list[int] = []
+    monkeypatch.setattr(signals.signal, "raise_signal", raised.append)
+    with signals.uncut():
+        with signals.uncut():
+            signals._late.append(15)
+        assert raised == []
+    assert (raised, signals._late, signals._depth) == ([15], [], [])
+
+
+def test_numbers_that_units_do_not_divide() -> None:
+    assert units.capacities_in_units(b"a,b\nx,1999\ny,0\nz,01\n\nw,-5\n", 1000) == b"a,b\nx,1\ny,0\nz,01\n\nw,-5\n"
+    for odd in (b"\xff,1\n", b'"' + b"x" * 200_000 + b'",5\n'):
+        assert units.capacities_in_units(odd, 10) == odd
+    assert [units.has_hosts(it) for it in (b"[[host]]\n", b"host = []\n", b"[[", b"\xff", b"a=" + b"[" * 9999)] == [
+        True,
+        False,
+        False,
+        False,
+        False,
+    ]
+
+
+def test_costs_and_settings_that_are_none(tmp_path: Path) -> None:
+    paths = [tmp_path / "costs.csv", tmp_path / "settings.toml"]
+    paths[0].write_bytes(b"region,site,cost\n\xff,a,1\n")
+    paths[1].write_bytes(b"[[site")
+    inputs = Inputs(str(paths[1]), "", str(paths[0]), "")
+    assert outlook.costs_in(inputs.costs) == {} and outlook.sites_in(inputs, Desk()) == []
+    assert outlook.may_be_long(str(tmp_path / "none")) and not outlook.may_be_long(inputs.costs)
+    own = Tally(Desk())
+    with pytest.raises(Unfit, match="costs.csv: not a table: "):
+        own.without_costs(inputs)
+    paths[0].write_text("region,site,cost\neu,a,1\neu,b,2,3\neu,c,-1\nus,d,x\nus,e,\u0661\nus,f,7\n")
+    assert outlook.costs_in(inputs.costs) == {"eu": {"a": 1}, "us": {"f": 7}}
+    with pytest.raises(Unfit, match="^--unit joins rows by kinds: give --into DIR"):
+        outlook.refuse_unit(None, ["eu"])
+    with pytest.raises(Unfit, match="costs.csv: no cost of mars. Put in the costs first: --unit joins rows by kinds$"):
+        outlook.refuse_unit(inputs, ["mars"])
+    outlook.refuse_unit(inputs, ["mars", "eu"])
+    outlook.refuse_unit(inputs, [])
+
+
+def test_files_of_a_folder_that_are_absent(tmp_path: Path) -> None:
+    (tmp_path / "cost.csv").touch()
+    names = [str(tmp_path / it) for it in service.NAMES.values()]
+    assert service._absent("DIR", names) == ["DIR: none of settings.toml, demand.csv, costs.csv, capacity.csv is here"]
+
+
+class Odd:
+    """A file whose reads fail."""
+
+    def __init__(self, fault: OSError) -> None:
+        self.fault = fault
+
+    def __enter__(self) -> "Odd":
+        return self
+
+    def __exit__(self, *_: object) -> None:
+        pass
+
+    def read1(self, size: int) -> bytes:
+        raise self.fault
+
+
+def test_a_disk_that_fails_while_a_log_is_read(monkeypatch: pytest.MonkeyPatch) -> None:
+    monkeypatch.setattr(logs, "opened", lambda path, watch: Odd(OSError(errno.EIO, "Input/output error")))
+    with pytest.raises(OSError, match="Input/output error") as fault:
+        list(logs.blocks("log", [3]))
+    assert (fault.value.filename, fault.value.errno) == ("log", errno.EIO)
+    monkeypatch.setattr(logs, "opened", lambda path, watch: Odd(OSError("Invalid data stream")))
+    with pytest.raises(Unfit, match="^log: line 3: it can't be unpacked further: Invalid data stream$"):
+        list(logs.blocks("log", [3]))
+
+
+def test_requests_that_end_in_a_backslash() -> None:
+    take = forms.Form("proxy").take(b"")
+    line = b'10.0.0.1 - - [x] "GET /20.1/a\\"b HTTP/1.1" 302 -'
+    assert take(line) == (b"10.0.0.1", b'20.1/a"b')
+    for odd in (b'10.0.0.1 - - [x] "GET /20.1/a\\"', b'10.0.0.1 - - [x "GET /a" 1', b'10.0.0.1 - - [x] "GET /a'):
+        with pytest.raises(forms.Odd):
+            take(odd)
+
+
+class Reader:
+    """A database that is damaged, or of IPv4 only."""
+
+    def __init__(self, fault: Exception) -> None:
+        self.fault = fault
+
+    def get(self, address: str) -> Any:
+        raise self.fault
+
+
+def test_a_database_that_is_damaged_inside() -> None:
+    own = regions.Database.__new__(regions.Database)
+    own.__dict__.update(path="db", by=["a"], elsewhere=b"far", _damaged=(IndexError,))
+    own._reader = Reader(IndexError("end"))
+    with pytest.raises(Unfit, match="^db: damaged: end$"):
+        own.seek(b"10.0.0.1")
+    own._reader = Reader(ValueError("an address of IPv6"))
+    assert own.seek(b"2001:db8::1") == b"far" and own.seek(b"x") == regions.NO_ADDRESS
+    own.elsewhere = None
+    assert own.seek(b"2001:db8::1") == regions.NO_REGION
+
+
+def test_logs_that_fleet_does_not_count() -> None:
+    def log(path: str, host: str | None = None, *kept: str) -> Any:
+        return SimpleNamespace(path=path, host=host, kept=list(kept))
+
+    for own, line in (
+        ([log("-")], "standard input isn't a log that workers can read"),
+        ([log("/a", None, "/k"), log("/b", None, "/k")], "a log is given twice, and its queries have one file"),
+        ([log("/a", "h"), log("/b", "h", "/a")], "/a: it would be read and written"),
+    ):
+        with pytest.raises(Unfit, match=f"^{line}$"):
+            demand._checked(own, "regions", None, None, {})
+    demand._checked([log("/a", "h", "/k"), log("/b", "i", "/k"), log("/a", "i", "/b2")], "none", None, None, NONE)
+
+
+NONE = dict.fromkeys(("settings", "values", "costs"))
+
+
+def test_a_log_of_all_that_can_not_be_parted(tmp_path: Path) -> None:
+    own: Any = SimpleNamespace(logs=["log"], targets=[])
+    with pytest.raises(Unfit, match="^log: with --any-handle each line has to begin with a front below 3$"):
+        dispatch._in_one(SimpleNamespace(), own, {"any_handle": True, "fronts": 3})  # type: ignore[arg-type]
+    path = tmp_path / "log"
+    path.write_text("front,region,handle\n1,eu,a\n0,eu,b\n1,eu,c\n")
+    parted: Any = SimpleNamespace(path=str(path), row=lambda front, row: {(0, 0): 1, (1, 1): 2}[front, row])
+    with pytest.raises(Unfit, match=f"^{path}: line 3: BadHandle$"):
+        dispatch._fine(parted, [{"row": 0, "word": "BadHandle"}, {"row": 1, "word": "Fields"}])
+    with pytest.raises(Unfit, match="^mine$"):
+        dispatch._fine(parted, [{"sums": {}}, {"fault": "mine"}])
+    dispatch._fine(parted, [{"sums": {}}])
+
+
+def test_a_worker_whose_disk_is_full() -> None:
+    import asyncio
+
+    async def set_resources(**more: int) -> None:
+        resources.update(more)
+
+    resources: dict[str, int] = {}
+    state = SimpleNamespace(nthreads=2)
+    worker = SimpleNamespace(local_directory="/dev/null", state=state, set_resources=set_resources)
+    mark = Mark({}, Seal({}, False))
+    asyncio.run(mark.setup(worker))
+    assert resources == {mark.name: 0} and "Not a directory" in worker.hsp_fleet_refused[mark.name]
+
+
+def test_a_shortage_that_no_room_ends(tmp_path: Path) -> None:
+    """Machines are full, so room at servers doesn't help, and nothing is bought."""
+    folder = written(
+        tmp_path / "s",
+        settings=TWO_IN_ONE.block() + OTHER.block() + host("192.0.2.1", 3) + host("198.51.100.1", 4),
+        demand="".join(f"eu,20.500.1/item-{number},1\n" for number in range(10)),
+        costs="eu,north,1\neu,south,100\n",
+        capacity="north,1,9\nnorth,2,9\nsouth,1,9\n",
+    )
+    lines = invoke("plan", folder, status=3).stdout.splitlines()
+    assert lines[1].startswith("short 3 queries can't be served") and not [it for it in lines if " more:" in it]
+    assert lines[-1] == "buy   at least room for 3 queries more at these servers"
+
+
+def test_more_servers_than_hsplan_takes_and_many_without_capacity(tmp_path: Path) -> None:
+    addresses = [[f"10.{at}.{it // 250}.{it % 250 + 1}" for it in range(600)] for at in range(2)]
+    many = [Place(name, 2, own) for name, own in zip("ab", addresses)]
+    folder = written(
+        tmp_path / "s",
+        settings="".join(it.block() for it in many),
+        demand="eu,20.1/a,1\n",
+        costs="eu,a,1\neu,b,2\n",
+        capacity="",
+    )
+    first = examined(str(folder), Desk(), {}).errors[0]
+    assert first.message == "all sites together have more servers than hsplan takes"
+    assert first.remedy == "plan in parts; 1,024 servers are the limit"
+    written(folder, settings=Place("a", 2, [f"192.0.2.{it}" for it in range(1, 12)]).block(), costs="eu,a,1\n")
+    (folder / "capacity.csv").write_text("site,server_id,capacity\na,1,5\n")
+    said = invoke("doctor", folder, status=1).stdout
+    assert "error: server 2 of a has no capacity\n" in said
+    assert said.count("  and  server ") == 8 and "  and  1 more of this kind\n" in said
