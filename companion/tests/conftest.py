@@ -43,6 +43,12 @@ def _programs() -> None:
             pytest.exit(f"no program {path}: run rt ci or make prove first", 1)
 
 
+@pytest.fixture(autouse=True)
+def _unhurried(monkeypatch: pytest.MonkeyPatch) -> None:
+    """Lets the doctor explain all that it can, however slow the machine is. Tests of its time set another one."""
+    monkeypatch.setattr("hsp.doctor.guard.SECONDS", 100.0)
+
+
 def _ran_apart(words: tuple[str, ...], more: dict[str, str]) -> "subprocess.CompletedProcess[str]":
     command = [sys.executable, "-m", "hsp", *words]
     streams = {"capture_output": True, "stdin": subprocess.DEVNULL}
