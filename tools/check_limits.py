@@ -6,8 +6,8 @@
 One service has 64 regions, 32 sites, 1,024 servers, 1,024 hosts and 8,192 rows of 1,000,000 queries, nearly all of
 them with handles of 4,096 octets; names, identifiers and costs are the longest and greatest. Every command runs over
 it, with a plan that sends each row to all sites, and with a shortage of all rows. Logs have 1,000,000 answers of each
-kind, by a dispatcher and by 64 fronts, and end with a bad row of seven digits. hsplan-stream joins a log of 8,192 kinds,
-and refuses one of a kind more.
+kind, by a dispatcher and by 64 fronts, and end with a bad row of seven digits. hsplan-stream joins a log of 8,192
+kinds, and refuses one of a kind more.
 
 Then files of each length from 0 to 8,193, and of 65,535 to 65,537 octets, are read whole.
 

@@ -1,4 +1,5 @@
-"""Printed texts that a person has read: each test's text has to be the one that is kept in the folder `printed`.
+"""Printed texts that are kept: each test's text has to be the one in the folder `printed`. A change of it is shown, and a
+person judges whether it is meant. That a text is right is for other tests to say.
 
 With HSP_KEEP in the environment tests write what they print in place of it. Then run pytest without -n, and read what
 has changed before it is committed.
@@ -36,5 +37,7 @@ def assert_kept(name: str, head: str, text: str) -> None:
         (FOLDER / f"{name}.txt").write_bytes(whole.encode())
     assert head in kept(name), f"nothing is kept under {head}: run the test with HSP_KEEP=1"
     if text != kept(name)[head]:
-        changes = difflib.unified_diff(kept(name)[head].splitlines(), text.splitlines(), "kept", "printed", lineterm="")
+        changes = difflib.unified_diff(
+            kept(name)[head].splitlines(), text.splitlines(), "kept", "printed", lineterm=""
+        )
         pytest.fail("\n".join([f"{name}.txt, {head}:", *changes]), pytrace=False)

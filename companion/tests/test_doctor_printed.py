@@ -1,4 +1,4 @@
-"""What the doctor prints of many faults together, word for word: printed/faults.txt was read by a person."""
+"""What the doctor prints of many faults together, word for word as printed/faults.txt keeps it."""
 
 from __future__ import annotations
 
@@ -23,30 +23,42 @@ from test_sites import invoke
 
 Example = Callable[[str], Path]
 COUNTS = [
-    "1.5", '"1,5"', "1_000", "1'000", "1\u202f000", "12.345.678", "1.5e3", "1E6", '"2,5e1"', "3e-2", "0x10", "1.", '"7,"',
-    "-0", "\u22125", "- 5", "-", "+7", "++7", "007", "00", "2k", "1.5K", "2 M", "4G", "5/h", "5 queries", "5%", "5\u00b5s",
-    "\u0661\u0662", "\uff11", "\u00bd", "n/a", "NaN", "inf", "\u221e", "unlimited", "None", "5\u00a0", "\u200b6", "\t7", "'8'",
+    "1.5", '"1,5"', "1_000", "1'000", "1\u202f000", "12.345.678", "1.5e3", "1E6", '"2,5e1"', "3e-2", "0x10", "1.",
+    '"7,"',
+    "-0", "\u22125", "- 5", "-", "+7", "++7", "007", "00", "2k", "1.5K", "2 M", "4G", "5/h", "5 queries", "5%",
+    "5\u00b5s",
+    "\u0661\u0662", "\uff11", "\u00bd", "n/a", "NaN", "inf", "\u221e", "unlimited", "None", "5\u00a0", "\u200b6",
+    "\t7", "'8'",
     "`9`", "O", "l0", "4 75", "five", "1000001", "99999999999999999999", "10^3", ".5", '".,"', "5;", "12-3", "\u00e9",
 ]  # fmt: skip
 HANDLES = [
-    "", " ", "a", "20.500.1234", "20.500.1234%2Fa", "20.500.1234\\a", "/a", "./a", "20./a", ".20/a", "20..1/a", "x" * 70,
+    "", " ", "a", "20.500.1234", "20.500.1234%2Fa", "20.500.1234\\a", "/a", "./a", "20./a", ".20/a", "20..1/a",
+    "x" * 70,
     "21.T11998", "20.500.1234/" + "y" * 4096, "http:", '"a,b"', "hdl:20.500.1234", "..", "\u00e9",
 ]  # fmt: skip
 NAMES = [
-    "e u", " eu", "eu ", "\u00e9u", "'eu'", '"e""u"', "eu/west", "eu:west", "x" * 65, "\u4e2d", "eu;us", "eu|us", "EU west", "%", "",
+    "e u", " eu", "eu ", "\u00e9u", "'eu'", '"e""u"', "eu/west", "eu:west", "x" * 65, "\u4e2d", "eu;us", "eu|us",
+    "EU west", "%", "",
 ]  # fmt: skip
 ROWS = [
-    "eu", "eu,20.500.1234/a", "eu,20.500.1234/a,5,", "eu,20.500.1234/a,5,,", ",eu,20.500.1234/a,5", "eu,,20.500.1234/a,5",
-    "eu;20.500.1234/a;5", "eu\t20.500.1234/a\t5", "eu|20.500.1234/a|5", "eu 20.500.1234/a 5", "eu,20.500.1234/a,1,200",
-    "eu,20.500.1234/a,1,2", "eu,20.500.1234/a,1,20,300", "eu,20.500.1234/a,b,c,5", "eu,a,b,c,d", "# a note", "// a note",
+    "eu", "eu,20.500.1234/a", "eu,20.500.1234/a,5,", "eu,20.500.1234/a,5,,", ",eu,20.500.1234/a,5",
+    "eu,,20.500.1234/a,5",
+    "eu;20.500.1234/a;5", "eu\t20.500.1234/a\t5", "eu|20.500.1234/a|5", "eu 20.500.1234/a 5",
+    "eu,20.500.1234/a,1,200",
+    "eu,20.500.1234/a,1,2", "eu,20.500.1234/a,1,20,300", "eu,20.500.1234/a,b,c,5", "eu,a,b,c,d", "# a note",
+    "// a note",
     "<<<<<<< HEAD", "=======", ">>>>>>> other", "eu,20.500.1234/a,5eu,20.500.1234/b,6", "eu;20.500.1234/a,5", "total",
     'eu,20.500.1234/q",5', "eu,20.500.1234/a,5 # note, of two", ",,,", ",,", "region,handle,count", "eu,x y z,7,8",
 ]  # fmt: skip
 HEADERS = [
-    "region; handle; count", "region|handle|count", " region,handle,count", "region ,handle , count", '"Region","Handle","Count"',
-    "count,handle,region", "site,server_id,capacity", "region,handle", "[[site]]", 'name = "paris"', "region,name,number",
-    "region,handle,count,note", "handle,count", "regoin,handle,count", "eu,20.500.1234/a,5", "sep=,", "// x", "%PDF-1.4", "x", "",
-    "1,2,3", "a,b", "front,region,handle,count", '1.2.3.4 - - [x] "GET /20.500.1234/a HTTP/1.1" 200 1', "handle", "region,region",
+    "region; handle; count", "region|handle|count", " region,handle,count", "region ,handle , count",
+    '"Region","Handle","Count"',
+    "count,handle,region", "site,server_id,capacity", "region,handle", "[[site]]", 'name = "paris"',
+    "region,name,number",
+    "region,handle,count,note", "handle,count", "regoin,handle,count", "eu,20.500.1234/a,5", "sep=,", "// x",
+    "%PDF-1.4", "x", "",
+    "1,2,3", "a,b", "front,region,handle,count", '1.2.3.4 - - [x] "GET /20.500.1234/a HTTP/1.1" 200 1', "handle",
+    "region,region",
 ]  # fmt: skip
 
 
@@ -95,7 +107,8 @@ FAULTS: dict[str, tuple[str, Edit]] = {
     "keys above the blocks": (SETTINGS, head('name = "x"\nlimit = 5\nunits = "ms"\nfoo = 1\n"a b" = 2\n"" = 3\n')),
     "keys of other blocks": (SETTINGS, sub('name = "paris"', 'name = "paris"\nlimit = 3\n"Record" = 1\nx.y = 2')),
     "a block of another name": (SETTINGS, more("[[server]]\nid = 1\n[other]\nx = 1\n")),
-    "lines that are no TOML": (SETTINGS, head("// a note\n; a note\n-- note\n% note\nhello there\nwhat?!\nregion,site,cost\n")),
+    "lines that are no TOML": (SETTINGS,
+        head("// a note\n; a note\n-- note\n% note\nhello there\nwhat?!\nregion,site,cost\n")),
     "JSON that was cut": (SETTINGS, lambda _: '{"site": [\n'),
     "digits in a line of their own": (SETTINGS, more("0001020b\n")),
     "a table in place of settings": (SETTINGS, lambda _: "region,handle,count\neu,20.500.1234/a,5\n"),
@@ -116,10 +129,12 @@ FAULTS: dict[str, tuple[str, Edit]] = {
 HOST = '[[host]]\naddress = "{}"\nlimit = {}\n'
 ADDRESS = "000000000000000000000000c6336416"
 HOSTS: dict[str, str] = {
-    "addresses": "".join(HOST.format(it, 5) for it in ("2001:db8::1", "192.0.2.1", "c0:00:02:01", "zz", "", "0xc0000201", "1" * 31)),
+    "addresses": "".join(HOST.format(it, 5) for it in ("2001:db8::1", "192.0.2.1", "c0:00:02:01", "zz", "",
+        "0xc0000201", "1" * 31)),
     "limits": "".join(
         f'[[host]]\naddress = "{at:032x}"\nlimit = {it}\n'
-        for at, it in enumerate(("-5", '"2 000"', "1.5", "1e3", "10000000000001", "true", "[1]", '"many"', '"12345678901234"'))
+        for at, it in enumerate(("-5", '"2 000"', "1.5", "1e3", "10000000000001", "true", "[1]", '"many"',
+        '"12345678901234"'))
     ),
     "a limit with a zero": HOST.format(ADDRESS, "007"),
     "a limit with a unit": HOST.format(ADDRESS, "5 queries"),
@@ -274,7 +289,8 @@ WORDS: dict[str, tuple[Callable[[Path], None], str]] = {
     "a plan of other costs": (changed("costs.csv", "eu,paris,12", "eu,paris,13"), CHECK),
     "a shortage of another demand": (shortage, CHECK),
     "a shortage that is checked": (shortage, CHECK.replace("demand.csv", "premiere.csv")),
-    "a shortage that is over": (shortage, f"check {PREMIERE} --plan plan.txt".replace("capacity.csv", "boundless.csv")),
+    "a shortage that is over": (shortage, f"check {PREMIERE} --plan plan.txt".replace("capacity.csv",
+        "boundless.csv")),
     "a shortage where a plan is wanted": (shortage, f"report {PREMIERE} --plan plan.txt --kind load"),
     "a plan where a shortage is wanted": (lambda _: None, REPORT.replace("load", "shortage")),
     "a shortage by which none is answered": (shortage, f"dispatch {PREMIERE} --plan plan.txt --log log.csv"),
@@ -282,11 +298,13 @@ WORDS: dict[str, tuple[Callable[[Path], None], str]] = {
     "regions of a log": (filled("log.csv", "region,handle\ne u,20.500.1234/a\n,20.500.1234/b\nus\n"), DISPATCH),
     "a log that isn't there": (lambda _: None, DISPATCH.replace("log.csv", "lg.csv")),
     "a plan that isn't there": (lambda _: None, CHECK.replace("plan.txt", "pla.txt")),
-    "a plan that isn't there, and a fault": (changed("demand.csv", ",475", ",4.5"), CHECK.replace("plan.txt", "none")),
+    "a plan that isn't there, and a fault": (changed("demand.csv", ",475", ",4.5"),
+        CHECK.replace("plan.txt", "none")),
     "no word": (lambda _: None, "hsplan"),
     "no word of hsplan-stream": (lambda _: None, "hsplan-stream"),
     "the version of hsplan-stream": (lambda _: None, "hsplan-stream --version"),
-    "an index that is the first": (lambda folder: swapped(folder / "sites.values", FIRST, FIRST[:3] + b"\1" + FIRST[4:]), "site --index 2 sites.values"),
+    "an index that is the first": (lambda folder: swapped(folder / "sites.values", FIRST,
+        FIRST[:3] + b"\1" + FIRST[4:]), "site --index 2 sites.values"),
     "a file that is no text": (lambda _: None, f"plan {FILES}".replace("demand.csv", "caf\udce9.csv")),
     "a handle that is no text": (lambda _: None, "locate --settings settings.toml 20.1/caf\udce9"),
     "fronts of a dispatch without a log": (lambda _: None, f"dispatch {FILES} --plan plan.txt --fronts 2"),
@@ -295,7 +313,8 @@ WORDS: dict[str, tuple[Callable[[Path], None], str]] = {
     "an option before a command": (lambda _: None, "hsplan-stream --log log.csv kinds"),
     "an option and no command": (lambda _: None, "hsplan --settings settings.toml"),
     "an index that isn't there": (lambda _: None, "site --index 9 sites.values"),
-    "an index of another type": (lambda folder: swapped(folder / "sites.values", b"HS_SITE", b"HS_ADDR"), "site --index 3 sites.values"),
+    "an index of another type": (lambda folder: swapped(folder / "sites.values", b"HS_SITE", b"HS_ADDR"),
+        "site --index 3 sites.values"),
     "a record by an index": (lambda _: None, "site --index 3 paris.site"),
     "a list in hexadecimal digits": (filled("sites.values", "00 01 02"), "site --index 3 sites.values"),
     "settings for a list": (filled("sites.values", "[[site]]\n"), "site --index 3 sites.values"),
@@ -309,7 +328,8 @@ WORDS: dict[str, tuple[Callable[[Path], None], str]] = {
     "capacities of a plan in units": (filled("hsp.toml", '[demand]\nrows = "kinds"\nunit = 10\n'), DISPATCH),
     "kinds and an answer by the handle": (filled("hsp.toml", '[demand]\nrows = "kinds"\n'), DISPATCH),
     "a broken hsp.toml": (filled("hsp.toml", "title =\n"), CHECK),
-    "an unknown option of each kind": (lambda _: None, f"answer {FILES} --plans plan.txt --log log.csv -f 2 --front=1 --unit"),
+    "an unknown option of each kind": (lambda _: None,
+        f"answer {FILES} --plans plan.txt --log log.csv -f 2 --front=1 --unit"),
 }  # fmt: skip
 
 
@@ -326,9 +346,12 @@ def test_faults_of_words(folder: Path, name: str) -> None:
 
 
 LETTERS = [
-    "20.500.1234/a b", "20.500.1234/a ", "\u00a020.500.1234/b", "20.500.1234/c\u00ad", "'20.500.1234/d'", "<20.500.1234/e>",
-    "http://hdl.handle.net/20.500.1234/f?x=1#y", "hdl:20.500.1234/g", "doi:10.1000/h", "DOI:10.1000/i", "20.500.1234/j%2Fk",
-    "20.500.1234/50%", "20.500.1234/", "20.500.1234/\u00e9", "20.500.1234/e\u0301", "20.500.1234/REPORT-2024", "info:hdl/20.1/l",
+    "20.500.1234/a b", "20.500.1234/a ", "\u00a020.500.1234/b", "20.500.1234/c\u00ad", "'20.500.1234/d'",
+    "<20.500.1234/e>",
+    "http://hdl.handle.net/20.500.1234/f?x=1#y", "hdl:20.500.1234/g", "doi:10.1000/h", "DOI:10.1000/i",
+    "20.500.1234/j%2Fk",
+    "20.500.1234/50%", "20.500.1234/", "20.500.1234/\u00e9", "20.500.1234/e\u0301", "20.500.1234/REPORT-2024",
+    "info:hdl/20.1/l",
     "20.500.1234/https://x.y/z", "20.500.1234/report-2024/", "urn:nbn:de:1/2", "https://example.org/20.500.1234/m",
 ]  # fmt: skip
 # What is doubtful, and done to a folder without a fault.
@@ -336,13 +359,17 @@ DOUBTFUL: dict[str, Callable[[Path], None]] = {
     "handles": lambda folder: added(folder / DEMAND, [f"eu,{it},5" for it in LETTERS]),
     "regions": lambda folder: added(folder / COSTS, [f"{it},paris,1" for it in ("EU", "eu-", "asja", "U.S", "mars")]),
     "two sites of one record": changed(SETTINGS, '(?s)(record = "[^"]*")(.*)record = "[^"]*"', r"\1\2\1"),
-    "two sites of one index": filled(SETTINGS, '[[site]]\nname = "paris"\nindex = 3\n[[site]]\nname = "reston"\nindex = 3\n'),
-    "keys of hsp.toml": filled("hsp.toml", 'titel = "x"\nunits = "ms"\naccept = ["no site", "idle"]\nlog = 1\n[demand]\ntitle = "x"\nrow = 1\n'),
+    "two sites of one index": filled(SETTINGS,
+        '[[site]]\nname = "paris"\nindex = 3\n[[site]]\nname = "reston"\nindex = 3\n'),
+    "keys of hsp.toml": filled("hsp.toml",
+        'titel = "x"\nunits = "ms"\naccept = ["no site", "idle"]\nlog = 1\n[demand]\ntitle = "x"\nrow = 1\n'),
     "a demand of a little": changed(DEMAND, r",\d+$", ",1"),
     "a demand of a unit that adds much": filled("hsp.toml", "[demand]\nunit = 1000\nqueries = 4000000\n"),
-    "a demand of a unit that can't be less": filled("hsp.toml", "[demand]\nunit = 1000\nqueries = 5000000\nhandles = 3\n"),
+    "a demand of a unit that can't be less": filled("hsp.toml",
+        "[demand]\nunit = 1000\nqueries = 5000000\nhandles = 3\n"),
     "a demand of other handles": filled("hsp.toml", '[demand]\nrows = "kinds"\nqueries = 6282\nhandles = 5\n'),
-    "hosts": lambda folder: added(folder / SETTINGS, [HOST.format(ADDRESS, 0), HOST.format("0" * 32, 5), HOST.format(ADDRESS[:-1] + "5", 9)]),
+    "hosts": lambda folder: added(folder / SETTINGS,
+        [HOST.format(ADDRESS, 0), HOST.format("0" * 32, 5), HOST.format(ADDRESS[:-1] + "5", 9)]),
     "capacities of 0": changed(CAPACITY, r"^(paris,.*|reston,1),\d+$", r"\1,0"),
 }  # fmt: skip
 
@@ -378,4 +405,8 @@ def test_faults_of_titles(example: Example, name: str) -> None:
     (folder / "hsp.toml").write_bytes(TITLES[name].encode("utf-8", "surrogateescape"))
     said = invoke("doctor", folder, status=1).stdout if name not in ("no text",) else ""
     plan = ran(["plan", str(folder), "--no-save"])
-    assert_kept("faults", f"hsp.toml: {name}", f"{said}$ hsp plan\n{plan}".replace(f"{folder}/", "").replace(str(folder), "DIR"))
+    assert_kept(
+        "faults",
+        f"hsp.toml: {name}",
+        f"{said}$ hsp plan\n{plan}".replace(f"{folder}/", "").replace(str(folder), "DIR"),
+    )

@@ -212,7 +212,9 @@ def test_workers_of_another_python_get_no_part() -> None:
     }
     client = Client()
     client.get_versions = lambda: {"workers": versions}  # type: ignore[attr-defined]
-    others = {name: f"its Python is {it}, not {own}" for name, it in (("b", "2.7.1"), ("c", "unknown"), ("d", f"{own}9.1"))}
+    others = {
+        name: f"its Python is {it}, not {own}" for name, it in (("b", "2.7.1"), ("c", "unknown"), ("d", f"{own}9.1"))
+    }
     assert made(client)._other_pythons() == others
     tries: list[Any] = []
 
@@ -400,7 +402,10 @@ def test_files_at_a_worker_are_those_of_the_client(tmp_path: Path, monkeypatch: 
     assert setup({**files, "plan": b"b plan"}, seal) == (f"{folder}/plan has another SHA-256 sum", {seal.mark: 0})
     absent = {name: it for name, it in files.items() if name != "plan"}
     assert setup(absent, seal) == (f"{folder}/plan: No such file or directory", {seal.mark: 0})
-    for text, why in ((b"#!/bin/sh\nexit 7\n", "ended its trial with status 7"), (b"no program", "doesn't run: Exec format error")):
+    for text, why in (
+        (b"#!/bin/sh\nexit 7\n", "ended its trial with status 7"),
+        (b"no program", "doesn't run: Exec format error"),
+    ):
         own = {**files, "hsplan-stream": text}
         other = remote.Seal({name: remote.sum_of(it) for name, it in own.items()}, False)
         assert setup(own, other) == (f"{tmp_path}/{other.mark}/hsplan-stream {why}", {other.mark: 0})
@@ -464,7 +469,9 @@ def test_what_a_part_prints_and_how_it_ends() -> None:
         (OSError(28, "No space left on device", "there"), {"again": "there: No space left on device", "status": 5}),
     ],
 )
-def test_a_fault_of_a_part_is_a_reply(monkeypatch: pytest.MonkeyPatch, fault: Exception, reply: dict[str, Any]) -> None:
+def test_a_fault_of_a_part_is_a_reply(
+    monkeypatch: pytest.MonkeyPatch, fault: Exception, reply: dict[str, Any]
+) -> None:
     def failing(_: dict[str, Any]) -> dict[str, Any]:
         raise fault
 

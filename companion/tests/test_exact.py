@@ -66,7 +66,14 @@ def test_numbers_as_people_read_them() -> None:
     ]
     shares = [(0, 5), (5, 0), (5, 5), (1, 101), (1, 100), (99, 100), (100, 101), (1, 3)]
     assert [percent(*it) for it in shares] == ["0%", "0%", "100%", "<1%", "1%", "99%", ">99%", "33%"]
-    assert [part(it) for it in (0.0, 0.001, 0.0999, 0.1, 0.05, 12.3456)] == ["0%", "0.1%", "10%", "10%", "5%", "1,235%"]
+    assert [part(it) for it in (0.0, 0.001, 0.0999, 0.1, 0.05, 12.3456)] == [
+        "0%",
+        "0.1%",
+        "10%",
+        "10%",
+        "5%",
+        "1,235%",
+    ]
     assert [signed(it) for it in (0, 1234, -1234, 0.5)] == ["0", "+1,234", "\u22121,234", "+0.5"]
     assert [some(it, "site") for it in (0, 1, 2, 1000)] == ["0 sites", "1 site", "2 sites", "1,000 sites"]
     assert [queries_of(1), queries_of(2), some(2, "box", "boxes")] == ["1 query", "2 queries", "2 boxes"]
@@ -102,13 +109,23 @@ def test_lines_and_places_of_a_text() -> None:
     assert [whole.line(it) for it in (-1, 0, 1, 3, 4)] == ["", "", "  x y ", "last", ""]
     assert [(it.column, it.width, it.end) for it in map(whole.whole, (1, 2, 3))] == [(3, 3, 6), (1, 0, 2), (1, 4, 5)]
     assert whole.part(1, 0, 0).end == 2 and whole.part(1, 4, 1).column == 5
-    found = whole.match("x (y)"), whole.match("x y"), whole.match("last", 1, 2), whole.match("last", 3), whole.match("x", 2)
+    found = (
+        whole.match("x (y)"),
+        whole.match("x y"),
+        whole.match("last", 1, 2),
+        whole.match("last", 3),
+        whole.match("x", 2),
+    )
     assert [it and (it.line, it.column, it.width) for it in found] == [(1, 5, 1), (1, 3, 3), None, (3, 1, 4), None]
 
 
 def test_fields_and_words_that_are_near() -> None:
     assert spans_of('a,"b,c",,d') == [(0, 1), (2, 7), (8, 8), (9, 10)] and spans_of("") == [(0, 0)]
-    assert (near("PARIS ", ["paris"]), near("pariz", ["paris", "oslo"]), near("x", ["paris"])) == ("paris", "paris", "")
+    assert (near("PARIS ", ["paris"]), near("pariz", ["paris", "oslo"]), near("x", ["paris"])) == (
+        "paris",
+        "paris",
+        "",
+    )
     assert near("x" * 200, ["x" * 200]) and not near("x" * 201, ["x" * 201])
 
 
@@ -116,7 +133,22 @@ def test_bars_and_steps_of_charts() -> None:
     assert [bar(it, 24) for it in (0, 24, 12, 1, 0.05)] == ["", "\u2588" * 24, "\u2588" * 12, "\u2588", ""]
     assert [bar(it, 192, 24) for it in (1, 2, 7, 8, 9)] == ["\u258f", "\u258e", "\u2589", "\u2588", "\u2588\u258f"]
     assert bar(5, 0) == ""
-    steps = {0: 1, 1: 1, 7: 1, 7.1: 2, 14: 2, 14.1: 5, 35: 5, 36: 10, 70: 10, 71: 20, 140: 20, 141: 50, 350: 50, 351: 100}
+    steps = {
+        0: 1,
+        1: 1,
+        7: 1,
+        7.1: 2,
+        14: 2,
+        14.1: 5,
+        35: 5,
+        36: 10,
+        70: 10,
+        71: 20,
+        140: 20,
+        141: 50,
+        350: 50,
+        351: 100,
+    }
     assert {it: step_of(it) for it in steps} == steps
     axes = Axes([10, 20, 40], [100, 160])
     assert (axes.x(10), axes.x(40), axes.y(axes.least), axes.y(axes.most)) == (90.0, 656.0, 288.0, 56.0)
@@ -244,7 +276,9 @@ def test_times_at_their_bounds() -> None:
     span = Span(10, 20)
     assert [span.has(it) for it in (9, 10, 19, 20)] == [False, True, True, False] and not span.is_all
     assert Span().is_all and Span().has(0)
-    assert [seconds_of(it) for it in (b"99999999", b"999999999", b"1795770000.9", b"17957700000", b"1795770000123")] == [
+    assert [
+        seconds_of(it) for it in (b"99999999", b"999999999", b"1795770000.9", b"17957700000", b"1795770000123")
+    ] == [
         None,
         999_999_999,
         1_795_770_000,
@@ -301,9 +335,12 @@ def test_how_much_of_all_logs_was_read(tmp_path: Path, monkeypatch: pytest.Monke
         file.read(0)
         file.seek(25)
         end = time.strftime("%H:%M:%S", time.localtime(1_000_000 + 30))
-        assert progress.Progress.__new__(progress.Progress)._rest.__func__(  # type: ignore[attr-defined]
-            type("P", (), {"_gauge": gauge})(), 10.0
-        ) == f", 25%, until {end}"
+        assert (
+            progress.Progress.__new__(progress.Progress)._rest.__func__(  # type: ignore[attr-defined]
+                type("P", (), {"_gauge": gauge})(), 10.0
+            )
+            == f", 25%, until {end}"
+        )
 
 
 def test_names_of_sites_from_files() -> None:

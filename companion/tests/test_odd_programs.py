@@ -2,6 +2,7 @@
 
 from __future__ import annotations
 
+import csv
 import errno
 import os
 from collections.abc import Callable
@@ -34,7 +35,7 @@ def odd(tmp_path: Path, monkeypatch: pytest.MonkeyPatch) -> Callable[[str, str],
     def put(name: str, script: str) -> None:
         key = name.upper().replace("-", "_")
         path = tmp_path / f"odd-{name}"
-        path.write_text(f"#!/bin/sh\nREAL={os.environ[key]}\n{script}\nexec $REAL \"$@\"\n")
+        path.write_text(f'#!/bin/sh\nREAL={os.environ[key]}\n{script}\nexec $REAL "$@"\n')
         path.chmod(0o755)
         monkeypatch.setenv(key, str(path))
 
@@ -49,7 +50,9 @@ def test_a_plan_that_its_own_checker_refuses(example: Example, odd: Callable[[st
     line = "hsp: hsplan check says no 5 Cost to hsplan's own plan: please report this with your files\n"
     assert said.stderr == line
     said = invoke("view", folder, status=5)
-    assert said.stderr == "hsp: hsplan check doesn't say yes to hsplan's own plan: please report this with your files\n"
+    assert (
+        said.stderr == "hsp: hsplan check doesn't say yes to hsplan's own plan: please report this with your files\n"
+    )
     assert (folder / "plan.html").read_bytes() == (TOP / "examples" / "two-sites" / "plan.html").read_bytes()
 
 
@@ -103,7 +106,9 @@ def test_the_memory_of_a_process_that_has_ended() -> None:
 def test_a_file_that_may_not_be_read(example: Example, monkeypatch: pytest.MonkeyPatch) -> None:
     folder = example("two-sites")
     monkeypatch.setattr("hsp.doctor.file_faults.os.access", lambda path, mode: False)
-    monkeypatch.setattr("hsp.doctor.question.read_text", lambda path: (_ for _ in ()).throw(PermissionError(13, "no")))
+    monkeypatch.setattr(
+        "hsp.doctor.question.read_text", lambda path: (_ for _ in ()).throw(PermissionError(13, "no"))
+    )
     found = examined(str(folder), Desk(), {"demand": str(folder / "none.csv")})
     closed = [it for it in found.findings if it.message == "you may not read this file"]
     assert closed and closed[0].remedy == f"chmod +r {closed[0].file}, or run as its owner"
@@ -137,8 +142,12 @@ def test_signals_of_several_steps(monkeypatch: pytest.MonkeyPatch) -> None:
 
 def test_numbers_that_units_do_not_divide() -> None:
     assert units.capacities_in_units(b"a,b\nx,1999\ny,0\nz,01\n\nw,-5\n", 1000) == b"a,b\nx,1\ny,0\nz,01\n\nw,-5\n"
-    for odd in (b"\xff,1\n", b'"' + b"x" * 200_000 + b'",5\n'):
-        assert units.capacities_in_units(odd, 10) == odd
+    limit = csv.field_size_limit(131_072)  # as in a process that reads no faulty rows
+    try:
+        for odd in (b"\xff,1\n", b'"' + b"x" * 200_000 + b'",5\n'):
+            assert units.capacities_in_units(odd, 10) == odd
+    finally:
+        csv.field_size_limit(limit)
     assert [units.has_hosts(it) for it in (b"[[host]]\n", b"host = []\n", b"[[", b"\xff", b"a=" + b"[" * 9999)] == [
         True,
         False,
@@ -162,7 +171,9 @@ def test_costs_and_settings_that_are_none(tmp_path: Path) -> None:
     assert outlook.costs_in(inputs.costs) == {"eu": {"a": 1}, "us": {"f": 7}}
     with pytest.raises(Unfit, match="^--unit joins rows by kinds: give --into DIR"):
         outlook.refuse_unit(None, ["eu"])
-    with pytest.raises(Unfit, match="costs.csv: no cost of mars. Put in the costs first: --unit joins rows by kinds$"):
+    with pytest.raises(
+        Unfit, match="costs.csv: no cost of mars. Put in the costs first: --unit joins rows by kinds$"
+    ):
         outlook.refuse_unit(inputs, ["mars"])
     outlook.refuse_unit(inputs, ["mars", "eu"])
     outlook.refuse_unit(inputs, [])
@@ -171,7 +182,9 @@ def test_costs_and_settings_that_are_none(tmp_path: Path) -> None:
 def test_files_of_a_folder_that_are_absent(tmp_path: Path) -> None:
     (tmp_path / "cost.csv").touch()
     names = [str(tmp_path / it) for it in service.NAMES.values()]
-    assert service._absent("DIR", names) == ["DIR: none of settings.toml, demand.csv, costs.csv, capacity.csv is here"]
+    assert service._absent("DIR", names) == [
+        "DIR: none of settings.toml, demand.csv, costs.csv, capacity.csv is here"
+    ]
 
 
 class Odd:

@@ -1,4 +1,4 @@
-"""What commands print and write, word for word, over services of many kinds: printed/NAME.txt was read by a person."""
+"""What commands print and write over services of many kinds, word for word as printed/NAME.txt keeps it."""
 
 from __future__ import annotations
 
@@ -78,7 +78,8 @@ LINES = [
 ]
 KINDS = '[demand]\nrows = "kinds"\nlog = ["a.log"]\nqueries = 6300\nhandles = 400\n'
 CASES: dict[str, list[Step]] = {
-    "plan of two sites": [example("two-sites"), "plan s", "plan s --all --no-save", "plan s --csv", "show s/plan.txt"],
+    "plan of two sites": [example("two-sites"), "plan s", "plan s --all --no-save", "plan s --csv",
+        "show s/plan.txt"],
     "plan as JSON": [example("two-sites"), put("s/hsp.toml", TITLES), "plan s --json --no-save"],
     "plan with titles": [example("two-sites"), put("s/hsp.toml", TITLES), "plan s --unit cents --no-save"],
     "plan with another demand and output": [
@@ -89,7 +90,8 @@ CASES: dict[str, list[Step]] = {
     "plan of twelve sites": [twelve, "plan s --no-save", "plan s --no-save --all"],
     "plan with hosts": [by_hosts, "plan s --no-save", "plan s --no-save --json", "whatif s"],
     "plan of base": [example("base"), "plan s --no-save", "plan s --no-save --json", "plan s --no-save --csv"],
-    "plan in units": [units, "plan s", "plan s --json --no-save", "plan s --csv --no-save", "show s/capacity-in-units.csv"],
+    "plan in units": [units, "plan s", "plan s --json --no-save", "plan s --csv --no-save",
+        "show s/capacity-in-units.csv"],
     "plan of kinds": [example("two-sites"), put("s/hsp.toml", KINDS), "plan s", "plan s --json --no-save"],
     "plan without a query": [
         example("two-sites"),
@@ -151,8 +153,10 @@ CASES: dict[str, list[Step]] = {
         "plan s",
         "plan s --json",
     ],
-    "shortage with hosts": [by_hosts, edit("s/settings.toml", "limit = 2000", "limit = 1"), "plan s", "plan s --json"],
-    "shortage of dear costs": [example("two-sites"), edit("s/costs.csv", r"168$", "50001"), "plan s --demand s/premiere.csv"],
+    "shortage with hosts": [by_hosts, edit("s/settings.toml", "limit = 2000", "limit = 1"), "plan s",
+        "plan s --json"],
+    "shortage of dear costs": [example("two-sites"), edit("s/costs.csv", r"168$", "50001"),
+        "plan s --demand s/premiere.csv"],
     "what if": [
         example("two-sites"),
         put("s/hsp.toml", TITLES),
@@ -222,7 +226,8 @@ CASES: dict[str, list[Step]] = {
         "demand a.json --regions n.csv",
         *[
             step
-            for it in ("10.0.0.1/8,eu", "10.0.0.0/33,eu", "10.0.0,eu", "x,eu", "10.0.0.0/8", "10.0.0.0/8,eu\n10.0.0.0/8,us", "::1/x,eu")
+            for it in ("10.0.0.1/8,eu", "10.0.0.0/33,eu", "10.0.0,eu", "x,eu", "10.0.0.0/8",
+            "10.0.0.0/8,eu\n10.0.0.0/8,us", "::1/x,eu")
             for step in (put("n.csv", f"network,region\n{it}\n"), "demand a.json --regions n.csv")
         ],
         put("n.csv", "net,region\n10.0.0.0/8,eu\n"),
@@ -247,7 +252,8 @@ CASES: dict[str, list[Step]] = {
     "a demand before its service is whole": [
         example("two-sites"),
         put("n.csv", "network,region\n10.0.0.0/8,eu\n192.0.2.0/24,mars\n198.51.100.0/24,venus\n"),
-        put("a.csv", "client,handle\n10.0.0.1,20.500.1/a\n192.0.2.1,20.500.1/b\n10.0.0.1,static/css\n" + "10.0.0.2,20.500.1/c\n" * 200),
+        put("a.csv",
+            "client,handle\n10.0.0.1,20.500.1/a\n192.0.2.1,20.500.1/b\n10.0.0.1,static/css\n" + "10.0.0.2,20.500.1/c\n" * 200),
         "demand a.csv --regions n.csv --into s",
         "show s/demand.csv",
         "demand a.csv --regions n.csv --into s --unit 7",
@@ -309,7 +315,8 @@ PAGES: dict[str, list[Step]] = {
         "view s --before t -o p.html",
         "page p.html",
     ],
-    "a page without a query": [example("two-sites"), edit("s/demand.csv", r",\d+$", ",0"), "view s", "page s/plan.html"],
+    "a page without a query": [example("two-sites"), edit("s/demand.csv", r",\d+$", ",0"), "view s",
+        "page s/plan.html"],
 }  # fmt: skip
 
 
