@@ -36,31 +36,31 @@ release:
 
 # The checks that need no built program run before the proofs.
 test:
-	tools/packages.py
-	tools/make_examples.py --check
-	tools/draw_pictures.py --check
-	tools/check_docs.py --names
-	tools/list_reading.py --check
-	tools/list_proof.py --check
-	tools/write_vectors.py --check
-	tools/check_manual.py
-	tools/check_completions.py
-	tools/check_modules.py
-	RT_JOBS=$${RT_JOBS:-$$(tools/lanes.py)} rt ci
-	tools/check_docs.py
-	tools/check_examples.py
-	tools/check_install.py
-	tools/check_release.py
-	tools/check_growth.py
-	tools/check_program.py
-	tools/check_stream.py
-	tools/check_companion.py
-	tools/check_hostile.py
-	tools/check_limits.py
-	tools/check_io.py
+	tools/gate/packages.py
+	tools/gate/make_examples.py --check
+	tools/pictures/draw.py --check
+	tools/gate/check_docs.py --names
+	tools/gate/list_reading.py --check
+	tools/gate/list_proof.py --check
+	tools/gate/write_vectors.py --check
+	tools/gate/check_manual.py
+	tools/gate/check_completions.py
+	tools/gate/check_modules.py
+	RT_JOBS=$${RT_JOBS:-$$(tools/gate/lanes.py)} rt ci
+	tools/gate/check_docs.py
+	tools/gate/check_examples.py
+	tools/gate/check_install.py
+	tools/gate/check_release.py
+	tools/gate/check_growth.py
+	tools/gate/check_program.py
+	tools/gate/check_stream.py
+	tools/gate/check_companion.py
+	tools/gate/check_hostile.py
+	tools/gate/check_limits.py
+	tools/gate/check_io.py
 
 mutants:
-	tools/mutants.py
+	tools/fuzz/mutants.py
 
 fuzz:
-	tools/fuzz.py --cases $(or $(N),100000)
+	tools/fuzz/fuzz.py --cases $(or $(N),100000)

@@ -11,7 +11,8 @@ import subprocess
 import sys
 import tempfile
 
-import programs
+from lib import programs
+
 
 EXAMPLE = os.path.join(programs.TOP, "examples", "two-sites")
 INPUTS = "--settings settings.toml --demand demand.csv --costs costs.csv --capacity {}"

@@ -16,8 +16,8 @@ import subprocess
 import sys
 import tempfile
 
-import companion
-import programs
+from lib import companion, programs
+
 
 # What an installed program is asked, and what it has to answer.
 ASKED = {

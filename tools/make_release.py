@@ -8,7 +8,7 @@ guide needs no proof.
     release/SHA256SUMS                            the sum of the archive, for `sha256sum -c`
     release/MADE                                  version, the kit's line of `rt version`, the sum over the sources
 
-The same programs and files give the same archive, octet for octet. tools/check_release.py compares it with what is
+The same programs and files give the same archive, octet for octet. tools/gate/check_release.py compares it with what is
 proved and built.
 """
 from __future__ import annotations
@@ -23,8 +23,7 @@ import sys
 import tarfile
 import tempfile
 
-import companion
-import programs
+from lib import companion, programs
 
 
 def contents(made: dict[str, str]) -> dict[str, tuple[str, int]]:

@@ -19,8 +19,8 @@ import tempfile
 import time
 from typing import Optional
 
-import lanes
-import programs
+from lib import lanes, programs
+
 
 NEED_KIT = 'no rt in PATH: a proof takes the Rattle kit; README.md has more under "The kit"'
 

@@ -15,7 +15,7 @@ import subprocess
 import sys
 import tempfile
 
-import programs
+from lib import programs
 
 
 def run(words: list[str]) -> int:

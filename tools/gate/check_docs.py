@@ -1,0 +1,361 @@
+#!/usr/bin/env python3
+"""Checks the names and counts in the documents, runs each command of the documents with the built program, and
+compares what the commands print with what the documents show.
+
+The commands are those of the blocks marked `console`. The lines of such a block are a transcript, as
+tools/lib/transcripts.py describes it. The commands of one document run in turn in one shell. In a manual page the
+commands are the examples between `.EX` and `.EE`. They run in bash; those of the README and of docs/use run in dash
+and zsh as well, where these are installed.
+
+It fails where
+
+- the README or docs/understand/ARCHITECTURE.md does not name a crate of crates.txt;
+- a table of modules of docs/understand/ARCHITECTURE.md names one that is not there, or lacks one;
+- docs/maintain/GATE.md states another number of edits, tests, wrong bodies, crates or cases of the program than there
+  is;
+- a document names a link, a `make` target or a script that is not there;
+- a word of a fault has no row in docs/use/FAULTS.md or no paragraph in a manual page;
+- the README states another logic of the kit than this machine's kit has;
+- a command stands in a block that is not marked, or prints something else;
+- a file still has the marks of a merge.
+
+    tools/gate/check_docs.py --names               checks the names and counts only, without the program
+    tools/gate/check_docs.py [--program FILE]      does all
+"""
+from __future__ import annotations
+
+import argparse
+import glob
+import os
+import re
+import shutil
+import subprocess
+import sys
+from pathlib import Path
+
+sys.path.insert(0, str(Path(__file__).resolve().parents[1]))
+
+from lib import programs, transcripts
+
+
+PAGES = ("docs/use/hsplan.1", "docs/use/hsplan-stream.1", "docs/use/hsp.1")
+
+
+def text_of(path):
+    with open(os.path.join(programs.TOP, path), encoding="utf-8") as file:
+        return file.read()
+
+
+def rows(text):
+    """The cells of each row of a table, without heads and rules."""
+    lines = [it for it in text.splitlines() if it.startswith("|")]
+    cells = [[cell.strip() for cell in it.strip("|").split("|")] for it in lines]
+    return [
+        it
+        for at, it in enumerate(cells)
+        if not is_rule(lines[at]) and not (at + 1 < len(lines) and is_rule(lines[at + 1]))
+    ]
+
+
+def is_rule(line):
+    return set(line) <= set("|-: ")
+
+
+def named(cell):
+    return re.findall(r"`([^`]+)`", cell)
+
+
+def crates_of():
+    return [
+        line.split(":")[0].split()[0]
+        for line in text_of("crates.txt").splitlines()
+        if ":" in line and not line.startswith("#")
+    ]
+
+
+def missing_crates():
+    """The crates that a document does not name, and how many crates there are."""
+    crates = crates_of()
+    faults = [
+        f"{path} does not name the crate {it}"
+        for path in ("README.md", "docs/understand/ARCHITECTURE.md")
+        for it in crates
+        if f"`{it}`" not in text_of(path)
+    ]
+    return faults, len(crates)
+
+
+# Modules that every crate may have, and that no table names.
+EVERYWHERE = {"lib", "main", "laws", "fault"}
+
+
+def wrong_modules():
+    """The modules that a table of docs/understand/ARCHITECTURE.md names and that are not there, or that it lacks; and
+    how many it names."""
+    faults, count = [], 0
+    head = r"(?:^The modules of `(\w+)`:|^\*\*`(\w+)`\*\*[^\n]*)\n\n(\| Modules \|.*?)(?:\n\n|\Z)"
+    for plain, bold, table in re.findall(head, text_of("docs/understand/ARCHITECTURE.md"), re.M | re.S):
+        crate = plain or bold
+        stated = {it for row in rows(table) for it in named(row[0])}
+        there = {os.path.basename(it)[:-3] for it in glob.glob(f"{programs.TOP}/crates/{crate}/src/*.rt")}
+        count += len(stated)
+        faults += [
+            f"docs/understand/ARCHITECTURE.md names a module that {crate} does not have: {it}"
+            for it in sorted(stated - there)
+        ]
+        faults += [
+            f"docs/understand/ARCHITECTURE.md lacks a module of {crate}: {it}"
+            for it in sorted(there - stated - EVERYWHERE)
+        ]
+    return faults, count
+
+
+def tests_of(crate):
+    """The number of tests in the sources of a crate."""
+    paths = glob.glob(f"{programs.TOP}/crates/{crate}/src/**/*.rt", recursive=True)
+    return sum(len(re.findall(r"^\s*#\[test\]$", text_of(os.path.relpath(it, programs.TOP)), re.M)) for it in paths)
+
+
+def there_of(crate):
+    """The numbers of must-fail edits, tests and wrong bodies of a crate, which docs/maintain/GATE.md has to state."""
+    edits = glob.glob(f"{programs.TOP}/crates/{crate}/must-fail/*.edit")
+    bodies = glob.glob(f"{programs.TOP}/mutants/{crate}/*.edit")
+    return [len(edits), tests_of(crate), len(bodies)]
+
+
+def wrong_counts():
+    """The counts of docs/maintain/GATE.md that differ from what is there, and how many crates it counts."""
+    there = {it: there_of(it) for it in crates_of()}
+    stated = {
+        named(it[0])[0]: it[4:] for it in rows(text_of("docs/maintain/GATE.md")) if len(it) == 7 and named(it[0])
+    }
+    faults = [
+        f"docs/maintain/GATE.md counts a crate that is not in crates.txt: {it}" for it in stated if it not in there
+    ]
+    for crate, counts in there.items():
+        wanted = [str(it) for it in counts]
+        if stated.get(crate) != wanted:
+            faults.append(
+                f"docs/maintain/GATE.md: edits, tests and wrong bodies of {crate}: "
+                f"stated {stated.get(crate)}, there are {wanted}"
+            )
+    sums = (
+        [len(there)]
+        + [sum(it[at] for it in there.values()) for at in range(3)]
+        + [len(os.listdir(f"{programs.TOP}/checks/program"))]
+    )
+    sentence = "{} crates, {} must-fail edits, {} tests, {} wrong bodies and {} cases of the program".format(*sums)
+    if sentence not in " ".join(text_of("docs/maintain/GATE.md").split()):
+        faults.append(f"docs/maintain/GATE.md does not say: {sentence}")
+    return faults, len(stated)
+
+
+def documents():
+    """The paths of the documents in Markdown."""
+    paths = (
+        glob.glob(f"{programs.TOP}/*.md")
+        + glob.glob(f"{programs.TOP}/docs/**/*.md", recursive=True)
+        + glob.glob(f"{programs.TOP}/examples/*.md")
+    )
+    return sorted(os.path.relpath(it, programs.TOP) for it in paths)
+
+
+def blocks(text):
+    """The blocks of a document, each as its mark and its lines. The text between blocks has the mark None."""
+    parts = re.split(r"^```(.*)\n", text, flags=re.M)
+    marks = [None] + parts[1::2]
+    return [(mark if at % 2 else None, part.splitlines()) for at, (mark, part) in enumerate(zip(marks, parts[0::2]))]
+
+
+def missing_links():
+    """The links of documents to files and headings that are not there, and how many links there are."""
+    inline, named = r"\]\(([^)#:]*(?:#[^)]*)?)\)", r"^\[\w+\]: ([^#:\s]*(?:#\S*)?)$"
+    links = [
+        (path, it) for path in documents() for kind in (inline, named) for it in re.findall(kind, text_of(path), re.M)
+    ]
+    return [f"{path} links to nothing: {it}" for path, it in links if not leads_somewhere(path, it)], len(links)
+
+
+def leads_somewhere(path, target):
+    file, _, heading = target.partition("#")
+    aim = os.path.normpath(os.path.join(os.path.dirname(path), file)) if file else path
+    if not os.path.exists(os.path.join(programs.TOP, aim)):
+        return False
+    titles = re.findall(r"^#+ (.*)$", text_of(aim), re.M) if aim.endswith(".md") else []
+    return not heading or heading in [re.sub(r"[^a-z0-9 -]", "", it.lower()).replace(" ", "-") for it in titles]
+
+
+def missing_targets():
+    """The `make` targets and scripts that documents name and that are not there, and how many they name."""
+    targets = set(re.findall(r"^([a-z]+):", text_of("Makefile"), re.M))
+    faults, count = [], 0
+    for path in documents():
+        makes = re.findall(r"(?:`|^    )make ([a-z]+)", text_of(path), re.M)
+        scripts = re.findall(r"\btools/[a-z_/]+\.(?:py|c|cpp)\b", text_of(path))
+        count += len(makes) + len(scripts)
+        faults += [
+            f"{path} names a target that the Makefile does not have: {it}" for it in makes if it not in targets
+        ]
+        faults += [
+            f"{path} names a file that is not there: {it}"
+            for it in scripts
+            if not os.path.exists(os.path.join(programs.TOP, it))
+        ]
+    return faults, count
+
+
+def unmarked():
+    """The commands that stand outside of the blocks marked `console`, and how many lines stand there."""
+    lines = [
+        (path, it)
+        for path in documents()
+        for mark, block in blocks(text_of(path))
+        if mark != "console"
+        for it in block
+    ]
+    return [
+        f"{path} has a command outside of the blocks marked console: {it}"
+        for path, it in lines
+        if re.match(r" *\$ \w", it)
+    ], len(lines)
+
+
+def fault_words():
+    """The words that the line of a fault may have, from the sources."""
+    sources = [f"crates/hsp_faults/src/{it}" for it in ("fault_text.rt", "fault_words.rt", "verdict_text.rt")]
+    sources.append("crates/hsp_stream/src/fault_text.rt")
+    found = [word for it in sources for word in re.findall(r'b"(?:\d+ )?([A-Z][A-Za-z0-9]+)', text_of(it))]
+    return sorted(set(found) | {"Usage", "read failed", "write failed"})
+
+
+def missing_words():
+    """The words of faults without a row in docs/use/FAULTS.md or a paragraph in a manual page, and how many words
+    there are."""
+    listed = {
+        cell.split()[-1] if cell[:1].isdigit() or cell.startswith("log: ") else cell
+        for cell in (it[0] for it in rows(text_of("docs/use/FAULTS.md")))
+    }
+    manual = {
+        it.split()[-1] if it.startswith("log:") else it
+        for page in PAGES
+        for it in re.findall(r"^\.B (.*)$", text_of(page), re.M)
+    }
+    words = fault_words()
+    faults = [f"docs/use/FAULTS.md has no row for {it}" for it in words if it not in listed]
+    return faults + [f"no manual page has a paragraph for {it}" for it in words if it not in manual], len(words)
+
+
+def manual_steps(page):
+    """The commands of a manual page."""
+    examples = re.findall(r"^\.EX\n(.*?)^\.EE$", text_of(page), re.M | re.S)
+    lines = [line.replace("\\-", "-").replace("\\e", "\\") for it in examples for line in it.splitlines()]
+    return transcripts.steps_of(lines)
+
+
+def files():
+    """The files of the repository, without what git keeps, compiled Python and what the folders `out` hold."""
+    for at, folders, names in os.walk(programs.TOP):
+        folders[:] = sorted(it for it in folders if it not in (".git", "out", "__pycache__"))
+        yield from (os.path.join(at, it) for it in names)
+
+
+def merge_marks():
+    """The marks of a merge that were left in files, and how many files there are."""
+    faults, count = [], 0
+    for path in files():
+        count += 1
+        with open(path, "rb") as file:
+            lines = file.read().split(b"\n")
+        faults += [
+            f"{os.path.relpath(path, programs.TOP)}:{at}: a mark of a merge"
+            for at, it in enumerate(lines, 1)
+            if re.match(rb"(<{7}|>{7}) |={7}$", it)
+        ]
+    return faults, count
+
+
+def wrong_kit():
+    """The fault where the README does not name the kit of this machine. The README states the sum of the kit's logic,
+    and any kit 13 with this logic will do."""
+    if not shutil.which("rt"):
+        print("note: no rt in PATH, so the kit that README.md names was not compared")
+        return [], 1
+    said = subprocess.run(["rt", "version"], capture_output=True, text=True, check=True).stdout.strip()
+    name, _, logic = said.partition(" logic ")
+    fine = (
+        logic
+        and name.startswith("rattle-kit-13")
+        and f"`logic {logic}`" in text_of("README.md")
+        and "`rattle-kit-13`" in text_of("README.md")
+    )
+    return [] if fine else [f"README.md does not name this machine's kit: {said}"], 1
+
+
+def wrong_commands(program):
+    """The commands of the documents that print something other than the documents show, and how many there are."""
+    found = {
+        path: [
+            step for mark, lines in blocks(text_of(path)) if mark == "console" for step in transcripts.steps_of(lines)
+        ]
+        for path in documents()
+    }
+    found.update({page: manual_steps(page) for page in PAGES})
+    faults = [
+        fault for path, steps in found.items() if steps for fault in transcripts.faults_of(path, steps, program)
+    ]
+    for shell in ("dash", "zsh"):
+        faults += wrong_in(
+            shell,
+            {path: steps for path, steps in found.items() if path == "README.md" or path.startswith("docs/use/")},
+            program,
+        )
+    return faults, sum(len(it) for it in found.values())
+
+
+def wrong_in(shell, found, program):
+    """The commands of operators' pages that print something else in another shell than bash, if that is installed."""
+    if not shutil.which(shell):
+        print(f"{shell} IS NOT INSTALLED HERE: the commands of operators' pages were not tried with it")
+        return []
+    return [
+        fault
+        for path, steps in found.items()
+        if steps
+        for fault in transcripts.faults_of(f"{path}, by {shell}", steps, program, None, shell)
+    ]
+
+
+KINDS = {
+    "crates": missing_crates,
+    "modules of crates": wrong_modules,
+    "crates counted": wrong_counts,
+    "links": missing_links,
+    "targets and scripts": missing_targets,
+    "lines outside of transcripts": unmarked,
+    "words of faults": missing_words,
+    "files without marks of a merge": merge_marks,
+    "kits": wrong_kit,
+}
+
+
+def main():
+    arguments = argparse.ArgumentParser(description="Checks the names in the documents, and runs their commands.")
+    arguments.add_argument("--names", action="store_true", help="run no command")
+    arguments.add_argument(
+        "--program", default=transcripts.PROGRAM, help="the program that is run, if not the built one"
+    )
+    chosen = arguments.parse_args()
+    if not chosen.names and not os.access(chosen.program, os.X_OK):
+        print(f"no program {chosen.program}: run rt ci or make prove first")
+        return 1
+    found = {kind: check() for kind, check in KINDS.items()}
+    if not chosen.names:
+        found["commands run"] = wrong_commands(chosen.program)
+    faults = [fault for it, _ in found.values() for fault in it]
+    counts = ", ".join(f"{count} {kind}" for kind, (_, count) in found.items())
+    print("\n".join(faults + [f"documents: {counts}; {len(faults)} faults"]))
+    return 1 if faults or not all(count for _, count in found.values()) else 0
+
+
+if __name__ == "__main__":
+    sys.exit(main())

@@ -1,0 +1,106 @@
+#!/usr/bin/env python3
+"""Installs the program built here into an empty folder, by `make install` with DESTDIR and PREFIX.
+
+The installed program has to be the one built here, and to run from another folder. The manual page, the completions
+and the guide have to be there. `make uninstall` has to leave no file, and no folder but those that were there before.
+
+The program has to be built already, by `rt ci` or `make prove`, and no source may be newer.
+"""
+from __future__ import annotations
+
+import os
+import subprocess
+import sys
+import tempfile
+from pathlib import Path
+
+sys.path.insert(0, str(Path(__file__).resolve().parents[1]))
+
+from lib import companion, programs
+
+
+def make(target, room, *more):
+    return subprocess.run(
+        ["make", *more, target, f"DESTDIR={room}", "PREFIX=/usr"],
+        cwd=programs.TOP,
+        stdout=subprocess.PIPE,
+        stderr=subprocess.STDOUT,
+        text=True,
+    )
+
+
+def octets_of(path):
+    if not os.path.isfile(path):
+        return None
+    with open(path, "rb") as file:
+        return file.read()
+
+
+def files_below(folder):
+    return [os.path.join(path, it) for path, _, names in os.walk(folder) for it in names]
+
+
+def folders_below(folder):
+    return [os.path.join(path, it) for path, names, _ in os.walk(folder) for it in names]
+
+
+def wrong_answer(program, room):
+    """A fault where the program does not answer from an empty folder with an empty environment."""
+    words = ["locate", "--option", "local", "--servers", "2", "10/3"]
+    said = subprocess.run(
+        [program] + words, cwd=room, env={}, stdout=subprocess.PIPE, stderr=subprocess.STDOUT, text=True
+    ).stdout
+    return [] if said == "1\n" else [f"the installed program printed {said!r}"]
+
+
+def wanted_files():
+    """The files that are installed, each with its installed path."""
+    built = {
+        os.path.relpath(programs.built_path(it), programs.TOP): os.path.join("bin", it) for it in programs.PROGRAMS
+    }
+    return {**built, **programs.FILES}
+
+
+def wrong_companion(path):
+    """A fault where the installed companion is not that of this tree."""
+    return [] if octets_of(path) == companion.archive() else ["hsp is not installed, or another one"]
+
+
+def faults_in(room):
+    own = os.path.join(room, "usr", "share", "man")
+    os.makedirs(own)
+    installed = make("install", room)
+    if installed.returncode:
+        return [f"make install: {installed.stdout}"]
+    other = [
+        it
+        for it, path in wanted_files().items()
+        if octets_of(os.path.join(room, "usr", path)) != octets_of(os.path.join(programs.TOP, it))
+    ]
+    found = [f"{it} is not installed, or not unchanged" for it in other] + wrong_answer(
+        os.path.join(room, "usr", "bin", "hsplan"), room
+    )
+    found += wrong_companion(os.path.join(room, "usr", "bin", "hsp"))
+    removed = make("uninstall", room)
+    return (
+        found
+        + [f"make uninstall left {it}" for it in files_below(room)]
+        + [f"make uninstall left the folder {it}" for it in folders_below(room) if not own.startswith(it)]
+        + ([] if os.path.isdir(own) else [f"make uninstall took {own}, which it hadn't made"])
+        + ([] if removed.returncode == 0 else [removed.stdout])
+    )
+
+
+def main():
+    absent = [it for it in programs.PROGRAMS if not programs.built(it)]
+    faults = [f"{it} is not built, or a source is newer: run rt ci first" for it in absent]
+    if not absent:
+        with tempfile.TemporaryDirectory() as room:
+            faults = faults_in(room)
+    tried = "not tried" if absent else f"{len(wanted_files()) + 1} files installed and removed"
+    print("\n".join(faults + [f"install: {tried}, {len(faults)} faults"]))
+    return 1 if faults else 0
+
+
+if __name__ == "__main__":
+    sys.exit(main())

@@ -1,0 +1,222 @@
+#!/usr/bin/env python3
+"""Compares the folder `release` with this tree and with what the gate proved and built, and tries it without the kit.
+
+It fails where
+
+- the version, the sources or a sum differ from what release/MADE and release/SHA256SUMS state;
+- the archive lacks a file of this tree, or holds another one;
+- a program in it is not octet for octet the one in crates/NAME/out.
+
+With another kit than that of MADE, two builds may differ. Then the programs are reported as NOT COMPARED, with the
+lines of both kits, and the cases of checks/program are run with the released program.
+
+Then a copy of the tree in an empty folder, without anything built, is tried with a PATH that has no `rt`, and as a
+user other than root. Tried are `make demo`, `make try`, `make install` and the installed program, and what is printed
+on another machine, without a release, and with a forged one.
+"""
+from __future__ import annotations
+
+import filecmp
+import os
+import shutil
+import subprocess
+import sys
+import tempfile
+import time
+from typing import Callable, Optional
+from pathlib import Path
+
+sys.path.insert(0, str(Path(__file__).resolve().parents[1]))
+
+from lib import cases, companion, programs
+
+
+LIMIT = 10
+PATH = "/usr/bin:/bin"
+README = "README.md has more"
+PLAN = "plan --settings {0}/settings.toml --demand {0}/{1} --costs {0}/costs.csv --capacity {0}/capacity.csv"
+LEFT_OUT = shutil.ignore_patterns("out", ".git", "__pycache__", "must-fail", "mutants")
+
+
+def wrong_names() -> list[str]:
+    """The faults where MADE does not state the version and the sources of this tree."""
+    made, faults = programs.made(), []
+    if made.get("version") != programs.version():
+        faults.append(f"release/MADE is of version {made.get('version')}, and VERSION says {programs.version()}")
+    if made.get("sources") != programs.digest():
+        faults.append("release/MADE is of other sources: run make release")
+    return faults
+
+
+def wrong_files(room: str) -> list[str]:
+    """The files of the unpacked release that differ from those of this tree, apart from the programs."""
+    there = {os.path.relpath(os.path.join(at, it), room) for at, _, names in os.walk(room) for it in names}
+    wanted = {target: source for source, target in programs.FILES.items()}
+    faults = [
+        f"the release has no {it}"
+        for it in sorted(set(wanted) | {f"bin/{it}" for it in programs.PROGRAMS})
+        if it not in there
+    ]
+    faults += [
+        f"the release has {it}, which nothing installs"
+        for it in sorted(there - set(wanted))
+        if not it.startswith("bin/")
+    ]
+    same = {
+        it
+        for it in there & set(wanted)
+        if filecmp.cmp(os.path.join(room, it), os.path.join(programs.TOP, wanted[it]), shallow=False)
+    }
+    faults += [f"the release has another {wanted[it]}: run make release" for it in sorted(there & set(wanted) - same)]
+    return faults + wrong_companion(os.path.join(room, "bin", "hsp"))
+
+
+def wrong_companion(path: str) -> list[str]:
+    """A fault where the released companion is not the one of this tree."""
+    if not os.path.isfile(path):
+        return ["the release has no bin/hsp"]
+    with open(path, "rb") as file:
+        fine = file.read() == companion.archive()
+    return [] if fine else ["the release has another bin/hsp: run make release"]
+
+
+def wrong_programs(room: str, kit: str) -> list[str]:
+    """The released programs that differ from the built ones, where the kit is the same. Where it is another one, the
+    faults of the program's cases."""
+    made = programs.made().get("kit", "")
+    faults = []
+    for name in programs.PROGRAMS:
+        path = os.path.join(room, "bin", name)
+        if made != kit:
+            print(f"{name}: NOT COMPARED: it was made with {made}, and this machine has {kit}")
+            print("the cases of checks/program are run with the released one")
+            faults += cases.all_faults(path)
+        elif not programs.built(name):
+            faults.append(f"{name} is not built here, or older than a source: run rt ci")
+        elif programs.sum_of(path) != programs.sum_of(programs.built_path(name)):
+            faults.append(f"the released {name} is not the one that was proved and built here: run make release")
+        else:
+            print(f"{name}: octet for octet the one that was proved and built here")
+    return faults
+
+
+class Visitor:
+    """Someone who cloned the repository: a copy of it, a home and a PATH without `rt`. Where this script runs as
+    root, it is another user."""
+
+    def __init__(self, room: str) -> None:
+        self.top, self.home = os.path.join(room, "hsplan"), os.path.join(room, "home")
+        shutil.copytree(programs.TOP, self.top, ignore=LEFT_OUT)
+        os.mkdir(self.home)
+        self.user: Optional[str] = "nobody" if os.geteuid() == 0 else None
+        if self.user:
+            os.chmod(room, 0o755)
+            for at, folders, names in os.walk(room):
+                for it in [at] + [os.path.join(at, name) for name in names]:
+                    shutil.chown(it, self.user)
+
+    def run(self, words: str, within: str = "", before: str = "") -> tuple[str, int]:
+        """Runs a line of the shell in the top of the copy, or in a folder of the home. Returns what it prints, and
+        its status."""
+        line = f"{before} {words}".strip()
+        environment = {"PATH": PATH, "HOME": self.home, "LC_ALL": "C.UTF-8"}
+        more = {"user": self.user, "group": "nogroup", "extra_groups": []} if self.user else {}
+        ended = subprocess.run(
+            ["sh", "-c", line],
+            cwd=os.path.join(self.home, within) if within else self.top,
+            env=environment,
+            stdin=subprocess.DEVNULL,
+            stdout=subprocess.PIPE,
+            stderr=subprocess.STDOUT,
+            text=True,
+            **more,
+        )
+        return ended.stdout, ended.returncode
+
+
+def expected(visitor: Visitor, words: str, status: int, parts: list[str], **how: str) -> list[str]:
+    """The fault of a command that has another status, lacks a wanted text, or prints a traceback."""
+    printed, got = visitor.run(words, **how)
+    fine = (
+        got == status and all(it in printed for it in parts) and "Traceback" not in printed and "***" not in printed
+    )
+    return [] if fine else [f"{words}: wanted status {status} and {parts}, got {got}:\n{printed}"]
+
+
+def visit(visitor: Visitor) -> list[str]:
+    """The faults that someone meets who plans with the released program."""
+    example, released = "examples/two-sites", f"the released program, version {programs.version()}"
+    installed = f"{visitor.home}/.local/bin/hsplan"
+    short = PLAN.format(example, "premiere.csv")
+    begun = time.monotonic()
+    faults = expected(visitor, "make demo", 0, [released + ".\n", "\nyes\n", "bound 523976 - 216760 = 307216"])
+    faults += expected(visitor, "make install PREFIX=$HOME/.local", 0, [released + "\n"])
+    faults += expected(
+        visitor,
+        f"{installed} {PLAN.format(visitor.top + '/' + example, 'demand.csv')}",
+        0,
+        ["cost 307216"],
+        within=".local",
+    )
+    gone = time.monotonic() - begun
+    faults += [f"demo, installation and a plan took {gone:.1f} seconds"] if gone > LIMIT else []
+    faults += expected(visitor, f"make try ARGS='{short}'", 0, ["SHORTAGE", "\nstatus 3\n"])
+    faults += expected(visitor, f"tools/try.py {short}", 3, ["SHORTAGE"])
+    faults += expected(visitor, "make try ARGS='locate --option handle --servers 3 20.500.1234/film-5'", 0, ["1\n"])
+    faults += expected(visitor, "make uninstall PREFIX=$HOME/.local && ! test -e $HOME/.local", 0, [])
+    print(f"demo, installation and a plan without the kit: {gone:.1f} seconds")
+    return faults
+
+
+def nothing_fits(visitor: Visitor, before: str, why: str) -> list[str]:
+    """The faults of scripts that do not print the reason in one line where no program can be run."""
+    faults = []
+    for words in (
+        "tools/demo.py",
+        "tools/try.py locate --option local --servers 2 10/3",
+        "tools/install.py --prefix $HOME/.local",
+    ):
+        printed, status = visitor.run(words, before=before)
+        if status == 0 or why not in printed or README not in printed or printed.count("\n") != 1:
+            faults.append(f"{before} {words}: wanted one line with {why!r}, got status {status}:\n{printed}")
+    return faults
+
+
+def strangers(visitor: Visitor) -> list[str]:
+    """The faults on another machine, without the kit, with a forged release, and without a release."""
+    archive = os.path.join(visitor.top, "release", os.path.basename(programs.archive()))
+    faults = nothing_fits(visitor, "setarch i686", "needs Linux on x86_64")
+    faults += expected(visitor, "tools/prove.py", 1, ["no rt in PATH", README])
+    with open(archive, "r+b") as file:
+        file.seek(1000)
+        file.write(b"forged")
+    faults += nothing_fits(visitor, "", "does not have the sum")
+    os.remove(archive)
+    return faults + nothing_fits(visitor, "", "there is no release of version")
+
+
+def tried(check: Callable[[Visitor], list[str]]) -> list[str]:
+    with tempfile.TemporaryDirectory() as room:
+        return check(Visitor(room))
+
+
+def main() -> int:
+    kit = subprocess.run(["rt", "version"], stdout=subprocess.PIPE, text=True, check=True).stdout.strip()
+    faults = wrong_names()
+    with tempfile.TemporaryDirectory() as folder:
+        try:
+            room = programs.unpacked(folder)
+            faults += wrong_files(room) + wrong_programs(room, kit)
+        except programs.Missing as missing:
+            faults.append(str(missing))
+    if shutil.which("rt", path=PATH):
+        faults.append(f"{PATH} has an rt: the release was not tried without the kit")
+    elif not faults:
+        faults += tried(visit) + tried(strangers)
+    count = len(programs.FILES) + len(programs.PROGRAMS) + 1
+    print("\n".join(faults + [f"release: version {programs.version()}, {count} files, {len(faults)} faults"]))
+    return 1 if faults else 0
+
+
+if __name__ == "__main__":
+    sys.exit(main())

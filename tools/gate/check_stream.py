@@ -1,0 +1,358 @@
+#!/usr/bin/env python3
+"""Runs the built program hsplan-stream, beside hsplan, over logs.
+
+    tools/gate/check_stream.py [--program FILE] [--hsplan FILE] [--million N]
+
+What has to be printed is computed by tools/lib/stream_service.py. The worked cases stand in checks/hsplan-stream, and
+tools/gate/check_program.py runs them. Here are tried:
+
+- the options that the help names;
+- random logs: the table of kinds with and without units, places, and answers by a plan, by each front and in units;
+- a log in parts, whose tables are joined;
+- examples/twelve-sites, planned by rows and by kinds, at the same cost;
+- a co-process over pipes: each row is answered within a second, before the next one is written;
+- a log of a million handles: its table, its plan, and `answer` over the same log, line by line as `hsplan dispatch`
+  answers the log with each handle replaced by its row's; none of its runs takes more than 64 MB;
+- each open, read and write of some runs failing in turn.
+"""
+from __future__ import annotations
+
+import argparse
+import csv
+import errno
+import io
+import os
+import random
+import re
+import subprocess
+import sys
+import tempfile
+import threading
+import time
+from typing import Iterable
+from pathlib import Path
+
+sys.path.insert(0, str(Path(__file__).resolve().parents[1]))
+
+from lib import examples, failing, preload, programs
+from lib import stream_service as service
+
+
+FILES = "--settings settings.toml --costs costs.csv"
+INPUTS = service.INPUTS
+ANSWER = f"answer {INPUTS} --plan plan.txt --log /dev/stdin"
+LIMIT_KB = 64 * 1024
+HELP_BEGINS = "hsplan-stream: tables, places and answers for logs of any length\n"
+
+COMMANDS = ("kinds", "places", "answer")
+
+Ended = tuple[bytes, bytes, int]
+
+
+class Programs:
+    """The two programs, and the folder in which they run."""
+
+    def __init__(self, stream: str, hsplan: str, folder: str) -> None:
+        self.stream, self.hsplan, self.folder = stream, hsplan, folder
+
+    def run(self, words: str, given: bytes = b"", **more: str) -> Ended:
+        """Runs hsplan-stream with words and standard input. Returns what it printed, and its status."""
+        ended = subprocess.run(
+            [self.stream, *words.split()],
+            input=given,
+            cwd=self.folder,
+            stdout=subprocess.PIPE,
+            stderr=subprocess.PIPE,
+            env=dict(os.environ, **more),
+        )
+        return ended.stdout, ended.stderr, ended.returncode
+
+    def plan(self, folder: str = "", demand: str = "demand.csv") -> bytes:
+        """The text of a plan by hsplan, also kept as plan.txt."""
+        words = ["plan", *INPUTS.replace("demand.csv", demand).split()]
+        text = subprocess.run([self.hsplan, *words], cwd=folder or self.folder, stdout=subprocess.PIPE).stdout
+        with open(os.path.join(folder or self.folder, "plan.txt"), "wb") as file:
+            file.write(text)
+        return text
+
+    def put(self, name: str, octets: bytes) -> None:
+        with open(os.path.join(self.folder, name), "wb") as file:
+            file.write(octets)
+
+
+def fault(what: str, got: object, wanted: object) -> list[str]:
+    """A fault where the two differ."""
+    shown = (str(it)[:600] for it in (wanted, got))
+    return [] if got == wanted else ["{}: wanted {}, got {}".format(what, *shown)]
+
+
+# ---- words
+
+PLACES = "places --settings settings.toml --log /dev/stdin"
+KINDS = f"kinds {FILES} --log /dev/stdin"
+
+
+def check_help(it: Programs) -> list[str]:
+    """The help is the same however it is asked for, and names the options that the manual page names."""
+    found = []
+    for words in ("--help", "kinds --help"):
+        out, line, status = it.run(words)
+        found += fault(words, (out.decode().startswith(HELP_BEGINS), line, status), (True, b"", 0))
+        found += fault(f"the options of {words}", options_in_help(out.decode()), options_in_manual())
+    return found
+
+
+def options_in_help(text: str) -> dict[str, list[str]]:
+    """The options of each command, in their order, in the lines of the help that begin with the program's name, and
+    in the lines below these that don't explain."""
+    found: dict[str, list[str]] = {}
+    for part in text.split("\n\n")[1:]:
+        usage = re.split(r"^    [a-z]", part, maxsplit=1, flags=re.M)[0]
+        if usage.startswith("hsplan-stream ") and usage.split()[1] in COMMANDS:
+            found[usage.split()[1]] = re.findall(r"--([a-z]+)", usage)
+    return found
+
+
+def options_in_manual() -> dict[str, list[str]]:
+    """The same in the synopsis of the manual page."""
+    page = programs.text_of("docs", "use", "hsplan-stream.1").replace("\\-", "-")
+    synopsis, inputs = page.split(".SH SYNOPSIS\n")[1].split(".SH DESCRIPTION\n")[0].split(".I inputs\nare\n")
+    parts = (it.replace(".I inputs\n", inputs) for it in synopsis.split(".SY hsplan-stream\n.B ")[1:])
+    named = {part.split()[0]: re.findall(r"--([a-z]+)", part) for part in parts}
+    return {command: named[command] for command in COMMANDS}
+
+
+# ---- random logs
+
+
+def log_of(header: str, rows: Iterable[Iterable[object]]) -> bytes:
+    return service.csv_of(header, rows)
+
+
+def check_kinds(it: Programs, draw: random.Random) -> list[str]:
+    """The table of random logs, whole, in units, and in parts."""
+    rows = [(*entry, draw.choice((0, 1, 7, 900))) for entry in service.entries(draw, 3_000)]
+    header = "region,handle,count"
+    found = []
+    for unit in (1, 7, 1_000_000):
+        wanted = log_of(header, service.table_of(rows, unit))
+        found += fault(
+            f"kinds in units of {unit}", it.run(f"{KINDS} --unit {unit}", log_of(header, rows)), (wanted, b"", 0)
+        )
+    ones = [(region, handle, 1) for region, handle, _ in rows]
+    wanted = log_of(header, service.table_of(ones))
+    log = log_of("region,handle", [row[:2] for row in rows])
+    found += fault("kinds of rows that count 1", it.run(KINDS, log), (wanted, b"", 0))
+    parts = [it.run(KINDS, log_of(header, rows[at : at + 700]))[0] for at in range(0, len(rows), 700)]
+    joined = parts[0] + b"".join(part.split(b"\n", 1)[1] for part in parts[1:])
+    return found + fault("kinds in parts", it.run(KINDS, joined), it.run(KINDS, log_of(header, rows)))
+
+
+def check_places(it: Programs, draw: random.Random) -> list[str]:
+    rows = [entry for entry in service.entries(draw, 500) if "\r" not in entry[1]]
+    wanted = log_of("handle,site,place,server_id", (line for _, handle in rows for line in service.places_of(handle)))
+    found = fault("places", it.run(PLACES, log_of("region,handle", rows)), (wanted, b"", 0))
+    return found + fault(
+        "places of handles", it.run(PLACES, log_of("handle", ([it] for _, it in rows))), (wanted, b"", 0)
+    )
+
+
+def check_answers(it: Programs, draw: random.Random) -> list[str]:
+    """Answers to a random log by a plan, in units, and by each front, as the definition gives them."""
+    demand = service.table_of((*entry, draw.choice((0, 3, 40))) for entry in service.entries(draw, 60, 12))
+    service.put_service(it.folder, demand, 200)
+    uses = service.uses_of(it.plan())
+    found = fault("a plan of random rows", bool(uses), True)
+    rows = [entry for entry in service.entries(draw, 4_000) if "\r" not in entry[1]] + [("mars", "10/1")]
+    log = log_of("region,handle", rows)
+    for unit, fronts, front in ((1, 1, 0), (9, 1, 0), (1, 3, 0), (1, 3, 2), (5, 4, 1)):
+        words = f"{ANSWER} --unit {unit} --fronts {fronts} --front {front}"
+        dispatcher = service.Dispatcher(demand, uses, unit, fronts, front)
+        wanted = [dispatcher.answer(*row) for row in rows]
+        kinds = [line.split()[0] for line in wanted]
+        sums = " ".join(f"{word} {kinds.count(word)}" for word in ("assigned", "spent", "unknown", "refused"))
+        printed = "".join(f"{line}\n" for line in wanted).encode()
+        found += fault(words, it.run(words, log), (printed, f"{sums}\n".encode(), 0))
+    return found
+
+
+def check_twelve(it: Programs) -> list[str]:
+    """The plan of examples/twelve-sites costs the same by rows and by kinds."""
+    with tempfile.TemporaryDirectory() as folder:
+        examples.write(folder, examples.twelve_sites())
+        here = Programs(it.stream, it.hsplan, folder)
+        table, _, status = here.run(f"kinds {FILES} --log demand.csv")
+        here.put("kinds.csv", table)
+        costs = [here.plan(folder, name).splitlines()[2] for name in ("demand.csv", "kinds.csv")]
+    rows = table.count(b"\n") - 1
+    return fault("twelve sites by rows and by kinds", (status, costs, rows), (0, [b"cost 17838403"] * 2, 3428))
+
+
+# ---- a co-process
+
+
+def check_talk(it: Programs, rows: int = 2_000) -> list[str]:
+    """Each row of a co-process is answered within a second, before the next one is written."""
+    running = subprocess.Popen(
+        [it.stream, *ANSWER.split()],
+        cwd=it.folder,
+        stdin=subprocess.PIPE,
+        stdout=subprocess.PIPE,
+        stderr=subprocess.PIPE,
+    )
+    assert running.stdin and running.stdout and running.stderr
+    watch = threading.Timer(60, running.kill)
+    watch.start()
+    running.stdin.write(b"region,handle\n")
+    running.stdin.flush()
+    slowest, begun = 0.0, time.monotonic()
+    for number in range(rows):
+        asked = time.monotonic()
+        running.stdin.write(b"eu,10.1/h%d\n" % (number % 50) if number % 5 else b"eu\n")
+        running.stdin.flush()
+        line = running.stdout.readline()
+        slowest = max(slowest, time.monotonic() - asked)
+        if not line.endswith(b"\n"):
+            running.kill()
+            return [f"the co-process ended at row {number}: {line!r}"]
+    each = (time.monotonic() - begun) / rows
+    running.stdin.close()
+    rest, reported, status = running.stdout.read(), running.stderr.read(), running.wait()
+    watch.cancel()
+    print(f"co-process: {rows} rows, each after the answer before, {each * 1e6:.0f} microseconds a row")
+    found = [] if slowest < 1 else [f"a row of the co-process took {slowest:.1f} seconds"]
+    return found + fault(
+        "the end of the co-process", (rest, reported.startswith(b"assigned "), status), (b"", True, 0)
+    )
+
+
+# ---- a million handles
+
+
+def measured(words: list[str], folder: str, given: str, out: str) -> tuple[int, int, float]:
+    """Runs a program over files. Returns its status, its greatest memory in kB, and its seconds of a processor."""
+    with open(given, "rb") as log, open(out, "wb") as printed:
+        running = subprocess.Popen(words, cwd=folder, stdin=log, stdout=printed, stderr=subprocess.DEVNULL)
+        _, status, used = os.wait4(running.pid, 0)
+    running.returncode = status
+    return os.waitstatus_to_exitcode(status), used.ru_maxrss, used.ru_utime + used.ru_stime
+
+
+def replaced(table: bytes, log: str, to: str) -> None:
+    """Writes a log whose handles are replaced by those of their rows in the table."""
+    rows = list(csv.reader(io.StringIO(table.decode())))[1:]
+    named = {service.kind_of(region, handle): handle for region, handle, _ in rows}
+    with open(log, encoding="utf-8") as lines, open(to, "w", encoding="utf-8") as out:
+        out.write(next(lines))
+        for line in lines:
+            region, handle = line.rstrip("\n").split(",")
+            out.write(f"{region},{named[service.kind_of(region, handle)]}\n")
+
+
+def check_million(it: Programs, number: int) -> list[str]:
+    with tempfile.TemporaryDirectory() as folder:
+        path = [os.path.join(folder, it) for it in ("log.csv", "demand.csv", "answers", "named.csv", "dispatched")]
+        service.put_service(folder, [])
+        with open(path[0], "wb") as log:
+            log.writelines(service.many_rows(number))
+        status, memory, seconds = measured([it.stream, *KINDS.split()], folder, path[0], path[1])
+        found = fault("kinds of a million handles", (status, memory < LIMIT_KB), (0, True))
+        with open(path[1], "rb") as file:
+            table = file.read()
+        Programs(it.stream, it.hsplan, folder).plan()
+        replaced(table, path[0], path[3])
+        reported = measured([it.stream, *ANSWER.split()], folder, path[0], path[2])
+        found += fault("answers to a million handles", (reported[0], reported[1] < LIMIT_KB), (0, True))
+        words = ["dispatch", *INPUTS.split(), "--plan", "plan.txt", "--log", "/dev/stdin"]
+        found += fault("dispatch", measured([it.hsplan, *words], folder, path[3], path[4])[0], 0)
+        texts = [open(path[at], "rb").read().splitlines() for at in (2, 4)]
+    found += fault("every row is assigned", sum(line.startswith(b"assigned ") for line in texts[0]), number)
+    # The place is that of the handle itself; a row's handle has the same.
+    found += [] if texts[0] == texts[1] else ["the answers are not those of dispatch to the replaced log"]
+    speeds = f"kinds {number / seconds:,.0f} and answer {number / reported[2]:,.0f} rows a second of a processor"
+    kinds = len(table.splitlines()) - 1
+    print(f"{number:,} handles, {kinds} kinds: {speeds}, {max(memory, reported[1]):,} kB at most")
+    return found
+
+
+# ---- failing calls
+
+FAILING = [
+    (f"kinds {FILES} --unit 2 --log log.csv", b""),
+    ("places --settings settings.toml --log log.csv", b""),
+    (f"{ANSWER.replace('/dev/stdin', 'log.csv')} --unit 2", b""),
+    ("--help", b""),
+]
+READ_FAILED = b"hsplan-stream: read failed\n"
+# The status of a run in which a call of this name fails, and the lines that may report it.
+ENDS = {
+    "open": (5, [READ_FAILED]),
+    "read": (5, [READ_FAILED, b"hsplan-stream: log: ReadFailed\n"]),
+    "write": (5, [b"hsplan-stream: write failed\n", b"hsplan-stream: log: WriteFailed\n"]),
+}
+
+
+def is_cut(got: Ended, ordinary: Ended, name: str) -> bool:
+    """Whether a run ended as it would without the failure of a call of this name, or, after a beginning of its output,
+    with the status and the line of the failure. Of a line that can't be written, a beginning is printed."""
+    printed, line, ended = got
+    status, lines = ENDS[name]
+    is_reported = line in lines or (name == "write" and ordinary[1].startswith(line))
+    return got == ordinary or (ended == status and ordinary[0].startswith(printed) and is_reported)
+
+
+def check_failing(it: Programs, room: str) -> tuple[list[str], int]:
+    """The faults of runs in which each open, read and write fails in turn."""
+    preloaded, found, tried = preload.built("fail_io", room), [], 0
+    for words, given in FAILING:
+        ordinary, reported = it.run(words, given), os.path.join(room, "reported")
+        it.run(words, given, LD_PRELOAD=preloaded, REPORT_IO=reported)
+        with open(reported, encoding="utf-8") as lines:
+            calls = failing.calls_of(lines)
+        for call in calls:
+            for kind in (errno.EIO, errno.ENOSPC) if call.name in ("open", "read", "write") else ():
+                got = it.run(words, given, LD_PRELOAD=preloaded, FAIL_IO=f"{call.name} {call.number} {kind}")
+                fine = got != ordinary and is_cut(got, ordinary, call.name)
+                found += [] if fine else [f"{words}: {call.name} {call.number} of {call.path} fails: {got}"]
+                tried += 1
+            if call.name == "read":
+                got = it.run(words, given, LD_PRELOAD=preloaded, FAIL_IO=f"read {call.number} {errno.EINTR}")
+                found += (
+                    [] if is_cut(got, ordinary, "read") else [f"{words}: read {call.number} is interrupted: {got}"]
+                )
+                tried += 1
+    return found, tried
+
+
+def check_all(it: Programs, million: int, room: str) -> list[str]:
+    draw = random.Random(49)
+    service.put_cases(it.folder)
+    it.plan()
+    found = check_help(it) + check_kinds(it, draw) + check_places(it, draw) + check_talk(it)
+    faults, tried = check_failing(it, room)
+    found += faults + ([] if tried else ["failing calls: nothing was tried"])
+    print(f"failing calls: {tried} runs")
+    return found + check_answers(it, draw) + check_twelve(it) + check_million(it, million)
+
+
+def main() -> int:
+    arguments = argparse.ArgumentParser(description="Runs the built program hsplan-stream over logs.")
+    arguments.add_argument("--program", default=programs.built_path("hsplan-stream"))
+    arguments.add_argument("--hsplan", default=programs.built_path("hsplan"))
+    arguments.add_argument("--million", type=int, default=1_000_000, metavar="N", help="handles of the long log")
+    given = arguments.parse_args()
+    absent = [it for it in (given.program, given.hsplan) if not os.access(it, os.X_OK)]
+    if absent:
+        print(f"no program {absent[0]}: run rt ci first")
+        return 1
+    with tempfile.TemporaryDirectory() as room:
+        folder = os.path.join(room, "service")
+        os.mkdir(folder)
+        it = Programs(os.path.abspath(given.program), os.path.abspath(given.hsplan), folder)
+        faults = check_all(it, given.million, room)
+    print("\n".join([*faults, f"stream: {len(faults)} faults"]))
+    return 1 if faults else 0
+
+
+if __name__ == "__main__":
+    sys.exit(main())

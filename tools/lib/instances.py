@@ -1,0 +1,92 @@
+"""Drawn instances at the limits, drawn logs, and what a run over them takes."""
+from __future__ import annotations
+
+import os
+import random
+import sys
+
+SITES, SERVERS, REGIONS, ROWS = 32, 32, 64, 8192
+
+
+def address(number):
+    """The address of a machine, 16 octets."""
+    return (number + 1).to_bytes(16, "big")
+
+
+def record(site, hosts):
+    """A site record that hashes the whole handle. Its servers have no key and no interface; the servers of all sites
+    stand on as many machines as `hosts` says."""
+    head = bytes.fromhex("0001" "0201" "0001" "00" "02") + bytes(4) + bytes(4) + SERVERS.to_bytes(4, "big")
+    numbers = range(site * SERVERS, (site + 1) * SERVERS)
+    return (head + b"".join(it.to_bytes(4, "big") + address(it % max(hosts, 1)) + bytes(8) for it in numbers)).hex()
+
+
+def write(folder, name, lines):
+    path = os.path.join(folder, name)
+    with open(path, "w") as file:
+        file.write("".join(line + "\n" for line in lines))
+    return path
+
+
+def inputs(folder, draw, factor=1.5, hosts=0, times=1):
+    """The rows, their counts, and the options with the files of an instance. Its capacity is the factor times its
+    demand. The limits of its hosts together are three fifths of its capacity."""
+    counts = [times * draw.randint(1, 3000) for _ in range(ROWS)]
+    rows = [f"region-{draw.randrange(REGIONS)},20.500.12345/object-{row:06}" for row in range(ROWS)]
+    capacity = int(factor * sum(counts)) // (SITES * SERVERS)
+    sites = [f'[[site]]\nname = "site-{site}"\nrecord = "{record(site, hosts)}"' for site in range(SITES)]
+    limits = [
+        f'[[host]]\naddress = "{address(host).hex()}"\nlimit = {3 * SITES * SERVERS * capacity // (5 * hosts)}'
+        for host in range(hosts)
+    ]
+    pairs = [(region, site) for region in range(REGIONS) for site in range(SITES)]
+    costs = [f"region-{region},site-{site},{draw.randrange(1000)}" for region, site in pairs]
+    servers = [(site, site * SERVERS + place) for site in range(SITES) for place in range(SERVERS)]
+    files = {
+        "settings.toml": sites + limits,
+        "demand.csv": ["region,handle,count", *(f"{row},{count}" for row, count in zip(rows, counts))],
+        "costs.csv": ["region,site,cost", *costs],
+        "capacity.csv": ["site,server_id,capacity", *(f"site-{site},{own},{capacity}" for site, own in servers)],
+    }
+    named = [(f"--{name.partition('.')[0]}", write(folder, name, lines)) for name, lines in files.items()]
+    return rows, counts, [word for pair in named for word in pair]
+
+
+def log(folder, name, header, lines, weights, many, draw):
+    """A log of this many rows. A block of a million rows is drawn, and written again and again in other orders."""
+    path = os.path.join(folder, name)
+    with open(path, "w") as file:
+        file.write(header + "\n")
+        block = draw.choices([line + "\n" for line in lines], weights, k=min(many, 1_000_000))
+        while many:
+            draw.shuffle(block)
+            file.write("".join(block[:many]))
+            many -= min(many, len(block))
+    return path
+
+
+# A small process starts each run, since the peak of a run counts what its parent held when the run began.
+BEGIN = """
+import os, sys
+run = os.posix_spawn(sys.argv[1], sys.argv[1:], os.environ)
+_, status, used = os.wait4(run, 0)
+os.write(3, f"{os.waitstatus_to_exitcode(status)} {used.ru_utime + used.ru_stime} {used.ru_maxrss}".encode())
+"""
+
+
+def spent_by(words, out, reported):
+    """The status of a run, its processor seconds and its peak memory in megabytes. What it prints goes to the files
+    `out` and `reported`."""
+    reading, writing = os.pipe()
+    begun = [sys.executable, "-S", "-E", "-c", BEGIN] + words
+    actions = [
+        (os.POSIX_SPAWN_DUP2, out.fileno(), 1),
+        (os.POSIX_SPAWN_DUP2, reported.fileno(), 2),
+        (os.POSIX_SPAWN_DUP2, writing, 3),
+    ]
+    started = os.posix_spawn(sys.executable, begun, os.environ, file_actions=actions)
+    os.close(writing)
+    with open(reading) as answer:
+        status, seconds, memory = answer.read().split()
+    os.waitpid(started, 0)
+    return int(status), float(seconds), int(memory) / 1000

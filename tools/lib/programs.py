@@ -1,0 +1,225 @@
+"""The programs of this repository: what they are made of, where a built one stands, and what a release holds.
+
+A script that runs a program asks `chosen` for it. `chosen` gives the built one where it is newer than its sources,
+and otherwise the released one, unpacked into a folder of the caller's. Where neither can run here, `Missing` says why
+in one line.
+"""
+from __future__ import annotations
+
+import hashlib
+import os
+import platform
+import sys
+import tarfile
+from typing import Callable, Dict, Iterator, List, NamedTuple, NoReturn, Optional, Tuple
+
+TOP = os.path.dirname(os.path.dirname(os.path.dirname(os.path.abspath(__file__))))
+PROGRAMS = ("hsplan", "hsplan-stream")
+RELEASE = os.path.join(TOP, "release")
+# What a release holds beside the programs, each file with its path below PREFIX.
+FILES = {
+    "docs/use/hsplan.1": "share/man/man1/hsplan.1",
+    "docs/use/hsplan-stream.1": "share/man/man1/hsplan-stream.1",
+    "docs/use/hsp.1": "share/man/man1/hsp.1",
+    "completions/hsplan.bash": "share/bash-completion/completions/hsplan",
+    "completions/_hsplan": "share/zsh/site-functions/_hsplan",
+    "completions/hsplan.fish": "share/fish/vendor_completions.d/hsplan.fish",
+    "completions/hsplan-stream.bash": "share/bash-completion/completions/hsplan-stream",
+    "completions/_hsplan-stream": "share/zsh/site-functions/_hsplan-stream",
+    "completions/hsplan-stream.fish": "share/fish/vendor_completions.d/hsplan-stream.fish",
+    "completions/hsp.bash": "share/bash-completion/completions/hsp",
+    "completions/_hsp": "share/zsh/site-functions/_hsp",
+    "completions/hsp.fish": "share/fish/vendor_completions.d/hsp.fish",
+    "docs/use/GUIDE.md": "share/doc/hsplan/use/GUIDE.md",
+    "docs/use/FAULTS.md": "share/doc/hsplan/use/FAULTS.md",
+    "docs/use/LIMITS.md": "share/doc/hsplan/use/LIMITS.md",
+    "docs/use/FLEET.md": "share/doc/hsplan/use/FLEET.md",
+    "docs/use/FORCE.md": "share/doc/hsplan/use/FORCE.md",
+    "docs/pictures/flow.svg": "share/doc/hsplan/pictures/flow.svg",
+    "docs/pictures/record.svg": "share/doc/hsplan/pictures/record.svg",
+}
+LEAST_GLIBC = (2, 34)
+
+
+class Missing(Exception):
+    """No program can be run here; the text says in one line what is missing."""
+
+
+class Program(NamedTuple):
+    """A program that can be run: its path, what it is, and whether it was made of other sources than these."""
+
+    path: str
+    kind: str
+    is_other: bool
+
+
+def text_of(*path: str) -> str:
+    with open(os.path.join(TOP, *path), encoding="utf-8") as file:
+        return file.read()
+
+
+def version() -> str:
+    return text_of("VERSION").strip()
+
+
+def dependencies() -> Dict[str, List[str]]:
+    """The crates of crates.txt, each with those of this repository that it stands on."""
+    lines = [it.split("#")[0].split(":") for it in text_of("crates.txt").splitlines()]
+    listed = {it[0].split()[0]: it[1].split() for it in lines if len(it) == 2}
+    return {name: [it for it in below if it in listed] for name, below in listed.items()}
+
+
+def crate_of(program: str) -> str:
+    """The crate of a program, by the program's name."""
+    return program.replace("-", "_")
+
+
+def crates_of(programs: Tuple[str, ...] = PROGRAMS) -> List[str]:
+    """The crates that the programs are made of, sorted."""
+    below, found, waiting = dependencies(), set(), [crate_of(it) for it in programs]
+    while waiting:
+        name = waiting.pop()
+        if name not in found:
+            found.add(name)
+            waiting += below[name]
+    return sorted(found)
+
+
+def lines_of(crates: List[str]) -> List[str]:
+    """The lines of crates.txt for these crates."""
+    return [it for it in text_of("crates.txt").splitlines() if it.split("#")[0].split(":")[0].strip() in crates]
+
+
+def sources(crates: List[str]) -> Iterator[str]:
+    """The files that these crates are proved and built from, as sorted paths from the top."""
+    for crate in crates:
+        for part in ("src", "specs", "proofs"):
+            for at, folders, names in os.walk(os.path.join(TOP, "crates", crate, part)):
+                folders.sort()
+                yield from (os.path.relpath(os.path.join(at, it), TOP) for it in sorted(names))
+
+
+def digest() -> str:
+    """The SHA-256 sum over the sources of the programs: paths and octets, their lines of crates.txt, and HANDLES."""
+    crates, whole = crates_of(), hashlib.sha256()
+    whole.update(("\n".join(sorted(lines_of(crates))) + "\n" + text_of("HANDLES")).encode())
+    for path in sources(crates):
+        with open(os.path.join(TOP, path), "rb") as file:
+            whole.update(f"{path} {hashlib.sha256(file.read()).hexdigest()}\n".encode())
+    return whole.hexdigest()
+
+
+def built_path(name: str) -> str:
+    crate = crate_of(name)
+    return os.path.join(TOP, "crates", crate, "out", crate)
+
+
+def built(name: str) -> Optional[str]:
+    """The built program, or None where it cannot be run or a source of it is newer."""
+    path = built_path(name)
+    if not os.access(path, os.X_OK):
+        return None
+    made = os.stat(path).st_mtime
+    newer = (it for it in sources(crates_of((name,))) if os.stat(os.path.join(TOP, it)).st_mtime > made)
+    return path if next(newer, None) is None else None
+
+
+def stem(of: str = "") -> str:
+    """The name of the only folder in a release of the version `of` (if empty, that of VERSION). It is also the name
+    of the archive without the ending."""
+    return f"hsplan-{of or version()}-x86_64-linux"
+
+
+def archive(of: str = "") -> str:
+    return os.path.join(RELEASE, stem(of) + ".tar.xz")
+
+
+def made() -> Dict[str, str]:
+    """What release/MADE says: version, kit and sources, or nothing where there is no release."""
+    try:
+        lines = text_of("release", "MADE").splitlines()
+    except FileNotFoundError:
+        return {}
+    return {word: rest for word, _, rest in (it.partition(" ") for it in lines)}
+
+
+def sum_of(path: str) -> str:
+    with open(path, "rb") as file:
+        return hashlib.sha256(file.read()).hexdigest()
+
+
+def unfit() -> Optional[str]:
+    """Why the released programs cannot run on this machine, or None where they can."""
+    system, machine = platform.system(), platform.machine()
+    if (system, machine) != ("Linux", "x86_64"):
+        return f"the released program needs Linux on x86_64, and this is {system} on {machine}"
+    library, number = platform.libc_ver()
+    parts = tuple(int(it) for it in number.split(".")[:2] if it.isdigit())
+    if library != "glibc" or parts < LEAST_GLIBC:
+        here = f"{library or 'another C library'} {number}".rstrip()
+        return f"the released program needs glibc 2.34 or later, and this is {here}"
+    return None
+
+
+def wrong_sum(path: str) -> Optional[str]:
+    """Why an archive is not the one that SHA256SUMS names, or None where it is."""
+    name = os.path.basename(path)
+    if f"{sum_of(path)}  {name}" not in text_of("release", "SHA256SUMS").splitlines():
+        return f"release/{name} does not have the sum that release/SHA256SUMS names"
+    return None
+
+
+def unpacked(folder: str, of: str = "") -> str:
+    """Unpacks the release of the version `of` (if empty, that of VERSION) into a folder, once its sum was compared.
+    Returns where its files stand."""
+    path = archive(of)
+    try:
+        why = wrong_sum(path)
+    except OSError as error:
+        raise Missing(
+            f"there is no release of version {of or version()}: {os.path.relpath(error.filename, TOP)} is missing"
+        ) from error
+    if why:
+        raise Missing(why)
+    with tarfile.open(path) as packed:
+        for member in packed.getmembers():
+            if (
+                not member.isfile()
+                or os.path.normpath(member.name) != member.name
+                or member.name.split("/")[0] != stem(of)
+            ):
+                raise Missing(f"release/{os.path.basename(path)} holds what no release does: {member.name}")
+        setattr(packed, "extraction_filter", getattr(tarfile, "data_filter", None))
+        packed.extractall(folder)
+    return os.path.join(folder, stem(of))
+
+
+def chosen(name: str, folder: str) -> Program:
+    """The program to run: the built one, or the released one, unpacked into the empty folder."""
+    path = built(name)
+    if path:
+        return Program(path, "the program built here", False)
+    why = unfit()
+    if why is None:
+        try:
+            path = os.path.join(unpacked(folder), "bin", name)
+            is_other = made().get("sources") != digest()
+            more = ", made of other sources than these" if is_other else ""
+            return Program(path, f"the released program, version {version()}{more}", is_other)
+        except Missing as missing:
+            why = str(missing)
+    raise Missing(f'{name}: {why}, and none is built here (make prove); README.md has more under "Try it"')
+
+
+def ended(main: Callable[[], int]) -> NoReturn:
+    """Ends a script with the status of its `main`, and without a traceback where it is interrupted or nobody reads
+    its output further."""
+    try:
+        status = main()
+        sys.stdout.flush()
+    except KeyboardInterrupt:
+        status = 130
+    except BrokenPipeError:
+        os.dup2(os.open(os.devnull, os.O_WRONLY), 1)
+        status = 141
+    sys.exit(status)

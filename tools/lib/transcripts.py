@@ -1,0 +1,102 @@
+"""Transcripts: lines that begin with `$ ` are commands for bash. What they print stands below them, up to the next
+command.
+
+A command goes on in the lines below that begin with `> `. A line `...` stands for any number of printed lines.
+Standard output and standard error stand together, as at a terminal. The commands of a transcript are run in turn in
+one shell, so that what one sets or writes is there for the next. With `cd examples/two-sites` as the first command, a
+transcript goes from the top of the repository to an example.
+"""
+import os
+import re
+import shutil
+import subprocess
+import tempfile
+
+from lib import companion, programs
+
+TOP = programs.TOP
+PROGRAM = os.path.join(TOP, "crates", "hsplan", "out", "hsplan")
+MARK = "\x1e"
+
+
+class Step:
+    """A command and what it has to print."""
+
+    def __init__(self, line):
+        self.lines = [line]
+        self.wanted = []
+
+    def command(self):
+        return "\n".join(it[2:] for it in self.lines)
+
+
+def steps_of(lines):
+    """The steps of a transcript. Lines before the first command do not belong to it."""
+    steps = []
+    for line in lines:
+        if line.startswith("$ "):
+            steps.append(Step(line))
+        elif steps and line.startswith("> ") and not steps[-1].wanted:
+            steps[-1].lines.append(line)
+        elif steps:
+            steps[-1].wanted.append(line)
+    return steps
+
+
+def text_of(steps):
+    return "".join("\n".join(it.lines + it.wanted) + "\n" for it in steps)
+
+
+def stream_beside(program):
+    """The `hsplan-stream` that belongs to a program: the one in its folder, or otherwise the one built here."""
+    beside = os.path.join(os.path.dirname(program), "hsplan-stream")
+    return beside if os.path.exists(beside) else programs.built_path("hsplan-stream")
+
+
+def room_for(folder, program):
+    """Makes in an empty folder what a transcript may read and run: the examples, the program as `hsplan`,
+    `hsplan-stream`, and `hsp`. Returns its environment."""
+    shutil.copytree(
+        os.path.join(TOP, "examples"), os.path.join(folder, "examples"), ignore=shutil.ignore_patterns("out")
+    )
+    os.mkdir(os.path.join(folder, "bin"))
+    os.symlink(program, os.path.join(folder, "bin", "hsplan"))
+    os.symlink(stream_beside(program), os.path.join(folder, "bin", "hsplan-stream"))
+    with open(os.path.join(folder, "bin", "hsp"), "wb") as file:
+        file.write(companion.archive())
+    os.chmod(file.name, 0o755)
+    return dict(os.environ, PATH=os.path.join(folder, "bin") + os.pathsep + os.environ["PATH"], LC_ALL="C")
+
+
+def printed_by(steps, program, prepare=None, shell="bash"):
+    """What each step prints, as lines. None stands for a step that was not reached."""
+    script = "exec 2>&1\n" + "".join(f"{it.command()}\nprintf '{MARK}'\n" for it in steps)
+    with tempfile.TemporaryDirectory() as folder:
+        environment = room_for(folder, program)
+        if prepare:
+            prepare(folder)
+        ended = subprocess.run(
+            [shell], input=script, cwd=folder, env=environment, stdout=subprocess.PIPE, text=True, timeout=600
+        )
+    texts = ended.stdout.split(MARK)[:-1]
+    return [it.splitlines() for it in texts] + [None] * (len(steps) - len(texts))
+
+
+def fits(wanted, got):
+    """Whether the printed lines are the wanted ones. A wanted line `...` stands for any number of lines."""
+    if got is None:
+        return False
+    pattern = "".join("(?:.*\n)*" if it == "..." else re.escape(it) + "\n" for it in wanted)
+    return re.fullmatch(pattern, "".join(it + "\n" for it in got)) is not None
+
+
+def faults_of(name, steps, program, prepare=None, shell="bash"):
+    """The steps that print something other than they have to, each as a text."""
+    found = []
+    for step, got in zip(steps, printed_by(steps, program, prepare, shell)):
+        if not fits(step.wanted, got):
+            shown = ["not run"] if got is None else got[:40]
+            found.append(
+                "\n  ".join([f"{name}: $ {step.command()}", "wanted:"] + step.wanted[:40] + ["printed:"] + shown)
+            )
+    return found

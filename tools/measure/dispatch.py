@@ -1,0 +1,173 @@
+#!/usr/bin/env python3
+"""Measures how many rows of a log the built program answers in a second, over an instance at the limits, and peers by
+turns with it.
+
+    tools/measure/dispatch.py [--rows N] [--turns N] [--times N] [--program FILE] [--stream FILE]
+
+It measures without fronts and with 64 fronts, by turns. By default the log has 10,000,000 rows, and there are 7
+turns.
+
+The instance has 8,192 rows, 64 regions, 32 sites of 32 servers, 2,048 costs, and counts of 1 to 3,000, or N times as
+many (`--times N`). A log draws its rows at random by their counts, and with fronts also a front for each row. So most
+of it is assigned.
+
+The peers are tools/dispatch_peer, in Rust over the crates csv and indexmap, where cargo and these crates of Debian are
+there (librust-csv-dev, librust-indexmap-dev). They are given the answers of each row, which hsplan-stream gives. Their
+answers to the log have to be those of hsplan, octet for octet.
+
+Seconds are processor seconds, and memory is its peak. A run on a log of only a header measures what is spent before
+the first row. All runs are on one processor, where the machine lets one be chosen.
+"""
+from __future__ import annotations
+
+import argparse
+import glob
+import hashlib
+import itertools
+import os
+import random
+import shutil
+import statistics
+import subprocess
+import sys
+import tempfile
+from pathlib import Path
+
+sys.path.insert(0, str(Path(__file__).resolve().parents[1]))
+
+from lib import programs
+
+FRONTS = 64
+
+
+def timed(words):
+    """Processor seconds, peak memory in megabytes, and what was printed on standard error."""
+    with open(os.devnull, "w") as sink, tempfile.TemporaryFile("w+") as reported:
+        status, seconds, memory = instances.spent_by(words, sink, reported)
+        reported.seek(0)
+        if status:
+            sys.exit(reported.read())
+        return seconds, memory, reported.read()
+
+
+def peer_in(folder):
+    """The peer, compiled in a folder, or None where that cannot be done."""
+    registry = "/usr/share/cargo/registry"
+    if not shutil.which("cargo") or not glob.glob(f"{registry}/csv-1.*") or not glob.glob(f"{registry}/indexmap-1.*"):
+        print("note: cargo or its crates csv and indexmap are not there, so that no peer is measured")
+        return None
+    source = shutil.copytree(os.path.join(programs.TOP, "tools", "measure", "dispatch_peer"), os.path.join(folder, "peer"))
+    os.makedirs(os.path.join(source, ".cargo"))
+    instances.write(
+        os.path.join(source, ".cargo"),
+        "config.toml",
+        ["[source.crates-io]", 'replace-with = "debian"', "[source.debian]", f'directory = "{registry}"'],
+    )
+    built = subprocess.run(["cargo", "build", "--release", "--offline", "--quiet"], cwd=source, check=False)
+    return os.path.join(source, "target", "release", "dispatch_peer") if built.returncode == 0 else None
+
+
+def table_for(folder, stream, rows, counts, files, plan):
+    """The answers of each row in their order, as hsplan-stream gives them: each as a number and a line."""
+    asked = os.path.join(folder, "all.csv")
+    with open(asked, "w") as file:
+        file.write("region,handle\n")
+        file.writelines((row + "\n") * count for row, count in zip(rows, counts))
+    words = [stream, "answer"] + files + ["--plan", plan, "--log", asked]
+    with subprocess.Popen(words, stdout=subprocess.PIPE, stderr=subprocess.DEVNULL, text=True) as run:
+        lines = []
+        for row, count in zip(rows, counts):
+            answers = itertools.groupby(run.stdout.readline().rstrip("\n") for _ in range(count))
+            lines.append(",".join([row] + [f"{len(list(same))},{line}" for line, same in answers]))
+    os.remove(asked)
+    return instances.write(folder, "table.csv", lines)
+
+
+def answers_of(words):
+    """The digest of what a run prints."""
+    with subprocess.Popen(words, stdout=subprocess.PIPE, stderr=subprocess.DEVNULL) as run:
+        return hashlib.file_digest(run.stdout, "sha256").hexdigest()
+
+
+def measure(kinds, many, turns):
+    """Runs the kinds by turns, and returns the seconds of each run behind its first row. A kind is a name, the words
+    for an empty log, and the words for a log."""
+    before = {name: min(timed(empty)[0] for _ in range(3)) for name, empty, _ in kinds}
+    spent = {name: [] for name, *_ in kinds}
+    for _ in range(turns):
+        for name, _, words in kinds:
+            seconds, memory, reported = timed(words)
+            spent[name].append(seconds - before[name])
+            print(
+                f"{name}: {seconds:.3f} s, {before[name]:.3f} of them before the first row, "
+                f"{many / spent[name][-1] / 1e6:.2f} million rows a second, {memory:.1f} MB: {reported.strip()}",
+                flush=True,
+            )
+    return spent
+
+
+def compare(spent, turns):
+    """Prints each kind against the fastest peer, and fronts against none."""
+    least = {name: min(seconds) for name, seconds in spent.items()}
+    peers = [seconds for name, seconds in least.items() if name.startswith("peer")]
+    for name, seconds in least.items():
+        beside = f", {seconds / min(peers):.2f} times the fastest peer" if peers else ""
+        print(f"{name}: {seconds:.3f} s behind the first row at best{beside}")
+    pairs = [a / b for a, b in zip(spent["none"], spent[f"{FRONTS} fronts"])]
+    print(
+        f"of the rows a second without fronts: {least['none'] / least[f'{FRONTS} fronts']:.3f} by the fastest runs, "
+        f"{statistics.median(pairs):.3f} by the median of {turns} turns"
+    )
+
+
+def ways_of(chosen, peer, folder, draw):
+    """The ways in which logs are answered, each with its words for an empty log and for the whole one."""
+    rows, counts, files = instances.inputs(folder, draw, times=chosen.times)
+    plan = os.path.join(folder, "plan.txt")
+    with open(plan, "w") as file:
+        subprocess.run([chosen.program, "plan"] + files, stdout=file, check=True)
+    words = [chosen.program, "dispatch"] + files + ["--plan", plan]
+    empty = instances.log(folder, "no_log.csv", "region,handle", rows, counts, 0, draw)
+    full = instances.log(folder, "log.csv", "region,handle", rows, counts, chosen.rows, draw)
+    at_fronts = [f"{front},{row}" for row in rows for front in range(FRONTS)]
+    weights = [count for count in counts for _ in range(FRONTS)]
+    no_events = instances.log(folder, "no_events.csv", "front,region,handle", rows, counts, 0, draw)
+    all_events = instances.log(folder, "events.csv", "front,region,handle", at_fronts, weights, chosen.rows, draw)
+    events = words + ["--fronts", str(FRONTS), "--log"]
+    ways = [
+        ("none", words + ["--log", empty], words + ["--log", full]),
+        (f"{FRONTS} fronts", events + [no_events], events + [all_events]),
+    ]
+    if peer:
+        table = table_for(folder, chosen.stream, rows, counts, files, plan)
+        ways += [(f"peer, {it}", [peer, it, table, empty], [peer, it, table, full]) for it in ("plain", "fast")]
+    return ways
+
+
+def main():
+    arguments = argparse.ArgumentParser(description="Measures how many rows of a log are answered a second.")
+    arguments.add_argument("--rows", type=int, default=10_000_000)
+    arguments.add_argument("--turns", type=int, default=7)
+    arguments.add_argument("--times", type=int, default=1)
+    arguments.add_argument("--program", default=os.path.join(programs.TOP, "crates", "hsplan", "out", "hsplan"))
+    arguments.add_argument(
+        "--stream", default=os.path.join(programs.TOP, "crates", "hsplan_stream", "out", "hsplan_stream")
+    )
+    chosen = arguments.parse_args()
+    if not os.access(chosen.program, os.X_OK):
+        print(f"no program {chosen.program}: run rt ci or make prove first")
+        return 1
+    with tempfile.TemporaryDirectory() as folder:
+        peer = peer_in(folder) if os.access(chosen.stream, os.X_OK) else None
+        if hasattr(os, "sched_setaffinity"):
+            os.sched_setaffinity(0, {max(os.sched_getaffinity(0))})
+        ways = ways_of(chosen, peer, folder, random.Random(1))
+        answers = {name: answers_of(words) for name, _, words in ways if peer and name != f"{FRONTS} fronts"}
+        if len(set(answers.values())) > 1:
+            sys.exit(f"answers differ: {answers}")
+        compare(measure(ways, chosen.rows, chosen.turns), chosen.turns)
+    return 0
+
+
+if __name__ == "__main__":
+    sys.exit(main())

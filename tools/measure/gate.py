@@ -1,0 +1,114 @@
+#!/usr/bin/env python3
+"""Runs `rt ci`, and prints the processor seconds that each crate took.
+
+    tools/measure/gate.py [--jobs N] [--log FILE] [--edits]      N checks side by side, by default as many as in
+                                                                 `make test`; the log is what rt ci prints;
+                                                                 each edit's seconds too, dearest first
+
+The seconds of a crate are those of its proof, of the proof that its must-fail edits begin with, of the edits, and of
+its tests. What rt kept of an earlier run on the machine is not proved again, and has no seconds here.
+
+A check is a process of its own. Once a second each check is asked for the processor time that it took, so up to a
+second of each check is missed.
+"""
+from __future__ import annotations
+
+import argparse
+import collections
+import glob
+import os
+import re
+import subprocess
+import time
+import sys
+from pathlib import Path
+
+sys.path.insert(0, str(Path(__file__).resolve().parents[1]))
+
+from lib import lanes, programs
+
+
+KINDS = ("proof", "before the edits", "edits", "tests")
+TICK = os.sysconf("SC_CLK_TCK")
+
+
+def kind_of(words):
+    """What a check of the prover is for, by its words."""
+    if "--test" in words:
+        return "tests"
+    if "--incremental" not in words:
+        return "proof"
+    return "before the edits" if words[words.index("--incremental") + 1].endswith("/seed") else "edits"
+
+
+def edit_of(words, crate):
+    """The file of the must-fail edit that a check over a proof tries. The folder that it works in has its number."""
+    number = os.path.basename(words[words.index("--incremental") + 1])
+    edits = sorted(glob.glob(f"{programs.TOP}/crates/{crate}/must-fail/*.edit"))
+    return os.path.basename(edits[int(number)]) if number.isdigit() else ""
+
+
+def checks_of(parent):
+    """The checks that run below a process. Each is known by its process number and its start, and has its crate, its
+    kind, the edit that it tries, and its seconds so far."""
+    for number in filter(str.isdigit, os.listdir("/proc")):
+        try:
+            with open(f"/proc/{number}/stat") as file:
+                fields = file.read().rpartition(")")[2].split()
+            if int(fields[1]) != parent:
+                continue
+            with open(f"/proc/{number}/cmdline") as file:
+                words = file.read().split("\0")
+            if "--crate-name" in words and os.path.basename(words[0]) == "rattle":
+                crate, kind = words[words.index("--crate-name") + 1], kind_of(words)
+                edit = edit_of(words, crate) if kind == "edits" else ""
+                yield (number, fields[19]), (crate, kind, edit, sum(map(int, fields[11:15])) / TICK)
+        except (FileNotFoundError, ProcessLookupError):
+            continue
+
+
+def measured(jobs, log):
+    """Runs rt ci to its end. Returns its status, the seconds by the clock, what checks took by crate and kind, and what
+    each edit took."""
+    began, seen = time.monotonic(), {}
+    run = subprocess.Popen(
+        ["rt", "ci"], cwd=programs.TOP, env={**os.environ, "RT_JOBS": str(jobs)}, stdout=log, stderr=subprocess.STDOUT
+    )
+    while run.poll() is None:
+        seen.update(checks_of(run.pid))
+        time.sleep(1)
+    took, edits = collections.Counter(), collections.Counter()
+    for crate, kind, edit, seconds in seen.values():
+        took[crate, kind] += seconds
+        if edit:
+            edits[crate, edit] += seconds
+    return run.returncode, time.monotonic() - began, took, edits
+
+
+def main():
+    arguments = argparse.ArgumentParser(description="Prints the processor seconds that rt ci takes, by crate.")
+    arguments.add_argument("--jobs", type=int, default=lanes.lanes())
+    arguments.add_argument("--log", default="/tmp/rt-ci.log")
+    arguments.add_argument("--edits", action="store_true")
+    given = arguments.parse_args()
+    with open(given.log, "w", encoding="utf-8") as log:
+        status, clock, took, edits = measured(given.jobs, log)
+    print(f"| Crate | {' | '.join(it.capitalize() for it in KINDS)} |")
+    print("|---" * (len(KINDS) + 1) + "|")
+    for crate in dict.fromkeys(crate for crate, _ in took):
+        print(f"| `{crate}` | {' | '.join(str(round(took[crate, kind])) for kind in KINDS)} |")
+    for (crate, edit), seconds in edits.most_common() if given.edits else ():
+        print(f"{round(seconds)} {crate}/{edit}")
+    for kind in KINDS:
+        print(f"{kind}: {sum(seconds for (_, it), seconds in took.items() if it == kind) / 60:.0f} minutes")
+    print(
+        f"{sum(took.values()) / 60:.0f} minutes of a processor, {clock / 60:.0f} by the clock, "
+        f"{given.jobs} checks side by side"
+    )
+    with open(given.log, encoding="utf-8") as log:
+        print(log.read().splitlines()[-1])
+    return status
+
+
+if __name__ == "__main__":
+    raise SystemExit(main())
