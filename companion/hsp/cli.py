@@ -13,11 +13,30 @@ from typing import Any, TypeVar
 
 import click
 
-from hsp import __version__, bring
-from hsp.answering import answer_lines, in_units
-from hsp.numbers import listed, some
-from hsp.paths import path_in, shell_word
-from hsp.plans import (
+from hsp import __version__
+
+from hsp.base.files import refuse_clashes, replace_all
+from hsp.base.grammar import FORMS
+from hsp.base.groups import Group
+from hsp.base.numbers import listed, some
+from hsp.base.paths import path_in, shell_word
+from hsp.base.programs import Desk, Missing, Refused
+from hsp.base.signals import Stopped, stopping
+from hsp.base.text import colored, escaped, give, say, show_progress, visible
+from hsp.doctor import Examined, examined, examined_words
+from hsp.doctor.cut_short import cut_short
+from hsp.doctor.doubts import OLD_PLAN
+from hsp.doctor.mark_doubts import MUCH_ADDED
+from hsp.doctor.next_step import next_lines, next_step
+from hsp.doctor.printing import json_of as findings_json
+from hsp.doctor.printing import lines as finding_lines
+from hsp.fleet.command import fleet
+from hsp.intake import bring
+from hsp.plans.answering import answer_lines, in_units
+from hsp.plans.charts import drawn
+from hsp.plans.marks import TITLES
+from hsp.plans.page import View, changes_between, render
+from hsp.plans.plans import (
     Planned,
     Reference,
     by_shares,
@@ -28,29 +47,12 @@ from hsp.plans import (
     with_gains,
     with_purchase,
 )
-from hsp.charts import drawn
-from hsp.doctor import Examined, examined, examined_words
-from hsp.doctor.commands import FORMS
-from hsp.doctor.cut_short import cut_short
-from hsp.doctor.doubts import OLD_PLAN
-from hsp.doctor.mark_doubts import MUCH_ADDED
-from hsp.doctor.next_step import next_lines, next_step
-from hsp.doctor.printing import json_of as findings_json
-from hsp.doctor.printing import lines as finding_lines
-from hsp.files import refuse_clashes, replace_all
-from hsp.fleet.command import fleet
-from hsp.groups import Group
-from hsp.marks import TITLES
-from hsp.page import View, changes_between, render
-from hsp.programs import Desk, Missing, Refused
-from hsp.service import NAMES, VALUES, Service
-from hsp.signals import Stopped, stopping
-from hsp.sources import sources_of
-from hsp.terminal import head, plan_lines, shortage_lines
-from hsp.text import colored, escaped, give, say, show_progress, visible
-from hsp.whatif import Changes, full_servers, server_named, sizes, standard
-from hsp.whatif import csv_of as cases_csv
-from hsp.whatif import lines as case_lines
+from hsp.plans.service import NAMES, VALUES, Service
+from hsp.plans.sources import sources_of
+from hsp.plans.terminal import head, plan_lines, shortage_lines
+from hsp.plans.whatif import Changes, full_servers, server_named, sizes, standard
+from hsp.plans.whatif import csv_of as cases_csv
+from hsp.plans.whatif import lines as case_lines
 
 Command = TypeVar("Command", bound=Callable[..., Any])
 OUTPUT = click.Path(dir_okay=False, readable=False)

@@ -17,19 +17,21 @@ from pathlib import Path
 
 import pytest
 
-from hsp import bounds, forms
-from hsp.bounds import LARGEST, pieces, weight, whole
+from hsp.base import bounds
+
+from hsp.base.bounds import LARGEST, pieces, weight, whole
+from hsp.base.programs import Desk
+from hsp.base.unfit import Unfit
 from hsp.doctor import guard
 from hsp.doctor.findings import Place, Words, found
-from hsp.faults import Unfit
 from hsp.fleet import answers, tables
-from hsp.forms import Remembered
-from hsp.logs import MOST_OF_LINE, Skipped, numbered, opened
-from hsp.programs import Desk
-from hsp.queries import Judge
-from hsp.service import read_service, settings_in, table
-from hsp.sitefiles import Files
-from hsp.tally import Tally
+from hsp.intake import forms
+from hsp.intake.forms import Remembered
+from hsp.intake.logs import MOST_OF_LINE, Skipped, numbered, opened
+from hsp.intake.queries import Judge
+from hsp.intake.sitefiles import Files
+from hsp.intake.tally import Tally
+from hsp.plans.service import read_service, settings_in, table
 
 from conftest import variables
 from test_sites import PARIS, invoke, site_json
@@ -108,7 +110,7 @@ def test_memory_that_is_out_is_one_line(tmp_path: Path, monkeypatch: pytest.Monk
         raise MemoryError
 
     (tmp_path / "x").write_text("x")
-    monkeypatch.setattr("hsp.bring.regions_in" if command == "demand" else "hsp.bring.octets_of", none)
+    monkeypatch.setattr("hsp.intake.bring.regions_in" if command == "demand" else "hsp.intake.bring.octets_of", none)
     words = [command, tmp_path / "x", *(["--regions", tmp_path / "x"] if command == "demand" else [])]
     assert invoke(*words, status=4).stderr == "hsp: out of memory\n"
 
@@ -124,7 +126,9 @@ def test_a_long_key_takes_little_memory(tmp_path: Path) -> None:
 
 def forged_list(values: int, zeros: int) -> bytes:
     """Octets that look like so many values of a list, each of which goes on to the end."""
-    return b"".join(b"\0\0\0\1\0\0\0\7HS_SITE" + zeros.to_bytes(4, "big") for _ in range(values)) + bytes(zeros + 9000)
+    return b"".join(b"\0\0\0\1\0\0\0\7HS_SITE" + zeros.to_bytes(4, "big") for _ in range(values)) + bytes(
+        zeros + 9000
+    )
 
 
 def test_candidates_are_not_kept(tmp_path: Path, monkeypatch: pytest.MonkeyPatch) -> None:
@@ -163,12 +167,12 @@ def test_queries_are_written_out_by_their_octets(monkeypatch: pytest.MonkeyPatch
     draw, folder, desk = random.Random(3), example("two-sites"), Desk()
     inputs = read_service(str(folder), desk, {}).inputs
     asked = [(draw.choice((b"eu", b"us")), b"20.500.1/%d" % draw.randrange(600)) for _ in range(3000)]
-    monkeypatch.setattr("hsp.tally.MOST_HELD", 20_000)
+    monkeypatch.setattr("hsp.intake.tally.MOST_HELD", 20_000)
     monkeypatch.setattr(bounds, "MOST_AT_ONCE", 50)
     one, many = Tally(desk), Tally(desk, most=1 << 40)
     for _ in one.add(asked):
         assert weight(one._counts) <= 20_000 + 50 * 250
-    monkeypatch.setattr("hsp.tally.MOST_HELD", 1 << 40)
+    monkeypatch.setattr("hsp.intake.tally.MOST_HELD", 1 << 40)
     assert len(list(many.add(asked))) == 60
     assert one._spilled and not many._spilled
     assert one.demand(inputs, 1)[0] == many.demand(inputs, 1)[0]

@@ -27,13 +27,13 @@ from click.testing import CliRunner
 
 import make_examples
 import maxmind
+from hsp.base.programs import Desk, Inputs, Refused
 from hsp.cli import main
-from hsp.forms import Form
-from hsp.logs import LONGEST, Skipped, numbered
-from hsp.programs import Desk, Inputs, Refused
-from hsp.queries import Judge, Reading, queries
-from hsp.regions import Database, Networks, Seek, regions_in
-from hsp.tally import Tally, advice
+from hsp.intake.forms import Form
+from hsp.intake.logs import LONGEST, Skipped, numbered
+from hsp.intake.queries import Judge, Reading, queries
+from hsp.intake.regions import Database, Networks, Seek, regions_in
+from hsp.intake.tally import Tally, advice
 
 from conftest import TOP, Hsp, variables
 from test_sites import invoke
@@ -709,7 +709,9 @@ def test_standard_input_is_a_log(tmp_path: Path) -> None:
         assert counts_of(done.stdout.decode()) == wanted(rows), done.stderr
 
 
-@pytest.mark.parametrize("words", [["demand", "-", "-", "--regions", "networks.csv"], ["sites", "-", "-"]], ids=" ".join)
+@pytest.mark.parametrize(
+    "words", [["demand", "-", "-", "--regions", "networks.csv"], ["sites", "-", "-"]], ids=" ".join
+)
 def test_standard_input_is_read_once(hsp: Hsp, words: list[str]) -> None:
     said = hsp(*words, status=2).stderr.splitlines()[-1]
     assert said.endswith("- stands twice, and standard input is read once")

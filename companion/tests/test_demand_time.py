@@ -16,9 +16,9 @@ from typing import NamedTuple
 
 import pytest
 
-from hsp import times
-from hsp.prefixes import MOST_PREFIXES, Prefixes
-from hsp.times import seconds_of
+from hsp.intake import times
+from hsp.intake.prefixes import MOST_PREFIXES, Prefixes
+from hsp.intake.times import seconds_of
 
 from conftest import Hsp
 from test_demand import counts_of

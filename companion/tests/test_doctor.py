@@ -11,10 +11,10 @@ from pathlib import Path
 
 import pytest
 
+from hsp.base.programs import Desk
 from hsp.doctor import Examined, examined
 from hsp.doctor.findings import ERROR, Finding
 from hsp.doctor.printing import grouped, lines
-from hsp.programs import Desk
 
 from conftest import TOP, Hsp
 from printed import assert_kept
@@ -93,13 +93,31 @@ MISTAKES: dict[str, tuple[str, Edit, int, int, str]] = {
     "a count above the limit": (DEMAND, sub(",475", ",1000001"), 2, 28, "larger unit"),
     "a capacity above the limit": (CAPACITY, sub("1,1500", "1,1000000001"), 2, 9, "larger unit"),
     "no number": (COSTS, sub("paris,12", "paris,"), 2, 10, "write a number"),
-    "a server that the site's record lacks yet": (CAPACITY, more("paris,8,1500\n"), 7, 7, "bring the site's new record in (hsp sites), or take the row out"),
+    "a server that the site's record lacks yet": (
+        CAPACITY,
+        more("paris,8,1500\n"),
+        7,
+        7,
+        "bring the site's new record in (hsp sites), or take the row out",
+    ),
     "thousands by a letter": (CAPACITY, sub("1,1500", "1,1.5k"), 2, 9, "write 1500"),
     "millions by a letter": (CAPACITY, sub("1,1500", "1,2M"), 2, 9, "write 2000000"),
     "a sum among the capacities": (CAPACITY, more("paris,,3010\n"), 7, 7, "if it is a sum"),
     "an empty region": (DEMAND, sub("eu,", ","), 2, 1, "as eu"),
-    "an open quote before a region": (DEMAND, sub("eu,20.500.1234/report-2025", '"eu,20.500.1234/report-2025'), 3, 1, "take the quote out"),
-    "an open quote before a handle": (DEMAND, sub("20.500.1234/report-2025", '"20.500.1234/report-2025'), 3, 4, "take the quote out"),
+    "an open quote before a region": (
+        DEMAND,
+        sub("eu,20.500.1234/report-2025", '"eu,20.500.1234/report-2025'),
+        3,
+        1,
+        "take the quote out",
+    ),
+    "an open quote before a handle": (
+        DEMAND,
+        sub("20.500.1234/report-2025", '"20.500.1234/report-2025'),
+        3,
+        4,
+        "take the quote out",
+    ),
     "an open quote before a cost": (COSTS, sub("us,paris,91", 'us,paris,"91'), 4, 10, "take the quote out"),
     "quotes of another kind": (DEMAND, sub(",475", ",'475'"), 2, 28, "write 475"),
     "unlimited": (CAPACITY, sub("1,1500", "1,unlimited"), 2, 9, "large number"),

@@ -14,9 +14,9 @@ from pathlib import Path
 
 import pytest
 
+from hsp.base.programs import Desk
 from hsp.doctor import examined
 from hsp.doctor.findings import WARNING
-from hsp.programs import Desk
 
 from conftest import Hsp, variables
 from printed import assert_kept

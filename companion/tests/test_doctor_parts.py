@@ -7,13 +7,13 @@ from pathlib import Path
 
 import pytest
 
+from hsp.base.programs import Desk
 from hsp.doctor import answer_faults, faults, toml_faults
 from hsp.doctor.findings import Text
 from hsp.doctor.numbers_advice import advice
 from hsp.doctor.printing import lines
 from hsp.doctor.question import Draft, Question, Said
 from hsp.doctor.table_faults import open_quote, spot_of
-from hsp.programs import Desk
 
 from printed import assert_kept
 from test_sites import invoke

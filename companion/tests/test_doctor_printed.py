@@ -9,10 +9,10 @@ from pathlib import Path
 
 import pytest
 
-from hsp.bounds import LARGEST
+from hsp.base.bounds import LARGEST
+from hsp.base.programs import Desk, run
 from hsp.doctor import examined, examined_words
 from hsp.doctor.numbers_advice import advice
-from hsp.programs import Desk, run
 
 from printed import assert_kept
 from test_bounds import sparse

@@ -13,9 +13,9 @@ from pathlib import Path
 
 import pytest
 
+from hsp.base.programs import Desk
 from hsp.doctor import Examined, examined
 from hsp.doctor.printing import json_of, lines
-from hsp.programs import Desk
 
 from conftest import TOP
 from test_broken import FILES, break_folder

@@ -14,10 +14,10 @@ from typing import Any
 
 import pytest
 
+from hsp.base.programs import Desk
 from hsp.doctor import examined_words
 from hsp.doctor.commands import line_of
 from hsp.doctor.printing import json_of, lines
-from hsp.programs import Desk
 
 from conftest import Hsp, variables
 from printed import assert_kept

@@ -10,7 +10,7 @@ from pathlib import Path
 
 import pytest
 
-from hsp.programs import program
+from hsp.base.programs import program
 
 from conftest import TOP
 

@@ -17,13 +17,13 @@ from typing import Any
 
 import pytest
 
+from hsp.base.programs import Desk, Inputs, Missing, Refused
+from hsp.base.unfit import Unfit
 from hsp.fleet import answers, engine, local, parts, progress, remote, session
 from hsp.fleet.engine import NOT_YET, ByValue, Engine, Place, Unfinished
 from hsp.fleet.local import Gone, Local
 from hsp.fleet.split import Parted
 from hsp.fleet.tables import Table, joined
-from hsp.faults import Unfit
-from hsp.programs import Desk, Inputs, Missing, Refused
 
 Example = Callable[[str], Path]
 

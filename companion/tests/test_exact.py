@@ -12,27 +12,30 @@ from types import SimpleNamespace
 
 import pytest
 
-from hsp import outlook, prefixes, progress, queries, tally, text, times
-from hsp.charts import Axes
+from hsp.base import text
+
+from hsp.base.numbers import average, listed, part, percent, queries_of, signed, some
+from hsp.base.programs import Desk
+from hsp.base.spelling import near
+from hsp.base.unfit import Unfit, shown
 from hsp.doctor import mark_doubts
 from hsp.doctor.findings import Text, quoted
 from hsp.doctor.printing import _window
-from hsp.doctor.rows import near, spans_of
-from hsp.faults import Unfit, shown
+from hsp.doctor.rows import spans_of
 from hsp.fleet import engine
 from hsp.fleet.answers import blocks
-from hsp.forms import Form
-from hsp.logs import LONGEST, MOST_OF_LINE, Skipped, numbered
-from hsp.numbers import average, listed, part, percent, queries_of, signed, some
-from hsp.page import step_of
-from hsp.prefixes import MOST_SHOWN, Prefixes
-from hsp.programs import Desk
-from hsp.queries import Judge, Reading
-from hsp.outlook import sites_in
-from hsp.sitefiles import Files, stem, tidy
-from hsp.tally import MOST_COUNT, MOST_ROWS, Tally
-from hsp.times import Span, iso_seconds, seconds_of, shown_time
-from hsp.whatif import bar
+from hsp.intake import outlook, prefixes, progress, queries, tally, times
+from hsp.intake.forms import Form
+from hsp.intake.logs import LONGEST, MOST_OF_LINE, Skipped, numbered
+from hsp.intake.outlook import sites_in
+from hsp.intake.prefixes import MOST_SHOWN, Prefixes
+from hsp.intake.queries import Judge, Reading
+from hsp.intake.sitefiles import Files, stem, tidy
+from hsp.intake.tally import MOST_COUNT, MOST_ROWS, Tally
+from hsp.intake.times import Span, iso_seconds, seconds_of, shown_time
+from hsp.plans.charts import Axes
+from hsp.plans.page import step_of
+from hsp.plans.whatif import bar
 
 from test_engine import Client, Future, fit, made
 from test_kinds import inputs_of, place

@@ -23,12 +23,12 @@ from typing import NamedTuple
 
 import pytest
 
-from hsp.faults import Unfit
+from hsp.base.programs import Desk, Inputs
+from hsp.base.unfit import Unfit
 from hsp.fleet import answers, local, parts, remote, tables
 from hsp.fleet.split import Parted
-from hsp.forms import Form
-from hsp.programs import Desk, Inputs
-from hsp.times import Span
+from hsp.intake.forms import Form
+from hsp.intake.times import Span
 
 from conftest import TOP, WITH_SIGNALS, Hsp, variables
 from test_demand import Asked, asked, regions_file, server_line, service
@@ -470,10 +470,14 @@ def test_a_plan_that_is_older_than_its_files(million: Million, tmp_path: Path) -
     capacity.write_text(head + first.rpartition(",")[0] + ",0\n" + "".join(rest))
     os.utime(capacity, (os.stat(plan).st_mtime + 10,) * 2)
     said = fleet("dispatch", folder, "--fronts", FRONTS, f"0={log}", status=1)
-    assert said.startswith(f"hsp: {plan}: the plan is older than capacity.csv: hsp plan {folder}; hsplan check says no ")
+    assert said.startswith(
+        f"hsp: {plan}: the plan is older than capacity.csv: hsp plan {folder}; hsplan check says no "
+    )
     os.utime(capacity, (os.stat(plan).st_mtime - 10,) * 2)
     said = fleet("dispatch", folder, "--fronts", FRONTS, f"0={log}", status=1)
-    assert said.startswith(f"hsp: {plan}: the plan isn't one of these files: hsp plan {folder}; hsplan check says no ")
+    assert said.startswith(
+        f"hsp: {plan}: the plan isn't one of these files: hsp plan {folder}; hsplan check says no "
+    )
 
 
 @pytest.fixture

@@ -10,9 +10,9 @@ from pathlib import Path
 
 import pytest
 
-from hsp.kinds import most_kinds
-from hsp.outlook import costs_in, sites_in
-from hsp.programs import Desk, Inputs
+from hsp.base.programs import Desk, Inputs
+from hsp.intake.kinds import most_kinds
+from hsp.intake.outlook import costs_in, sites_in
 
 from conftest import Hsp
 from test_sites import invoke

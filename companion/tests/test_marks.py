@@ -10,13 +10,13 @@ from pathlib import Path
 
 import pytest
 
+from hsp.base.programs import Desk
+from hsp.base.unfit import Unfit
 from hsp.doctor import examined
 from hsp.doctor.doubts import OLD_PLAN
-from hsp.faults import Unfit
-from hsp.marks import KINDS, Mark, mark_in, marked
-from hsp.page import changes_between
-from hsp.programs import Desk
-from hsp.service import read_service
+from hsp.plans.marks import KINDS, Mark, mark_in, marked
+from hsp.plans.page import changes_between
+from hsp.plans.service import read_service
 
 from conftest import Hsp
 from test_sites import invoke
@@ -65,7 +65,9 @@ def test_line_ends_stay_as_they_are(tmp_path: Path) -> None:
     assert written_text == b'title = "T"\r\n\r\n' + BLOCK.encode().replace(b"\n", b"\r\n")
 
 
-@pytest.mark.parametrize("text", ["demand = {unit = 5}\n", "demand.unit = 5\n", 'title = """\n[demand]\n"""\n', "x ="])
+@pytest.mark.parametrize(
+    "text", ["demand = {unit = 5}\n", "demand.unit = 5\n", 'title = """\n[demand]\n"""\n', "x ="]
+)
 def test_what_cannot_be_replaced_is_refused_in_one_line(tmp_path: Path, text: str) -> None:
     (tmp_path / "hsp.toml").write_text(text)
     with pytest.raises(Unfit, match="hsp.toml: (its table .demand. can't be replaced; take it out by hand|not TOML)"):
@@ -323,8 +325,7 @@ def test_fleet_marks_what_it_joins_and_answers_by_it(hsp: Hsp, tmp_path: Path) -
     assert said.stdout.startswith("20,000 rows: 20,000 assigned; ") and said.stderr == ""
     said = hsp("fleet", "dispatch", str(folder), *front, "--workers", "1")
     assert said.stderr.endswith(
-        "hsplan-stream answer goes by kinds: "
-        f"hsp fleet dispatch {folder} --fronts 1 --any-handle 0={kept}\n"
+        "hsplan-stream answer goes by kinds: " f"hsp fleet dispatch {folder} --fronts 1 --any-handle 0={kept}\n"
     )
     said = hsp("fleet", "dispatch", str(folder), *front, "--any-handle", "--unit", "5", status=2)
     assert "--unit is 5, and the demand counts in units of 10 by hsp.toml" in said.stderr

@@ -12,14 +12,20 @@ from typing import Any
 
 import pytest
 
-from hsp import cli, files, forms, logs, outlook, regions, service, signals, units
+from hsp import cli
+
+from hsp.base import files, signals, units
+
+from hsp.intake import forms, logs, outlook, regions
+
+from hsp.base.programs import Desk, Inputs, Missing
+from hsp.base.unfit import Unfit
 from hsp.doctor import examined, examined_words, faults, guard
 from hsp.doctor.question import Said, said_of
-from hsp.faults import Unfit
 from hsp.fleet import demand, dispatch
 from hsp.fleet.remote import Mark, Seal
-from hsp.programs import Desk, Inputs, Missing
-from hsp.tally import Tally
+from hsp.intake.tally import Tally
+from hsp.plans import service
 
 from conftest import TOP
 from test_sites import invoke

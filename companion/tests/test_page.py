@@ -22,10 +22,10 @@ from selenium import webdriver
 from selenium.webdriver.chrome.options import Options
 from selenium.webdriver.chrome.service import Service as Driver
 
-from hsp.page import ServerView, changes_between
-from hsp.plans import planned
-from hsp.programs import Desk
-from hsp.service import read_service
+from hsp.base.programs import Desk
+from hsp.plans.page import ServerView, changes_between
+from hsp.plans.plans import planned
+from hsp.plans.service import read_service
 
 from conftest import TOP, Hsp
 
@@ -261,7 +261,9 @@ def test_a_long_purchase_names_its_largest_parts(hsp: Hsp, browser: Any, twelve:
     folder = Path(shutil.copytree(twelve, tmp_path / "less"))
     lines = (folder / "capacity.csv").read_text().splitlines()
     rows = [line.rsplit(",", 1) for line in lines[1:]]
-    (folder / "capacity.csv").write_text("\n".join([lines[0], *(f"{own},{int(room) // 2}" for own, room in rows)]) + "\n")
+    (folder / "capacity.csv").write_text(
+        "\n".join([lines[0], *(f"{own},{int(room) // 2}" for own, room in rows)]) + "\n"
+    )
     bought = json.loads(hsp("plan", str(folder), "--json", status=3).stdout)["least_purchase"]
     assert len(bought) > 6
     hsp("view", str(folder), status=3)

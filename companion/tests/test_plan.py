@@ -16,10 +16,10 @@ from typing import Any
 import pytest
 from click.testing import CliRunner
 
+from hsp.base.programs import BOUNDLESS, Desk, Refused
 from hsp.cli import main
-from hsp.plans import capacity_file, cheapest, least_purchase, planned, shortage, with_gains, with_purchase
-from hsp.programs import BOUNDLESS, Desk, Refused
-from hsp.service import Service, read_service
+from hsp.plans.plans import capacity_file, cheapest, least_purchase, planned, shortage, with_gains, with_purchase
+from hsp.plans.service import Service, read_service
 
 from conftest import Hsp, variables
 
@@ -268,7 +268,14 @@ def test_the_help_has_whole_sentences(hsp: Hsp) -> None:
         assert "..." not in hsp(*words, "--help").stdout.partition("Commands:")[2]
 
 
-LOST = [["--version"], ["--help"], ["plan", "--no-save"], ["plan", "--no-save", "--json"], ["doctor"], ["whatif", "--csv"]]
+LOST = [
+    ["--version"],
+    ["--help"],
+    ["plan", "--no-save"],
+    ["plan", "--no-save", "--json"],
+    ["doctor"],
+    ["whatif", "--csv"],
+]
 
 
 @pytest.mark.parametrize("words", LOST, ids=" ".join)

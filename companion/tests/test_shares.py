@@ -13,9 +13,9 @@ from collections.abc import Callable, Iterable
 from fractions import Fraction
 from pathlib import Path
 
-from hsp.plans import by_shares, planned
-from hsp.programs import Desk
-from hsp.service import read_service
+from hsp.base.programs import Desk
+from hsp.plans.plans import by_shares, planned
+from hsp.plans.service import read_service
 
 from conftest import Hsp
 
@@ -120,9 +120,7 @@ def least_factor(bounds: Iterable[list[Fraction]]) -> Fraction:
     rows = list(bounds)
     size = len(rows[0]) - 1
     corners = (solved([list(it) for it in chosen]) for chosen in itertools.combinations(rows, size))
-    fitting = [
-        it for it in corners if it and all(sum(a * b for a, b in zip(row, it)) <= row[-1] for row in rows)
-    ]
+    fitting = [it for it in corners if it and all(sum(a * b for a, b in zip(row, it)) <= row[-1] for row in rows)]
     return min(it[-1] for it in fitting)
 
 

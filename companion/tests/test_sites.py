@@ -18,10 +18,10 @@ import pytest
 from click.testing import CliRunner, Result
 
 import make_examples
-from hsp import files
+from hsp.base import files
+from hsp.base.programs import Desk
 from hsp.cli import main
-from hsp.programs import Desk
-from hsp.service import read_service
+from hsp.plans.service import read_service
 
 from conftest import Hsp, variables
 
@@ -278,8 +278,9 @@ def test_what_is_left_out_is_named_by_its_path(tmp_path: Path) -> None:
             "give each server its own identifier",
         ),
         (
-            make_examples.site_octets("paris", 7, ADDRESSES["paris"][:1] * 3)
-            .replace(b"\0\0\0\3" + bytes(12), b"\0\0\0\1" + bytes(12)),
+            make_examples.site_octets("paris", 7, ADDRESSES["paris"][:1] * 3).replace(
+                b"\0\0\0\3" + bytes(12), b"\0\0\0\1" + bytes(12)
+            ),
             "server 1 of its record and server 3 of its record are 1; hsplan refuses 'given': build: ServerIdTwice",
         ),
         (b'{"servers":[{"serverId":1,"address":"::1"}],"attributes":[{"name":"\\ud800"}]}', "half a character"),

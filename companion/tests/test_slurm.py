@@ -99,7 +99,11 @@ def test_slurm_answers_the_same(million: Million, slurm: dict[str, str], tmp_pat
     sums = [f"{hashlib.sha256((tmp_path / it).read_bytes()).hexdigest()}  {it}\n" for it in names]
     (tmp_path / "SHA256SUMS").write_text("".join(sums))
     recipe = DOCUMENT.split("### Slurm arrays")[1].split("```sh\n")[1].split("```")[0]
-    for old, new in (("0-63", f"0-{FRONTS - 1}"), ("/shared/hour", str(tmp_path)), ("--fronts 64", f"--fronts {FRONTS}")):
+    for old, new in (
+        ("0-63", f"0-{FRONTS - 1}"),
+        ("/shared/hour", str(tmp_path)),
+        ("--fronts 64", f"--fronts {FRONTS}"),
+    ):
         assert old in recipe
         recipe = recipe.replace(old, new)
     (tmp_path / "answer.sh").write_text(recipe)

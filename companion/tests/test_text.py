@@ -15,7 +15,7 @@ from xml.etree import ElementTree
 
 import pytest
 
-from hsp.text import COLOUR, UNSEEN, escaped
+from hsp.base.text import COLOUR, UNSEEN, escaped
 
 from conftest import TOP, variables
 from test_sites import ADMIN, invoke, site_json, value_json
@@ -193,5 +193,5 @@ def test_only_one_module_prints() -> None:
     top = TOP / "companion" / "hsp"
     texts = {str(it.relative_to(top)): it.read_text() for it in top.rglob("*.py")}
     ways = re.compile(r"\b(?:click\.s?echo|print|std(?:out|err)\.write)\(.*")
-    found = {name: ways.findall(text) for name, text in texts.items() if name != "text.py"}
+    found = {name: ways.findall(text) for name, text in texts.items() if name != "base/text.py"}
     assert {name: it for name, it in found.items() if it} == {"cli.py": ["click.echo(context.get_help())"]}

@@ -14,10 +14,10 @@ from pathlib import Path
 
 import pytest
 
-from hsp.programs import Desk, program
-from hsp.records import Interface, ServerRecord, SiteRecord
-from hsp.service import read_service
-from hsp.skeleton import BOTH
+from hsp.base.programs import Desk, program
+from hsp.intake.records import Interface, ServerRecord, SiteRecord
+from hsp.intake.skeleton import BOTH
+from hsp.plans.service import read_service
 
 from conftest import Hsp
 from test_sites import invoke
@@ -43,7 +43,9 @@ class Place:
 
 
 def host(address: str, limit: int) -> str:
-    return f'[[host]]\naddress = "{ipaddress.ip_address(address).packed.rjust(16, bytes(1)).hex()}"\nlimit = {limit}\n'
+    return (
+        f'[[host]]\naddress = "{ipaddress.ip_address(address).packed.rjust(16, bytes(1)).hex()}"\nlimit = {limit}\n'
+    )
 
 
 def written(folder: Path, **texts: str) -> Path:
@@ -205,9 +207,10 @@ def test_a_purchase_is_in_queries(hsp: Hsp, tmp_path: Path) -> None:
     (folder / "capacity.csv").write_text("site,server_id,capacity\nnorth,1,999\nnorth,2,0\nsouth,1,8500\n")
     lines = hsp("plan", str(folder), status=3).stdout.splitlines()
     assert lines[1].startswith("short 2,000 queries can't be served, whatever the plan: 10,000 ")
-    assert lines[4].startswith("buy   room for 2,000 queries more, the least that suffices; then the cost is 802,000, ")
+    assert lines[4].startswith(
+        "buy   room for 2,000 queries more, the least that suffices; then the cost is 802,000, "
+    )
     assert lines[5].split() in (
         ["north", "1", "2,000", "more:", "999", "to", "2,999"],
         ["north", "2", "2,000", "more:", "0", "to", "2,000"],
     )
-

@@ -10,9 +10,9 @@ from xml.etree import ElementTree
 
 import pytest
 
-from hsp.plans import capacity_file
-from hsp.programs import Desk
-from hsp.service import read_service
+from hsp.base.programs import Desk
+from hsp.plans.plans import capacity_file
+from hsp.plans.service import read_service
 
 from conftest import Hsp
 
@@ -117,7 +117,9 @@ def test_more_room_is_more_by_the_step(hsp: Hsp, example: Example) -> None:
     folder = example("two-sites")
     room = {it.label: service_room(folder, it.label) for it in read_service(str(folder), Desk(), {}).servers}
     for step, wanted in (("10", lambda it: it + round(it / 10)), ("25", lambda it: it + round(it / 4))):
-        found = {it["what"]: int(it["room"]) for it in cases(hsp, str(folder), "--step", step) if it["case"] == "more"}
+        found = {
+            it["what"]: int(it["room"]) for it in cases(hsp, str(folder), "--step", step) if it["case"] == "more"
+        }
         assert found == {what: wanted(room[what]) for what in found} and len(found) == 2
     found = {it["what"]: int(it["room"]) for it in cases(hsp, str(folder), "--step", "0.1") if it["case"] == "more"}
     assert found == {what: room[what] + round(room[what] / 1000) for what in found}

@@ -15,9 +15,9 @@ from pathlib import Path
 
 import pytest
 
-from hsp import files
-from hsp.faults import Unfit
-from hsp.programs import Desk, Missing
+from hsp.base import files
+from hsp.base.programs import Desk, Missing
+from hsp.base.unfit import Unfit
 
 from conftest import WITH_SIGNALS, Hsp, variables
 from test_sites import PARIS, RESTON, invoke
@@ -271,7 +271,7 @@ def test_a_desk_without_a_folder_says_so(monkeypatch: pytest.MonkeyPatch) -> Non
     def none(**_: object) -> None:
         raise FileNotFoundError(2, "No usable temporary directory found")
 
-    monkeypatch.setattr("hsp.programs.tempfile.TemporaryDirectory", none)
+    monkeypatch.setattr("hsp.base.programs.tempfile.TemporaryDirectory", none)
     with pytest.raises(OSError, match="set TMPDIR to another folder") as fault:
         Desk()
     assert fault.value.filename == "TMPDIR"

@@ -5,11 +5,11 @@ from __future__ import annotations
 import re
 from collections.abc import Iterable, Iterator
 
+from hsp.base.paths import path_in
+from hsp.base.spelling import near
 from hsp.doctor.findings import WARNING, Finding, Place, Words, found, quoted, read_text
-from hsp.doctor.rows import near
-from hsp.marks import TITLES
-from hsp.paths import path_in
-from hsp.service import Service
+from hsp.plans.marks import TITLES
+from hsp.plans.service import Service
 
 
 def is_named(it: Finding, name: str) -> bool:

@@ -6,11 +6,11 @@ import os
 import re
 from collections.abc import Iterator
 
+from hsp.base.numbers import listed, some
+from hsp.base.paths import shell_word
 from hsp.doctor.findings import Place, Text, Words, found, quoted
 from hsp.doctor.question import Question, Said
 from hsp.doctor.table_faults import Explained, renumbered, spot_of
-from hsp.numbers import listed, some
-from hsp.paths import shell_word
 
 AGAIN = "print it again: hsplan plan .. > plan.txt"
 # The reasons of a no, and the file that they speak of.

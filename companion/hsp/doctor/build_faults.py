@@ -5,13 +5,14 @@ from __future__ import annotations
 import re
 from typing import NamedTuple
 
+from hsp.base.numbers import listed
+from hsp.base.programs import run
+from hsp.base.spelling import near
 from hsp.doctor.findings import Finding, Place, Text, Words, found, quoted
 from hsp.doctor.question import Question, Said
-from hsp.doctor.rows import joined, near, table_of
+from hsp.doctor.rows import joined, table_of
 from hsp.doctor.table_faults import Explained, Spot, renumbered, spot_of
 from hsp.doctor.toml_places import data_of, listed_in
-from hsp.numbers import listed
-from hsp.programs import run
 
 
 class Known(NamedTuple):

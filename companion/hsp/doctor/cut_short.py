@@ -4,9 +4,9 @@ from __future__ import annotations
 
 import os
 
-from hsp.bounds import LARGEST
+from hsp.base.bounds import LARGEST
+from hsp.base.numbers import some
 from hsp.doctor.findings import ERROR, NOTE, Finding
-from hsp.numbers import some
 
 
 def rounded(number: float) -> int:

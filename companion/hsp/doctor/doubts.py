@@ -11,17 +11,18 @@ from collections.abc import Iterable, Iterator
 from dataclasses import dataclass, field, replace
 from urllib.parse import unquote
 
+from hsp.base.numbers import listed, some
+from hsp.base.paths import path_in, shell_word
+from hsp.base.programs import Desk
+from hsp.base.spelling import near
 from hsp.doctor.accepting import is_named, needless
 from hsp.doctor.findings import WARNING, Finding, Place, Text, Words, decoded, found, quoted, read_text
 from hsp.doctor.mark_doubts import mark_doubts
-from hsp.doctor.rows import Row, Table, near, table_of
+from hsp.doctor.rows import Row, Table, table_of
 from hsp.doctor.toml_places import value_of
-from hsp.marks import KEYS as MARK_KEYS
-from hsp.marks import TABLE, TITLES
-from hsp.numbers import listed, some
-from hsp.paths import path_in, shell_word
-from hsp.programs import Desk
-from hsp.service import ACCEPT, NAMES, TITLE_KEYS, VALUES, Service, dotted, newer_than
+from hsp.plans.marks import KEYS as MARK_KEYS
+from hsp.plans.marks import TABLE, TITLES
+from hsp.plans.service import ACCEPT, NAMES, TITLE_KEYS, VALUES, Service, dotted, newer_than
 
 # A demand beyond so many times all capacity, or a capacity beyond so many times the demand, has likely another unit.
 FAR_ABOVE, FAR_BELOW = 10, 1000

@@ -8,17 +8,17 @@ import tomllib
 from collections.abc import Iterable
 from dataclasses import dataclass
 
+from hsp.base.numbers import listed
+from hsp.base.paths import path_in, shell_word
+from hsp.base.programs import Desk, Missing, Refused
+from hsp.base.unfit import Unfit
 from hsp.doctor.doubts import doubts
 from hsp.doctor.findings import ERROR, Finding, Place, Words, found, read_text
 from hsp.doctor.guard import SECONDS, guarded
 from hsp.doctor.question import Diagnosis, Question, Said, Show, draft_of
 from hsp.doctor.toml_places import value_of
-from hsp.faults import Unfit
-from hsp.marks import MOST_OF_TITLES, TABLE, TITLES, bad_keys
-from hsp.numbers import listed
-from hsp.paths import path_in, shell_word
-from hsp.programs import Desk, Missing, Refused
-from hsp.service import NAMES, VALUES, Service, inputs_in, mark_of, service_of, titles_in
+from hsp.plans.marks import MOST_OF_TITLES, TABLE, TITLES, bad_keys
+from hsp.plans.service import NAMES, VALUES, Service, inputs_in, mark_of, service_of, titles_in
 
 
 @dataclass(frozen=True)

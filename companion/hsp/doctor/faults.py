@@ -7,6 +7,9 @@ import subprocess
 from collections.abc import Callable
 from dataclasses import replace
 
+from hsp.base.grammar import FILES, FORMS
+from hsp.base.programs import Desk, program, run
+from hsp.base.text import is_utf8
 from hsp.doctor import (
     answer_faults,
     build_faults,
@@ -16,14 +19,12 @@ from hsp.doctor import (
     toml_faults,
     word_faults,
 )
-from hsp.doctor.commands import FILES, FORMS, Line, line_of, split
+from hsp.doctor.commands import Line, line_of, split
 from hsp.doctor.file_faults import file_finding
 from hsp.doctor.findings import Finding, Place, Words, found
 from hsp.doctor.question import ORDER, Diagnosis, Question, Said, Show, draft_of, said_of, unheard
 from hsp.doctor.table_faults import Explained, row_fault
 from hsp.doctor.word_doubts import word_doubts
-from hsp.programs import Desk, program, run
-from hsp.text import is_utf8
 
 # How often hsplan is asked about copies that were mended, and how many octets these may have together.
 TURNS, OCTETS = 120, 100_000_000

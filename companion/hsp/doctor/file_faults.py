@@ -6,9 +6,9 @@ import difflib
 import os
 import stat
 
-from hsp.bounds import LARGEST
+from hsp.base.bounds import LARGEST
+from hsp.base.paths import shell_word
 from hsp.doctor.findings import Finding, Place, Words, found
-from hsp.paths import shell_word
 
 CONVENTIONS = {"settings": "settings.toml", "demand": "demand.csv", "costs": "costs.csv", "capacity": "capacity.csv"}
 TOO_LARGE = Words(

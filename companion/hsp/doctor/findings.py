@@ -7,8 +7,8 @@ import os
 import re
 from dataclasses import dataclass
 
-from hsp.bounds import LARGEST
-from hsp.text import visible
+from hsp.base.bounds import LARGEST
+from hsp.base.text import visible
 
 ERROR, WARNING, NOTE = "error", "warning", "note"
 

@@ -20,6 +20,7 @@ from hsp.doctor.question import Show
 SECONDS, MEMORY = 6.0, 800_000_000
 PAGE = os.sysconf("SC_PAGE_SIZE")
 
+
 @dataclass
 class Work:
     """What an explanation came to: its findings, what it returned, and whether it was ended before that."""

@@ -7,12 +7,13 @@ import re
 import zlib
 from typing import NamedTuple
 
+from hsp.base.numbers import listed
+from hsp.base.paths import shell_word
+from hsp.base.spelling import near
 from hsp.doctor.findings import Finding, Place, Text, Words, decoded, found
 from hsp.doctor.question import ORDER, Question, Said
-from hsp.doctor.rows import HEADERS, near, table_of
+from hsp.doctor.rows import HEADERS, table_of
 from hsp.doctor.table_faults import Explained
-from hsp.numbers import listed
-from hsp.paths import shell_word
 
 # The headers of logs, by the command that reads them.
 LOGS = {

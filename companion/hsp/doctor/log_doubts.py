@@ -6,18 +6,18 @@ import os
 from collections.abc import Iterator
 from dataclasses import dataclass, replace
 
-from hsp.answering import answer_command, kept_beside
+from hsp.base.numbers import some
+from hsp.base.paths import path_in, shell_word
+from hsp.base.programs import Inputs
+from hsp.base.unfit import Unfit
 from hsp.doctor.findings import WARNING, Finding, Place, Words, found
 from hsp.doctor.mark_doubts import JOINED, looks_joined
 from hsp.doctor.question import Question
 from hsp.doctor.rows import Row, Table
-from hsp.faults import Unfit
-from hsp.marks import Mark, mark_in
-from hsp.numbers import some
-from hsp.paths import path_in, shell_word
-from hsp.programs import Inputs
-from hsp.service import NAMES, Service
-from hsp.service import Row as Asked
+from hsp.plans.answering import answer_command, kept_beside
+from hsp.plans.marks import Mark, mark_in
+from hsp.plans.service import NAMES, Service
+from hsp.plans.service import Row as Asked
 
 ANSWERED = "dispatch finds a row by its region and its handle, hsplan-stream answer by the kind of a handle"
 

@@ -5,14 +5,14 @@ from __future__ import annotations
 from collections import Counter
 from collections.abc import Iterator
 
+from hsp.base.numbers import part, some
+from hsp.base.paths import path_in
 from hsp.doctor.findings import WARNING, Finding, Place, Text, Words, found, read_text
 from hsp.doctor.toml_places import value_of
-from hsp.kinds import most_of_region
-from hsp.marks import TABLE, TITLES
-from hsp.numbers import part, some
-from hsp.paths import path_in
-from hsp.service import Service
-from hsp.tally import MOST_COUNT
+from hsp.intake.kinds import most_of_region
+from hsp.intake.tally import MOST_COUNT
+from hsp.plans.marks import TABLE, TITLES
+from hsp.plans.service import Service
 
 # From this share on, what rounding adds is worth a smaller unit.
 MUCH = 0.05
@@ -59,7 +59,9 @@ def unmarked(service: Service, demand: Text) -> Iterator[Finding]:
         return
     why = f"each of its {some(len(service.rows), 'row')} has servers of its own, which so many handles seldom have"
     message = "the demand looks joined by kinds, and hsp.toml doesn't say so"
-    yield found(demand.path, Place(), Words(message, JOINED, why, kind="unmarked", name="unmarked kinds"), "", WARNING)
+    yield found(
+        demand.path, Place(), Words(message, JOINED, why, kind="unmarked", name="unmarked kinds"), "", WARNING
+    )
 
 
 def of_another(service: Service) -> Iterator[Finding]:

@@ -7,16 +7,16 @@ import glob
 import os
 from collections.abc import Iterator
 
+from hsp.base.numbers import listed, some
+from hsp.base.paths import shell_word
+from hsp.base.programs import Desk
+from hsp.base.text import bold
+from hsp.base.unfit import Unfit
 from hsp.doctor.doubts import stale_plan
 from hsp.doctor.examine import examined
-from hsp.faults import Unfit
-from hsp.numbers import listed, some
-from hsp.paths import shell_word
-from hsp.programs import Desk
-from hsp.regions import is_table, named_in
-from hsp.service import NAMES, Service
-from hsp.terminal import head
-from hsp.text import bold
+from hsp.intake.regions import is_table, named_in
+from hsp.plans.service import NAMES, Service
+from hsp.plans.terminal import head
 
 
 def step(command: str, why: str) -> str:

@@ -5,9 +5,9 @@ from __future__ import annotations
 import json
 from collections.abc import Iterable, Iterator
 
+from hsp.base.numbers import listed
+from hsp.base.text import bold, colored, dim, visible
 from hsp.doctor.findings import ERROR, WARNING, Finding
-from hsp.numbers import listed
-from hsp.text import bold, colored, dim, visible
 
 WIDE = 96
 

@@ -10,9 +10,9 @@ import subprocess
 from collections.abc import Callable
 from dataclasses import dataclass, field, replace
 
+from hsp.base.programs import Desk, program
+from hsp.base.text import is_utf8
 from hsp.doctor.findings import Finding, Text, encoded, read_text
-from hsp.programs import Desk, program
-from hsp.text import is_utf8
 
 # The files in the order in which hsplan reads them.
 ORDER = ("settings", "values", "demand", "costs", "capacity", "plan", "log", "file")

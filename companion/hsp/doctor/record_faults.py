@@ -6,14 +6,14 @@ import os
 import re
 from collections.abc import Iterator
 
+from hsp.base.numbers import some
+from hsp.base.paths import shell_word
+from hsp.base.programs import Desk, run
 from hsp.doctor.findings import Place, Words, found, quoted
 from hsp.doctor.question import Question, Said
 from hsp.doctor.settings_faults import mends, place_in, with_value, without_block
 from hsp.doctor.table_faults import Explained
 from hsp.doctor.toml_places import listed_in
-from hsp.numbers import some
-from hsp.paths import shell_word
-from hsp.programs import Desk, run
 
 
 # No server has fewer octets: its identifier, its address, and two numbers.

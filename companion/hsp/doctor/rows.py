@@ -3,7 +3,6 @@
 from __future__ import annotations
 
 import csv
-import difflib
 import functools
 import io
 from collections.abc import Iterable
@@ -92,14 +91,3 @@ def joined(fields: Iterable[str]) -> str:
     out = io.StringIO()
     csv.writer(out, lineterminator="").writerow(list(fields))
     return out.getvalue()
-
-
-def near(word: str, words: Iterable[str], least: float = 0.6) -> str:
-    """The likeliest of some words that was meant, or nothing."""
-    if len(word) > 200:
-        return ""
-    known = list(words)
-    folded = {it.casefold(): it for it in known}
-    if word.strip().casefold() in folded:
-        return folded[word.strip().casefold()]
-    return next(iter(difflib.get_close_matches(word, known, 1, least)), "")

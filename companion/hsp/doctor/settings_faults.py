@@ -9,12 +9,13 @@ from collections.abc import Iterator
 from dataclasses import replace
 from typing import Any
 
+from hsp.base.paths import shell_word
+from hsp.base.spelling import near
 from hsp.doctor.findings import Place, Words, found, quoted
 from hsp.doctor.question import Question, Said
-from hsp.doctor.rows import near, table_of
+from hsp.doctor.rows import table_of
 from hsp.doctor.table_faults import Explained, slug
 from hsp.doctor.toml_places import KEYS, blocks, data_of, head_of, listed_in, value_of
-from hsp.paths import shell_word
 
 NAMES = "a name has only ASCII letters, digits, '-', '_' and '.', and at most 64 of them"
 

@@ -9,13 +9,14 @@ from dataclasses import replace
 from typing import NamedTuple
 from urllib.parse import unquote
 
+from hsp.base.numbers import listed, some
+from hsp.base.paths import shell_word
+from hsp.base.programs import run
+from hsp.base.spelling import near
 from hsp.doctor.findings import Finding, Place, Words, found, quoted
 from hsp.doctor.numbers_advice import QUOTES, advice
 from hsp.doctor.question import Question, Said
-from hsp.doctor.rows import HEADERS, Row, joined, near, spans_of, table_of
-from hsp.numbers import listed, some
-from hsp.paths import shell_word
-from hsp.programs import run
+from hsp.doctor.rows import HEADERS, Row, joined, spans_of, table_of
 
 
 class Explained(NamedTuple):

@@ -9,12 +9,12 @@ from collections.abc import Iterator
 from dataclasses import replace
 from typing import NamedTuple
 
+from hsp.base.paths import shell_word
+from hsp.base.spelling import near
 from hsp.doctor.findings import Place, Text, Words, encoded, found
 from hsp.doctor.question import Question, Said
-from hsp.doctor.rows import near
 from hsp.doctor.table_faults import Explained
 from hsp.doctor.toml_places import KEYS
-from hsp.paths import shell_word
 
 # How many lines are looked at as likely ones, and in settings of how many octets.
 MOST_LINES, MOST_OCTETS = 12, 1_000_000

@@ -6,17 +6,19 @@ import os
 from collections import defaultdict
 from collections.abc import Iterator
 
-from hsp.doctor.commands import FORMS, Line, split
+from hsp.base.grammar import FORMS
+from hsp.base.numbers import some
+from hsp.base.programs import Inputs
+from hsp.base.spelling import near
+from hsp.base.unfit import Unfit
+from hsp.doctor.commands import Line, split
 from hsp.doctor.doubts import bare, doubts, handle_words
 from hsp.doctor.findings import WARNING, Finding, Place, Text, Words, found, quoted
 from hsp.doctor.log_doubts import absent_in, mark_of_words, of_absent, of_mark
 from hsp.doctor.question import Question
-from hsp.doctor.rows import Row, Table, near, table_of
-from hsp.faults import Unfit
-from hsp.marks import Mark
-from hsp.numbers import some
-from hsp.programs import Inputs
-from hsp.service import NAMES, Service, Titles, service_of, titles_in
+from hsp.doctor.rows import Row, Table, table_of
+from hsp.plans.marks import Mark
+from hsp.plans.service import NAMES, Service, Titles, service_of, titles_in
 
 # A log may be long: so many octets of it are looked at.
 LOOKED_AT = 1 << 20

@@ -5,11 +5,12 @@ from __future__ import annotations
 from collections.abc import Iterator
 from dataclasses import replace
 
-from hsp.doctor.commands import FILES, FORMS, KINDS, Form, Line, Option, Word, shown, split
+from hsp.base.grammar import FILES, FORMS, KINDS, Form, shown
+from hsp.base.paths import shell_word
+from hsp.base.spelling import near
+from hsp.doctor.commands import Line, Option, Word, split
 from hsp.doctor.findings import Finding, Place, Words, found, quoted
 from hsp.doctor.question import Said
-from hsp.doctor.rows import near
-from hsp.paths import shell_word
 
 USAGE = "Usage"
 VERSION = ("-V", "--version", "version", "-v")

@@ -12,10 +12,10 @@ import subprocess
 from collections.abc import Iterator
 from typing import IO, Any
 
-from hsp import logs
-from hsp.faults import Unfit
-from hsp.files import created
-from hsp.programs import program
+from hsp.base.files import created
+from hsp.base.programs import program
+from hsp.base.unfit import Unfit
+from hsp.intake import logs
 
 HEADER = b"region,handle"
 OF_ALL = b"front,region,handle"

@@ -4,9 +4,9 @@ from __future__ import annotations
 
 import click
 
+from hsp.base.groups import Group
 from hsp.fleet.demand import demand
 from hsp.fleet.dispatch import dispatch
-from hsp.groups import Group
 
 
 @click.group(cls=Group)

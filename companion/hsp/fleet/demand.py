@@ -9,7 +9,18 @@ from typing import Any
 
 import click
 
-from hsp.bring import (
+from hsp.base.bounds import whole
+from hsp.base.files import locked, replace_all
+from hsp.base.programs import Desk, Inputs
+from hsp.base.text import give, say
+from hsp.base.unfit import Unfit
+from hsp.fleet import kit
+from hsp.fleet.engine import Engine, Reply
+from hsp.fleet.parts import fields_of_form
+from hsp.fleet.progress import shown
+from hsp.fleet.session import Targets, place_of, session, with_cluster
+from hsp.fleet.tables import counts_in, skipped_of
+from hsp.intake.bring import (
     FOLDER,
     expect,
     foreseen,
@@ -25,22 +36,11 @@ from hsp.bring import (
     twice,
     with_forms,
 )
-from hsp.bounds import whole
-from hsp.faults import Unfit
-from hsp.files import locked, replace_all
-from hsp.fleet import kit
-from hsp.fleet.engine import Engine, Reply
-from hsp.fleet.parts import fields_of_form
-from hsp.fleet.progress import shown
-from hsp.fleet.session import Targets, place_of, session, with_cluster
-from hsp.fleet.tables import counts_in, skipped_of
-from hsp.marks import Mark
-from hsp.programs import Desk, Inputs
-from hsp.queries import Judge, Reading
-from hsp.regions import regions_in
-from hsp.tally import Tally
-from hsp.text import give, say
-from hsp.times import Span
+from hsp.intake.queries import Judge, Reading
+from hsp.intake.regions import regions_in
+from hsp.intake.tally import Tally
+from hsp.intake.times import Span
+from hsp.plans.marks import Mark
 
 # So many tables are added up by one part.
 WIDTH = 8

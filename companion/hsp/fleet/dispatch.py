@@ -13,21 +13,21 @@ from typing import Any
 
 import click
 
-from hsp.bring import FOLDER
-from hsp.faults import Unfit
-from hsp.files import refuse_clashes
+from hsp.base.files import refuse_clashes
+from hsp.base.numbers import listed, some
+from hsp.base.paths import path_in, shell_word
+from hsp.base.programs import Desk, Inputs, Missing
+from hsp.base.text import say
+from hsp.base.unfit import Unfit
 from hsp.fleet import kit
 from hsp.fleet.answers import SUMS, line_of_row
 from hsp.fleet.engine import Engine, Reply
 from hsp.fleet.progress import shown
 from hsp.fleet.session import Targets, place_of, session, with_cluster
 from hsp.fleet.split import Parted
-from hsp.marks import Mark, mark_in
-from hsp.numbers import listed, some
-from hsp.paths import path_in, shell_word
-from hsp.programs import Desk, Inputs, Missing
-from hsp.service import NAMES, inputs_in, newer_than
-from hsp.text import say
+from hsp.intake.bring import FOLDER
+from hsp.plans.marks import Mark, mark_in
+from hsp.plans.service import NAMES, inputs_in, newer_than
 
 SUFFIX = ".answers"
 OF_FRONT = re.compile(r"([0-9]+)(?:@([^=/]+))?=(.+)", re.DOTALL)
@@ -169,7 +169,12 @@ def of_these_files(folder: str, desk: Desk, inputs: Inputs, plan: str) -> None:
 @click.option("--fronts", type=click.IntRange(1, 64), required=True, metavar="N", help="how many fronts the plan has")
 @click.option("--plan", metavar="FILE", help="the certificate, in place of DIR/plan.txt")
 @click.option("--any-handle", is_flag=True, help="answer by hsplan-stream: any handle, and logs of any length")
-@click.option("--unit", type=click.IntRange(1, 1_000_000), metavar="N", help="of the demand, with --any-handle; that of hsp.toml")
+@click.option(
+    "--unit",
+    type=click.IntRange(1, 1_000_000),
+    metavar="N",
+    help="of the demand, with --any-handle; that of hsp.toml",
+)
 @with_cluster
 def dispatch(folder: str, logs: tuple[str, ...], plan: str | None, **given: Any) -> None:
     """Answers the queries of logs by the plan of DIR, in parallel.

@@ -16,10 +16,10 @@ from dataclasses import dataclass
 from typing import Any
 from urllib.parse import urlsplit
 
-from hsp.files import locked
+from hsp.base.files import locked
+from hsp.base.programs import Missing
+from hsp.base.text import say
 from hsp.fleet.local import Gone, Local
-from hsp.programs import Missing
-from hsp.text import say
 
 Reply = dict[str, Any]
 NO_WORKER, BROKEN, OUT_OF_MEMORY = 3, 5, 4

@@ -10,9 +10,9 @@ import zipfile
 from collections.abc import Iterator
 from typing import Any
 
-from hsp.bounds import whole
+from hsp.base.bounds import whole
+from hsp.base.programs import Inputs, program
 from hsp.fleet.answers import FILES
-from hsp.programs import Inputs, program
 
 # The beginning of a compiled module that is taken without a look at its source.
 UNCHECKED = (1).to_bytes(4, "little")

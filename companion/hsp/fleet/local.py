@@ -13,8 +13,8 @@ import sys
 import tempfile
 import time
 
-from hsp.programs import Missing
-from hsp.signals import uncut
+from hsp.base.programs import Missing
+from hsp.base.signals import uncut
 
 # Workers that end are started again, but not without end.
 MOST_RESTARTS = 5

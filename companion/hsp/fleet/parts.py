@@ -10,16 +10,16 @@ from collections import Counter
 from collections.abc import Callable
 from typing import Any
 
-from hsp.bounds import Query, pieces
-from hsp.faults import Unfit
-from hsp.files import created
+from hsp.base.bounds import Query, pieces
+from hsp.base.files import created
+from hsp.base.programs import Desk, Inputs, Missing, Refused
+from hsp.base.unfit import Unfit
 from hsp.fleet import answers
 from hsp.fleet.tables import Table, merged
-from hsp.forms import Form, within
-from hsp.programs import Desk, Inputs, Missing, Refused
-from hsp.queries import Judge, Reading, field_of, queries
-from hsp.regions import regions_in
-from hsp.times import Span
+from hsp.intake.forms import Form, within
+from hsp.intake.queries import Judge, Reading, field_of, queries
+from hsp.intake.regions import regions_in
+from hsp.intake.times import Span
 
 LOG_HEADER = b"region,handle\n"
 Request = dict[str, Any]

@@ -7,9 +7,9 @@ import time
 from collections.abc import Callable
 from typing import Any
 
+from hsp.base.numbers import some
+from hsp.base.text import show_progress
 from hsp.fleet.engine import Engine, Reply
-from hsp.numbers import some
-from hsp.text import show_progress
 
 
 def shown(engine: Engine, word: str, number: int, rows_of: Callable[[Reply], int]) -> Callable[[list[Reply]], Any]:

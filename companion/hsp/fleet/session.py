@@ -9,12 +9,12 @@ from typing import Any, TypeVar
 
 import click
 
-from hsp.faults import Unfit
+from hsp.base.numbers import some
+from hsp.base.signals import STOPPED, deaf, stopping
+from hsp.base.text import say, show_progress
+from hsp.base.unfit import Unfit
 from hsp.fleet.engine import BROKEN, Engine, Place, Unfinished
 from hsp.fleet.local import Gone
-from hsp.numbers import some
-from hsp.signals import STOPPED, deaf, stopping
-from hsp.text import say, show_progress
 
 Command = TypeVar("Command", bound=Callable[..., Any])
 # Paths whose unpublished files are taken away at the end, and their host.

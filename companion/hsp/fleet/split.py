@@ -5,9 +5,9 @@ from __future__ import annotations
 import io
 import os
 
-from hsp.faults import Unfit
+from hsp.base.files import growing
+from hsp.base.unfit import Unfit
 from hsp.fleet.answers import HEADER, OF_ALL, blocks
-from hsp.files import growing
 
 MOST_ROWS = 10_000_000
 

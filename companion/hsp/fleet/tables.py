@@ -10,11 +10,11 @@ import os
 from collections.abc import Iterable
 from dataclasses import dataclass, field
 
-from hsp.bounds import MOST_HELD, Query, weight
-from hsp.faults import Unfit
-from hsp.logs import Skipped
-from hsp.programs import Desk, Inputs, Refused
-from hsp.tally import HEADER, MOST_ROWS, advice, rows_of
+from hsp.base.bounds import MOST_HELD, Query, weight
+from hsp.base.programs import Desk, Inputs, Refused
+from hsp.base.unfit import Unfit
+from hsp.intake.logs import Skipped
+from hsp.intake.tally import HEADER, MOST_ROWS, advice, rows_of
 
 # So many pairs are counted in memory, before they are joined.
 MOST_PAIRS = 1 << 19

@@ -2,3 +2,8 @@ mod Reading
 mod Headers
 mod RecordFields
 pub mod SameFields
+mod PlainLines
+mod Marks
+mod Shapes
+mod Commas
+mod EscapedFields

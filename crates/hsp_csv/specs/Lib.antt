@@ -1,2 +1,4 @@
 pub mod Records
 pub mod Header
+pub mod Row
+pub mod Plain

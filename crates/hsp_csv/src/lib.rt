@@ -1,15 +1,24 @@
-// The records of a text of comma-separated values, one for each call, from any reader.
+// Comma-separated values: the records of a text, one for each call, from any reader; a row that is one line; a field
+// that is written.
 //
-// The `csv` crate reads them. Its own headers are off, a record may have any number of fields, and nothing is trimmed;
+// The `csv` crate reads the records. Its own headers are off, a record may have any number of fields, and nothing is trimmed;
 // all its other settings are at their defaults. The octets `EF BB BF` at the start of a text are passed over once.
 #![tactic(auto)]
 
+mod counting;
 mod fault;
 mod fields;
 mod header;
 mod records;
+mod row_fields;
+mod row_reader;
+mod splitting;
+mod writing;
 
 pub use fault::RecordsFault;
 pub use fields::{three_fields, two_fields};
 pub use header::{is_header, take_header};
 pub use records::{read_records, take_record};
+pub use row_fields::{RowFields, without_mark};
+pub use row_reader::RowReader;
+pub use writing::push_field;

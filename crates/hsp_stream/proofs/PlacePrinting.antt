@@ -1,26 +1,9 @@
--- Lines and fields that are written piece by piece.
+-- Lines that are written piece by piece.
 use Rattle.std.proofs.Common.{◌≡◌, ◌∙◌, ℕ, ◌+◌, List, [], ◌∷◌, ◌++◌, Option, Some, None, drop, arith, option_map, refl, ap, sym, append_assoc, append-nil}
 use Rattle.std.specs.List.{slice_get}
-use Rattle.csv.specs.Writing.{default_writer, escaped}
 use Rattle.hsp_instance.specs.Instance.{Site}
 use Rattle.hsp_instance.proofs.Lists.{drop_at}
 use Rattle.hsp_stream.specs.PlaceLines.{place_line, place_lines}
-
--- an octet before others
-escaped_then : (c : ℕ) (rest : List ℕ) → escaped default_writer (c ∷ rest) ≡ escaped default_writer (c ∷ []) ++ escaped default_writer rest
-unfolding escaped
-escaped_then c rest = grind arith
-
--- one octet more is written
-pub one_escaped : (out new left : List ℕ) (c : ℕ) (rest whole : List ℕ) → left ≡ c ∷ rest → new ≡ out ++ escaped default_writer (c ∷ []) → out ++ escaped default_writer left ≡ whole
-    → new ++ escaped default_writer rest ≡ whole
-one_escaped out new left c rest whole next is all =
-    ap (λ o. o ++ escaped default_writer rest) is ∙ append_assoc out (escaped default_writer (c ∷ [])) (escaped default_writer rest)
-    ∙ ap (λ e. out ++ e) (sym (escaped_then c rest) ∙ ap (escaped default_writer) (sym next)) ∙ all
-
-pub all_escaped : (out left whole : List ℕ) → left ≡ [] → out ++ escaped default_writer left ≡ whole → out ≡ whole
-unfolding escaped
-all_escaped out left whole none all = sym (append-nil out) ∙ ap (λ l. out ++ escaped default_writer l) (sym none) ∙ all
 
 -- the pieces of a line, one after the other
 pub line_pieces : (out a b p i n1 n2 n3 n4 n5 n6 n7 n8 : List ℕ) → n1 ≡ out ++ a → n2 ≡ n1 ++ 44 ∷ [] → n3 ≡ n2 ++ b → n4 ≡ n3 ++ 44 ∷ [] → n5 ≡ n4 ++ p → n6 ≡ n5 ++ 44 ∷ [] → n7 ≡ n6 ++ i → n8 ≡ n7 ++ 10 ∷ []

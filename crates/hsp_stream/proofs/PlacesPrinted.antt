@@ -8,8 +8,8 @@ use Rattle.std.specs.Prelude.{nat_lt}
 use Rattle.csv.specs.Reading.{strip_bom}
 use Rattle.hsp_names.specs.Handle.{ReadingsAreHandles, handle_in, local_name, naming_authority}
 use Rattle.hsp_instance.specs.Instance.{Site}
-use Rattle.hsp_row.specs.Row.{Shape, row_of}
-use Rattle.hsp_row.specs.Row.Shape.{blank, one, other, two}
+use Rattle.hsp_csv.specs.Row.{Shape, row_of}
+use Rattle.hsp_csv.specs.Row.Shape.{blank, one, other, two}
 use Rattle.hsp_talk.specs.Talk.{AreTaken, Event, rows_in, sent_in}
 use Rattle.hsp_talk.specs.declared.limits.TheConstants.{LONGEST_ROW}
 use Rattle.hsp_stream.specs.PlaceLines.{header_line, place_lines}

@@ -6,8 +6,8 @@ use Rattle.hsp_names.specs.declared.fault.HandleFault.{HandleFault}
 use Rattle.hsp_dispatch.specs.Dispatch.{Entry}
 use Rattle.hsp_dispatch.specs.Log.{Gives, header_of}
 use Rattle.hsp_dispatch.specs.declared.form.Form.{Form}
-use Rattle.hsp_row.specs.Row.{Shape, row_of}
-use Rattle.hsp_row.specs.Row.Shape.{blank, one, two, other}
+use Rattle.hsp_csv.specs.Row.{Shape, row_of}
+use Rattle.hsp_csv.specs.Row.Shape.{blank, one, two, other}
 use Rattle.hsp_talk.specs.declared.limits.TheConstants.{LONGEST_ROW}
 use Rattle.hsp_stream.specs.declared.row_refusal.RowRefusal.{RowRefusal}
 use Rattle.hsp_stream.specs.declared.row_refusal.RowRefusal.TheVariants.{BadBody, BadHandle, Fields, TooLong}

@@ -10,8 +10,8 @@ use Rattle.hsp_instance.specs.Instance.{Site}
 use Rattle.hsp_talk.specs.declared.limits.TheConstants.{LONGEST_ROW}
 use Rattle.hsp_talk.specs.declared.stop.Refusal.{Refusal}
 use Rattle.hsp_talk.specs.declared.stop.Refusal.TheVariants as refusal
-use Rattle.hsp_row.specs.Row.{Shape, row_of}
-use Rattle.hsp_row.specs.Row.Shape.{blank, one, other, two}
+use Rattle.hsp_csv.specs.Row.{Shape, row_of}
+use Rattle.hsp_csv.specs.Row.Shape.{blank, one, other, two}
 use Rattle.hsp_stream.specs.PlaceLines.{header_line, place_lines}
 use Rattle.hsp_stream.specs.declared.fault.RowFault.{RowFault}
 use Rattle.hsp_stream.specs.declared.fault.RowFault.TheVariants.{BadHandle, Fields, Header}

@@ -4,8 +4,8 @@ use Rattle.std.specs.List.{flat_map}
 use Rattle.csv.specs.Reading.{strip_bom}
 use Rattle.hsp_names.specs.Handle.{IsHandle}
 use Rattle.hsp_instance.specs.Instance.{Site}
-use Rattle.hsp_row.specs.Row.{Shape, row_of}
-use Rattle.hsp_row.specs.Row.Shape.{blank, one, two}
+use Rattle.hsp_csv.specs.Row.{Shape, row_of}
+use Rattle.hsp_csv.specs.Row.Shape.{blank, one, two}
 use Rattle.hsp_talk.specs.Talk.{Event, rows_in, sent_in}
 use Rattle.hsp_talk.specs.declared.limits.TheConstants.{LONGEST_ROW}
 use Rattle.hsp_stream.specs.PlaceLines.{header_line, place_lines}

@@ -1,7 +1,7 @@
 // The desk that answers the rows of a log by a plan.
 
 ghost use Rattle.std.specs.Prelude.{◌≡◌, ◌≢◌, ◌∷◌, [], IfErr, IfOk, List, MatchOption, None, OnErr, OnOk, Option, ℕ};
-ghost use Rattle.hsp_row.specs.Row.{row_shown};
+ghost use Rattle.hsp_csv.specs.Row.{row_shown};
 ghost use Rattle.hsp_talk.specs.Refusals.{IsRefusal};
 ghost use Rattle.hsp_dispatch.specs.Log.{header_of};
 ghost use Rattle.hsp_dispatch.specs.declared.form.Form.{Form};
@@ -12,7 +12,7 @@ ghost use Rattle.hsp_stream.specs.KindAnswers.{TakesRow};
 use crate::given::{StreamSums, push_given};
 use crate::kind_dispatcher::KindDispatcher;
 use hsp_dispatch::{Dispatcher, Form, ServerLines};
-use hsp_row::{RowFields, RowReader, without_mark};
+use hsp_csv::{RowFields, RowReader, without_mark};
 use hsp_tables::Costs;
 use hsp_talk::{Desk, Refusal};
 use std::alloc::{AllocError, Global};

@@ -9,8 +9,8 @@ ghost use Rattle.hsp_stream.specs.KindsTable.{IsPushed, fields_of_row, in_unit, 
 ghost use Rattle.hsp_stream.specs.declared.fault.StreamFault.TheVariants.{OutOfMemory};
 ghost use Rattle.hsp_text.specs.declared.limits.TheConstants.{GREATEST_COUNT};
 
-use crate::csv_field::push_field;
 use crate::fault::{RowFault, StreamFault};
+use hsp_csv::push_field;
 use hsp_tally::Kinds;
 use hsp_text::limits::GREATEST_COUNT;
 use hsp_text::push_whole;

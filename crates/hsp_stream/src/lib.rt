@@ -6,7 +6,6 @@ pub mod answer_laws;
 mod answerer;
 mod answering;
 mod bodies;
-mod csv_field;
 mod fault;
 mod fault_text;
 mod given;

@@ -6,7 +6,7 @@ ghost use Rattle.hsp_instance.specs.Instance.{AreSites};
 ghost use Rattle.hsp_names.specs.Lent.{octets_of};
 ghost use Rattle.hsp_stream.specs.PlaceLines.{place_line, place_lines};
 
-use crate::csv_field::push_field;
+use hsp_csv::push_field;
 use hsp_hash::Digests;
 use hsp_instance::Sites;
 use hsp_names::HandleRef;

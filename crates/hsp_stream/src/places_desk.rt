@@ -8,7 +8,7 @@ use crate::fault::RowFault;
 use crate::handle_rows::{HandleForm, read_handle, read_header};
 use crate::place_lines::push_sites;
 use hsp_instance::Sites;
-use hsp_row::RowReader;
+use hsp_csv::RowReader;
 use hsp_talk::{Desk, Refusal};
 use std::alloc::Global;
 use std::marker::Model;

@@ -1,7 +1,7 @@
 // The fields of rows, by RFC 4180.
 
 use crate::same::is_same;
-use hsp_row::{RowFields, RowReader, without_mark};
+use hsp_csv::{RowFields, RowReader, without_mark};
 use std::alloc::{AllocError, Global};
 use std::process::Abort;
 

@@ -1,5 +1,5 @@
 use Rattle.std.proofs.Common.{inl, inr, refl}
-use Rattle.hsp_row.specs.Row.{row_shown}
+use Rattle.hsp_csv.specs.Row.{row_shown}
 use Rattle.hsp_stream.proofs.KindAnswers.{refused_so}
 use Rattle.hsp_stream.specs.Asking.{AsksByFields}
 use Rattle.hsp_stream.specs.Asking.Asked.{bad}

@@ -1,0 +1,1 @@
+"""What every part of hsp stands on: files, programs, numbers, texts, bounds."""

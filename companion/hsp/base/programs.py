@@ -1,0 +1,309 @@
+"""Calls hsplan and hsplan-stream, and reads what they print. No rule of theirs is written here a second time."""
+
+from __future__ import annotations
+
+import contextlib
+import csv
+import functools
+import io
+import itertools
+import os
+import shutil
+import subprocess
+import sys
+import tempfile
+from collections.abc import Iterable, Iterator
+from dataclasses import dataclass, replace
+from typing import NamedTuple
+
+from hsp.base import units
+from hsp.base.signals import uncut
+
+# A capacity that no demand within hsplan's limits can fill.
+BOUNDLESS = 1_000_000_000
+
+
+class Refused(Exception):
+    """hsplan refused its inputs, with this status and this line."""
+
+    def __init__(self, status: int, line: str) -> None:
+        super().__init__(line)
+        self.status = status
+        self.line = line
+
+
+class Missing(Exception):
+    """A file or a program isn't there; one line or several say which."""
+
+    def __init__(self, *lines: str) -> None:
+        super().__init__("; ".join(lines))
+        self.lines = lines
+
+
+def program(name: str) -> str:
+    """The path of a program: that of the environment's HSPLAN or HSPLAN_STREAM, or the one in PATH or beside hsp."""
+    beside = os.path.dirname(os.path.realpath(sys.argv[0]))
+    key = name.upper().replace("-", "_")
+    found = os.environ.get(key) or shutil.which(name) or shutil.which(name, path=beside)
+    if not found:
+        raise Missing(f"{name} isn't in PATH, nor beside hsp. Install it, or set {key} to its file.")
+    return found
+
+
+class Printed(NamedTuple):
+    """What a run printed, and its status."""
+
+    status: int
+    out: str
+    line: str
+
+
+def run(name: str, *words: str) -> Printed:
+    """Runs a program without standard input."""
+    done = subprocess.run([program(name), *words], stdin=subprocess.DEVNULL, capture_output=True)
+    return Printed(
+        done.returncode, done.stdout.decode("utf-8", "replace"), done.stderr.decode("utf-8", "replace").strip()
+    )
+
+
+def asked(name: str, *words: str) -> str:
+    """What a run prints that may not be refused."""
+    printed = run(name, *words)
+    if printed.status:
+        raise Refused(printed.status, printed.line.removeprefix(f"{name}: ") or printed.out.strip())
+    return printed.out
+
+
+@dataclass(frozen=True)
+class Inputs:
+    """The files of a plan, by their paths. The demand counts in units of so many queries; the others never do."""
+
+    settings: str
+    demand: str
+    costs: str
+    capacity: str
+    values: str | None = None
+    unit: int = 1
+
+    def files(self) -> list[str]:
+        """The paths of all files."""
+        return [self.settings, *([self.values] if self.values else []), self.demand, self.costs, self.capacity]
+
+    def of_sites(self) -> list[str]:
+        """The options that say which sites there are."""
+        return ["--settings", self.settings, *(["--values", self.values] if self.values else [])]
+
+    def words(self) -> list[str]:
+        """The options of all files."""
+        files = ["--demand", self.demand, "--costs", self.costs, "--capacity", self.capacity]
+        return self.of_sites() + files
+
+    def but(self, **changed: str) -> Inputs:
+        """The same with other files in some places."""
+        return replace(self, **changed)
+
+
+class Use(NamedTuple):
+    """So many queries of a row that a plan sends to a site."""
+
+    row: int
+    site: int
+    queries: int
+
+
+class Certificate:
+    """The text of a plan or of a shortage. Its sums are read at once, its lines when they are asked for.
+
+    The text counts in units; what is read of it is in queries.
+    """
+
+    def __init__(self, text: str, unit: int = 1) -> None:
+        self.text, self._unit = text, unit
+        head = text[:200].split("\n")
+        said = dict(it.split(" ") for it in head[2:4] if it.count(" ") == 1)
+        self.is_plan = head[1] == "PLAN"
+        self.cost, self.demand, self.capacity = (unit * int(said.get(it, 0)) for it in ("cost", "demand", "capacity"))
+
+    @functools.cached_property
+    def _lines(self) -> dict[str, list[tuple[int, ...]]]:
+        found: dict[str, list[tuple[int, ...]]] = {"use": [], "row": [], "server": [], "host": []}
+        for line in self.text.splitlines():
+            word, _, rest = line.partition(" ")
+            if word in found:
+                found[word].append(tuple(map(int, rest.split())))
+        return found
+
+    @property
+    def uses(self) -> list[Use]:
+        return [Use(row, site, self._unit * number) for row, site, number in self._lines["use"]]
+
+    def prices(self, of: str) -> list[int]:
+        """The prices of the rows, the servers or the hosts of a plan: `row`, `server` or `host`."""
+        return [it[1] for it in self._lines[of]]
+
+    @property
+    def rows(self) -> list[int]:
+        """The numbers of the rows of a shortage."""
+        return [it[0] for it in self._lines["row"]]
+
+
+class Load(NamedTuple):
+    """What a server takes by a plan, what it can take, and its price."""
+
+    load: int
+    capacity: int
+    price: int
+
+
+class Bound(NamedTuple):
+    """The sum of the rows' prices, less that of the full servers and hosts, and the cost of the plan."""
+
+    rows: int
+    full: int
+    cost: int
+
+
+def table_of(header: str, rows: Iterable[Iterable[object]]) -> str:
+    """A table as comma-separated values."""
+    out = io.StringIO()
+    csv.writer(out, lineterminator="\n").writerows(rows)
+    return f"{header}\n{out.getvalue()}"
+
+
+@contextlib.contextmanager
+def _temporary(folder: str) -> Iterator[None]:
+    """Names the folder of temporary files where one can't be written."""
+    try:
+        yield
+    except OSError as fault:
+        remedy = "set TMPDIR to another folder for temporary files"
+        raise OSError(fault.errno, f"{fault.strerror}; {remedy}", folder) from None
+
+
+class Desk:
+    """A folder for the files that are made on the way, and the questions that are asked with them."""
+
+    def __init__(self) -> None:
+        with _temporary("TMPDIR"), uncut():
+            self._folder = tempfile.TemporaryDirectory(prefix="hsp-")
+        self._numbers = itertools.count(1)
+        self._divided: dict[tuple[str, int], str] = {}
+
+    def put(self, text: str | bytes, suffix: str = ".txt") -> str:
+        """Writes a file, and returns its path."""
+        path = os.path.join(self._folder.name, f"{os.getpid()}-{next(self._numbers)}{suffix}")
+        self.add(path, [text if isinstance(text, bytes) else text.encode()])
+        return path
+
+    def add(self, path: str, pieces: Iterable[bytes]) -> None:
+        """Writes on at the end of a file of this desk."""
+        with _temporary(self._folder.name), open(path, "ab") as file:
+            file.writelines(pieces)
+
+    def put_table(self, header: str, rows: Iterable[Iterable[object]]) -> str:
+        return self.put(table_of(header, rows), ".csv")
+
+    def in_units(self, inputs: Inputs) -> Inputs:
+        """The inputs as hsplan takes them: capacities and limits in the units of the demand, rounded down."""
+        if inputs.unit == 1:
+            return inputs
+        settings, capacity = self._settings_in_units(inputs), inputs.capacity
+        if (capacity, inputs.unit) not in self._divided:
+            with open(capacity, "rb") as file:
+                octets = units.capacities_in_units(file.read(), inputs.unit)
+            self._divided[capacity, inputs.unit] = self.put(octets, ".csv")
+        return replace(inputs, unit=1, settings=settings, capacity=self._divided[capacity, inputs.unit])
+
+    def _settings_in_units(self, inputs: Inputs) -> str:
+        """The settings, or a copy of them where hosts have limits. hsplan reads them first, so a fault is its own."""
+        key = inputs.settings, inputs.unit
+        if key not in self._divided:
+            with open(inputs.settings, "rb") as file:
+                octets = file.read()
+            if not units.has_hosts(octets):
+                return inputs.settings
+            self.places(inputs, ["0.NA/0"])
+            self._divided[key] = self.put(units.settings_in_units(octets, inputs.unit), ".toml")
+        return self._divided[key]
+
+    def plan(self, inputs: Inputs) -> tuple[Certificate, str]:
+        """The certificate of a plan or of a shortage, and the path of its file."""
+        printed = run("hsplan", "plan", *self.in_units(inputs).words())
+        if printed.status not in (0, 3):
+            raise Refused(printed.status, printed.line.removeprefix("hsplan: "))
+        if not printed.out.startswith("HSPLAN "):
+            raise Missing(f"{program('hsplan')} printed no plan: is it hsplan?")
+        return Certificate(printed.out, inputs.unit), self.put(printed.out)
+
+    def verdict(self, inputs: Inputs, plan: str) -> str:
+        """What the checker says of a certificate: `yes`, or `no` and why."""
+        return run("hsplan", "check", *self.in_units(inputs).words(), "--plan", plan).out.strip()
+
+    def _report(self, inputs: Inputs, plan: str, kind: str) -> list[str]:
+        words = self.in_units(inputs).words()
+        return asked("hsplan", "report", *words, "--plan", plan, "--kind", kind).splitlines()
+
+    def loads(self, inputs: Inputs, plan: str) -> tuple[list[Load], Bound]:
+        """The load of each server, in the order of the settings, and the sums that show the cost."""
+        *lines, bound = self._report(inputs, plan, "load")[1:]
+        unit, sums = inputs.unit, bound.split()[1::2]
+        loads = [(int(load), int(room), int(price)) for _, _, load, room, price, _ in map(str.split, lines)]
+        return [Load(unit * load, unit * room, price) for load, room, price in loads], Bound(
+            *(unit * int(it) for it in sums)
+        )
+
+    def regions(self, inputs: Inputs, plan: str) -> dict[str, tuple[int, int]]:
+        """The demand and the cost of each region."""
+        lines = (it.split() for it in self._report(inputs, plan, "region")[1:-1])
+        return {name: (inputs.unit * int(demand), inputs.unit * int(cost)) for demand, cost, name in lines}
+
+    def reached(self, inputs: Inputs, plan: str) -> set[tuple[str, int]]:
+        """The servers that the rows of a shortage may use, by site and identifier."""
+        lines = [it.split() for it in self._report(inputs, plan, "shortage")]
+        first = next(at for at, it in enumerate(lines) if it[:1] == ["place"])
+        return {(it[3], int(it[1])) for it in lines[first + 1 :]}
+
+    def site(self, octets: bytes) -> str:
+        """The fields of a site's record."""
+        path = self.put(octets, ".site")
+        try:
+            return asked("hsplan", "site", path)
+        finally:
+            os.unlink(path)
+
+    def site_of_value(self, values: str, index: int) -> str:
+        """The fields of the record that a value list has at an index."""
+        return asked("hsplan", "site", "--index", str(index), values)
+
+    def places(self, inputs: Inputs, handles: Iterable[str]) -> dict[tuple[str, str], int]:
+        """The place of the responsible server of each handle at each site, by handle and site."""
+        log = self.put_table("handle", ([it] for it in handles))
+        printed = asked("hsplan-stream", "places", *inputs.of_sites(), "--log", log)
+        rows = list(csv.reader(io.StringIO(printed, newline="")))[1:]
+        return {(handle, site): int(place) for handle, site, place, _ in rows}
+
+    def without_sites(self, demand: bytes = b"") -> Inputs:
+        """The inputs of a service that has no site and no cost, with the rows of a demand."""
+        costs, capacity = (self.put_table(it, []) for it in ("region,site,cost", "site,server_id,capacity"))
+        table = demand or b"region,handle,count\n"
+        return Inputs(self.put(b"", ".toml"), self.put(table, ".csv"), costs, capacity)
+
+    @functools.cached_property
+    def _bare(self) -> list[str]:
+        """The options of a service without sites, and of its plan."""
+        inputs = self.without_sites()
+        return [*inputs.words(), "--plan", self.plan(inputs)[1]]
+
+    def answers_without_sites(self, log: bytes, rows: int) -> list[str]:
+        """What each of so many rows of a log is answered where there is no site: `refused` and why, or `unknown`."""
+        path = self.put(log, ".csv")
+        answers = asked("hsplan-stream", "answer", *self._bare, "--log", path).splitlines()
+        os.unlink(path)
+        if len(answers) != rows:
+            raise Missing(f"hsplan-stream answered {len(answers)} of {rows} rows: please report this with your log")
+        return answers
+
+    def kinds(self, inputs: Inputs, log: str, unit: int | None) -> str:
+        """The demand of a log, with a row for each kind of its rows."""
+        words = ["--unit", str(unit)] if unit else []
+        return asked("hsplan-stream", "kinds", *inputs.of_sites(), "--costs", inputs.costs, *words, "--log", log)

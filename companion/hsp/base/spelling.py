@@ -1,0 +1,17 @@
+"""What a misspelt word likely means."""
+
+from __future__ import annotations
+
+import difflib
+from collections.abc import Iterable
+
+
+def near(word: str, words: Iterable[str], least: float = 0.6) -> str:
+    """The likeliest of some words that was meant, or nothing."""
+    if len(word) > 200:
+        return ""
+    known = list(words)
+    folded = {it.casefold(): it for it in known}
+    if word.strip().casefold() in folded:
+        return folded[word.strip().casefold()]
+    return next(iter(difflib.get_close_matches(word, known, 1, least)), "")

@@ -1,0 +1,388 @@
+"""The commands that bring a service in: `new`, `sites` and `demand`."""
+
+from __future__ import annotations
+
+import os
+import re
+import sys
+from collections.abc import Callable, Sequence
+from dataclasses import replace
+from typing import Any, TypeVar
+
+import click
+
+from hsp.base.bounds import whole
+from hsp.base.files import create, locked, refuse_clashes, replace_all, together
+from hsp.base.numbers import listed, some
+from hsp.base.paths import path_in, shell_word
+from hsp.base.programs import Desk, Inputs
+from hsp.base.text import give, is_utf8, say, show_progress
+from hsp.base.unfit import Unfit
+from hsp.intake import skeleton
+from hsp.intake.busiest import busiest_hour, refuse_pipes
+from hsp.intake.forms import Form, within
+from hsp.intake.forms import NAMES as FORMS
+from hsp.intake.joining import block, capacity_rows, joined, lines_of, read_back
+from hsp.intake.outlook import may_be_long, outlook, refuse_unit
+from hsp.intake.progress import Gauge, Progress
+from hsp.intake.queries import Judge, Reading, field_of, queries
+from hsp.intake.regions import named_in, regions_in
+from hsp.intake.sitefiles import Files, Found
+from hsp.intake.tally import Tally
+from hsp.intake.times import FIRST, LAST, Span, iso_seconds
+from hsp.plans.marks import KINDS, TITLES, Mark, marked
+from hsp.plans.service import NAMES, VALUES
+
+FOLDER = click.Path(exists=True, file_okay=False)
+FILE = click.Path(exists=True, dir_okay=False)
+LOG_HEADER = b"region,handle\n"
+Command = TypeVar("Command", bound=Callable[..., Any])
+
+
+@click.command()
+@click.argument("folder", metavar="DIR", type=click.Path(file_okay=False))
+@click.option("--example", is_flag=True, help="a small service that plans at once")
+def new(folder: str, example: bool) -> None:
+    """Writes the files of a new service, which say what goes into them.
+
+    No file is overwritten.
+    """
+    paths = create(folder, skeleton.example() if example else skeleton.empty())
+    say(f"{folder} has {listed([os.path.basename(it) for it in paths], 9)}")
+    next_one = "hsp plan" if example else "hsp sites FILE.. --into"
+    say(f"next: {next_one} {shell_word(folder)}")
+
+
+def once(_: click.Context, __: click.Parameter, paths: tuple[str, ...]) -> tuple[str, ...]:
+    """The paths, of which one at most is standard input."""
+    if paths.count("-") > 1:
+        raise click.BadParameter("- stands twice, and standard input is read once")
+    return paths
+
+
+def octets_of(path: str) -> bytes:
+    """The octets of a file, or of standard input where it is `-`."""
+    if re.match("https?://", path):
+        raise Unfit(f"{path}: hsp opens no connection. Fetch it first: curl -o answer.json {shell_word(path)}")
+    return whole(path)
+
+
+def gathered(paths: tuple[str, ...], names: tuple[str, ...], files: Files) -> list[Found]:
+    """The sites of all files under the given names. A record that came before is left out."""
+    found: list[Found] = []
+    for path in paths:
+        for it in files.read(path, octets_of(path)):
+            twin = next((other for other in found if other.octets == it.octets), None)
+            if twin:
+                files.left.append(f"{path}: the record of {twin.name} once more")
+            else:
+                found.append(it)
+    if any(not is_utf8(it) for it in names):
+        raise Unfit("a name isn't text")
+    if len(names) > len(found):
+        raise Unfit(f"{some(len(names), 'name')} for {some(len(found), 'site')}")
+    named = [replace(it, name=name) for it, name in zip(found, names)] + found[len(names) :]
+    if len({it.name for it in named}) < len(named):
+        raise Unfit("two sites have the same name; give each its own --name")
+    return named
+
+
+@click.command()
+@click.argument("paths", metavar="FILE..", nargs=-1, required=True, callback=once)
+@click.option("--into", metavar="DIR", type=FOLDER, help="the folder that they are added to")
+@click.option("--name", "names", metavar="NAME", multiple=True, help="of the first site, the second, and so on")
+@click.option(
+    "--capacity", default=0, show_default=True, type=click.IntRange(0, 1_000_000_000), help="of each server"
+)
+def sites(paths: tuple[str, ...], into: str | None, names: tuple[str, ...], capacity: int) -> None:
+    """Turns site information into the settings of a service.
+
+    A FILE is a handle proxy's answer in JSON, a server's siteinfo.json or siteinfo.bin, a record in hexadecimal
+    digits or base64, or a value list; - is standard input. Without --into the blocks are printed, and no file is
+    written.
+    """
+    if into:
+        refuse_clashes(paths, [path_in(into, NAMES[it]) for it in ("settings", "capacity")])
+    desk = Desk()
+    files = Files(desk)
+    found = gathered(paths, names, files)
+    notes = files.taken + [f"left out: {it}" for it in files.left]
+    if into is None:
+        read_back("".join(map(block, found)).encode(), 0, found, desk)
+        for it in found:
+            rows = "".join(f"# {site},{server},{room}\n" for site, server, room in capacity_rows(it, capacity))
+            give(f"{block(it)}# its rows of capacity.csv:\n{rows}")
+        for line in notes:
+            say(line, err=True)
+        return
+    with locked([into]):
+        result = joined(into, found, capacity, desk)
+        if result.added:
+            replace_all(result.contents)
+    notes += [f"left out: {it.file}: its record is in the settings already" for it in result.known]
+    for line in [line for it in result.added for line in lines_of(it)] + notes:
+        say(line)
+    if not result.added:
+        say("nothing is added")
+        return
+    servers = sum(len(it.site().servers) for it in result.added)
+    room = f"with the capacity {capacity:,}" + ("" if capacity else ": put in what each takes")
+    where = " and ".join(result.contents)
+    say(f"{some(len(result.added), 'site')} added to {where}; {some(servers, 'server')} {room}")
+
+
+def form_of(given: dict[str, Any]) -> Form:
+    """The form of the logs by the options."""
+    pattern = None
+    if given["regex"]:
+        try:
+            pattern = re.compile(os.fsencode(given["regex"]))
+        except re.error as error:
+            raise click.BadParameter(str(error), param_hint="--regex") from None
+        groups = pattern.groupindex
+        if "client" not in groups or ("handle" in groups) == ("path" in groups):
+            wanted = "it needs the groups (?P<client>..), and either (?P<handle>..) or (?P<path>..)"
+            raise click.BadParameter(wanted, param_hint="--regex")
+    prefixes = frozenset(os.fsencode(it.rstrip("/").upper()) for it in given["prefix"])
+    names = given["client"], given["handle"], given["path"] or ""
+    return Form(given["format"], *names, pattern, prefixes, given["time"])
+
+
+class Moment(click.ParamType):
+    """A time in ISO 8601, in seconds since 1970. Without an offset it is UTC."""
+
+    name = "time"
+
+    def convert(self, value: Any, param: click.Parameter | None, context: click.Context | None) -> int:
+        try:
+            return iso_seconds(value)
+        except ValueError:
+            self.fail(f"'{value}' is no time such as 2026-11-26T10:00 or 2026-11-26T10:00+01:00", param, context)
+
+
+def span_of(given: dict[str, Any]) -> Span:
+    """The span of time by the options."""
+    first, last = given["first"], given["last"]
+    span = Span(FIRST if first is None else first, LAST if last is None else last)
+    if span.first >= span.last:
+        raise click.BadParameter("it isn't after --from", param_hint="--to")
+    return span
+
+
+def skipped_lines(reading: Reading) -> list[str]:
+    """How many lines were passed over, why, and where the first one of each reason stands."""
+    if not reading.skipped.counts:
+        return []
+    counts = sorted(reading.skipped.counts.items(), key=lambda it: (-it[1], it[0]))
+    lines = [f"  {count:,}  {reason}; first {reading.skipped.first[reason]}" for reason, count in counts]
+    return [f"skipped {some(reading.skipped.sum, 'line')}", *lines]
+
+
+def service_of(folder: str | None, given: dict[str, Any]) -> Inputs | None:
+    """The sites and the costs by which handles of one kind are joined, where both are there."""
+
+    def path_of(kind: str, name: str) -> str | None:
+        beside = path_in(folder, name) if folder else ""
+        return given[kind] or (beside if os.path.isfile(beside) else None)
+
+    settings, costs = path_of("settings", NAMES["settings"]), path_of("costs", NAMES["costs"])
+    if settings is None or costs is None:
+        return None
+    return Inputs(settings, "", costs, "", path_of("values", VALUES))
+
+
+def expect(lines: list[str]) -> None:
+    """Says what is lacking before logs are read, which takes long."""
+    for line in lines:
+        say(f"hsp: {line}", err=True)
+
+
+def foreseen(regions: str, into: str | None, given: dict[str, Any], is_long: bool, desk: Desk) -> Inputs | None:
+    """The sites and the costs of a service. Before logs are read it refuses what can't be joined or noted at their
+    end, and says what long logs will likely need."""
+    inputs, output = service_of(into, given), output_of(given, into)
+    if output:
+        of_folder(into, output, Mark(KINDS))
+    named = named_in(regions, given["elsewhere"])
+    if given["unit"]:
+        refuse_unit(inputs, named)
+    if is_long or given["unit"]:
+        expect(outlook(inputs, named, into, desk))
+    return inputs
+
+
+def twice(paths: Sequence[str]) -> list[str]:
+    """Names the files that are given twice, by one path or by two."""
+    seen: dict[tuple[int, int], str] = {}
+    lines = []
+    for path in paths:
+        if not os.path.isfile(path):
+            continue
+        found = os.stat(path)
+        first = seen.setdefault((found.st_dev, found.st_ino), path)
+        if first is not path:
+            what = f"{path} is given twice" if first == path else f"{first} and {path} are one file"
+            lines.append(f"{what}: its queries count twice")
+    return lines
+
+
+def counted(logs: tuple[str, ...], reading: Reading, tally: Tally, into: Any) -> None:
+    """Counts the queries of all logs. Writes them into a file, too, where one is given."""
+    if into:
+        into.write(LOG_HEADER)
+    for path in logs:
+        for chunk in tally.add(queries(path, reading)):
+            if into:
+                into.write(b"".join(b"%b,%b\n" % (field_of(region), field_of(handle)) for region, handle in chunk))
+    if sys.stderr.isatty():
+        show_progress("")
+    some_in(logs, reading, tally.asked > 0)
+
+
+def by_time(logs: tuple[str, ...], reading: Reading, given: dict[str, Any]) -> list[str]:
+    """Has only the lines of the wanted time counted. Returns which hour that is, where it was found here."""
+    span, lines = span_of(given), []
+    if given["busiest_hour"]:
+        refuse_pipes(logs)
+        span, first, line = busiest_hour(logs, reading, span)
+        some_in(logs, first, bool(line))
+        reading.lines = first.lines
+        lines.append(line)
+    reading.wrap = None if span.is_all else within(span)
+    return lines
+
+
+def some_in(logs: tuple[str, ...], reading: Reading, is_some: bool) -> None:
+    """Refuses logs that have no query."""
+    if not is_some:
+        none = "it has no line" if len(logs) == 1 else "they have no line"
+        first = (skipped_lines(reading) + ["", none])[1].strip()
+        raise Unfit(f"no query is in {listed(logs)}: {first}")
+
+
+def summary(logs: tuple[str, ...], reading: Reading, tally: Tally, of_any_prefix: bool) -> list[str]:
+    """What was counted, what was passed over and why, and which prefixes are rare where any of them counts."""
+    handles = f" for {some(tally.handles, 'handle')}" if tally.handles is not None else ""
+    regions = some(len(tally.regions), "region")
+    asked = some(tally.asked, "query", "queries")
+    lines = some(tally.asked + reading.skipped.sum, "line")
+    first = f"{some(len(logs), 'log')}, {lines}: {asked} of {regions}{handles}"
+    return [first, *skipped_lines(reading), *(tally.prefixes.lines() if of_any_prefix else [])]
+
+
+def rows_lines(output: str | None, text: bytes, is_joined: bool, lacking: tuple[str, list[str]] | None) -> list[str]:
+    """How many rows the table has, what each stands for, and which regions a file of costs lacks."""
+    kinds = ", each for the handles that have the same servers" if is_joined else ""
+    lines = [f"{output or 'the table'} has {some(text.count(10) - 1, 'row')}{kinds}"]
+    return lines + ([f"{lacking[0]} has no cost yet of {listed(lacking[1])}"] if lacking and lacking[1] else [])
+
+
+def mark_of(tally: Tally, logs: tuple[str, ...], unit: int | None) -> Mark:
+    """What the rows of a joined table stand for."""
+    return Mark(KINDS, unit or 1, logs, tally.asked, tally.handles)
+
+
+def of_folder(folder: str | None, output: str, mark: Mark) -> dict[str, bytes]:
+    """The folder's hsp.toml with a mark, where its own demand is written."""
+    own = path_in(folder, NAMES["demand"]) if folder else ""
+    return marked(folder, mark) if folder and os.path.realpath(own) == os.path.realpath(output) else {}
+
+
+FORM_OPTIONS = [
+    click.option(
+        "--format", type=click.Choice(["auto", *FORMS]), default="auto", show_default=True, help="of the logs"
+    ),
+    click.option(
+        "--regex", metavar="PATTERN", help="lines of another form: (?P<client>..) and (?P<handle>..) or (?P<path>..)"
+    ),
+    click.option(
+        "--client", metavar="NAME", default="client", show_default=True, help="the field with the client's address"
+    ),
+    click.option("--handle", metavar="NAME", default="handle", show_default=True, help="the field with the handle"),
+    click.option("--path", metavar="NAME", help="the field with the path of a request, in place of a handle"),
+    click.option(
+        "--from", "first", metavar="TIME", type=Moment(), help="count from this time on, as 2026-11-26T10:00+01:00"
+    ),
+    click.option("--to", "last", metavar="TIME", type=Moment(), help="count what is before this time"),
+    click.option("--busiest-hour", is_flag=True, help="count only the hour with most queries"),
+    click.option("--time", metavar="NAME", default="time", show_default=True, help="the field with the time"),
+    click.option("--prefix", metavar="PREFIX", multiple=True, help="count only handles of this prefix"),
+    click.option("--elsewhere", metavar="REGION", help="of clients that have no region"),
+    click.option("--by", metavar="FIELD", default="continent.code", show_default=True, help="of a MaxMind database"),
+    click.option(
+        "--unit", type=click.IntRange(1, 1_000_000), metavar="N", help="count in units of N queries, rounded up"
+    ),
+    click.option("--settings", type=FILE, metavar="FILE", help="the sites, in place of DIR's"),
+    click.option("--values", type=FILE, metavar="FILE", help="a value list, in place of DIR's"),
+    click.option("--costs", type=FILE, metavar="FILE", help="by which handles are joined, in place of DIR's"),
+]
+
+
+def with_forms(command: Command) -> Command:
+    """Adds the options that say how logs are read."""
+    for option in reversed(FORM_OPTIONS):
+        command = option(command)
+    return command
+
+
+def refuse_own(logs: Sequence[str], regions: str, into: str | None, outputs: Sequence[str], given: Any) -> None:
+    """Refuses outputs that are inputs, or one another, or in the place of another file of DIR."""
+    others = [it for kind, it in NAMES.items() if kind != "demand"] + [VALUES, TITLES]
+    beside = [path_in(into, it) for it in others] if into else []
+    own = [given[it] for it in ("settings", "values", "costs") if given[it]]
+    refuse_clashes([*logs, regions, *beside, *own], outputs)
+
+
+def output_of(given: dict[str, Any], into: str | None) -> str | None:
+    """The file of the table, where one is named."""
+    return given["output"] or (path_in(into, NAMES["demand"]) if into else None)
+
+
+@click.command()
+@click.argument(
+    "logs",
+    metavar="LOG..",
+    nargs=-1,
+    required=True,
+    type=click.Path(dir_okay=False, allow_dash=True),
+    callback=once,
+)
+@click.option("--regions", metavar="FILE", required=True, help="a table network,region, or a MaxMind database")
+@click.option("--into", metavar="DIR", type=FOLDER, help="the folder whose demand.csv is written")
+@click.option("-o", "--output", metavar="FILE", help="the table, in place of DIR/demand.csv")
+@click.option("--log", "kept", metavar="FILE", help="also the queries, as a log for hsplan dispatch")
+@with_forms
+def demand(logs: tuple[str, ...], regions: str, into: str | None, kept: str | None, **given: Any) -> None:
+    """Counts the queries of access logs by region and handle.
+
+    A LOG may be packed by gzip, bzip2 or xz; - is standard input. Its form is that of a handle server (server), of an
+    HTTP proxy (proxy), JSON lines (json) or a table (csv). Without --into and -o the table is printed.
+    """
+    desk = Desk()
+    output = output_of(given, into)
+    refuse_own(logs, regions, into, [it for it in (output, kept) if it], given)
+    refuse_clashes([path_in(into, NAMES["demand"])] if into else [], [kept] if kept else [])
+    reading = Reading(form_of(given), regions_in(regions, given["by"], given["elsewhere"], desk), Judge(desk))
+    if sys.stderr.isatty():
+        gauge = Gauge(logs, 2 if given["busiest_hour"] else 1)
+        reading.watch, reading.progress = gauge.watch, Progress(gauge).show
+    tally, is_long = Tally(desk), any(map(may_be_long, logs))
+    expect(twice(logs))
+    inputs = foreseen(regions, into, given, is_long, desk)
+    tally.joins_by(inputs)
+    busiest = by_time(logs, reading, given)
+    with together() as files:
+        counted(logs, reading, tally, files.open(kept) if kept else None)
+        text, is_joined = tally.demand(inputs, given["unit"])
+        closing = rows_lines(output, text, is_joined, (inputs.costs, tally.without_costs(inputs)) if inputs else None)
+        if output:
+            mark = mark_of(tally, logs, given["unit"]) if is_joined else Mark()
+            for path, octets in {output: text, **of_folder(into, output, mark)}.items():
+                files.open(path).write(octets)
+        else:
+            give(text)
+    for line in [*busiest, *summary(logs, reading, tally, not given["prefix"]), *closing]:
+        say(line, err=output is None)
+
+
+__all__ = ["demand", "new", "sites"]

@@ -1,0 +1,74 @@
+"""How far the reading of logs is, on a terminal: lines, how many a second, the part that is read, and when it ends."""
+
+from __future__ import annotations
+
+import io
+import os
+import stat
+import time
+from collections.abc import Sequence
+
+from hsp.base.text import show_progress
+
+# So many seconds stand between two lines.
+PAUSE = 0.5
+
+
+def octets_of(paths: Sequence[str]) -> int | None:
+    """The octets of all files. Those of a pipe aren't known."""
+    whole = 0
+    for path in paths:
+        try:
+            found = os.fstat(0) if path == "-" else os.stat(path)
+        except OSError:
+            return None
+        if not stat.S_ISREG(found.st_mode):
+            return None
+        whole += found.st_size
+    return whole
+
+
+class Gauge:
+    """How much of all logs was read, by the octets of their files, packed or plain. Each is read so many times."""
+
+    def __init__(self, paths: Sequence[str], times: int = 1) -> None:
+        whole = octets_of(paths)
+        self._whole = whole * times if whole else 0
+        self._before, self._size = 0, 0
+        self._file: io.BufferedReader | None = None
+
+    def watch(self, file: io.BufferedReader) -> None:
+        """Begins with a file."""
+        self._before += self._size
+        self._size = os.fstat(file.fileno()).st_size
+        self._file = file
+
+    def share(self) -> float | None:
+        """The part of all octets that was read."""
+        if not self._whole or not self._file or self._file.closed:
+            return None
+        return min(1.0, (self._before + self._file.tell()) / self._whole)
+
+
+class Progress:
+    """Shows a line twice a second."""
+
+    def __init__(self, gauge: Gauge) -> None:
+        self._gauge = gauge
+        self._begun, self._last = time.monotonic(), 0.0
+
+    def show(self, path: str, lines: int) -> None:
+        now = time.monotonic()
+        if now - self._last <= PAUSE:
+            return
+        self._last = now
+        spent = max(now - self._begun, 0.001)
+        show_progress(f"{path}: {lines:,} lines, {lines / spent:,.0f} a second{self._rest(spent)}")
+
+    def _rest(self, spent: float) -> str:
+        """The part that was read, and when all will be."""
+        share = self._gauge.share()
+        if not share:
+            return ""
+        end = time.localtime(time.time() + spent * (1 - share) / share)
+        return f", {share:.0%}, until {time.strftime('%H:%M:%S', end)}"

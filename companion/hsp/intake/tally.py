@@ -1,0 +1,168 @@
+"""Queries are counted by region and handle, and become a table of demand.
+
+A table that is longer than hsplan takes is joined by `hsplan-stream kinds`. So are counts that are too large for it.
+"""
+
+from __future__ import annotations
+
+import csv
+import itertools
+import re
+from collections import Counter
+from collections.abc import Callable, Iterable, Iterator
+
+from hsp.base.bounds import MOST_HELD, Query, pieces, weight
+from hsp.base.numbers import listed, some
+from hsp.base.programs import Desk, Inputs, Refused
+from hsp.base.unfit import Unfit
+from hsp.intake.kinds import MOST_KINDS
+from hsp.intake.outlook import too_many
+from hsp.intake.prefixes import Prefixes
+from hsp.intake.queries import field_of
+from hsp.intake.regions import NAME_RULE
+from hsp.plans.marks import MOST_UNIT
+from hsp.plans.service import table
+
+HEADER = b"region,handle,count\n"
+MOST_ROWS, MOST_COUNT = MOST_KINDS, 1_000_000
+REMEDIES = {
+    "BadName": NAME_RULE,
+    "TooManyRegions": "join networks to at most 64 regions",
+}
+# So many pairs are counted in memory, before they are put into a file.
+MOST_PAIRS = 1 << 20
+
+
+def rows_of(counts: Iterable[tuple[Query, int]]) -> Iterator[bytes]:
+    """The rows of a demand."""
+    for (region, handle), count in counts:
+        yield b"%b,%b,%d\n" % (field_of(region), field_of(handle), count)
+
+
+def _most_first(counts: Counter[Query]) -> list[tuple[Query, int]]:
+    """Those with the most queries first, so that the same counts have the same table."""
+    return sorted(counts.items(), key=lambda it: (-it[1], it[0]))
+
+
+class Tally:
+    """How often each region asks for each handle."""
+
+    def __init__(self, desk: Desk, most: int = MOST_PAIRS) -> None:
+        self._desk, self._most = desk, most
+        self._counts: Counter[Query] = Counter()
+        self._octets = 0
+        self._spilled: str | None = None
+        self.asked = 0
+        self.regions: set[bytes] = set()
+        # How many handles there are, where all were in memory at once.
+        self.handles: int | None = None
+        self.prefixes = Prefixes()
+        # Whether rows can be joined is asked as soon as there are too many, where it is known by what.
+        self._joinable: Callable[[], object] = lambda: None
+
+    def joins_by(self, inputs: Inputs | None) -> None:
+        """Refuses too many rows as soon as they are counted, where the sites or the costs to join them lack."""
+        self._joinable = lambda: self._can_join(inputs)
+
+    def add(self, queries: Iterable[Query]) -> Iterator[list[Query]]:
+        """Counts queries, and passes them on in pieces."""
+        for chunk in pieces(queries):
+            before = len(self._counts)
+            self._counts.update(chunk)
+            self._octets += weight(itertools.islice(reversed(self._counts), len(self._counts) - before))
+            self.asked += len(chunk)
+            if len(self._counts) > MOST_ROWS:
+                self.regions.update({region for region, _ in chunk})
+                self._joinable()
+            if len(self._counts) > self._most or self._octets > MOST_HELD:
+                self._spill()
+            yield chunk
+
+    def take(self, counts: dict[Query, int], is_joined: bool) -> None:
+        """Takes the counts of pairs, or the sums of kinds that were joined before."""
+        self._counts.update(counts)
+        if is_joined:
+            self._spill()
+            self.prefixes = Prefixes()
+
+    def _spill(self) -> None:
+        """Puts the counts into a file in their order, since a table is a log of `kinds`."""
+        self.regions.update(region for region, _ in self._counts)
+        self.prefixes.add(self._counts)
+        self._spilled = self._spilled or self._desk.put(HEADER, ".csv")
+        self._desk.add(self._spilled, rows_of(self._counts.items()))
+        self._counts.clear()
+        self._octets = 0
+
+    def demand(self, inputs: Inputs | None, unit: int | None) -> tuple[bytes, bool]:
+        """The table of demand, and whether rows of one kind were joined. `inputs` are those of the service."""
+        self.regions.update(region for region, _ in self._counts)
+        self.handles = None if self._spilled else len({handle for _, handle in self._counts})
+        rows = len(self._counts)
+        large = max(self._counts.values(), default=0) > MOST_COUNT
+        if not self._spilled and rows <= MOST_ROWS and not large and unit is None:
+            self.prefixes.add(self._counts)
+            text = HEADER + b"".join(rows_of(_most_first(self._counts)))
+            self._accepted(text)
+            return text, False
+        service = self._can_join(inputs)
+        self._spill()
+        try:
+            joined = self._desk.kinds(service, self._spilled or "", unit).encode()
+        except Refused as fault:
+            raise Unfit(advice(fault, service, self._desk)) from None
+        self._accepted(joined)
+        return joined, True
+
+    def _can_join(self, inputs: Inputs | None) -> Inputs:
+        """Rows are joined by the sites that their regions may use, so these have to be known."""
+        if not inputs:
+            rows = len(self._counts)
+            is_many = self._spilled or rows > MOST_ROWS
+            what = f"more than {MOST_ROWS:,} rows" if is_many else some(rows, "row")
+            raise Unfit(
+                f"{what} of demand; hsplan takes {MOST_ROWS:,}, with counts up to {MOST_COUNT:,}. "
+                "Give --into DIR with settings.toml and costs.csv, so that rows of one kind are joined"
+            )
+        lacking = self.without_costs(inputs)
+        if lacking:
+            raise Unfit(
+                f"{inputs.costs}: no cost of {listed(lacking)}. Put in the costs first: "
+                "rows are joined by the sites that their regions may use"
+            )
+        return inputs
+
+    def without_costs(self, inputs: Inputs) -> list[str]:
+        """The regions that have no cost for any site."""
+        try:
+            paying = {row[0].encode() for row in table(inputs.costs)}
+        except (csv.Error, UnicodeDecodeError) as error:
+            raise Unfit(f"{inputs.costs}: not a table: {error}") from None
+        return sorted(it.decode("utf-8", "replace") for it in self.regions - paying)
+
+    def _accepted(self, demand: bytes) -> None:
+        """Has hsplan read a table of demand before it is written."""
+        try:
+            self._desk.plan(self._desk.without_sites(demand))
+        except Refused as fault:
+            row = re.search(r"row ([0-9]+)", fault.line)
+            line = demand.split(b"\n")[int(row[1]) + 1] if row else b""
+            where = f" in the row {line.decode('utf-8', 'replace')!r}" if line else ""
+            raise Unfit(f"hsplan refuses this demand: {fault.line}{where}{_remedy(fault)}") from None
+
+
+def _remedy(fault: Refused) -> str:
+    """What an operator does about a fault of a demand, where it is one of these."""
+    found = next((remedy for word, remedy in REMEDIES.items() if word in fault.line), "")
+    return f"; {found}" if found else ""
+
+
+def advice(fault: Refused, inputs: Inputs, desk: Desk) -> str:
+    """What an operator does where rows can't be joined."""
+    unit = re.search(r"CountTooLarge.* unit ([0-9]+)", fault.line)
+    if unit:
+        fits = int(unit[1]) <= MOST_UNIT
+        remedy = f"give --unit {unit[1]}" if fits else "no unit suffices: count the logs in parts"
+        return f"a row of the demand has more than {MOST_COUNT:,} queries; {remedy}"
+    many = too_many(inputs, desk) if "TooManyKinds" in fault.line else ""
+    return f"hsplan-stream can't join the rows: {fault.line}{'; ' + many if many else _remedy(fault)}"

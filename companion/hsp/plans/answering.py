@@ -1,0 +1,53 @@
+"""How queries are answered by a plan whose demand was joined or counts in units: by `hsplan-stream answer`."""
+
+from __future__ import annotations
+
+import os
+import shlex
+from dataclasses import replace
+
+from hsp.base.paths import named, path_in
+from hsp.base.programs import Desk, Inputs
+from hsp.plans.service import Service
+
+# The inputs in the units of a demand, as they are kept beside its plan.
+CAPACITY, SETTINGS = "capacity-in-units.csv", "settings-in-units.toml"
+
+
+def answer_command(inputs: Inputs, plan: str, unit: int, log: str = "/dev/stdin") -> str:
+    """The command that answers a log by a plan. The inputs are those in units."""
+    words = [*inputs.words(), "--plan", plan, *(["--unit", str(unit)] if unit > 1 else []), "--log", log]
+    shown = [it if it.startswith("--") else shlex.quote(named(it)) for it in words]
+    return " ".join(["hsplan-stream", "answer", *shown])
+
+
+def kept_beside(plan: str, inputs: Inputs) -> Inputs:
+    """The inputs in units under the names that they have beside a plan."""
+    folder = os.path.dirname(plan)
+    return replace(inputs, capacity=path_in(folder, CAPACITY), settings=path_in(folder, SETTINGS), unit=1)
+
+
+def in_units(service: Service, desk: Desk, plan: str) -> tuple[Inputs, dict[str, bytes]]:
+    """The inputs by which a kept plan is answered, and what has to be written for them beside the plan."""
+    divided, beside = desk.in_units(service.inputs), kept_beside(plan, service.inputs)
+    contents: dict[str, bytes] = {}
+    chosen = replace(service.inputs, unit=1)
+    for kind in ("settings", "capacity"):
+        path = getattr(divided, kind)
+        if path != getattr(service.inputs, kind):
+            with open(path, "rb") as file:
+                contents[getattr(beside, kind)] = file.read()
+            chosen = replace(chosen, **{kind: getattr(beside, kind)})
+    return chosen, contents
+
+
+def answer_lines(service: Service, inputs: Inputs, plan: str) -> list[str]:
+    """What is kept in units, and the command that answers by the plan; nothing where dispatch answers by it."""
+    if service.mark.is_plain:
+        return []
+    lines = []
+    if inputs.capacity != service.inputs.capacity:
+        files = [inputs.capacity] + ([inputs.settings] if inputs.settings != service.inputs.settings else [])
+        what = "capacities" + (" and limits" if len(files) > 1 else "")
+        lines.append(f"units {' and '.join(files)}: the {what} in units of {service.unit:,} queries, rounded down")
+    return [*lines, f"answer {answer_command(inputs, plan, service.unit)}"]

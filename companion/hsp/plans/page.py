@@ -1,0 +1,311 @@
+"""One page of a plan, in one file. Lengths are in percent of the width, so that text keeps its size on a phone. Every
+drawn number stands beside it as text."""
+
+from __future__ import annotations
+
+from collections import Counter
+import base64
+import hashlib
+from collections.abc import Iterable, Mapping
+from dataclasses import dataclass, field
+
+import jinja2
+
+from hsp import __version__
+from hsp.base.numbers import average, listed, percent, queries_of, signed, some
+from hsp.base.text import escaped
+from hsp.plans.plans import Gain, Host, Planned, Reference, Shortage, above, above_limits, by_shares
+from hsp.plans.service import Row, Server, Service, dotted
+from hsp.plans.sources import Source, now
+
+# So many rows stand in the page; a script shows the others.
+ROWS_SHOWN = 100
+# Above so many servers of a site, only those with something to see are shown, until the reader opens the others.
+SERVERS_SHOWN = 24
+# So many servers of a purchase are named in its sentence; each is drawn below.
+BOUGHT_SHOWN = 6
+
+
+@dataclass
+class ServerView:
+    """A server of the page."""
+
+    site: int
+    id: int
+    label: str
+    load: int
+    capacity: int
+    before: int
+    bought: int
+    gain: Gain | None
+    is_full: bool
+
+    @property
+    def is_dear(self) -> bool:
+        """Full, and more room would save."""
+        return self.gain is not None and self.gain.all > 0
+
+    @property
+    def is_plain(self) -> bool:
+        """Nothing is to be seen of it but its load."""
+        return not self.is_full and not self.bought and self.before <= self.capacity
+
+
+@dataclass
+class RegionView:
+    """A region of the page: what a query costs now, and by the reference."""
+
+    name: str
+    asked: int
+    cost: int
+    now: float
+    was: float | None
+    added: int
+
+
+@dataclass
+class RowView:
+    """A row of the page: what it costs above its cheapest site, and which servers it asks."""
+
+    region: str
+    handle: str
+    count: int
+    price: int
+    added: int
+    uses: list[tuple[int, str, int]]
+
+
+@dataclass
+class View:
+    """All that the page shows."""
+
+    service: Service
+    plan: Planned | None
+    reference: Reference | None
+    before: Service | None = None
+    changes: list[str] = field(default_factory=list)
+    short: Shortage | None = None
+    bought: dict[Server, int] = field(default_factory=dict)
+    sources: list[Source] = field(default_factory=list)
+    time: str = field(default_factory=now)
+
+
+def step_of(most: float) -> int:
+    """A round step that gives an axis four to seven marks."""
+    step = 1
+    while most / step > 7:
+        step = int(step * (2 if str(step)[0] in "15" else 2.5))
+    return step
+
+
+def servers_of(view: View, plan: Planned) -> list[ServerView]:
+    gains = {it.server: it for it in plan.gains}
+    before = view.reference.loads if view.reference else [0] * len(plan.loads)
+    numbers = {site.name: at for at, site in enumerate(plan.service.sites)}
+    return [
+        ServerView(
+            numbers[it.site],
+            it.id,
+            it.label,
+            plan.loads[it.number],
+            plan.service.capacity(it),
+            before[it.number],
+            view.bought.get(it, 0),
+            gains.get(it),
+            plan.is_full(it),
+        )
+        for it in plan.service.servers
+    ]
+
+
+def regions_of(view: View, plan: Planned) -> list[RegionView]:
+    """The regions by their names, so that the pages of two plans have them in one order."""
+    found = []
+    for name, (asked, cost) in plan.regions.items():
+        then, was = view.reference.regions.get(name, (0, 0)) if view.reference else (0, 0)
+        before = was / then if then else None
+        found.append(RegionView(name, asked, cost, cost / asked if asked else 0.0, before, cost - was))
+    return sorted(found, key=lambda it: it.name)
+
+
+def reserve(servers: list[ServerView], hosts: list[Host]) -> str:
+    """How full the fullest servers are."""
+    full = [it for it in servers if it.is_full]
+    words = [f"{len(full)} of {some(len(servers), 'server')}"] if full else []
+    machines = sum(it.is_full for it in hosts)
+    words += [some(machines, "machine")] if machines else []
+    said = f"{listed(words)} {'is' if len(full) + machines == 1 else 'are'} full. " if words else ""
+    rest = [it for it in servers if not it.is_full and it.capacity]
+    if not rest:
+        return said
+    most = max(rest, key=lambda it: it.load / it.capacity)
+    first = "The fullest of the others" if full else "The fullest server"
+    return f"{said}{first}, {most.label}, is {percent(most.load, most.capacity)} full."
+
+
+def rows_of(plan: Planned) -> list[RowView]:
+    """The rows that ask for something, those first that cost most above their cheapest site."""
+    service, prices = plan.service, plan.service.certificate.prices("row")
+    found = []
+    for at, own in enumerate(service.rows):
+        uses = [(site, service.server(site, own.handle).id, queries) for site, queries in plan.uses.get(at, [])]
+        if uses:
+            shown = [(site, f"{site}.{number}", queries) for site, number, queries in uses]
+            found.append(RowView(own.region, own.handle, own.count, prices[at], plan.added(at), shown))
+    return sorted(found, key=lambda it: (-it.added, -it.count))
+
+
+def packed(rows: Iterable[RowView], regions: list[str]) -> list[list[str]]:
+    """All rows as text, one for each handle: small, and no element of the page until it is asked for."""
+    numbers = {it: at for at, it in enumerate(regions)}
+    lines: dict[str, list[str]] = {}
+    for row in rows:
+        is_whole = len(row.uses) == 1
+        uses = ";".join(key + ("" if is_whole else f"={queries}") for _, key, queries in row.uses)
+        fields = f"{numbers[row.region]},{row.count},{row.added},{row.price},{uses}"
+        lines.setdefault(row.handle, []).append(fields)
+    return [[handle, "|".join(parts)] for handle, parts in lines.items()]
+
+
+def diverted(plan: Planned) -> int:
+    """How many queries do not go to a cheapest site of their region."""
+    service = plan.service
+    costs = {(region, at): service.costs[region, service.sites[at].name] for region, at in plan.shares}
+    least = {
+        it: min(service.costs[it, service.sites[at].name] for at in service.sites_for(it)) for it in service.regions
+    }
+    return sum(queries for key, queries in plan.shares.items() if costs[key] > least[key[0]])
+
+
+def changes_between(old: Service, new: Service) -> list[str]:
+    """What was changed between the files of two plans."""
+    said = _changed("capacity of {} {}", _texts(old.capacities), _texts(new.capacities))
+    said += _changed("cost {} to {}", _texts(old.costs), _texts(new.costs))
+    by_kind = old.mark.is_joined or new.mark.is_joined
+    rows = [_counts(service, by_kind) for service in (old, new)]
+    other = sum(rows[0].get(key) != rows[1].get(key) for key in {*rows[0], *rows[1]})
+    if other:
+        said.append(f"demand: {some(other, 'kind' if by_kind else 'row')}, {old.asked:,} → {new.asked:,} queries")
+    return said + _changed("limit of {}{}", _limits(old), _limits(new))
+
+
+def _counts(service: Service, by_kind: bool) -> Counter[tuple[object, ...]]:
+    """How often each region asks for each handle, or for each kind: a kind is known by its servers."""
+    counts: Counter[tuple[object, ...]] = Counter()
+    for it in service.rows:
+        counts[it.region, service.kind(it) if by_kind else it.handle] += it.count
+    return counts
+
+
+def _texts(table: Mapping[tuple[str, str], int] | Mapping[tuple[str, int], int]) -> dict[tuple[str, str], int]:
+    return {(first, str(second)): number for (first, second), number in table.items()}
+
+
+def _limits(service: Service) -> dict[tuple[str, str], int]:
+    return {(dotted(it["address"]), ""): int(it["limit"]) for it in service.settings.get("host", [])}
+
+
+def _changed(words: str, before: dict[tuple[str, str], int], after: dict[tuple[str, str], int]) -> list[str]:
+    def shown(table: dict[tuple[str, str], int], key: tuple[str, str]) -> str:
+        return f"{table[key]:,}" if key in table else "none"
+
+    keys = dict.fromkeys([*before, *after])
+    other = (it for it in keys if before.get(it) != after.get(it))
+    return [f"{words.format(*it)}: {shown(before, it)} → {shown(after, it)}" for it in other]
+
+
+def best_room(plan: Planned, hosts: list[Host]) -> tuple[str, int, bool] | None:
+    """Where room is worth most: its name, what one query more saves there, and whether that is only a bound."""
+    found = [(it.server.label, it.one, False) for it in plan.gains if it.all > 0]
+    found += [(it.address, it.price, True) for it in hosts if it.price]
+    return max(found, key=lambda it: it[1]) if found else None
+
+
+def lacking(service: Service, short: Shortage) -> list[tuple[str, list[Row]]]:
+    """The handles of a shortage with their rows, those first that ask for most. Each kind is one of its own."""
+    found: dict[tuple[str, str], list[Row]] = {}
+    for row in short.rows:
+        found.setdefault((row.handle, row.region if service.mark.is_joined else ""), []).append(row)
+    named = [(service.like(handle), rows) for (handle, _), rows in found.items()]
+    return sorted(named, key=lambda it: -sum(row.count for row in it[1]))
+
+
+def hash_of(text: str) -> str:
+    """A style or a script of the template, as the policy of the page allows it. No other one is."""
+    return f"sha256-{base64.b64encode(hashlib.sha256(text.encode()).digest()).decode()}"
+
+
+def environment() -> jinja2.Environment:
+    made = jinja2.Environment(
+        loader=jinja2.PackageLoader("hsp"),
+        autoescape=True,
+        trim_blocks=True,
+        lstrip_blocks=True,
+        undefined=jinja2.StrictUndefined,
+        finalize=lambda it: escaped(it) if type(it) is str else it,
+    )
+    made.filters.update(number=lambda it: f"{it:,}", signed=signed, listed=listed, hash=hash_of)
+    made.globals.update(percent=percent, average=average, queries_of=queries_of, some=some, version=__version__)
+    return made
+
+
+def render(view: View) -> str:
+    """The text of the page."""
+    plan, names = view.plan, [site.name for site in view.service.sites]
+    shown: dict[str, object] = {
+        "view": view,
+        "service": view.service,
+        "plan": plan,
+        "reference": view.reference,
+        "unit": f" {view.service.titles.cost}" if view.service.titles.cost else "",
+        "is_joined": view.service.mark.is_joined,
+        "names": names,
+        "bought_shown": BOUGHT_SHOWN,
+        "lacking": lacking(view.service, view.short) if view.short else [],
+        "least": {
+            it: min((view.service.costs[it, names[at]] for at in view.service.sites_for(it)), default=None)
+            for it in view.service.regions
+        },
+    }
+    return environment().get_template("page.html").render(**shown, **(plan_shown(view, plan) if plan else {}))
+
+
+def left_alone(view: View, plan: Planned) -> str:
+    """What would be too full if all asked their cheapest site; nothing where that is the plan."""
+    if not view.reference or view.before:
+        return ""
+    count, queries = above(view.service, view.reference.loads)
+    hosts = above_limits(plan.hosts, view.reference.loads)
+    servers = f"{some(count, 'server')} would get {queries:,} queries above capacity" if count else ""
+    machines = f"{some(hosts, 'machine')} would get more than {'its limit' if hosts == 1 else 'their limits'}"
+    return " and ".join(filter(None, [servers, machines if hosts else ""]))
+
+
+def plan_shown(view: View, plan: Planned) -> dict[str, object]:
+    """What the page shows of a plan."""
+    servers, regions, rows = servers_of(view, plan), regions_of(view, plan), rows_of(plan)
+    top = max([1, *(max(it.capacity, it.load) for it in servers)])
+    widest = min(max([top, *(it.before for it in servers)]), int(top * 1.3))
+    axis = max([1.0, *(max(it.now, it.was or 0.0) for it in regions)])
+    step = step_of(axis)
+    return {
+        "servers": servers,
+        "servers_shown": SERVERS_SHOWN,
+        "regions": regions,
+        "rows": rows,
+        "rows_shown": ROWS_SHOWN,
+        "packed": packed(rows, plan.service.regions),
+        "share": lambda it: round(100 * min(it, widest) / widest, 2),
+        "widest": widest,
+        "axis": (int(axis / step) + 1) * step,
+        "step": step,
+        "dear": [it for it in servers if it.is_dear],
+        "full": [it for it in servers if it.is_full],
+        "tight": [it for it in plan.hosts if it.price],
+        "best": best_room(plan, plan.hosts),
+        "by_shares": by_shares(plan),
+        "reserve": reserve(servers, plan.hosts),
+        "alone": left_alone(view, plan),
+        "is_above": any(it.before > it.capacity for it in servers),
+        "diverted": diverted(plan),
+    }

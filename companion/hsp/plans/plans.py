@@ -1,0 +1,306 @@
+"""What a plan comes to: loads, shares, what room saves, and what would have to be bought. Each number is a plan's of
+hsplan, or a sum of its uses that is compared with its reports."""
+
+from __future__ import annotations
+
+import concurrent.futures
+import os
+from collections import Counter
+from collections.abc import Callable, Iterable, Sequence
+from dataclasses import dataclass, field, replace
+from fractions import Fraction
+
+from hsp.base.numbers import some
+from hsp.base.programs import Bound, Certificate, Desk, Inputs, Missing
+from hsp.base.units import hosts_text, settings_text
+from hsp.plans.service import Row, Server, Service, dotted
+
+# The limits of hsplan within which a twin of each site can stand beside it.
+MOST_SITES, MOST_SERVERS, MOST_COST = 32, 1024, 1_000_000
+# At most so many full servers are asked what room there saves, those with the greatest prices.
+MOST_GAINS = 40
+
+Shares = dict[tuple[str, int], int]
+
+
+@dataclass(frozen=True)
+class Gain:
+    """What room at a full server saves: each query of the next unit, and as much room as is of use."""
+
+    server: Server
+    one: int
+    room: int
+    all: int
+
+
+@dataclass(frozen=True)
+class Host:
+    """A machine with a limit: what its servers take together."""
+
+    address: str
+    limit: int
+    load: int
+    price: int
+    servers: list[Server]
+    is_full: bool
+
+
+@dataclass(frozen=True)
+class Reference:
+    """What a plan is held against: all ask their cheapest site, or another plan."""
+
+    words: str
+    cost: int
+    asked: int
+    loads: list[int]
+    regions: dict[str, tuple[int, int]]
+    shares: Shares
+
+
+@dataclass(frozen=True)
+class Planned:
+    """A plan of a service, with the sums of hsplan's reports."""
+
+    service: Service
+    loads: list[int]
+    prices: list[int]
+    bound: Bound
+    regions: dict[str, tuple[int, int]]
+    shares: Shares
+    uses: dict[int, list[tuple[int, int]]]
+    hosts: list[Host]
+    gains: list[Gain] = field(default_factory=list)
+
+    @property
+    def cost(self) -> int:
+        return self.service.certificate.cost
+
+    def is_full(self, server: Server) -> bool:
+        room = self.service.capacity(server)
+        return room > 0 and self.loads[server.number] + self.service.unit > room
+
+    @property
+    def full(self) -> list[Server]:
+        return [it for it in self.service.servers if self.is_full(it)]
+
+    def added(self, row: int) -> int:
+        """What a row costs above its cheapest site."""
+        own = self.service.rows[row]
+        costs = {
+            at: self.service.costs[own.region, self.service.sites[at].name]
+            for at in self.service.sites_for(own.region)
+        }
+        return sum(queries * (costs[site] - min(costs.values())) for site, queries in self.uses.get(row, []))
+
+
+@dataclass(frozen=True)
+class Shortage:
+    """Rows that ask for more than the servers that they may use can take."""
+
+    demand: int
+    capacity: int
+    rows: list[Row]
+    servers: list[Server]
+    stranded: list[str]
+
+    @property
+    def lack(self) -> int:
+        return self.demand - self.capacity
+
+
+def capacity_file(desk: Desk, capacities: dict[tuple[str, int], int]) -> str:
+    return desk.put_table("site,server_id,capacity", ((site, at, room) for (site, at), room in capacities.items()))
+
+
+def _shares(service: Service, certificate: Certificate) -> Shares:
+    """How many queries each region sends to each site."""
+    shares: Counter[tuple[str, int]] = Counter()
+    for use in certificate.uses:
+        shares[service.rows[use.row].region, use.site] += use.queries
+    return dict(shares)
+
+
+def _hosts(service: Service, loads: list[int]) -> list[Host]:
+    prices = service.certificate.prices("host")
+    found = []
+    for it, price in zip(service.settings.get("host", []), prices):
+        own = [server for server in service.servers if server.address == it["address"].lower()]
+        load, limit = sum(loads[server.number] for server in own), it["limit"]
+        found.append(Host(dotted(it["address"]), limit, load, price, own, 0 < limit < load + service.unit))
+    return found
+
+
+def planned(service: Service, desk: Desk) -> Planned:
+    """The plan of a service. Its uses, added up by places, have to be the loads of hsplan's report."""
+    reports, bound = desk.loads(service.inputs, service.plan_file)
+    uses: dict[int, list[tuple[int, int]]] = {}
+    sums = [0] * len(service.servers)
+    for use in service.certificate.uses:
+        uses.setdefault(use.row, []).append((use.site, use.queries))
+        sums[service.server(use.site, service.rows[use.row].handle).number] += use.queries
+    loads = [it.load for it in reports]
+    if sums != loads:
+        raise Missing("the uses by place differ from hsplan's report of loads: please report this with your files")
+    return Planned(
+        service,
+        loads,
+        [it.price for it in reports],
+        bound,
+        desk.regions(service.inputs, service.plan_file),
+        _shares(service, service.certificate),
+        uses,
+        _hosts(service, loads),
+    )
+
+
+def cheapest(service: Service, desk: Desk) -> Reference | None:
+    """Where all queries go to their cheapest site: the plan without any limit. None where a region has no site."""
+    everywhere = {key: service.boundless for key in service.capacities}
+    settings = desk.put(settings_text(service.settings), ".toml")
+    inputs = service.inputs.but(settings=settings, capacity=capacity_file(desk, everywhere))
+    certificate, plan = desk.plan(inputs)
+    if not certificate.is_plan:
+        return None
+    loads, _ = desk.loads(inputs, plan)
+    shares = _shares(service, certificate)
+    regions = desk.regions(inputs, plan)
+    words = "if all asked their cheapest site"
+    return Reference(words, certificate.cost, service.asked, [it.load for it in loads], regions, shares)
+
+
+def _with_room(desk: Desk, service: Service, server: Server, room: int) -> Inputs:
+    """The inputs where a server can take `room` queries."""
+    return service.inputs.but(capacity=capacity_file(desk, {**service.capacities, (server.site, server.id): room}))
+
+
+def _gain(desk: Desk, plan: Planned, server: Server) -> Gain:
+    service, room = plan.service, plan.service.capacity(server)
+    one, _ = desk.plan(_with_room(desk, service, server, room + service.unit))
+    inputs = _with_room(desk, service, server, service.boundless)
+    free, path = desk.plan(inputs)
+    load = desk.loads(inputs, path)[0][server.number].load
+    return Gain(server, (plan.cost - one.cost) // service.unit, load - room, plan.cost - free.cost)
+
+
+def with_gains(plan: Planned, desk: Desk, done: Callable[[], None] = lambda: None) -> Planned:
+    """The plan with what room saves at its full servers. A price only bounds that, so each is planned."""
+    priced = [it for it in plan.service.servers if plan.prices[it.number] > 0 and plan.is_full(it)]
+    priced.sort(key=lambda it: -plan.prices[it.number])
+    found = []
+    with concurrent.futures.ThreadPoolExecutor(min(4, os.cpu_count() or 1)) as pool:
+        for gain in pool.map(lambda it: _gain(desk, plan, it), priced[:MOST_GAINS]):
+            found.append(gain)
+            done()
+    found.sort(key=lambda it: (-it.one, -it.all))
+    return replace(plan, gains=found)
+
+
+def shortage(service: Service, desk: Desk) -> Shortage:
+    """Who lacks what, and the servers that these rows may use."""
+    reached = desk.reached(service.inputs, service.plan_file)
+    certificate = service.certificate
+    rows = [service.rows[it] for it in certificate.rows]
+    stranded = sorted({row.region for row in rows if not service.sites_for(row.region)})
+    servers = [it for it in service.servers if (it.site, it.id) in reached]
+    return Shortage(certificate.demand, certificate.capacity, rows, servers, stranded)
+
+
+def _twinned(service: Service, desk: Desk, cost: Callable[[int], int], dear: int) -> Certificate:
+    """A plan where each site has a twin without limits, at a cost that is `dear` higher."""
+    sites = settings_text(service.settings) + settings_text(service.settings, "hsp-twin-")
+    rows: list[tuple[str, str, int]] = []
+    for (region, site), it in service.costs.items():
+        rows += [(region, site, cost(it)), (region, f"hsp-twin-{site}", cost(it) + dear)]
+    room = dict(service.capacities)
+    room.update({(f"hsp-twin-{site}", at): service.boundless for site, at in service.capacities})
+    inputs = service.inputs.but(
+        settings=desk.put(sites + hosts_text(service.settings), ".toml"),
+        costs=desk.put_table("region,site,cost", rows),
+        capacity=capacity_file(desk, room),
+    )
+    return desk.plan(inputs)[0]
+
+
+def least_purchase(service: Service, desk: Desk) -> dict[Server, int] | None:
+    """How much more room at which servers is the least that serves all, and of those a cheapest. None where that
+    can't be planned: with more than 16 sites or 512 servers, with costs above 50,000, or where a machine is full."""
+    dearest = max(service.costs.values(), default=0)
+    if 2 * len(service.sites) > MOST_SITES or 2 * len(service.servers) > MOST_SERVERS or dearest * 20 > MOST_COST:
+        return None
+    least = _twinned(service, desk, lambda it: 0, 1)
+    best = _twinned(service, desk, lambda it: it, MOST_COST - dearest)
+    if not least.is_plan or not best.is_plan:
+        return None
+    bought: Counter[Server] = Counter()
+    for use in best.uses:
+        if use.site >= len(service.sites):
+            bought[service.server(use.site - len(service.sites), service.rows[use.row].handle)] += use.queries
+    return dict(bought) if sum(bought.values()) == least.cost else None
+
+
+def with_purchase(service: Service, desk: Desk, bought: dict[Server, int]) -> Service | None:
+    """The service after a purchase, or None where it still lacks room."""
+    room = dict(service.capacities)
+    for server, more in bought.items():
+        room[server.site, server.id] += more
+    inputs = service.inputs.but(capacity=capacity_file(desk, room))
+    certificate, path = desk.plan(inputs)
+    if not certificate.is_plan:
+        return None
+    return replace(service, inputs=inputs, capacities=room, certificate=certificate, plan_file=path)
+
+
+def above(service: Service, loads: Iterable[int | Fraction]) -> tuple[int, int]:
+    """How many servers would get more than they can take, and how many queries too many."""
+    over = [load - service.capacity(it) for it, load in zip(service.servers, loads) if load > service.capacity(it)]
+    return len(over), round(sum(over))
+
+
+def above_limits(hosts: Iterable[Host], loads: Sequence[int | Fraction]) -> int:
+    """How many machines would get more than their limits."""
+    return sum(sum(loads[it.number] for it in host.servers) > host.limit for host in hosts)
+
+
+def too_full(words: str, hosts: int) -> str:
+    """Words of servers that are too full, and of so many machines."""
+    machines = f"{some(hosts, 'machine')} above {'its limit' if hosts == 1 else 'their limits'}"
+    return "; ".join(filter(None, [words, machines if hosts else ""]))
+
+
+@dataclass(frozen=True)
+class ByShares:
+    """What is too full where each handle of a region is split by the shares of the whole region: so many of all
+    servers, the queries above their capacities, and machines above their limits."""
+
+    servers: int
+    queries: int
+    all_servers: int
+    hosts: int
+
+    @property
+    def is_within(self) -> bool:
+        """Nothing is too full."""
+        return not self.servers and not self.hosts
+
+    @property
+    def words(self) -> str:
+        if self.is_within:
+            return "no server too full"
+        words = f"{self.servers} of {some(self.all_servers, 'server')} too full"
+        words += f", {some(self.queries, 'query', 'queries')} too many" if self.servers else ""
+        return too_full(words, self.hosts)
+
+
+def by_shares(plan: Planned) -> ByShares:
+    """What the shares of regions do by themselves. A share is a mean over handles, and a handle has one server."""
+    service = plan.service
+    counts: Counter[tuple[str, int, int]] = Counter()
+    for row in service.rows:
+        for site in service.sites_for(row.region):
+            counts[row.region, site, service.server(site, row.handle).number] += row.count
+    loads = [Fraction(0)] * len(service.servers)
+    for (region, site, server), count in counts.items():
+        asked = plan.regions[region][0]
+        if asked:
+            loads[server] += Fraction(count * plan.shares.get((region, site), 0), asked)
+    return ByShares(*above(service, loads), len(service.servers), above_limits(plan.hosts, loads))

@@ -1,0 +1,325 @@
+"""A service: the files of a folder, and what hsplan says they hold."""
+
+from __future__ import annotations
+
+import csv
+import difflib
+import io
+import ipaddress
+import os
+import re
+import tomllib
+from dataclasses import dataclass, field
+from typing import Any
+
+from hsp.base.bounds import whole
+from hsp.base.numbers import part, some
+from hsp.base.paths import path_in
+from hsp.base.programs import BOUNDLESS, Certificate, Desk, Inputs, Missing, Refused
+from hsp.base.text import escaped
+from hsp.base.unfit import Unfit
+from hsp.plans.marks import Mark, mark_in, titles_of
+
+# The conventional names of the files.
+NAMES = {"settings": "settings.toml", "demand": "demand.csv", "costs": "costs.csv", "capacity": "capacity.csv"}
+VALUES = "sites.values"
+TITLE_KEYS = ("title", "cost", "time")
+# Names of warnings that are meant.
+ACCEPT = "accept"
+
+
+@dataclass(frozen=True)
+class Server:
+    """A server of a site. Its number counts the servers of all sites, in the order of the settings."""
+
+    number: int
+    site: str
+    id: int
+    address: str
+
+    @property
+    def label(self) -> str:
+        return f"{self.site} {self.id}"
+
+
+@dataclass(frozen=True)
+class Site:
+    """A site with its servers, by their places."""
+
+    name: str
+    option: int
+    servers: list[Server]
+
+
+@dataclass(frozen=True)
+class Row:
+    """How many queries for a handle come from a region; or for all handles of a kind, of which one is named."""
+
+    region: str
+    handle: str
+    count: int
+
+
+@dataclass(frozen=True)
+class Titles:
+    """What the service and its units are called, and the warnings that are meant."""
+
+    title: str
+    cost: str = ""
+    time: str = ""
+    accept: tuple[str, ...] = ()
+
+
+@dataclass(frozen=True)
+class Service:
+    """All that is read from a folder, and its certificate."""
+
+    folder: str
+    titles: Titles
+    inputs: Inputs
+    settings: dict[str, Any]
+    sites: list[Site]
+    rows: list[Row]
+    costs: dict[tuple[str, str], int]
+    capacities: dict[tuple[str, int], int]
+    certificate: Certificate
+    plan_file: str
+    places: dict[tuple[str, str], int] = field(repr=False)
+    mark: Mark = Mark()
+
+    @property
+    def unit(self) -> int:
+        """How many queries a count of the demand stands for."""
+        return self.inputs.unit
+
+    @property
+    def boundless(self) -> int:
+        """A capacity, in queries, that no demand can fill."""
+        return BOUNDLESS * self.unit
+
+    @property
+    def rows_words(self) -> str:
+        """How many handles there are, or how many kinds of them."""
+        if not self.mark.is_joined:
+            return some(self.handles, "handle")
+        handles = some(self.mark.handles, "handle") if self.mark.handles else "handles"
+        return f"{some(len(self.rows), 'kind')} of {handles}"
+
+    @property
+    def added(self) -> float | None:
+        """The share that rounding up to units adds to the queries of the log, where their number is known."""
+        known = self.mark.queries
+        return (self.asked - known) / known if self.unit > 1 and known and self.asked >= known else None
+
+    @property
+    def counted(self) -> str:
+        """The unit of the demand, and what rounding up to it adds, where it isn't one query."""
+        if self.unit == 1:
+            return ""
+        return f" in units of {self.unit:,}" + (f", which add {part(self.added)}" if self.added is not None else "")
+
+    @property
+    def one_more(self) -> str:
+        """The least room that is of use: a query, or each of those of a unit."""
+        return "one query more" if self.unit == 1 else f"each of {self.unit:,} queries more"
+
+    def like(self, handle: str) -> str:
+        """What a row with this handle is of."""
+        return f"handles like {handle}" if self.mark.is_joined else handle
+
+    @property
+    def servers(self) -> list[Server]:
+        return [it for site in self.sites for it in site.servers]
+
+    @property
+    def regions(self) -> list[str]:
+        return list(dict.fromkeys(row.region for row in self.rows))
+
+    @property
+    def handles(self) -> int:
+        """How many handles there are."""
+        return len({row.handle for row in self.rows})
+
+    @property
+    def asked(self) -> int:
+        """How many queries there are."""
+        return sum(row.count for row in self.rows)
+
+    def capacity(self, server: Server) -> int:
+        return self.capacities[server.site, server.id]
+
+    def server(self, site: int, handle: str) -> Server:
+        """The server that is responsible for a handle at a site."""
+        at = self.sites[site]
+        return at.servers[self.places[handle, at.name]]
+
+    def sites_for(self, region: str) -> list[int]:
+        """The numbers of the sites that a region may use."""
+        return [at for at, site in enumerate(self.sites) if (region, site.name) in self.costs]
+
+    def kind(self, row: Row) -> tuple[tuple[str, int], ...]:
+        """The server that a row has at each site that its region may use: the same for all handles of a kind."""
+        servers = (self.server(at, row.handle) for at in self.sites_for(row.region))
+        return tuple((it.site, it.id) for it in servers)
+
+
+def _absent(folder: str, paths: list[str]) -> list[str]:
+    """Which files are not there, each with a near name where there is one."""
+    if len(paths) == len(NAMES):
+        return [f"{folder}: none of {', '.join(NAMES.values())} is here"]
+    lines = []
+    for path in paths:
+        near = difflib.get_close_matches(os.path.basename(path), os.listdir(os.path.dirname(path) or "."), 1, 0.6)
+        why = "is a folder, not a file" if os.path.isdir(path) else "no such file"
+        lines.append(f"{path}: {why}" + (f"; did you mean {near[0]}?" if near and why == "no such file" else ""))
+    return lines
+
+
+def inputs_in(folder: str, given: dict[str, str | None], unit: int) -> Inputs:
+    """The files of a folder by their conventional names, or those that were given instead."""
+    files = {kind: given.get(kind) or path_in(folder, name) for kind, name in NAMES.items()}
+    absent = [path for path in files.values() if not os.path.exists(path) or os.path.isdir(path)]
+    if absent:
+        raise Missing(*_absent(folder, absent))
+    values = given.get("values")
+    beside = path_in(folder, VALUES)
+    if not values and os.path.isfile(beside):
+        values = beside
+    return Inputs(**files, values=values, unit=unit)
+
+
+def newer_than(inputs: Inputs, plan: str) -> list[str]:
+    """The names of the inputs that changed after a plan was written."""
+    files = [it for it in (inputs.settings, inputs.values, inputs.demand, inputs.costs, inputs.capacity) if it]
+    time = os.stat(plan).st_mtime
+    return [os.path.basename(it) for it in files if os.stat(it).st_mtime > time]
+
+
+def table(path: str) -> list[list[str]]:
+    """The records of a table below its header. An empty line is none."""
+    text = whole(path).decode("utf-8-sig")
+    if '"' not in text:  # empty lines are no rows, and there may be millions of them
+        text = re.sub(r"[\r\n]{2,}", "\n", text)
+    return [row for row in csv.reader(io.StringIO(text, newline="")) if row][1:]
+
+
+def settings_in(path: str) -> dict[str, Any]:
+    """Settings that hsplan takes."""
+    octets = whole(path).removeprefix(b"\xef\xbb\xbf")
+    if b'"""' not in octets and b"'''" not in octets:  # nor are comments settings
+        octets = b"\n".join(it[0] for it in re.finditer(rb"(?m)^[ \t]*[^#\s][^\r\n]*", octets))
+    return tomllib.loads(octets.decode())
+
+
+def dotted(address: str) -> str:
+    """An address of 32 hexadecimal digits, as people write it."""
+    octets = bytes.fromhex(address)
+    if octets[:12] == bytes(12):
+        return str(ipaddress.IPv4Address(octets[12:]))
+    return str(ipaddress.IPv6Address(octets))
+
+
+def titles_in(folder: str, title: str | None, cost: str | None) -> Titles:
+    """The words of `hsp.toml`; a title and a unit of cost that were given come first, the folder's name last."""
+    said = titles_of(folder)
+    names = [it for it in os.path.abspath(folder).split(os.sep) if it not in ("out", "")]
+    plain: dict[str, str] = {key: str(said[key]) for key in TITLE_KEYS if key in said}
+    fallback = names[-1] if names else folder
+    own_title = title if title else plain.get("title", fallback)
+    own_cost = cost if cost else plain.get("cost", "")
+    accept = said.get(ACCEPT, [])
+    meant = tuple(map(str, accept)) if isinstance(accept, list) else (str(accept),)
+    return Titles(escaped(own_title), escaped(own_cost), escaped(plain.get("time", "")), meant)
+
+
+def site_of(name: str, fields: str, first: int) -> Site:
+    """A site by the fields of its record, whose servers are numbered from `first` on."""
+    option = 0
+    servers: list[Server] = []
+    for line in fields.splitlines():
+        word, *rest = line.split()
+        if word == "option":
+            option = int(rest[0])
+        elif word == "server":
+            servers.append(Server(first + len(servers), name, int(rest[1]), rest[2]))
+    return Site(name, option, servers)
+
+
+def sites_of(desk: Desk, inputs: Inputs, settings: dict[str, Any]) -> list[Site]:
+    """The sites of the settings. hsplan reads their records."""
+    sites: list[Site] = []
+    first = 0
+    for it in settings.get("site", []):
+        if "record" in it:
+            fields = desk.site(bytes.fromhex(it["record"]))
+        else:
+            fields = desk.site_of_value(inputs.values or "", it["index"])
+        sites.append(site_of(it["name"], fields, first))
+        first += len(sites[-1].servers)
+    return sites
+
+
+def mark_of(folder: str, given: dict[str, str | None]) -> Mark:
+    """The mark of a folder's demand. A demand that is given in its place has none."""
+    own, other = path_in(folder, NAMES["demand"]), given.get("demand")
+    return Mark() if other and os.path.realpath(other) != os.path.realpath(own) else mark_in(folder)
+
+
+def read_service(
+    folder: str, desk: Desk, given: dict[str, str | None], title: str | None = None, cost: str | None = None
+) -> Service:
+    """Reads a folder. hsplan plans it first, so any fault of the files is hsplan's."""
+    mark = mark_of(folder, given)
+    return service_of(folder, desk, inputs_in(folder, given, mark.unit), titles_in(folder, title, cost), mark)
+
+
+def _in_one_line(path: str, rows: list[Row]) -> None:
+    """Refuses a handle with a line end: hsplan takes it, and a row of hsplan-stream, which has its servers, can't."""
+    for number, row in enumerate(rows, 1):
+        if "\n" in row.handle or "\r" in row.handle:
+            raise Unfit(
+                f"{path}: row {number} has a line end in its handle '{escaped(row.handle)}'; hsplan plans it, hsp shows "
+                "no such plan: take the row out"
+            )
+
+
+def service_of(folder: str, desk: Desk, inputs: Inputs, titles: Titles, mark: Mark) -> Service:
+    """Reads files, as `read_service` does."""
+    certificate, plan_file = desk.plan(inputs)
+    settings = settings_in(inputs.settings)
+    rows = [Row(region, handle, inputs.unit * int(count)) for region, handle, count in table(inputs.demand)]
+    _in_one_line(inputs.demand, rows)
+    return Service(
+        folder,
+        titles,
+        inputs,
+        settings,
+        sites_of(desk, inputs, settings),
+        rows,
+        {(region, site): int(it) for region, site, it in table(inputs.costs)},
+        {(site, int(server)): int(room) for site, server, room in table(inputs.capacity)},
+        certificate,
+        plan_file,
+        desk.places(inputs, dict.fromkeys(row.handle for row in rows)),
+        mark,
+    )
+
+
+__all__ = [
+    "Refused",
+    "Row",
+    "Server",
+    "Service",
+    "Site",
+    "Titles",
+    "dotted",
+    "inputs_in",
+    "mark_of",
+    "newer_than",
+    "read_service",
+    "service_of",
+    "site_of",
+    "sites_of",
+    "table",
+    "titles_in",
+]

@@ -1,0 +1,42 @@
+"""What a page was made of: the time, and the name and the sum of each file."""
+
+from __future__ import annotations
+
+import datetime
+import hashlib
+import os
+from dataclasses import dataclass
+
+from hsp.base.programs import Inputs
+from hsp.plans.marks import TITLES
+
+EPOCH = "SOURCE_DATE_EPOCH"
+
+
+@dataclass(frozen=True)
+class Source:
+    """A file by its name, with the SHA-256 of its octets."""
+
+    name: str
+    sum: str
+
+
+def now() -> str:
+    """The present time; where SOURCE_DATE_EPOCH is set, that time, so that a page can be made again."""
+    said = os.environ.get(EPOCH, "")
+    moment = datetime.datetime.now(datetime.UTC)
+    if said.isascii() and said.isdigit():
+        moment = datetime.datetime.fromtimestamp(int(said), datetime.UTC)
+    return f"{moment.day} {moment:%B %Y, %H:%M} UTC"
+
+
+def sources_of(folder: str, inputs: Inputs) -> list[Source]:
+    """The files of a plan, and the titles where the folder has them."""
+    titles = os.path.join(folder, TITLES)
+    paths = [inputs.settings, inputs.values, inputs.demand, inputs.costs, inputs.capacity]
+    found = []
+    for path in [*paths, titles if os.path.isfile(titles) else None]:
+        if path:
+            with open(path, "rb") as file:
+                found.append(Source(os.path.basename(path), hashlib.file_digest(file, "sha256").hexdigest()))
+    return found

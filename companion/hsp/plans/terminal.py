@@ -1,0 +1,162 @@
+"""What the terminal shows of a plan. Colour is only for a terminal; a pipe gets the same words without it."""
+
+from __future__ import annotations
+
+from collections import Counter
+from collections.abc import Iterator
+
+from hsp.base.numbers import average, listed, percent, queries_of, signed, some
+from hsp.base.text import bold, colored, dim, escaped
+from hsp.plans.plans import Gain, Planned, Reference, Shortage, above, above_limits, by_shares, too_full
+from hsp.plans.service import Server, Service
+
+SHOWN = 5
+
+
+def head(service: Service) -> str:
+    """What the service is called, and how large it is."""
+    sizes = [
+        some(len(service.sites), "site"),
+        some(len(service.servers), "server"),
+        some(len(service.regions), "region"),
+        service.rows_words,
+        queries_of(service.asked) + service.counted,
+    ]
+    time = f" in {service.titles.time}" if service.titles.time else ""
+    return bold(service.titles.title) + dim(f"  {', '.join(sizes)}{time}")
+
+
+def _unit(service: Service) -> str:
+    return f" {service.titles.cost}" if service.titles.cost else ""
+
+
+def _verdict(plan: Planned, reference: Reference) -> str:
+    count, queries = above(plan.service, reference.loads)
+    hosts = above_limits(plan.hosts, reference.loads)
+    extra = plan.cost - reference.cost
+    if not count and not hosts:
+        return "all ask their cheapest site, and no server is above its capacity"
+    share = 100 * extra / max(1, reference.cost)
+    too_many = f"{some(count, 'server')} would get {queries_of(queries)} too many" if count else ""
+    kept = f"keeping to {'limits' if hosts else 'capacity'} costs {extra:,}{_unit(plan.service)} ({share:.1f}%)"
+    return f"left alone, {too_full(too_many, hosts)}; {kept}"
+
+
+def plan_lines(plan: Planned, reference: Reference | None, every: bool = False) -> Iterator[str]:
+    """The verdict, the cost, the full servers with what room there saves, machines, and where regions go."""
+    service, unit = plan.service, _unit(plan.service)
+    if reference:
+        yield f"{colored('fits', 'green')}  {_verdict(plan, reference)}"
+    beside = f"; {average(reference.cost, reference.asked)} {reference.words}" if reference else ""
+    each = average(plan.cost, service.asked)
+    yield f"cost  {bold(f'{plan.cost:,}{unit}')}, {each}{unit} a query{beside}"
+    yield from full_lines(plan, every)
+    for host in plan.hosts:
+        note = f"; {service.one_more} saves at most {host.price:,}{unit}" if host.price else ""
+        yield f"host  {host.address} takes {host.load:,} of {host.limit:,}{note}"
+    yield from region_lines(plan, reference, every)
+    yield f"by shares of regions alone  {by_shares(plan).words}"
+
+
+def full_lines(plan: Planned, every: bool = False) -> Iterator[str]:
+    """The full servers at which room saves something."""
+    unit = _unit(plan.service)
+    worth = [it for it in plan.gains if it.all > 0]
+    full, idle = len(plan.full), len(plan.full) - len(worth)
+    words = f"full  {full} of {some(len(plan.service.servers), 'server')}"
+    words += f", {idle} of them where more room saves nothing" if idle else ""
+    yield words + ("; more room saves" if worth else "")
+    shown = worth if every else worth[:SHOWN]
+    wide = max((len(it.server.label) for it in shown), default=0)
+    for it in shown:
+        label = colored(it.server.label.ljust(wide), "yellow")
+        one = f"{plan.service.one_more} {it.one:,}{unit}"
+        yield f"      {label}  {one}; {it.room:,} more {it.all:,}{unit} in all"
+    if len(worth) > len(shown):
+        yield dim(f"      and {len(worth) - len(shown)} more, up to {worth[len(shown)].one:,}{unit} each (--all)")
+
+
+def _shares_of(plan: Planned, region: str) -> str:
+    """Where a region's queries go, in shares."""
+    asked = plan.regions[region][0]
+    parts = [(plan.shares.get((region, at), 0), site.name) for at, site in enumerate(plan.service.sites)]
+    parts = sorted((it for it in parts if it[0]), reverse=True)
+    return listed((f"{name} {percent(queries, asked)}" for queries, name in parts), 5) or "nowhere"
+
+
+def added_by(plan: Planned, reference: Reference | None, region: str) -> int:
+    """What a region costs above the reference."""
+    before = reference.regions.get(region, (0, 0))[1] if reference else 0
+    return plan.regions[region][1] - before
+
+
+def region_lines(plan: Planned, reference: Reference | None, every: bool = False) -> Iterator[str]:
+    """The cost of each region's queries, and where they go; those first that pay most for the limits."""
+    regions = sorted(plan.regions, key=lambda it: (-added_by(plan, reference, it), it))
+    shown = regions if every else regions[:SHOWN]
+    wide = max((len(it) for it in shown), default=0)
+    for at, region in enumerate(shown):
+        asked, cost = plan.regions[region]
+        change = ""
+        if reference and asked and added_by(plan, reference, region):
+            change = f" ({signed(round(added_by(plan, reference, region) / asked, 1))})"
+        word = "goes  " if not at else "      "
+        yield f"{word}{region.ljust(wide)}  {average(cost, asked):>5}{change}  {_shares_of(plan, region)}"
+    if len(regions) > len(shown):
+        yield dim(f"      and {some(len(regions) - len(shown), 'region')} more (--all)")
+
+
+def shortage_lines(
+    service: Service, short: Shortage, bought: dict[Server, int] | None, after: Service | None
+) -> Iterator[str]:
+    """How many queries cannot be served, who asks them, where room lacks, and what has to be bought."""
+    lack = bold(queries_of(short.lack))
+    yield (
+        f"{colored('short', 'red')} {lack} can't be served, whatever the plan: "
+        f"{short.demand:,} may only go to servers that take {short.capacity:,}"
+    )
+    if short.stranded:
+        verb = "has" if len(short.stranded) == 1 else "have"
+        why = f"{listed(short.stranded)} {verb} no cost for any site, so no site may serve them"
+        yield f"why   {why}: give costs, or mend the name"
+    yield f"who   {_who(service, short)}"
+    if len(short.servers) == len(service.servers):
+        yield f"where all {len(service.servers)} servers together lack room"
+    elif short.servers:
+        servers = listed(f"{it.label} ({service.capacity(it):,})" for it in short.servers)
+        verb = "is" if len(short.servers) == 1 else "are"
+        yield f"where {servers} {verb} all that these may use; room elsewhere doesn't help"
+    yield from purchase_lines(service, short, bought, after)
+
+
+def _who(service: Service, short: Shortage) -> str:
+    """The handles that lack room, or the kinds of them, those first that ask for most."""
+    asked: Counter[str] = Counter()
+    for row in short.rows:
+        name = f"{service.like(row.handle)} of {row.region}" if service.mark.is_joined else row.handle
+        asked[name] += row.count
+    names = listed(f"{escaped(name)} ({count:,})" for name, count in asked.most_common())
+    if service.mark.is_joined:
+        return f"{some(len(short.rows), 'kind')}: {names}"
+    return f"{some(len(short.rows), 'row')} of {some(len(asked), 'handle')}: {names}"
+
+
+def purchase_lines(
+    service: Service, short: Shortage, bought: dict[Server, int] | None, after: Service | None
+) -> Iterator[str]:
+    """The least purchase, by server, and the cost after it; or the least that the short rows want."""
+    if not bought or not after:
+        if short.servers:
+            yield f"buy   at least room for {queries_of(short.lack)} more at these servers"
+        return
+    whole = bold(f"room for {queries_of(sum(bought.values()))} more")
+    cost = after.certificate.cost
+    each = f"{average(cost, service.asked)} a query"
+    yield f"buy   {whole}, the least that suffices; then the cost is {cost:,}{_unit(service)}, {each}"
+    wide = max(len(it.label) for it in bought)
+    for server, more in sorted(bought.items(), key=lambda it: -it[1]):
+        before = service.capacity(server)
+        yield f"      {colored(server.label.ljust(wide), 'yellow')}  {more:>9,} more: {before:,} to {before + more:,}"
+
+
+__all__ = ["Gain", "head", "plan_lines", "shortage_lines"]

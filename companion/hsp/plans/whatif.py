@@ -1,0 +1,173 @@
+"""The plan again with one thing changed. Each line is a plan of hsplan."""
+
+from __future__ import annotations
+
+import csv
+import io
+from collections.abc import Callable, Iterable, Iterator
+from dataclasses import dataclass
+
+from hsp.base.numbers import average, listed, queries_of, signed
+from hsp.base.programs import Desk, Missing
+from hsp.base.spelling import near
+from hsp.base.text import bold, colored
+from hsp.plans.plans import capacity_file
+from hsp.plans.service import Server, Service
+
+# What is changed: room at a full server, a lost site, all demand, or the size of one server.
+MORE, LOST, DEMAND, SIZE = "more", "lost", "demand", "size"
+EIGHTHS = " \u258f\u258e\u258d\u258c\u258b\u258a\u2589"
+FULL_BLOCK = "\u2588"
+
+
+@dataclass(frozen=True)
+class Case:
+    """A change, and what the plan costs after it; or how many queries then cannot be served."""
+
+    kind: str
+    what: str
+    room: int
+    cost: int | None
+    change: int | None
+    lack: int
+
+
+class Changes:
+    """Plans a service again and again, each time with one thing changed."""
+
+    def __init__(self, service: Service, desk: Desk, done: Callable[[], None] = lambda: None) -> None:
+        self.service, self.desk, self.done = service, desk, done
+
+    def planned(self, kind: str, what: str, room: int = 0, **changed: str) -> Case:
+        certificate, _ = self.desk.plan(self.service.inputs.but(**changed))
+        self.done()
+        if not certificate.is_plan:
+            return Case(kind, what, room, None, None, certificate.demand - certificate.capacity)
+        now = self.service.certificate
+        change = certificate.cost - now.cost if now.is_plan else None
+        return Case(kind, what, room, certificate.cost, change, 0)
+
+    def with_room(self, kind: str, server: Server, room: int) -> Case:
+        """A server that can take so many queries."""
+        capacities = {**self.service.capacities, (server.site, server.id): room}
+        return self.planned(kind, server.label, room, capacity=capacity_file(self.desk, capacities))
+
+    def without(self, site: str) -> Case:
+        """No region may use the site."""
+        costs = ((region, name, cost) for (region, name), cost in self.service.costs.items() if name != site)
+        return self.planned(LOST, site, costs=self.desk.put_table("region,site,cost", costs))
+
+    def with_demand(self, percent: float) -> Case:
+        """Each row asks for more queries, rounded up to units."""
+        unit = self.service.unit
+        rows = ((it.region, it.handle, -int(-it.count * (100 + percent) // (100 * unit))) for it in self.service.rows)
+        what = f"{percent:g}% more demand"
+        return self.planned(DEMAND, what, demand=self.desk.put_table("region,handle,count", rows))
+
+
+def full_servers(service: Service) -> list[Server]:
+    """The servers with a price, or all of them in a shortage."""
+    if not service.certificate.is_plan:
+        return service.servers
+    prices = service.certificate.prices("server")
+    return [it for it in service.servers if prices[it.number]]
+
+
+def standard(changes: Changes, step: float) -> list[Case]:
+    """A step of room at each full server, each site lost, and 10% more demand."""
+    service = changes.service
+    more = []
+    for server in full_servers(service):
+        room = service.capacity(server)
+        more.append(changes.with_room(MORE, server, room + max(service.unit, round(room * step / 100))))
+    more.sort(key=lambda it: (it.cost is None, it.cost or it.lack))
+    lost = [changes.without(site.name) for site in service.sites]
+    lost.sort(key=lambda it: (it.cost is not None, -(it.cost or it.lack)))
+    return more + lost + [changes.with_demand(10)]
+
+
+def server_named(service: Service, words: str) -> Server:
+    """The server of the words `site:identifier`."""
+    for it in service.servers:
+        if words == f"{it.site}:{it.id}":
+            return it
+    if not service.servers:
+        raise Missing(f"no server '{words}': the settings have no site")
+    site = words.rpartition(":")[0]
+    ids = [str(it.id) for it in service.servers if it.site == site]
+    if ids:
+        raise Missing(f"no server '{words}': {site} has {listed(ids, 8)}")
+    meant = near(words, [f"{it.site}:{it.id}" for it in service.servers])
+    first = service.servers[0]
+    remedy = f"did you mean {meant}?" if meant else f"write site:identifier, as {first.site}:{first.id}"
+    raise Missing(f"no server '{words}': {remedy}")
+
+
+def sizes(changes: Changes, server: Server, low: int, high: int, points: int) -> list[Case]:
+    """The cost by the size of one server, at so many sizes and at the one that it has."""
+    steps = max(1, points - 1)
+    rooms = {round(low + (high - low) * at / steps) for at in range(points)}
+    own = changes.service.capacity(server)
+    return [changes.with_room(SIZE, server, it) for it in sorted(rooms | ({own} if low <= own <= high else set()))]
+
+
+def greatest(cases: Iterable[Case]) -> int:
+    """The greatest change of all cases, or cost where there is no plan to change: the scale of all bars."""
+    return max((abs(it.change if it.change is not None else it.cost or 0) for it in cases), default=0)
+
+
+def bar(part: float, most: float, width: int = 24) -> str:
+    """A bar of eighths of a letter, so that small differences show."""
+    eighths = round(8 * width * part / most) if most else 0
+    return FULL_BLOCK * (eighths // 8) + (EIGHTHS[eighths % 8] if eighths % 8 else "")
+
+
+def _line(case: Case, most: int) -> str:
+    if case.cost is None:
+        return f"  {case.what:<18} {colored('short'.rjust(13), 'red')} by {queries_of(case.lack)}"
+    change = case.change if case.change is not None else case.cost
+    shown = signed(change) if case.change is not None else f"{case.cost:,}"
+    colour = "green" if change < 0 else "yellow"
+    return f"  {case.what:<18} {shown:>13}  {colored(bar(abs(change), most), colour)}".rstrip()
+
+
+def lines(service: Service, cases: list[Case], step: float) -> Iterator[str]:
+    """The cases, each kind under its head."""
+    unit = f" {service.titles.cost}" if service.titles.cost else ""
+    now = service.certificate
+    if now.is_plan:
+        yield f"now   {bold(f'{now.cost:,}{unit}')}, {average(now.cost, service.asked)}{unit} a query"
+    else:
+        yield f"now   {colored('short', 'red')} by {queries_of(now.demand - now.capacity)}"
+    heads = {MORE: f"{step:g}% more room at", LOST: "without the site", DEMAND: "all regions together"}
+    most = greatest(it for it in cases if it.kind in heads)
+    for kind, head in heads.items():
+        own = [it for it in cases if it.kind == kind]
+        if own:
+            yield bold(head)
+        yield from (_line(it, most) for it in own)
+    yield from size_lines(service, [it for it in cases if it.kind == SIZE])
+
+
+def size_lines(service: Service, cases: list[Case]) -> Iterator[str]:
+    """The cost by the size of a server."""
+    if not cases:
+        return
+    own = next(it for it in service.servers if it.label == cases[0].what)
+    yield bold(f"{'room at ' + own.label:<18}{'cost':>16}{'change':>14}")
+    for it in cases:
+        mark = "  now" if it.room == service.capacity(own) else ""
+        if it.cost is None:
+            yield f"{it.room:>18,}{'short':>16} by {queries_of(it.lack)}{mark}"
+        else:
+            yield f"{it.room:>18,}{it.cost:>16,}{signed(it.change) if it.change is not None else '':>14}{mark}"
+
+
+def csv_of(cases: list[Case]) -> str:
+    out = io.StringIO()
+    writer = csv.writer(out, lineterminator="\n")
+    writer.writerow(["case", "what", "room", "cost", "change", "lack"])
+    for it in cases:
+        cost, change = ("" if value is None else value for value in (it.cost, it.change))
+        writer.writerow([it.kind, it.what, it.room or "", cost, change, it.lack or ""])
+    return out.getvalue()

@@ -1,4 +1,0 @@
-pub mod Lines
-pub mod Marks
-pub mod Shapes
-pub mod Commas
