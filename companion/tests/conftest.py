@@ -18,8 +18,7 @@ from click.testing import CliRunner
 TOP = Path(__file__).resolve().parents[2]
 sys.path[:0] = [str(TOP / "companion"), str(TOP / "tools")]
 
-import make_examples  # noqa: E402
-import programs  # noqa: E402
+from lib import examples, programs  # noqa: E402
 from hsp.cli import main  # noqa: E402
 
 Hsp = Callable[..., "subprocess.CompletedProcess[str]"]
@@ -91,7 +90,7 @@ def hsp_apart() -> Hsp:
 def twelve(tmp_path_factory: pytest.TempPathFactory) -> Path:
     """A folder with the example of twelve sites."""
     folder = tmp_path_factory.mktemp("twelve-sites")
-    make_examples.write(str(folder), make_examples.twelve_sites())
+    examples.write(str(folder), examples.twelve_sites())
     return folder
 
 

@@ -25,7 +25,7 @@ from urllib.parse import quote
 import pytest
 from click.testing import CliRunner
 
-import make_examples
+from lib import examples
 import maxmind
 from hsp.base.programs import Desk, Inputs, Refused
 from hsp.cli import main
@@ -580,7 +580,7 @@ def test_more_kinds_than_hsplan_takes(tmp_path: Path) -> None:
     """Sites of 5, 7, 8 and 9 servers have 2,520 kinds in a region, so that four regions have too many."""
     folder = service(tmp_path)
     sizes = (5, 7, 8, 9)
-    octets = [make_examples.site_octets("s", 1, ["192.0.2.1"] * size) for size in sizes]
+    octets = [examples.site_octets("s", 1, ["192.0.2.1"] * size) for size in sizes]
     blocks = [f'[[site]]\nname = "s{size}"\nrecord = "{it.hex()}"\n' for size, it in zip(sizes, octets)]
     (folder / "settings.toml").write_text("".join(blocks))
     costs = [f"{region},s{size},1\n" for region in NETWORKS.values() for size in sizes]

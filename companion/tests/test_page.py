@@ -29,8 +29,7 @@ from hsp.plans.service import read_service
 
 from conftest import TOP, Hsp
 
-import check_growth
-import measure_dispatch
+from lib import instances, memory
 
 Example = Callable[[str], Path]
 PAGES = ("two-sites", "base", "hosts", "shortage", "compared", "twelve-sites")
@@ -385,10 +384,10 @@ def test_sizes_of_pages(pages: dict[str, Path]) -> None:
 
 def test_the_largest_service(hsp_apart: Hsp, browser: Any, tmp_path: Path) -> None:
     """1,024 servers of 32 sites and 8,192 rows: within 15 seconds of a processor and 1.5 megabytes, with sites folded."""
-    measure_dispatch.inputs(str(tmp_path), random.Random(1), factor=1.2)
-    before = check_growth.spent_below()
+    instances.inputs(str(tmp_path), random.Random(1), factor=1.2)
+    before = memory.spent_below()
     hsp_apart("view", str(tmp_path))
-    gone = check_growth.spent_below() - before
+    gone = memory.spent_below() - before
     path = tmp_path / "plan.html"
     assert path.stat().st_size <= 1_500_000 and gone <= 15, f"{path.stat().st_size} octets, {gone:.1f} seconds"
     page = Page(browser, path, 420, "light")

@@ -23,7 +23,7 @@ from hsp.plans.service import Service, read_service
 
 from conftest import Hsp, variables
 
-import companion
+from lib import companion
 
 Example = Callable[[str], Path]
 

@@ -12,7 +12,7 @@ from pathlib import Path
 import pytest
 from click.testing import CliRunner
 
-import make_examples
+from lib import examples
 from hsp import __version__
 from hsp.cli import main
 
@@ -30,7 +30,7 @@ def example(name: str, into: str = "s") -> Callable[[], None]:
 
 
 def twelve() -> None:
-    make_examples.write(os.path.abspath("s"), make_examples.twelve_sites())
+    examples.write(os.path.abspath("s"), examples.twelve_sites())
 
 
 def units() -> None:

@@ -17,7 +17,7 @@ from typing import Any
 import pytest
 from click.testing import CliRunner, Result
 
-import make_examples
+from lib import examples
 from hsp.base import files
 from hsp.base.programs import Desk
 from hsp.cli import main
@@ -25,9 +25,9 @@ from hsp.plans.service import read_service
 
 from conftest import Hsp, variables
 
-ADDRESSES = make_examples.TWO_SITES
-PARIS = make_examples.site_octets("paris", 7, ADDRESSES["paris"])
-RESTON = make_examples.site_octets("reston", 8, ADDRESSES["reston"])
+ADDRESSES = examples.TWO_SITES
+PARIS = examples.site_octets("paris", 7, ADDRESSES["paris"])
+RESTON = examples.site_octets("reston", 8, ADDRESSES["reston"])
 PROTOCOLS = ("UDP", "TCP", "HTTP")
 
 
@@ -35,13 +35,13 @@ def site_json(name: str, serial: int, **more: Any) -> dict[str, Any]:
     """The JSON of an example's site, as handle.net documents it."""
     interfaces = [
         {"query": True, "admin": True, "protocol": PROTOCOLS[protocol], "port": port}
-        for _, protocol, port in make_examples.INTERFACES
+        for _, protocol, port in examples.INTERFACES
     ]
     servers = [
         {
             "serverId": at,
             "address": address,
-            "publicKey": {"format": "base64", "value": base64.b64encode(make_examples.key_of(name, at)).decode()},
+            "publicKey": {"format": "base64", "value": base64.b64encode(examples.key_of(name, at)).decode()},
             "interfaces": interfaces,
         }
         for at, address in enumerate(ADDRESSES[name], 1)
@@ -93,8 +93,8 @@ FORMS = {
     "prefixed.hex": b"0x" + PARIS.hex().encode(),
     "wrapped.base64": base64.encodebytes(PARIS),
     "urlsafe.base64": base64.urlsafe_b64encode(PARIS).rstrip(b"="),
-    "list.values": make_examples.values_octets([(3, PARIS)]),
-    "list.hex": make_examples.values_octets([(3, PARIS)]).hex().encode(),
+    "list.values": examples.values_octets([(3, PARIS)]),
+    "list.hex": examples.values_octets([(3, PARIS)]).hex().encode(),
 }
 
 
@@ -110,7 +110,7 @@ def test_all_sites_of_a_handle_and_several_files(tmp_path: Path) -> None:
         answer(value_json(3, site_json("paris", 7)), value_json(4, site_json("reston", 8)))
     )
     (tmp_path / "paris.bin").write_bytes(PARIS)
-    listed = make_examples.values_octets([(3, PARIS), (9, b"\0\0\0\x07HS_SITE"), (4, RESTON)])
+    listed = examples.values_octets([(3, PARIS), (9, b"\0\0\0\x07HS_SITE"), (4, RESTON)])
     (tmp_path / "list.values").write_bytes(listed)
     assert records(invoke("sites", tmp_path / "two.json").stdout) == [PARIS, RESTON]
     assert records(invoke("sites", tmp_path / "list.values").stdout) == [PARIS, RESTON]
@@ -278,7 +278,7 @@ def test_what_is_left_out_is_named_by_its_path(tmp_path: Path) -> None:
             "give each server its own identifier",
         ),
         (
-            make_examples.site_octets("paris", 7, ADDRESSES["paris"][:1] * 3).replace(
+            examples.site_octets("paris", 7, ADDRESSES["paris"][:1] * 3).replace(
                 b"\0\0\0\3" + bytes(12), b"\0\0\0\1" + bytes(12)
             ),
             "server 1 of its record and server 3 of its record are 1; hsplan refuses 'given': build: ServerIdTwice",

@@ -35,7 +35,7 @@ from pathlib import Path
 
 sys.path.insert(0, str(Path(__file__).resolve().parents[1]))
 
-from lib import programs, transcripts
+from lib import cases, programs, transcripts
 
 
 PAGES = ("docs/use/hsplan.1", "docs/use/hsplan-stream.1", "docs/use/hsp.1")
@@ -142,9 +142,9 @@ def wrong_counts():
     sums = (
         [len(there)]
         + [sum(it[at] for it in there.values()) for at in range(3)]
-        + [len(os.listdir(f"{programs.TOP}/checks/program"))]
+        + [sum(len(cases.cases_in(it)) for it in programs.PROGRAMS)]
     )
-    sentence = "{} crates, {} must-fail edits, {} tests, {} wrong bodies and {} cases of the program".format(*sums)
+    sentence = "{} crates, {} must-fail edits, {} tests, {} wrong bodies and {} cases of the programs".format(*sums)
     if sentence not in " ".join(text_of("docs/maintain/GATE.md").split()):
         faults.append(f"docs/maintain/GATE.md does not say: {sentence}")
     return faults, len(stated)

@@ -26,7 +26,6 @@ import argparse
 import concurrent.futures
 import functools
 import os
-import resource
 import subprocess
 import sys
 import tempfile
@@ -35,7 +34,7 @@ from typing import NamedTuple
 
 sys.path.insert(0, str(Path(__file__).resolve().parents[1]))
 
-from lib import growth, preload, programs
+from lib import growth, memory, preload, programs
 
 
 class Tried(NamedTuple):
@@ -66,21 +65,15 @@ def run(program: str, test: str, preloaded: str, number: int) -> tuple[int, int 
         return ended.returncode, preload.count_in(path), ended.stdout
 
 
-def spent_below() -> float:
-    """The processor seconds that ended processes took."""
-    spent = resource.getrusage(resource.RUSAGE_CHILDREN)
-    return spent.ru_utime + spent.ru_stime
-
-
 def tests_of(program: str) -> list[str]:
     listed = subprocess.run([program, "--list"], stdout=subprocess.PIPE, text=True).stdout
     return [line[: -len(": test")] for line in listed.splitlines() if line.endswith(": test")]
 
 
 def check_test(pool: concurrent.futures.Executor, program: str, test: str, preloaded: str, most: int | None) -> Tried:
-    before = spent_below()
+    before = memory.spent_below()
     status, count, said = run(program, test, preloaded, 0)
-    spent = spent_below() - before
+    spent = memory.spent_below() - before
     if status or count is None:
         return Tried(test, [f"{test}: status {status}, count {count}: {said}"])
     chosen, faults = growth.numbers(count, most), []

@@ -1,7 +1,8 @@
-"""What a run takes: its seconds, and the most memory that it holds."""
+"""What runs take: seconds, and the most memory that they hold."""
 from __future__ import annotations
 
 import os
+import resource
 import subprocess
 import time
 from typing import NamedTuple
@@ -28,3 +29,9 @@ def measured(program: str, words: str, folder: str, preloaded: str) -> Taken:
     )
     spent = time.perf_counter() - begun
     return Taken(spent, preload.count_in(reported), ended.returncode, ended.stderr.strip())
+
+
+def spent_below() -> float:
+    """The processor seconds that ended processes took."""
+    spent = resource.getrusage(resource.RUSAGE_CHILDREN)
+    return spent.ru_utime + spent.ru_stime
