@@ -7,3 +7,6 @@ mod Marks
 mod Shapes
 mod Commas
 mod EscapedFields
+mod Walking
+mod PassedMarks
+mod PlacedFields
