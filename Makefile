@@ -41,7 +41,7 @@ test:
 	tools/pictures/draw.py --check
 	tools/gate/check_docs.py --names
 	tools/gate/list_reading.py --check
-	tools/gate/list_proof.py --check
+	tools/gate/list_calls.py --check
 	tools/gate/write_vectors.py --check
 	tools/gate/check_manual.py
 	tools/gate/check_completions.py

@@ -18,24 +18,24 @@ sys.path.insert(0, str(Path(__file__).resolve().parents[1]))
 from lib import examples, programs, transcripts
 
 
-def prepare(folder):
+def prepare(folder: str) -> None:
     """Writes the large example, which is not kept with the sources."""
     examples.write(os.path.join(folder, "examples", "twelve-sites", "out"), examples.twelve_sites())
 
 
-def read_steps(path):
+def read_steps(path: str) -> list[transcripts.Step]:
     with open(path, encoding="utf-8") as file:
         return transcripts.steps_of(file.read().splitlines())
 
 
-def paths_of(names):
+def paths_of(names: list[str]) -> list[str]:
     """The transcripts of the examples with these names, or of all examples where there is no name."""
     if names:
         return [os.path.join(programs.TOP, "examples", it, "transcript.txt") for it in names]
     return sorted(glob.glob(os.path.join(programs.TOP, "examples", "*", "transcript.txt")))
 
 
-def record(path, steps, program):
+def record(path: str, steps: list[transcripts.Step], program: str) -> None:
     """Writes what the commands of a transcript print into it."""
     for step, got in zip(steps, transcripts.printed_by(steps, program, prepare)):
         step.wanted = ["not run"] if got is None else got
@@ -43,7 +43,7 @@ def record(path, steps, program):
         file.write(transcripts.text_of(steps))
 
 
-def main():
+def main() -> int:
     arguments = argparse.ArgumentParser(description="Compares what the commands of the examples print.")
     arguments.add_argument(
         "--program", default=transcripts.PROGRAM, help="the program that is run, if not the built one"
@@ -54,17 +54,17 @@ def main():
     if not os.access(chosen.program, os.X_OK):
         print(f"no program {chosen.program}: run rt ci or make prove first")
         return 1
-    examples = [(path, read_steps(path)) for path in paths_of(chosen.names)]
+    found = [(path, read_steps(path)) for path in paths_of(chosen.names)]
     if chosen.record:
-        for path, steps in examples:
+        for path, steps in found:
             record(path, steps, chosen.program)
     faults = [
         fault
-        for path, steps in examples
+        for path, steps in found
         for fault in transcripts.faults_of(os.path.relpath(path, programs.TOP), steps, chosen.program, prepare)
     ]
-    count = sum(len(steps) for _, steps in examples)
-    print("\n".join(faults + [f"examples: {len(examples)} transcripts, {count} commands, {len(faults)} faults"]))
+    count = sum(len(steps) for _, steps in found)
+    print("\n".join(faults + [f"examples: {len(found)} transcripts, {count} commands, {len(faults)} faults"]))
     return 1 if faults or not count else 0
 
 

@@ -43,7 +43,7 @@ class Tried(NamedTuple):
     test: str
     faults: list[str]
     refused: int = 0
-    count: int = 0
+    held: int = 0
     seconds: float = 0
 
 
@@ -93,7 +93,7 @@ def check(pool: concurrent.futures.Executor, crate: str, preloaded: str, most: i
         return [f"{crate}: no test program {program}: run rt ci first"]
     found = [check_test(pool, program, test, preloaded, most) for test in tests_of(program)]
     faults = [f"{crate} {fault}" for tried in found for fault in tried.faults]
-    refused, count = sum(tried.refused for tried in found), sum(tried.count for tried in found)
+    refused, count = sum(tried.refused for tried in found), sum(tried.held for tried in found)
     faults += [] if found else [f"{crate}: the test program lists no test"]
     faults += [] if refused or most == 0 and count else [f"{crate}: none of its tests took memory"]
     print(
@@ -102,8 +102,8 @@ def check(pool: concurrent.futures.Executor, crate: str, preloaded: str, most: i
         flush=True,
     )
     for tried in found:
-        if tried.refused < tried.count:
-            print(f"  {tried.test}: {tried.refused} of {tried.count}", flush=True)
+        if tried.refused < tried.held:
+            print(f"  {tried.test}: {tried.refused} of {tried.held}", flush=True)
     return faults
 
 

@@ -293,7 +293,7 @@ def bodies() -> list[Case]:
     good = [plain + b"0000000000000000", plain.upper() + b"0000000000000000", plain + typed]
     log = b"region,body\nr2,%s\n"
     return (
-        [refused(f"body {body}", {"log.csv": log % body}, DISPATCH, "log: BadBody row 0") for body in bad]
+        [refused(f"body {body!r}", {"log.csv": log % body}, DISPATCH, "log: BadBody row 0") for body in bad]
         + [
             refused(
                 "body of no handle",
@@ -304,7 +304,7 @@ def bodies() -> list[Case]:
         ]
         + [
             Case(
-                f"body {body}",
+                f"body {body!r}",
                 {"log.csv": log % body},
                 DISPATCH,
                 b"assigned E 1 3\n",

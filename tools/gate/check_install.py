@@ -19,7 +19,7 @@ sys.path.insert(0, str(Path(__file__).resolve().parents[1]))
 from lib import companion, programs
 
 
-def make(target, room, *more):
+def make(target: str, room: str, *more: str) -> subprocess.CompletedProcess[str]:
     return subprocess.run(
         ["make", *more, target, f"DESTDIR={room}", "PREFIX=/usr"],
         cwd=programs.TOP,
@@ -29,31 +29,32 @@ def make(target, room, *more):
     )
 
 
-def octets_of(path):
+def octets_of(path: str) -> bytes | None:
     if not os.path.isfile(path):
         return None
     with open(path, "rb") as file:
         return file.read()
 
 
-def files_below(folder):
+def files_below(folder: str) -> list[str]:
     return [os.path.join(path, it) for path, _, names in os.walk(folder) for it in names]
 
 
-def folders_below(folder):
+def folders_below(folder: str) -> list[str]:
     return [os.path.join(path, it) for path, names, _ in os.walk(folder) for it in names]
 
 
-def wrong_answer(program, room):
+def wrong_answer(program: str, room: str) -> list[str]:
     """A fault where the program does not answer from an empty folder with an empty environment."""
     words = ["locate", "--option", "local", "--servers", "2", "10/3"]
+    nothing: dict[str, str] = {}
     said = subprocess.run(
-        [program] + words, cwd=room, env={}, stdout=subprocess.PIPE, stderr=subprocess.STDOUT, text=True
+        [program, *words], cwd=room, env=nothing, stdout=subprocess.PIPE, stderr=subprocess.STDOUT, text=True
     ).stdout
     return [] if said == "1\n" else [f"the installed program printed {said!r}"]
 
 
-def wanted_files():
+def wanted_files() -> dict[str, str]:
     """The files that are installed, each with its installed path."""
     built = {
         os.path.relpath(programs.built_path(it), programs.TOP): os.path.join("bin", it) for it in programs.PROGRAMS
@@ -61,12 +62,12 @@ def wanted_files():
     return {**built, **programs.FILES}
 
 
-def wrong_companion(path):
+def wrong_companion(path: str) -> list[str]:
     """A fault where the installed companion is not that of this tree."""
     return [] if octets_of(path) == companion.archive() else ["hsp is not installed, or another one"]
 
 
-def faults_in(room):
+def faults_in(room: str) -> list[str]:
     own = os.path.join(room, "usr", "share", "man")
     os.makedirs(own)
     installed = make("install", room)
@@ -91,7 +92,7 @@ def faults_in(room):
     )
 
 
-def main():
+def main() -> int:
     absent = [it for it in programs.PROGRAMS if not programs.built(it)]
     faults = [f"{it} is not built, or a source is newer: run rt ci first" for it in absent]
     if not absent:

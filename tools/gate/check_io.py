@@ -213,7 +213,7 @@ def check_run(pool: Pool, tools: Tools, run: Run) -> tuple[list[str], int]:
     if ordinary != hoped:
         return [f"{run.case.name}: wanted {hoped}, got {ordinary}"], 0
     tried = [(call, kind) for call in calls for kind in ERRORS[call.name] if has_stand_in(call, kind, calls)]
-    found = pool.map(lambda it: fault_of(tools, run, *it, ordinary), tried)
+    found = pool.map(lambda one: fault_of(tools, run, one[0], one[1], ordinary), tried)
     return [fault for faults in found for fault in faults], len(tried)
 
 

@@ -25,7 +25,7 @@ TOOLS = {
 }
 
 
-def warnings(tool, page):
+def warnings(tool: str, page: str) -> list[str]:
     """The warnings that a tool prints about a page."""
     ended = subprocess.run(TOOLS[tool] + [page], stdout=subprocess.PIPE, stderr=subprocess.PIPE, text=True)
     said = ended.stderr + (ended.stdout if tool == "mandoc" else "")
@@ -33,7 +33,7 @@ def warnings(tool, page):
     return [f"{tool}: {it}" for it in said.splitlines() if it.strip()] + left
 
 
-def wrong_version(page):
+def wrong_version(page: str) -> list[str]:
     with open(page, encoding="utf-8") as file:
         stated = re.search(r'^\.TH .* "hsplan ([^"]*)"', file.read(), re.M)
     with open(os.path.join(programs.TOP, "VERSION"), encoding="utf-8") as file:
@@ -45,7 +45,7 @@ def wrong_version(page):
     )
 
 
-def main():
+def main() -> int:
     there = [it for it in TOOLS if shutil.which(it)]
     absent = [it for it in TOOLS if it not in there]
     faults = [fault for page in PAGES for fault in wrong_version(page)]

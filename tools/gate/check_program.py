@@ -34,7 +34,7 @@ class Tried(NamedTuple):
 
     faults: list[str]
     refused: int = 0
-    count: int = 0
+    held: int = 0
 
 
 def is_cut_short(name: str, words: list[bytes], got: cases.Ended, wanted: cases.Ended) -> bool:
@@ -86,7 +86,7 @@ def check(pool: concurrent.futures.Executor, name: str, folder: str) -> list[str
     places = {case.name: cases.folder_of(case, folder, data) for case in every}
     found = [check_way(pool, room, case, places[case.name], way) for case in every for way in case.ways()]
     faults = [fault for tried in found for fault in tried.faults] + ([] if every else [f"{name}: no cases"])
-    refused, count = sum(tried.refused for tried in found), sum(tried.count for tried in found)
+    refused, count = sum(tried.refused for tried in found), sum(tried.held for tried in found)
     lines = [*faults, f"{name}: {len(every)} cases, {refused} of {count} allocations refused, {len(faults)} faults"]
     print("\n".join(lines), flush=True)
     return faults

@@ -8,7 +8,7 @@ It fails where
 - a program in it is not octet for octet the one in crates/NAME/out.
 
 With another kit than that of MADE, two builds may differ. Then the programs are reported as NOT COMPARED, with the
-lines of both kits, and the cases of checks/program are run with the released program.
+lines of both kits, and the cases of checks/hsplan are run with the released program.
 
 Then a copy of the tree in an empty folder, without anything built, is tried with a PATH that has no `rt`, and as a
 user other than root. Tried are `make demo`, `make try`, `make install` and the installed program, and what is printed
@@ -23,7 +23,7 @@ import subprocess
 import sys
 import tempfile
 import time
-from typing import Callable, Optional
+from typing import Any, Callable, Optional
 from pathlib import Path
 
 sys.path.insert(0, str(Path(__file__).resolve().parents[1]))
@@ -89,8 +89,8 @@ def wrong_programs(room: str, kit: str) -> list[str]:
         path = os.path.join(room, "bin", name)
         if made != kit:
             print(f"{name}: NOT COMPARED: it was made with {made}, and this machine has {kit}")
-            print("the cases of checks/program are run with the released one")
-            faults += cases.all_faults(path)
+            print("the cases of checks/hsplan are run with the released one")
+            faults += cases.all_faults(path, room) if name == "hsplan" else []
         elif not programs.built(name):
             faults.append(f"{name} is not built here, or older than a source: run rt ci")
         elif programs.sum_of(path) != programs.sum_of(programs.built_path(name)):
@@ -120,7 +120,7 @@ class Visitor:
         its status."""
         line = f"{before} {words}".strip()
         environment = {"PATH": PATH, "HOME": self.home, "LC_ALL": "C.UTF-8"}
-        more = {"user": self.user, "group": "nogroup", "extra_groups": []} if self.user else {}
+        more: dict[str, Any] = {"user": self.user, "group": "nogroup", "extra_groups": []} if self.user else {}
         ended = subprocess.run(
             ["sh", "-c", line],
             cwd=os.path.join(self.home, within) if within else self.top,

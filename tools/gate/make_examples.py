@@ -20,14 +20,14 @@ sys.path.insert(0, str(Path(__file__).resolve().parents[1]))
 from lib import examples, programs
 
 
-def octets_at(path):
+def octets_at(path: str) -> bytes | None:
     if not os.path.exists(path):
         return None
     with open(path, "rb") as file:
         return file.read()
 
 
-def differing(folder, files):
+def differing(folder: str, files: examples.Files) -> list[str]:
     """The files that are not there, or hold other octets."""
     return [
         f"{folder}/{name} is not what tools/gate/make_examples.py writes"
@@ -36,7 +36,7 @@ def differing(folder, files):
     ]
 
 
-def main():
+def main() -> int:
     arguments = argparse.ArgumentParser(description="Writes the inputs of the examples.")
     arguments.add_argument(
         "--check", action="store_true", help="compare the kept examples with what would be written, and write nothing"

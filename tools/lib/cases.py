@@ -159,7 +159,8 @@ def base(program: str, room: str, hsplan: str) -> str:
     """A folder with the files that all cases of a program share."""
     data = os.path.join(room, "data")
     if program == "hsplan":
-        return shutil.copytree(os.path.join(programs.TOP, "examples", "base"), data)
+        shutil.copytree(os.path.join(programs.TOP, "examples", "base"), data)
+        return data
     os.mkdir(data)
     stream_service.put_cases(data)
     words = ["plan", *stream_service.INPUTS.split()]
@@ -172,7 +173,8 @@ def folder_of(case: Case, room: str, data: str) -> str:
     """The folder in which a case is run: the shared files, with the case's own in their place."""
     if not case.files:
         return data
-    folder = shutil.copytree(data, os.path.join(room, case.name.replace(" ", "_")))
+    folder = os.path.join(room, case.name.replace(" ", "_"))
+    shutil.copytree(data, folder)
     put_files(folder, case.files)
     return folder
 

@@ -11,10 +11,18 @@ import json
 import math
 import os
 import urllib.parse
+from collections.abc import Iterable, Sequence
 
 from lib import programs
 
 TOP = programs.TOP
+
+Files = dict[str, bytes]
+Row = tuple[object, ...]
+# A row of a demand: a region, a handle and a count.
+Demanded = tuple[str, str, int]
+# A latitude and a longitude, in degrees.
+Point = tuple[float, float]
 
 
 BY_HANDLE = 2
@@ -22,27 +30,27 @@ BY_HANDLE = 2
 INTERFACES = [(3, 0, 2641), (3, 1, 2641), (3, 2, 8000)]
 
 
-def drawn(limit, *words):
+def drawn(limit: int, *words: object) -> int:
     """A number below the limit that only the words decide."""
     digest = hashlib.sha256("/".join(str(it) for it in words).encode()).digest()
     return int.from_bytes(digest[:8], "big") % limit
 
 
-def whole(number, octets):
+def whole(number: int, octets: int) -> bytes:
     return number.to_bytes(octets, "big")
 
 
-def counted(octets):
+def counted(octets: bytes) -> bytes:
     """The number of the octets, then the octets."""
     return whole(len(octets), 4) + octets
 
 
-def address_of(text):
+def address_of(text: str) -> bytes:
     """The 16 octets of an IPv4 address: 12 zero octets, then its own 4."""
     return bytes(12) + bytes(int(it) for it in text.split("."))
 
 
-def key_of(name, server_id):
+def key_of(name: str, server_id: int) -> bytes:
     """A stand-in for a public key record: the planner carries it and never reads it."""
     return (
         counted(b"RSA_PUB_KEY")
@@ -52,7 +60,7 @@ def key_of(name, server_id):
     )
 
 
-def server_octets(name, server_id, address):
+def server_octets(name: str, server_id: int, address: str) -> bytes:
     interfaces = b"".join(whole(kind, 1) + whole(protocol, 1) + whole(port, 4) for kind, protocol, port in INTERFACES)
     return (
         whole(server_id, 4)
@@ -63,7 +71,7 @@ def server_octets(name, server_id, address):
     )
 
 
-def site_octets(name, serial, addresses):
+def site_octets(name: str, serial: int, addresses: list[str]) -> bytes:
     """HS_SITE data of a site whose servers have the identifiers 1, 2, 3 and so on, and these addresses."""
     head = whole(1, 2) + bytes([2, 11]) + whole(serial, 2) + bytes([0, BY_HANDLE])
     attributes = whole(1, 4) + counted(b"desc") + counted(f"mirror {name}".encode())
@@ -71,7 +79,7 @@ def site_octets(name, serial, addresses):
     return head + counted(b"") + attributes + whole(len(servers), 4) + b"".join(servers)
 
 
-def value_octets(index, data):
+def value_octets(index: int, data: bytes) -> bytes:
     """A value of the type HS_SITE: permission 14, a relative lifetime of a day, and no references."""
     return (
         whole(index, 4)
@@ -85,22 +93,22 @@ def value_octets(index, data):
     )
 
 
-def values_octets(values):
+def values_octets(values: Sequence[tuple[int, bytes]]) -> bytes:
     return whole(len(values), 4) + b"".join(value_octets(index, data) for index, data in values)
 
 
-def settings_text(sites):
+def settings_text(sites: Iterable[tuple[str, bytes]]) -> bytes:
     return "".join(f'[[site]]\nname = "{name}"\nrecord = "{data.hex()}"\n' for name, data in sites).encode()
 
 
-def hosts_text(hosts):
+def hosts_text(hosts: Iterable[tuple[str, int]]) -> bytes:
     return "".join(
         f'[[host]]\naddress = "{address_of(address).hex()}"\nlimit = {limit}\n' for address, limit in hosts
     ).encode()
 
 
-def table(header, rows):
-    return "".join(",".join(str(it) for it in row) + "\n" for row in [header.split(",")] + rows).encode()
+def table(header: str, rows: Sequence[Row]) -> bytes:
+    return "".join(",".join(str(it) for it in row) + "\n" for row in [header.split(","), *rows]).encode()
 
 
 TWO_SITES = {"paris": ["192.0.2.11", "192.0.2.12"], "reston": ["198.51.100.21", "198.51.100.22", "198.51.100.22"]}
@@ -134,11 +142,11 @@ HANDLES = [
 ]
 
 
-def two_handles():
+def two_handles() -> list[str]:
     return [f"20.500.1234/{it}" for it in HANDLES]
 
 
-def two_demand():
+def two_demand() -> list[Demanded]:
     """Queries in the busiest hour. The first handles are asked for most, and each region asks for each handle."""
     rows = [(region, place, handle) for region in TWO_WEIGHTS for place, handle in enumerate(two_handles())]
     return [
@@ -147,7 +155,7 @@ def two_demand():
     ]
 
 
-def two_capacity(capacities):
+def two_capacity(capacities: dict[str, int]) -> list[Row]:
     return [
         (name, at + 1, capacities[name] + 10 * at)
         for name, addresses in TWO_SITES.items()
@@ -155,18 +163,18 @@ def two_capacity(capacities):
     ]
 
 
-def wanted_more(rows, name, times):
+def wanted_more(rows: list[Demanded], name: str, times: int) -> list[Demanded]:
     """The rows, with the demand for one handle multiplied by `times`."""
     return [(region, handle, count * times if handle.endswith(name) else count) for region, handle, count in rows]
 
 
-def log_rows(demand, number, word):
+def log_rows(demand: list[Demanded], number: int, word: str) -> list[tuple[str, str]]:
     """This number of queries, each drawn by the counts of the demand."""
     tickets = [at for at, row in enumerate(demand) for _ in range(row[2])]
     return [demand[tickets[drawn(len(tickets), word, at)]][:2] for at in range(number)]
 
 
-def two_pings():
+def two_pings() -> list[Row]:
     """Five measured times for each region and site. The middle one is the cost."""
     spread = [-3, -1, 0, 2, 40]
     return [
@@ -176,7 +184,7 @@ def two_pings():
     ]
 
 
-def two_sites():
+def two_sites() -> Files:
     sites = [(name, site_octets(name, 7 + at, it)) for at, (name, it) in enumerate(TWO_SITES.items())]
     demand = two_demand()
     plain = settings_text(sites)
@@ -218,7 +226,7 @@ CLIENTS = {
 NO_QUERIES = ["GET /favicon.ico", "GET /", "POST /20.500.1234/film-5", "GET /static"]
 
 
-def server_json(name, server_id, address):
+def server_json(name: str, server_id: int, address: str) -> dict[str, object]:
     """A server as a handle proxy answers it."""
     key = {"format": "base64", "value": base64.b64encode(key_of(name, server_id)).decode()}
     interfaces = [
@@ -228,7 +236,7 @@ def server_json(name, server_id, address):
     return {"serverId": server_id, "address": address, "publicKey": key, "interfaces": interfaces}
 
 
-def site_json(name, serial, addresses):
+def site_json(name: str, serial: int, addresses: list[str]) -> dict[str, object]:
     head = {
         "version": 1,
         "protocolVersion": "2.11",
@@ -244,7 +252,7 @@ def site_json(name, serial, addresses):
     }
 
 
-def answer_json(index, name, serial, addresses):
+def answer_json(index: int, name: str, serial: int, addresses: list[str]) -> bytes:
     """A handle proxy's answer for a handle that has the site and its administrator."""
     site = {
         "index": index,
@@ -258,13 +266,13 @@ def answer_json(index, name, serial, addresses):
     return (json.dumps(answer, indent=1) + "\n").encode()
 
 
-def access_line(at, client, request, status):
+def access_line(at: int, client: str, request: str, status: int) -> str:
     seconds = at * 6
     time = f"26/Nov/2026:09:{seconds // 60:02}:{seconds % 60:02} +0000"
     return f'{client} - - [{time}] "{request} HTTP/1.1" {status} - "-" "curl/7.88.1"\n'
 
 
-def access_log(number):
+def access_log(number: int) -> bytes:
     """The log of a handle proxy, in which each tenth line is no query that a handle server would see."""
     lines = []
     for at, (region, handle) in enumerate(log_rows(two_demand(), number, "bring-in")):
@@ -278,7 +286,7 @@ def access_log(number):
     return "".join(lines).encode()
 
 
-def bring_in():
+def bring_in() -> Files:
     return {
         "paris.json": answer_json(3, "paris", 7, TWO_SITES["paris"]),
         "reston.json": answer_json(4, "reston", 8, TWO_SITES["reston"]),
@@ -319,7 +327,7 @@ REGIONS = {
 NUMBER_OF_HANDLES = 2400
 
 
-def twelve_addresses():
+def twelve_addresses() -> dict[str, list[str]]:
     """Two to seven servers a site."""
     return {
         name: [f"203.0.113.{16 * at + it}" for it in range(2 + drawn(6, "servers", name))]
@@ -327,13 +335,13 @@ def twelve_addresses():
     }
 
 
-def twelve_count(place, region):
+def twelve_count(place: int, region: str) -> int:
     """How many queries of a busy hour a region has for a handle. Most pairs have none."""
     asks = drawn(10, "asks", region, place) < 3
     return (42000 // (place + 20) + drawn(40, "count", region, place)) if asks else 0
 
 
-def twelve_demand():
+def twelve_demand() -> list[Demanded]:
     pairs = [(region, place) for place in range(NUMBER_OF_HANDLES) for region in REGIONS]
     rows = [
         (region, f"20.500.{4000 + place % 7}/item-{place}", twelve_count(place, region)) for region, place in pairs
@@ -341,7 +349,7 @@ def twelve_demand():
     return [row for row in rows if row[2]]
 
 
-def way(place, other):
+def way(place: Point, other: Point) -> float:
     """About how many milliseconds a query takes between two places: the more, the farther apart they are on a flat
     map."""
     north = abs(place[0] - other[0])
@@ -350,7 +358,7 @@ def way(place, other):
     return 6 + int(1.6 * math.sqrt(north * north + east * east))
 
 
-def twelve_costs():
+def twelve_costs() -> list[Row]:
     return [
         (region, site, way(REGIONS[region], TWELVE_SITES[site]) + drawn(9, "cost", region, site))
         for region in REGIONS
@@ -358,7 +366,7 @@ def twelve_costs():
     ]
 
 
-def twelve_sites():
+def twelve_sites() -> Files:
     addresses = twelve_addresses()
     demand = twelve_demand()
     capacity = [
@@ -375,7 +383,7 @@ def twelve_sites():
     }
 
 
-def write(folder, files):
+def write(folder: str, files: Files) -> None:
     os.makedirs(os.path.join(TOP, folder), exist_ok=True)
     for name, octets in files.items():
         with open(os.path.join(TOP, folder, name), "wb") as file:

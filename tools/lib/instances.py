@@ -4,16 +4,20 @@ from __future__ import annotations
 import os
 import random
 import sys
+from collections.abc import Iterable, Sequence
+from typing import IO, Any
 
 SITES, SERVERS, REGIONS, ROWS = 32, 32, 64, 8192
+# The rows of a demand, their counts, and the options that name the files of an instance.
+Instance = tuple[list[str], list[int], list[str]]
 
 
-def address(number):
+def address(number: int) -> bytes:
     """The address of a machine, 16 octets."""
     return (number + 1).to_bytes(16, "big")
 
 
-def record(site, hosts):
+def record(site: int, hosts: int) -> str:
     """A site record that hashes the whole handle. Its servers have no key and no interface; the servers of all sites
     stand on as many machines as `hosts` says."""
     head = bytes.fromhex("0001" "0201" "0001" "00" "02") + bytes(4) + bytes(4) + SERVERS.to_bytes(4, "big")
@@ -21,14 +25,14 @@ def record(site, hosts):
     return (head + b"".join(it.to_bytes(4, "big") + address(it % max(hosts, 1)) + bytes(8) for it in numbers)).hex()
 
 
-def write(folder, name, lines):
+def write(folder: str, name: str, lines: Iterable[str]) -> str:
     path = os.path.join(folder, name)
     with open(path, "w") as file:
         file.write("".join(line + "\n" for line in lines))
     return path
 
 
-def inputs(folder, draw, factor=1.5, hosts=0, times=1):
+def inputs(folder: str, draw: random.Random, factor: float = 1.5, hosts: int = 0, times: int = 1) -> Instance:
     """The rows, their counts, and the options with the files of an instance. Its capacity is the factor times its
     demand. The limits of its hosts together are three fifths of its capacity."""
     counts = [times * draw.randint(1, 3000) for _ in range(ROWS)]
@@ -52,12 +56,12 @@ def inputs(folder, draw, factor=1.5, hosts=0, times=1):
     return rows, counts, [word for pair in named for word in pair]
 
 
-def log(folder, name, header, lines, weights, many, draw):
-    """A log of this many rows. A block of a million rows is drawn, and written again and again in other orders."""
+def log(folder: str, name: str, lines: Sequence[str], weights: Sequence[int], many: int, draw: random.Random) -> str:
+    """A log of this many rows, with the first of the lines as its header. A block of a million rows is drawn, and written again and again in other orders."""
     path = os.path.join(folder, name)
     with open(path, "w") as file:
-        file.write(header + "\n")
-        block = draw.choices([line + "\n" for line in lines], weights, k=min(many, 1_000_000))
+        file.write(lines[0] + "\n")
+        block = draw.choices([line + "\n" for line in lines[1:]], weights, k=min(many, 1_000_000)) if many else []
         while many:
             draw.shuffle(block)
             file.write("".join(block[:many]))
@@ -74,11 +78,11 @@ os.write(3, f"{os.waitstatus_to_exitcode(status)} {used.ru_utime + used.ru_stime
 """
 
 
-def spent_by(words, out, reported):
+def spent_by(words: list[str], out: IO[Any], reported: IO[Any]) -> tuple[int, float, float]:
     """The status of a run, its processor seconds and its peak memory in megabytes. What it prints goes to the files
     `out` and `reported`."""
     reading, writing = os.pipe()
-    begun = [sys.executable, "-S", "-E", "-c", BEGIN] + words
+    begun = [sys.executable, "-S", "-E", "-c", BEGIN, *words]
     actions = [
         (os.POSIX_SPAWN_DUP2, out.fileno(), 1),
         (os.POSIX_SPAWN_DUP2, reported.fileno(), 2),

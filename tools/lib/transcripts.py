@@ -11,28 +11,33 @@ import re
 import shutil
 import subprocess
 import tempfile
+from collections.abc import Callable, Iterable
 
 from lib import companion, programs
 
 TOP = programs.TOP
 PROGRAM = os.path.join(TOP, "crates", "hsplan", "out", "hsplan")
 MARK = "\x1e"
+# What a step printed, by its lines; None where it was not reached.
+Printed = list[str] | None
+# Puts more into the folder that a transcript runs in.
+Prepare = Callable[[str], None]
 
 
 class Step:
     """A command and what it has to print."""
 
-    def __init__(self, line):
+    def __init__(self, line: str) -> None:
         self.lines = [line]
-        self.wanted = []
+        self.wanted: list[str] = []
 
-    def command(self):
+    def command(self) -> str:
         return "\n".join(it[2:] for it in self.lines)
 
 
-def steps_of(lines):
+def steps_of(lines: Iterable[str]) -> list[Step]:
     """The steps of a transcript. Lines before the first command do not belong to it."""
-    steps = []
+    steps: list[Step] = []
     for line in lines:
         if line.startswith("$ "):
             steps.append(Step(line))
@@ -43,17 +48,17 @@ def steps_of(lines):
     return steps
 
 
-def text_of(steps):
+def text_of(steps: Iterable[Step]) -> str:
     return "".join("\n".join(it.lines + it.wanted) + "\n" for it in steps)
 
 
-def stream_beside(program):
+def stream_beside(program: str) -> str:
     """The `hsplan-stream` that belongs to a program: the one in its folder, or otherwise the one built here."""
     beside = os.path.join(os.path.dirname(program), "hsplan-stream")
     return beside if os.path.exists(beside) else programs.built_path("hsplan-stream")
 
 
-def room_for(folder, program):
+def room_for(folder: str, program: str) -> dict[str, str]:
     """Makes in an empty folder what a transcript may read and run: the examples, the program as `hsplan`,
     `hsplan-stream`, and `hsp`. Returns its environment."""
     shutil.copytree(
@@ -68,7 +73,7 @@ def room_for(folder, program):
     return dict(os.environ, PATH=os.path.join(folder, "bin") + os.pathsep + os.environ["PATH"], LC_ALL="C")
 
 
-def printed_by(steps, program, prepare=None, shell="bash"):
+def printed_by(steps: list[Step], program: str, prepare: Prepare | None = None, shell: str = "bash") -> list[Printed]:
     """What each step prints, as lines. None stands for a step that was not reached."""
     script = "exec 2>&1\n" + "".join(f"{it.command()}\nprintf '{MARK}'\n" for it in steps)
     with tempfile.TemporaryDirectory() as folder:
@@ -82,7 +87,7 @@ def printed_by(steps, program, prepare=None, shell="bash"):
     return [it.splitlines() for it in texts] + [None] * (len(steps) - len(texts))
 
 
-def fits(wanted, got):
+def fits(wanted: list[str], got: Printed) -> bool:
     """Whether the printed lines are the wanted ones. A wanted line `...` stands for any number of lines."""
     if got is None:
         return False
@@ -90,7 +95,9 @@ def fits(wanted, got):
     return re.fullmatch(pattern, "".join(it + "\n" for it in got)) is not None
 
 
-def faults_of(name, steps, program, prepare=None, shell="bash"):
+def faults_of(
+    name: str, steps: list[Step], program: str, prepare: Prepare | None = None, shell: str = "bash"
+) -> list[str]:
     """The steps that print something other than they have to, each as a text."""
     found = []
     for step, got in zip(steps, printed_by(steps, program, prepare, shell)):

@@ -28,20 +28,20 @@ from lib import programs
 BETWEEN_CHECKS = 300
 
 
-def files_of(crate):
+def files_of(crate: str) -> list[tuple[float, str]]:
     """The files that checks of the crate kept, each with its time of writing, in the order of these times."""
     kept = os.path.join(programs.TOP, "crates", crate, "out", "incremental")
     found = [os.path.join(at, name) for at, _, names in os.walk(kept) for name in names if name.endswith(".oantt")]
     return sorted((os.stat(it).st_mtime, it) for it in found)
 
 
-def module_of(crate, path):
+def module_of(crate: str, path: str) -> str:
     """The module that a file holds, without the crate's name."""
     name = re.sub(r"(\.decls)?\.oantt$", "", os.path.basename(path))
     return re.sub(f"^Rattle-{crate}-?", "", name) or crate
 
 
-def main():
+def main() -> None:
     arguments = argparse.ArgumentParser(description="Lists the most expensive proofs of a crate.")
     arguments.add_argument("crate")
     arguments.add_argument("most", nargs="?", type=int, default=30)

@@ -35,12 +35,14 @@ from pathlib import Path
 
 sys.path.insert(0, str(Path(__file__).resolve().parents[1]))
 
-from lib import programs
+from lib import instances, programs
 
 FRONTS = 64
+# A name, the words for an empty log, and the words for a log.
+Way = tuple[str, list[str], list[str]]
 
 
-def timed(words):
+def timed(words: list[str]) -> tuple[float, float, str]:
     """Processor seconds, peak memory in megabytes, and what was printed on standard error."""
     with open(os.devnull, "w") as sink, tempfile.TemporaryFile("w+") as reported:
         status, seconds, memory = instances.spent_by(words, sink, reported)
@@ -50,13 +52,15 @@ def timed(words):
         return seconds, memory, reported.read()
 
 
-def peer_in(folder):
+def peer_in(folder: str) -> str | None:
     """The peer, compiled in a folder, or None where that cannot be done."""
     registry = "/usr/share/cargo/registry"
     if not shutil.which("cargo") or not glob.glob(f"{registry}/csv-1.*") or not glob.glob(f"{registry}/indexmap-1.*"):
         print("note: cargo or its crates csv and indexmap are not there, so that no peer is measured")
         return None
-    source = shutil.copytree(os.path.join(programs.TOP, "tools", "measure", "dispatch_peer"), os.path.join(folder, "peer"))
+    source = shutil.copytree(
+        os.path.join(programs.TOP, "tools", "measure", "dispatch_peer"), os.path.join(folder, "peer")
+    )
     os.makedirs(os.path.join(source, ".cargo"))
     instances.write(
         os.path.join(source, ".cargo"),
@@ -67,14 +71,16 @@ def peer_in(folder):
     return os.path.join(source, "target", "release", "dispatch_peer") if built.returncode == 0 else None
 
 
-def table_for(folder, stream, rows, counts, files, plan):
+def table_for(folder: str, stream: str, instance: instances.Instance, plan: str) -> str:
     """The answers of each row in their order, as hsplan-stream gives them: each as a number and a line."""
+    rows, counts, files = instance
     asked = os.path.join(folder, "all.csv")
     with open(asked, "w") as file:
         file.write("region,handle\n")
         file.writelines((row + "\n") * count for row, count in zip(rows, counts))
-    words = [stream, "answer"] + files + ["--plan", plan, "--log", asked]
+    words = [stream, "answer", *files, "--plan", plan, "--log", asked]
     with subprocess.Popen(words, stdout=subprocess.PIPE, stderr=subprocess.DEVNULL, text=True) as run:
+        assert run.stdout
         lines = []
         for row, count in zip(rows, counts):
             answers = itertools.groupby(run.stdout.readline().rstrip("\n") for _ in range(count))
@@ -83,17 +89,18 @@ def table_for(folder, stream, rows, counts, files, plan):
     return instances.write(folder, "table.csv", lines)
 
 
-def answers_of(words):
+def answers_of(words: list[str]) -> str:
     """The digest of what a run prints."""
     with subprocess.Popen(words, stdout=subprocess.PIPE, stderr=subprocess.DEVNULL) as run:
+        assert run.stdout
         return hashlib.file_digest(run.stdout, "sha256").hexdigest()
 
 
-def measure(kinds, many, turns):
+def measure(kinds: list[Way], many: int, turns: int) -> dict[str, list[float]]:
     """Runs the kinds by turns, and returns the seconds of each run behind its first row. A kind is a name, the words
     for an empty log, and the words for a log."""
     before = {name: min(timed(empty)[0] for _ in range(3)) for name, empty, _ in kinds}
-    spent = {name: [] for name, *_ in kinds}
+    spent: dict[str, list[float]] = {name: [] for name, *_ in kinds}
     for _ in range(turns):
         for name, _, words in kinds:
             seconds, memory, reported = timed(words)
@@ -106,7 +113,7 @@ def measure(kinds, many, turns):
     return spent
 
 
-def compare(spent, turns):
+def compare(spent: dict[str, list[float]], turns: int) -> None:
     """Prints each kind against the fastest peer, and fronts against none."""
     least = {name: min(seconds) for name, seconds in spent.items()}
     peers = [seconds for name, seconds in least.items() if name.startswith("peer")]
@@ -120,31 +127,31 @@ def compare(spent, turns):
     )
 
 
-def ways_of(chosen, peer, folder, draw):
+def ways_of(chosen: argparse.Namespace, peer: str | None, folder: str, draw: random.Random) -> list[Way]:
     """The ways in which logs are answered, each with its words for an empty log and for the whole one."""
     rows, counts, files = instances.inputs(folder, draw, times=chosen.times)
     plan = os.path.join(folder, "plan.txt")
     with open(plan, "w") as file:
         subprocess.run([chosen.program, "plan"] + files, stdout=file, check=True)
     words = [chosen.program, "dispatch"] + files + ["--plan", plan]
-    empty = instances.log(folder, "no_log.csv", "region,handle", rows, counts, 0, draw)
-    full = instances.log(folder, "log.csv", "region,handle", rows, counts, chosen.rows, draw)
+    empty = instances.log(folder, "no_log.csv", ["region,handle"], [], 0, draw)
+    full = instances.log(folder, "log.csv", ["region,handle", *rows], counts, chosen.rows, draw)
     at_fronts = [f"{front},{row}" for row in rows for front in range(FRONTS)]
     weights = [count for count in counts for _ in range(FRONTS)]
-    no_events = instances.log(folder, "no_events.csv", "front,region,handle", rows, counts, 0, draw)
-    all_events = instances.log(folder, "events.csv", "front,region,handle", at_fronts, weights, chosen.rows, draw)
+    no_events = instances.log(folder, "no_events.csv", ["front,region,handle"], [], 0, draw)
+    all_events = instances.log(folder, "events.csv", ["front,region,handle", *at_fronts], weights, chosen.rows, draw)
     events = words + ["--fronts", str(FRONTS), "--log"]
     ways = [
         ("none", words + ["--log", empty], words + ["--log", full]),
         (f"{FRONTS} fronts", events + [no_events], events + [all_events]),
     ]
     if peer:
-        table = table_for(folder, chosen.stream, rows, counts, files, plan)
+        table = table_for(folder, chosen.stream, (rows, counts, files), plan)
         ways += [(f"peer, {it}", [peer, it, table, empty], [peer, it, table, full]) for it in ("plain", "fast")]
     return ways
 
 
-def main():
+def main() -> int:
     arguments = argparse.ArgumentParser(description="Measures how many rows of a log are answered a second.")
     arguments.add_argument("--rows", type=int, default=10_000_000)
     arguments.add_argument("--turns", type=int, default=7)

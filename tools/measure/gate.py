@@ -14,14 +14,16 @@ second of each check is missed.
 from __future__ import annotations
 
 import argparse
-import collections
 import glob
 import os
 import re
 import subprocess
 import time
 import sys
+from collections import defaultdict
+from collections.abc import Iterator
 from pathlib import Path
+from typing import IO
 
 sys.path.insert(0, str(Path(__file__).resolve().parents[1]))
 
@@ -30,9 +32,13 @@ from lib import lanes, programs
 
 KINDS = ("proof", "before the edits", "edits", "tests")
 TICK = os.sysconf("SC_CLK_TCK")
+# The crate of a check, its kind, the edit that it tries, and its seconds so far.
+Check = tuple[str, str, str, float]
+# A status, seconds by the clock, and the seconds by crate and kind, and by crate and edit.
+Measured = tuple[int, float, dict[tuple[str, str], float], dict[tuple[str, str], float]]
 
 
-def kind_of(words):
+def kind_of(words: list[str]) -> str:
     """What a check of the prover is for, by its words."""
     if "--test" in words:
         return "tests"
@@ -41,14 +47,14 @@ def kind_of(words):
     return "before the edits" if words[words.index("--incremental") + 1].endswith("/seed") else "edits"
 
 
-def edit_of(words, crate):
+def edit_of(words: list[str], crate: str) -> str:
     """The file of the must-fail edit that a check over a proof tries. The folder that it works in has its number."""
     number = os.path.basename(words[words.index("--incremental") + 1])
     edits = sorted(glob.glob(f"{programs.TOP}/crates/{crate}/must-fail/*.edit"))
     return os.path.basename(edits[int(number)]) if number.isdigit() else ""
 
 
-def checks_of(parent):
+def checks_of(parent: int) -> Iterator[tuple[tuple[str, str], Check]]:
     """The checks that run below a process. Each is known by its process number and its start, and has its crate, its
     kind, the edit that it tries, and its seconds so far."""
     for number in filter(str.isdigit, os.listdir("/proc")):
@@ -67,17 +73,19 @@ def checks_of(parent):
             continue
 
 
-def measured(jobs, log):
+def measured(jobs: int, log: IO[str]) -> Measured:
     """Runs rt ci to its end. Returns its status, the seconds by the clock, what checks took by crate and kind, and what
     each edit took."""
-    began, seen = time.monotonic(), {}
+    began = time.monotonic()
+    seen: dict[tuple[str, str], Check] = {}
     run = subprocess.Popen(
         ["rt", "ci"], cwd=programs.TOP, env={**os.environ, "RT_JOBS": str(jobs)}, stdout=log, stderr=subprocess.STDOUT
     )
     while run.poll() is None:
         seen.update(checks_of(run.pid))
         time.sleep(1)
-    took, edits = collections.Counter(), collections.Counter()
+    took: defaultdict[tuple[str, str], float] = defaultdict(float)
+    edits: defaultdict[tuple[str, str], float] = defaultdict(float)
     for crate, kind, edit, seconds in seen.values():
         took[crate, kind] += seconds
         if edit:
@@ -85,7 +93,7 @@ def measured(jobs, log):
     return run.returncode, time.monotonic() - began, took, edits
 
 
-def main():
+def main() -> int:
     arguments = argparse.ArgumentParser(description="Prints the processor seconds that rt ci takes, by crate.")
     arguments.add_argument("--jobs", type=int, default=lanes.lanes())
     arguments.add_argument("--log", default="/tmp/rt-ci.log")
@@ -97,7 +105,7 @@ def main():
     print("|---" * (len(KINDS) + 1) + "|")
     for crate in dict.fromkeys(crate for crate, _ in took):
         print(f"| `{crate}` | {' | '.join(str(round(took[crate, kind])) for kind in KINDS)} |")
-    for (crate, edit), seconds in edits.most_common() if given.edits else ():
+    for (crate, edit), seconds in sorted(edits.items(), key=lambda one: -one[1]) if given.edits else ():
         print(f"{round(seconds)} {crate}/{edit}")
     for kind in KINDS:
         print(f"{kind}: {sum(seconds for (_, it), seconds in took.items() if it == kind) / 60:.0f} minutes")

@@ -20,7 +20,7 @@ from pathlib import Path
 
 sys.path.insert(0, str(Path(__file__).resolve().parents[1]))
 
-from lib import programs
+from lib import memory, preload, programs
 
 
 SIZE = 67_108_864

@@ -117,7 +117,8 @@ class Instance:
 def built_peer(folder: str) -> str:
     peer = os.path.join(folder, "lemon_peer")
     subprocess.run(
-        ["g++", "-O3", "-o", peer, os.path.join(programs.TOP, "tools", "measure", "lemon_peer.cpp"), "-llemon"], check=True
+        ["g++", "-O3", "-o", peer, os.path.join(programs.TOP, "tools", "measure", "lemon_peer.cpp"), "-llemon"],
+        check=True,
     )
     return peer
 

@@ -27,14 +27,14 @@ FACTORS = [2.0, 1.2, 1.05, 1.01, 1.0, 0.99]
 STATUSES = {0: "plan", 3: "shortage"}
 
 
-def spent_by(words, out):
+def spent_by(words: list[str], out: str) -> tuple[int, float, float]:
     """The status of a run, its processor seconds and its peak memory in megabytes. What it prints goes to the file
     `out`."""
     with open(out, "w") as file, open(os.devnull, "w") as reported:
         return instances.spent_by(words, file, reported)
 
 
-def row(name, words, out, runs):
+def row(name: str, words: list[str], out: str, runs: int) -> int:
     """Runs a command `runs` times, and prints a row of the table. Returns the status of the last run."""
     took = [spent_by(words, out) for _ in range(runs)]
     seconds = [it[1] for it in took]
@@ -46,7 +46,7 @@ def row(name, words, out, runs):
     return took[-1][0]
 
 
-def measure(factor, chosen, folder):
+def measure(factor: float, chosen: argparse.Namespace, folder: str) -> list[str]:
     """Plans the inputs of a factor, and has the answer judged."""
     _, _, files = instances.inputs(folder, random.Random(1), factor, chosen.hosts)
     answer, sink = os.path.join(folder, "answer.txt"), os.path.join(folder, "sink.txt")
@@ -67,7 +67,7 @@ def measure(factor, chosen, folder):
     return files
 
 
-def main():
+def main() -> int:
     arguments = argparse.ArgumentParser(description="Measures whole runs over an instance at the limits.")
     arguments.add_argument("--runs", type=int, default=5)
     arguments.add_argument("--hosts", type=int, default=0)

@@ -23,8 +23,8 @@ sys.path.insert(0, str(Path(__file__).resolve().parents[1]))
 from lib import examples, programs
 
 
-programs.TOP = Path(programs.TOP)
-PICTURE = programs.TOP / "docs" / "pictures" / "page.png"
+TOP = Path(programs.TOP)
+PICTURE = TOP / "docs" / "pictures" / "page.png"
 WIDTH, HEIGHT, COLOURS, LARGEST = 1200, 1000, 64, 120_000
 # The time of the pages of the examples: 27 November 2026, 09:00 UTC.
 TIME = "1795770000"
@@ -33,13 +33,13 @@ PAGES = {"two-sites": ["--unit", "ms"], "twelve-sites": ["--title", "twelve-site
 
 def page_of(name: str, folder: Path) -> str:
     """The page of an example, as hsp writes it."""
-    source = programs.TOP / "examples" / name
+    source = TOP / "examples" / name
     if name == "twelve-sites":
         source = folder / name
         source.mkdir()
         examples.write(str(source), examples.twelve_sites())
     paths = {it.upper().replace("-", "_"): programs.built_path(it) for it in programs.PROGRAMS}
-    environment = {**paths, **os.environ, "PYTHONPATH": str(programs.TOP / "companion"), "SOURCE_DATE_EPOCH": TIME}
+    environment = {**paths, **os.environ, "PYTHONPATH": str(TOP / "companion"), "SOURCE_DATE_EPOCH": TIME}
     out = folder / f"{name}.html"
     words = [sys.executable, "-m", "hsp", "view", str(source), "-o", str(out), *PAGES[name]]
     subprocess.run(words, check=True, env=environment, stdout=subprocess.DEVNULL)
@@ -80,17 +80,15 @@ def main() -> int:
     faults = []
     with tempfile.TemporaryDirectory() as room:
         for name in PAGES:
-            target, text = programs.TOP / "examples" / name / "plan.html", page_of(name, Path(room))
+            target, text = TOP / "examples" / name / "plan.html", page_of(name, Path(room))
             if not check:
                 target.write_text(text, encoding="utf-8")
             elif not target.exists() or target.read_text(encoding="utf-8") != text:
-                faults.append(
-                    f"{target.relative_to(programs.TOP)} is not what hsp writes: run tools/pictures/shoot.py"
-                )
+                faults.append(f"{target.relative_to(TOP)} is not what hsp writes: run tools/pictures/shoot.py")
     if not check:
-        PICTURE.write_bytes(small(shot(programs.TOP / "examples" / "two-sites" / "plan.html")))
+        PICTURE.write_bytes(small(shot(TOP / "examples" / "two-sites" / "plan.html")))
     if not PICTURE.exists() or PICTURE.stat().st_size > LARGEST:
-        faults.append(f"{PICTURE.relative_to(programs.TOP)} is absent, or larger than {LARGEST:,} octets")
+        faults.append(f"{PICTURE.relative_to(TOP)} is absent, or larger than {LARGEST:,} octets")
     print("\n".join(faults + [f"pages: {len(PAGES)}, {len(faults)} faults"]))
     return 1 if faults else 0
 

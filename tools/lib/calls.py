@@ -1,33 +1,13 @@
-#!/usr/bin/env python3
-"""Writes tables of the public calls of each crate into docs/understand/PROOF.md, from the sources.
-
-A row has what a call says of itself, the clauses of its contract with the definitions that they cite, and the
-must-fail edits that turn it. An edit turns the function whose text it changes. Where that function is private, it
-turns the public calls that come to it through private functions.
-
-    tools/gate/list_proof.py            writes the tables
-    tools/gate/list_proof.py --check    writes nothing, and fails where the page has other tables, where an edit turns no
-                                   public call, or where the prose names a call, a clause or a definition that is
-                                   not there
-"""
+"""The calls of the crates: what they say of themselves, the clauses of their contracts, and the edits that turn them."""
 from __future__ import annotations
 
-import argparse
 import glob
 import os
 import re
-import sys
-import textwrap
-from typing import Iterator, NamedTuple, Optional
-from pathlib import Path
-
-sys.path.insert(0, str(Path(__file__).resolve().parents[1]))
+from typing import Iterator, NamedTuple
 
 from lib import programs
 
-
-PAGE = os.path.join(programs.TOP, "docs", "understand", "PROOF.md")
-BEGIN, END = "<!-- the tables begin -->\n", "<!-- the tables end -->\n"
 HEAD = re.compile(r"^(?P<indent>(?:    )?)(?P<public>pub )?(?:pub\([a-z]+\) )?(?:const |final )*fn (?P<name>\w+)")
 HOLDS = re.compile(r"^(?:pub )?(?P<kind>impl|trait)(?:<[^{]*?>)? (?P<rest>.*?)\s*(?:where.*)?\{?$")
 ITEM = re.compile(r"^(?:pub(?:\(\w+\))? )?(?:const|static) (?P<name>\w+)")
@@ -236,151 +216,10 @@ def turned(functions: list[Function], edit: str) -> list[Function]:
     return list(dict.fromkeys(found))
 
 
+def is_of_a_definition(edit: str) -> bool:
+    """Whether an edit changes a definition, so that a law no longer holds."""
+    return any(line.startswith("file: specs/") for line in read(edit))
+
+
 def edits_of(crate: str) -> list[str]:
     return sorted(glob.glob(os.path.join(programs.TOP, "crates", crate, "must-fail", "*.edit")))
-
-
-def wrapped(call: str, what: str, parts: list[str]) -> Iterator[str]:
-    """The rows of a table for what is said of a call, whose last cell holds as many of the parts as a line has room
-    for."""
-    lines = [""]
-    for part in parts:
-        if lines[-1] and len(lines[-1]) + len(part) > 100:
-            lines.append("")
-        lines[-1] += (" " if lines[-1] else "") + part
-    for at, line in enumerate(lines):
-        first = f"| {call} | {what} |" if call else f"| | {what} |"
-        yield f"{first if at == 0 else '| | |'} {line} |"
-
-
-def listed(names: list[str]) -> list[str]:
-    """The names with a comma behind each but the last."""
-    return [f"{it}," for it in names[:-1]] + names[-1:]
-
-
-def rows(one: Function, edits: list[str]) -> Iterator[str]:
-    """What a call says of itself, its clauses with what they cite, and the edits that turn it."""
-    yield from wrapped(f"`{one.called()}`", "says", one.doc.replace("|", "\\|").split(" "))
-    plain = [f"`{it.label}`" if it.label else "its clause" for it in one.clauses if not it.cited]
-    for clause in one.clauses:
-        if clause.cited:
-            yield from wrapped(
-                "", f"`{clause.label}`" if clause.label else "clause", listed([f"`{it}`" for it in clause.cited])
-            )
-    if plain:
-        yield from wrapped("", "in own words", listed(plain))
-    if edits:
-        yield from wrapped("", "edits", listed([f"`{it}`" for it in edits]))
-
-
-def places(shown: list[Function]) -> Iterator[str]:
-    """Where the cited definitions stand."""
-    files: dict[str, list[str]] = {}
-    for clause in (it for one in shown for it in one.clauses):
-        for name, file in zip(clause.cited, clause.files):
-            if os.path.exists(os.path.join(programs.TOP, "crates", file)) and name not in files.setdefault(file, []):
-                files[file].append(name)
-    found = [(file, names) for file, names in sorted(files.items()) if names]
-    if found:
-        yield from ("Its definitions:", "")
-        for file, names in found:
-            text = f"- [`{file}`](../../crates/{file}): {', '.join(names)}"
-            yield from textwrap.wrap(
-                text, 150, subsequent_indent="  ", break_long_words=False, break_on_hyphens=False
-            )
-        yield ""
-
-
-def section(crate: str, faults: list[str]) -> Iterator[str]:
-    """The table of a crate, or nothing where it has no public call."""
-    functions = crate_functions(crate)
-    by: dict[Function, list[str]] = {}
-    for edit in edits_of(crate):
-        name, calls = os.path.basename(edit)[: -len(".edit")], turned(functions, edit)
-        if not calls:
-            faults.append(f"{crate}: the edit {name} turns no public call")
-        for it in calls:
-            by.setdefault(it, []).append(name)
-    shown = [it for it in functions if it.is_public and (it.clauses or it in by or it.doc)]
-    if shown:
-        yield from (f"### `{crate}`", "", "| Call | Part | Text |", "|---|---|---|")
-        yield from (line for it in shown for line in rows(it, by.get(it, [])))
-        yield ""
-        yield from places(shown)
-
-
-def proved_crates() -> list[str]:
-    """The crates that the program is made of, and those that have definitions: all but tests and measurements."""
-    of_programs = programs.crates_of()
-    others = [it for it in programs.dependencies() if it not in of_programs]
-    return of_programs + [it for it in others if os.path.isdir(os.path.join(programs.TOP, "crates", it, "specs"))]
-
-
-def layered() -> list[str]:
-    """These crates, each after those that it stands on."""
-    below, ordered = programs.dependencies(), []
-    left = proved_crates()
-    while left:
-        free = [it for it in left if not set(below[it]) & set(left)]
-        ordered += free
-        left = [it for it in left if it not in free]
-    return ordered
-
-
-def tables(faults: list[str]) -> str:
-    return "\n".join(line for crate in layered() for line in section(crate, faults))
-
-
-def wrong_words(prose: str) -> list[str]:
-    """The calls, clauses and definitions that the prose names and that are not there: `crate::call`,
-    `crate::call` `clause`, `Name` in `crate/specs/F.antt`."""
-    faults = []
-    labels = {f"{crate}::{it.called()}": it for crate in proved_crates() for it in crate_functions(crate)}
-    labels.update(
-        {
-            f"{crate}::{it.file[:-3]}::{it.name}": it
-            for crate in proved_crates()
-            for it in crate_functions(crate)
-            if it.file.endswith("laws.rt")
-        }
-    )
-    for call, clause in re.findall(r"`(hsp\w+::[\w:]+)`(?: \(clauses? ((?:`\w+`(?:, | and )?)+)\))?", prose):
-        known = labels.get(call)
-        faults += [] if known else [f"PROOF.md names a call that is not there: {call}"]
-        faults += [
-            f"PROOF.md: {it} is not a clause of {call}"
-            for it in re.findall(r"`(\w+)`", clause)
-            if known and it not in {c.label for c in known.clauses}
-        ]
-    for names, path in re.findall(r"((?:`[\w'-]+`(?:, | and ))*`[\w'-]+`) in \[`[\w./]+`\]\(([^)]+)\)", prose):
-        file = os.path.normpath(os.path.join(os.path.dirname(PAGE), path))
-        text = "\n".join(read(file)) if os.path.exists(file) else ""
-        faults += [
-            f"PROOF.md: {it} is not defined in {path}"
-            for it in re.findall(r"`([\w'-]+)`", names)
-            if not re.search(rf"^(?:\w+ )*{re.escape(it)} ", text, re.M)
-        ]
-    return faults
-
-
-def main() -> int:
-    arguments = argparse.ArgumentParser(description=__doc__.split("\n", 1)[0])
-    arguments.add_argument(
-        "--check", action="store_true", help="write nothing, and compare the tables that are there"
-    )
-    check = arguments.parse_args().check
-    faults: list[str] = []
-    page = "\n".join(read(PAGE))
-    made = page[: page.index(BEGIN)] + BEGIN + "\n" + tables(faults) + "\n" + page[page.index(END) :]
-    faults += wrong_words(page[: page.index(BEGIN)] + page[page.index(END) :])
-    if check and made != page:
-        faults.append("docs/understand/PROOF.md has other tables than tools/gate/list_proof.py lists: run it")
-    if not check:
-        with open(PAGE, "w", encoding="utf-8") as file:
-            file.write(made)
-    print("\n".join(faults + [f"proof: {made.count(chr(10) + '| `')} calls, {len(faults)} faults"]))
-    return 1 if faults else 0
-
-
-if __name__ == "__main__":
-    sys.exit(main())
