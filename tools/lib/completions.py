@@ -150,9 +150,8 @@ BASH = """    local current=${{COMP_WORDS[COMP_CWORD]}} before=${{COMP_WORDS[COM
 def bash(program: Program) -> str:
     """The completions for bash."""
     own, name = _all_commands(program), program.function
-    groups = [("'fleet'" if 0 else it, it) for it in program.groups()]
     listed = [('""', [*program.names(), *names_of(program.flags)])]
-    listed += [(group, [*program.names(f"{group} "), "--help"]) for group, _ in groups]
+    listed += [(group, [*program.names(f"{group} "), "--help"]) for group in program.groups()]
     listed += [('"doctor --"', program.told())] if program.behind else []
     options = [(f'"{it.path}"', f'"{" ".join(names_of(it.options))}"') for it in own if it.options]
     words = [(f'"{it.path}"', "-d") for it in own if it.words == FOLDER] + [("*", "-f")]

@@ -6,8 +6,9 @@ import re
 from pathlib import Path
 from typing import NamedTuple
 
-TOP = Path(__file__).resolve().parents[2]
-CRATES = TOP / "crates"
+from lib import programs
+
+CRATES = Path(programs.TOP) / "crates"
 # The files with limits: hsp_text has those of inputs and certificates, the others one each.
 LIMITS = [
     "hsp_text/src/limits.rt",
